@@ -1,0 +1,4 @@
+pub mod Wire
+pub mod Text
+pub mod Key
+pub mod KeyLaws

@@ -1,0 +1,39 @@
+use std::alloc::{AllocError, AllocFailed};
+use thiserror::Error;
+
+/// Why a text is not a name.
+#[derive(Clone, Copy, Debug, PartialEq, Eq, Hash, Error)]
+pub enum NameFault {
+    #[error("a label is empty")]
+    EmptyLabel = 1,
+    #[error("a label has more than 63 octets")]
+    LabelTooLong = 2,
+    #[error("the name has more than 255 octets")]
+    NameTooLong = 3,
+    #[error("an escape or an octet is not one of a name's text")]
+    BadEscape = 4,
+    #[error("memory was refused")]
+    Memory = 5,
+}
+
+impl From<AllocError> for NameFault {
+    ghost use Rattle.std.specs.Prelude.{◌≡◌};
+    ghost use Rattle.rrc_name.specs.declared.fault.NameFault.TheVariants.{Memory};
+
+    ghost from_gives = { λ _ fault. fault ≡ Memory };
+
+    fn from(_refused: AllocError) -> NameFault {
+        NameFault::Memory
+    }
+}
+
+impl<T: Drop> From<AllocFailed<T>> for NameFault {
+    ghost use Rattle.std.specs.Prelude.{◌≡◌};
+    ghost use Rattle.rrc_name.specs.declared.fault.NameFault.TheVariants.{Memory};
+
+    ghost from_gives = { λ _ fault. fault ≡ Memory };
+
+    fn from(_refused: AllocFailed<T>) -> NameFault {
+        NameFault::Memory
+    }
+}

@@ -1,0 +1,17 @@
+//! Names of the DNS, and the keys under which a cache keeps what it knows of them.
+#![tactic(auto)]
+
+mod fault;
+mod key;
+mod name;
+mod octets;
+mod sequence;
+mod slot;
+mod text;
+
+pub use fault::NameFault;
+pub use key::Key;
+pub use name::Name;
+pub use octets::Octets;
+pub use sequence::Sequence;
+pub use slot::Slot;

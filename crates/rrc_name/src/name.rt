@@ -1,0 +1,86 @@
+ghost use Rattle.std.specs.Prelude.{◌≡◌, ◌⊎◌, ◌↔◌, [], ◌∷◌, IsTrue, IfOk, IfErr};
+ghost use Rattle.rrc_name.specs.Wire.{folded, IsWireForm, IsSameName};
+ghost use Rattle.rrc_name.specs.Key.{IsFolded};
+ghost use Rattle.rrc_name.specs.Text.{name_in};
+
+use crate::fault::NameFault;
+use crate::octets::Octets;
+use crate::text;
+use std::alloc::{AllocError, Global};
+use std::marker::Model;
+
+/// A name of the DNS, in the spelling received. Contracts see its wire form (RFC 1035 section 3.1): each label of 1 to 63
+/// octets behind its length, and a zero octet at the end, at most 255 octets in all.
+#[derive(Debug, Drop, PartialEq, Eq)]
+pub struct Name {
+    pub wire: Octets,
+}
+
+impl Model for Name {
+    ghost use Rattle.std.specs.Prelude.{List, ℕ};
+    ghost use Rattle.rrc_name.specs.Wire.{IsWireForm};
+
+    ghost Value = { List ℕ };
+
+    ghost view = { λ n. n.wire };
+
+    ghost invariant = { λ n. IsWireForm n.wire };
+
+    ghost inverse = { λ octets. record { wire = octets } };
+}
+
+impl Name {
+    /// The root, which has no labels.
+    pub fn root(alloc: Global) -> Result<Name, AllocError>
+        ensures { IfOk result (λ name. name ≡ 0 ∷ []) }
+    {
+        Ok(Name {
+            wire: Octets::from_slice(alloc, &[0])?,
+        })
+    }
+
+    /// The name that a text spells: labels with dots between them, where `\.` is a dot within a label, `\DDD` the octet of
+    /// a decimal number, and the last dot may be left out; `.` alone is the root.
+    ///
+    /// The text is read from the left and its first fault is answered.
+    pub fn from_text(alloc: Global, text: &str) -> Result<Name, NameFault>
+        ensures ok { IfOk result (λ name. name_in text.now ≡ Ok name) }
+        ensures err { IfErr result (λ fault. (fault ≡ NameFault.Memory) ⊎ (name_in text.now ≡ Err fault)) }
+    {
+        let text = text.as_bytes();
+        if text == b".".as_slice() {
+            return Ok(Name::root(alloc)?);
+        }
+        Ok(Name {
+            wire: Octets::from_vec(text::wire_in(alloc, text)?),
+        })
+    }
+
+    /// The name with its letters A to Z as a to z.
+    pub fn folded(&self) -> Result<Name, AllocError>
+        ensures { IfOk result (λ name. name ≡ folded self.now) }
+    {
+        Ok(Name {
+            wire: self.wire.lowered()?,
+        })
+    }
+
+    /// Whether the names are the same but for the case of letters (RFC 4343). It takes no memory.
+    pub fn same(&self, other: &Name) -> bool
+        ensures { IsTrue result ↔ IsSameName self.now other.now }
+    {
+        self.wire
+            .as_slice()
+            .eq_ignore_ascii_case(other.wire.as_slice())
+    }
+}
+
+impl Clone for Name {
+    ghost is_clone = { λ a b. b ≡ a };
+
+    fn clone(&self) -> Result<Name, AllocError> {
+        Ok(Name {
+            wire: self.wire.clone()?,
+        })
+    }
+}

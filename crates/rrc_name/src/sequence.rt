@@ -1,0 +1,108 @@
+ghost use Rattle.std.specs.Prelude.{◌≡◌, List, [], ◌++◌, ◌∷◌, length, IfErr, IsTrue, OnOk, OnErr, ◌↔◌};
+ghost use Rattle.std.specs.Cmp.Lexicographic.{pointwise, lists_equiv, lists_per};
+ghost use Rattle.std.specs.Slice.Iter.{iter_rest};
+
+use std::alloc::{AllocError, AllocFailed, Global};
+use std::marker::Model;
+use std::slice;
+
+/// Some values in order. Contracts see the list of them.
+#[derive(Debug, Drop)]
+pub struct Sequence<T> {
+    values: Vec<T>,
+}
+
+impl<T> Model for Sequence<T> {
+    ghost Value = { List T };
+
+    ghost view = { λ s. s.values.items };
+}
+
+impl<T> Sequence<T> {
+    /// No values. It takes no memory.
+    pub fn new(alloc: Global) -> Sequence<T>
+        ensures { result ≡ [] }
+    {
+        Sequence {
+            values: Vec::new(alloc),
+        }
+    }
+
+    /// The values of a vector.
+    pub fn from_vec(values: Vec<T>) -> Sequence<T>
+        ensures { result ≡ values.items }
+    {
+        Sequence { values }
+    }
+
+    /// Makes room for one more value, so that the next `push_reserved` takes no memory.
+    pub fn reserve_one(&mut self) -> Result<(), AllocError>
+        ensures same { self.new ≡ self.old }
+    {
+        self.values.reserve(1)
+    }
+
+    /// Puts a value behind the others. An `Err` leaves them as they were.
+    pub fn push(&mut self, value: T) -> Result<(), AllocFailed<T>>
+        ensures ok { OnOk result (self.new ≡ self.old ++ value ∷ []) }
+        ensures err { OnErr result (self.new ≡ self.old) }
+        ensures value_returned { IfErr result (λ refused. refused.value ≡ value) }
+    {
+        self.values.push(value)
+    }
+
+    pub fn iter(&self) -> slice::Iter<'_, T>
+        ensures { iter_rest result ≡ self.now }
+    {
+        self.values.iter()
+    }
+
+    pub fn is_empty(&self) -> bool
+        ensures { IsTrue result ↔ (self.now ≡ []) }
+    {
+        self.values.is_empty()
+    }
+
+    pub fn into_vec(self) -> Vec<T>
+        ensures { result.items ≡ self }
+    {
+        self.values
+    }
+
+    pub fn as_slice(&self) -> &[T]
+        ensures { result.now ≡ self.now }
+    {
+        self.values.as_slice()
+    }
+
+    pub fn len(&self) -> usize
+        ensures { result ≡ length self.now }
+    {
+        self.values.len()
+    }
+}
+
+impl<T: PartialEq> PartialEq for Sequence<T> {
+    ghost eq = { pointwise T.eq };
+
+    ghost laws = { lists_per T.PartialEq.laws };
+
+    fn eq(&self, other: &Sequence<T>) -> bool {
+        self.values.as_slice() == other.values.as_slice()
+    }
+}
+
+impl<T: Eq> Eq for Sequence<T> {
+    ghost laws = { lists_equiv T.Eq.laws };
+}
+
+impl<T: Clone> Clone for Sequence<T> {
+    // Where each value's clone is the value, so is the sequence's.
+    ghost is_clone = { λ a b. ((x y : T) → T.is_clone x y → y ≡ x) → b ≡ a };
+
+    fn clone(&self) -> Result<Sequence<T>, AllocError> {
+        Ok(Sequence {
+            values: self.values.clone()?,
+        })
+    }
+}
