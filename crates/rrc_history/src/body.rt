@@ -1,0 +1,50 @@
+use rrc_name::{Name, Octets, Sequence};
+use std::alloc::AllocError;
+
+/// How far the place where a set stood is trusted (RFC 2181 section 5.4.1), from low to high.
+#[derive(Clone, Copy, Debug, PartialEq, Eq, PartialOrd, Ord, Hash)]
+pub enum Trust {
+    /// The additional section, or the authority section of a reply that is not authoritative: glue. It never answers a
+    /// question.
+    Additional = 1,
+    /// The answer section in any other case than the last one.
+    NonAuthoritativeAnswer = 2,
+    /// The authority section of an authoritative reply.
+    Authority = 3,
+    /// The answer section of an authoritative reply, under the name that was asked for.
+    AuthoritativeAnswer = 4,
+}
+
+/// What a key may hold.
+#[derive(Debug, Drop)]
+pub enum Body {
+    /// The data of an RRset, one at least, under the spelling of its owner as received; for `ttl` seconds.
+    Positive {
+        owner: Name,
+        items: Sequence<Octets>,
+        trust: Trust,
+        ttl: u32,
+    },
+}
+
+impl Clone for Body {
+    ghost use Rattle.std.specs.Prelude.{◌≡◌};
+
+    ghost is_clone = { λ a b. b ≡ a };
+
+    fn clone(&self) -> Result<Body, AllocError> {
+        match self {
+            Body::Positive {
+                owner,
+                items,
+                trust,
+                ttl,
+            } => Ok(Body::Positive {
+                owner: owner.clone()?,
+                items: items.clone()?,
+                trust: *trust,
+                ttl: *ttl,
+            }),
+        }
+    }
+}

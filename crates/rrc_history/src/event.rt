@@ -1,0 +1,85 @@
+use crate::ask::Ask;
+use crate::offer::Offer;
+use rrc_name::{Key, Name, Octets, Sequence};
+use std::alloc::AllocError;
+
+/// What became of an offer.
+#[derive(Clone, Copy, Debug, PartialEq, Eq, Hash)]
+pub enum Outcome {
+    /// The key holds the new body.
+    Kept,
+    /// The key holds nothing, since the ttl is 0.
+    Cleared,
+    /// The key holds what it held, which is unexpired and trusted more.
+    LessTrusted,
+}
+
+/// The data of an RRset, under the spelling of its owner as received.
+#[derive(Debug, Drop, PartialEq, Eq)]
+pub struct RrSet {
+    pub owner: Name,
+    pub items: Sequence<Octets>,
+}
+
+/// What a cache answers.
+#[derive(Debug, Drop, PartialEq, Eq)]
+pub enum Reply {
+    /// The set, which has `left` seconds to live.
+    Fresh { set: RrSet, left: u32 },
+    /// Nothing that will do. Where asking has lately failed, from when on it may be tried again.
+    Miss { retry_from: Option<u64> },
+}
+
+/// Where an operation stands in a trace: its line, and its place among the operations of the line.
+#[derive(Clone, Copy, Debug, PartialEq, Eq, Hash)]
+pub struct Tag {
+    pub line: u64,
+    pub place: u64,
+}
+
+/// One call on a part of the cache, with its full result.
+#[derive(Debug, Drop)]
+pub enum Event {
+    Offered {
+        tag: Tag,
+        offer: Offer,
+        outcome: Outcome,
+        evicted: Option<Key>,
+    },
+    Asked {
+        tag: Tag,
+        ask: Ask,
+        reply: Reply,
+    },
+}
+
+impl Clone for RrSet {
+    ghost use Rattle.std.specs.Prelude.{◌≡◌};
+
+    ghost is_clone = { λ a b. b ≡ a };
+
+    fn clone(&self) -> Result<RrSet, AllocError> {
+        Ok(RrSet {
+            owner: self.owner.clone()?,
+            items: self.items.clone()?,
+        })
+    }
+}
+
+impl Clone for Reply {
+    ghost use Rattle.std.specs.Prelude.{◌≡◌};
+
+    ghost is_clone = { λ a b. b ≡ a };
+
+    fn clone(&self) -> Result<Reply, AllocError> {
+        match self {
+            Reply::Fresh { set, left } => Ok(Reply::Fresh {
+                set: set.clone()?,
+                left: *left,
+            }),
+            Reply::Miss { retry_from } => Ok(Reply::Miss {
+                retry_from: *retry_from,
+            }),
+        }
+    }
+}

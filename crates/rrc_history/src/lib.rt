@@ -1,0 +1,17 @@
+//! What a cache was told and what it answered: bodies, offers, asks, and the events of its history.
+#![tactic(auto)]
+
+mod ask;
+mod body;
+mod event;
+mod offer;
+mod rules;
+mod snapshot;
+
+pub use ask::{Ask, Mode, Purpose};
+pub use body::{Body, Trust};
+pub use event::{Event, Outcome, Reply, RrSet, Tag};
+pub use offer::{Offer, OfferFault};
+pub use rrc_name as name;
+pub use rules::Rules;
+pub use snapshot::{Entry, Snapshot};

@@ -1,0 +1,81 @@
+ghost use Rattle.std.specs.Prelude.{◌≡◌, true, false, IfOk, IfErr, OnOk, OnErr};
+ghost use Rattle.rrc_history.specs.Fits.{fits};
+
+use crate::body::Body;
+use rrc_name::{Key, Slot};
+use std::alloc::AllocError;
+use std::marker::Model;
+
+/// A body that a cache is to keep under a key, at a moment in seconds. The body fits the key.
+#[derive(Debug, Drop)]
+pub struct Offer {
+    pub key: Key,
+    pub body: Body,
+    pub moment: u64,
+}
+
+impl Model for Offer {
+    ghost use Rattle.std.specs.Prelude.{◌≡◌, true};
+    ghost use Rattle.rrc_history.specs.Fits.{OfferOf, fits};
+
+    ghost Value = { OfferOf };
+
+    ghost view = { λ o. record { key = o.key; body = o.body; moment = o.moment } };
+
+    ghost invariant = { λ o. fits o.key o.body ≡ true };
+
+    ghost inverse = { λ o. record { key = o.key; body = o.body; moment = o.moment } };
+}
+
+/// Why a body was not taken.
+#[derive(Debug, Drop)]
+pub enum OfferFault {
+    /// The body does not fit the key. Both are handed back.
+    WrongBody { key: Key, body: Body },
+}
+
+fn is_fit(key: &Key, body: &Body) -> bool
+    ensures { result ≡ fits key.now body.now }
+{
+    match (key.slot, body) {
+        (
+            Slot::Set(_),
+            Body::Positive {
+                owner,
+                items,
+                trust: _,
+                ttl,
+            },
+        ) => owner.same(&key.name) && !items.is_empty() && *ttl < 1 << 31,
+        _ => false,
+    }
+}
+
+impl Offer {
+    /// An offer, where the body fits the key: a positive one a `Slot::Set` of its owner's folded name, with one item at
+    /// least and a ttl of at most 2^31 - 1 seconds (RFC 2181 section 8). It takes no memory.
+    pub fn new(key: Key, body: Body, moment: u64) -> Result<Offer, OfferFault>
+        ensures ok { IfOk result (λ offer. offer ≡ record { key = key; body = body; moment = moment }) }
+        ensures fits { OnOk result (fits key body ≡ true) }
+        ensures wrong_body { OnErr result (fits key body ≡ false) }
+        ensures handed_back { IfErr result (λ fault. fault ≡ OfferFault.WrongBody key body) }
+    {
+        if is_fit(&key, &body) {
+            Ok(Offer { key, body, moment })
+        } else {
+            Err(OfferFault::WrongBody { key, body })
+        }
+    }
+}
+
+impl Clone for Offer {
+    ghost is_clone = { λ a b. b ≡ a };
+
+    fn clone(&self) -> Result<Offer, AllocError> {
+        Ok(Offer {
+            key: self.key.clone()?,
+            body: self.body.clone()?,
+            moment: self.moment,
+        })
+    }
+}
