@@ -1,2 +1,4 @@
 pub mod WireForms
 pub mod Spelling
+pub mod LabelOrder
+pub mod NameTies

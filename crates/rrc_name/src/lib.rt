@@ -6,6 +6,7 @@ mod key;
 mod label;
 mod name;
 mod octets;
+mod order;
 mod printed;
 mod sequence;
 mod slot;
