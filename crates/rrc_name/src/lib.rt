@@ -5,13 +5,15 @@ mod fault;
 mod key;
 mod label;
 mod name;
+#[cfg(test)]
+mod name_tests;
 mod octets;
 mod order;
+#[cfg(test)]
+mod order_tests;
 mod printed;
 mod sequence;
 mod slot;
-#[cfg(test)]
-mod tests;
 mod text;
 
 pub use fault::NameFault;
