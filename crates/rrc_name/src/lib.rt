@@ -4,6 +4,7 @@
 mod fault;
 mod key;
 mod label;
+mod laws;
 mod name;
 #[cfg(test)]
 mod name_tests;
@@ -18,6 +19,7 @@ mod text;
 
 pub use fault::NameFault;
 pub use key::Key;
+pub use laws::reading_undoes_printing;
 pub use name::Name;
 pub use octets::Octets;
 pub use sequence::Sequence;

@@ -1,5 +1,5 @@
 ghost use Rattle.std.specs.Prelude.{◌≡◌, ◌⊎◌, ◌↔◌, [], ◌∷◌, length, string_bytes, IsTrue, IfOk, IfErr};
-ghost use Rattle.rrc_name.specs.Wire.{folded, IsWireForm, IsSameName};
+ghost use Rattle.rrc_name.specs.Wire.{folded, IsWireForm, IsSameName, same_name};
 ghost use Rattle.rrc_name.specs.Key.{IsFolded};
 ghost use Rattle.rrc_name.specs.Order.{canonical_order, IsAtOrBelow, is_at_or_below};
 ghost use Rattle.rrc_name.specs.Text.{name_in, text_of};
@@ -61,7 +61,8 @@ impl Name {
     /// The text of the name, which ends with a dot: `\.` for a dot within a label, `\\` for a backslash, `\DDD` for an octet
     /// that is no graphic one, by its decimal number; `.` alone for the root. `from_text` reads the name again from it.
     pub fn to_text(&self) -> Result<String, AllocError>
-        ensures { IfOk result (λ text. string_bytes text ≡ text_of self.now) }
+        ensures text { IfOk result (λ text. string_bytes text ≡ text_of self.now) }
+        ensures read_again { IfOk result (λ text. name_in (string_bytes text) ≡ Ok self.now) }
     {
         printed::text_in(self.wire.alloc(), self.wire.as_slice())
     }
@@ -85,7 +86,8 @@ impl Name {
 
     /// Whether the names are the same but for the case of letters (RFC 4343). It takes no memory.
     pub fn same(&self, other: &Name) -> bool
-        ensures { IsTrue result ↔ IsSameName self.now other.now }
+        ensures value { result ≡ same_name self.now other.now }
+        ensures meaning { IsTrue result ↔ IsSameName self.now other.now }
     {
         self.wire
             .as_slice()
