@@ -46,8 +46,8 @@ slot_order a b = ordering_then (nat_cmp (kind_place a) (kind_place b)) (nat_cmp 
 abbrev pub key_eq : KeyOf → KeyOf → Bool
 key_eq wanted key = pointwise nat_eq wanted.name key.name && slot_eq wanted.slot key.slot
 
--- keys by the canonical order of their names, then by the octets of these, which are the same where the names are folded, and
--- then by slot: the one word by which keys are ordered
+-- keys by the canonical order of their names, and then by slot, which is all between folded names; other names that tie go by
+-- their octets before the slot: the one word by which keys are ordered
 abbrev pub key_order : KeyOf → KeyOf → Ordering
 key_order a b =
     ordering_then (canonical_order a.name b.name) (ordering_then (slice_cmp nat_cmp a.name b.name) (slot_order a.slot b.slot))

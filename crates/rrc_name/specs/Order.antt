@@ -14,12 +14,6 @@ label_order a b = slice_cmp nat_cmp (folded a) (folded b)
 abbrev pub canonical_order : List ℕ → List ℕ → Ordering
 canonical_order a b = slice_cmp label_order (reverse (labels_of a)) (reverse (labels_of b))
 
--- an order found so far, when the labels to the right are read: each outweighs those before it
-abbrev pub outweighed : Ordering → List (List ℕ) → List (List ℕ) → Ordering
-outweighed order [] others = order
-outweighed order (label ∷ labels) [] = order
-outweighed order (label ∷ labels) (other ∷ others) = outweighed (ordering_then (label_order label other) order) labels others
-
 -- the labels, with letters lowered
 abbrev pub folded_labels : List ℕ → List (List ℕ)
 folded_labels name = map folded (labels_of name)
@@ -32,3 +26,9 @@ pub record IsAtOrBelow (name zone : List ℕ) : Type 0 where
 -- whether a name is at or below a zone: its labels end with those of the zone, but for the case of letters
 abbrev pub is_at_or_below : List ℕ → List ℕ → Bool
 is_at_or_below name zone = ends_with (pointwise nat_eq) (folded_labels name) (folded_labels zone)
+
+-- an order found so far, when the labels to the right are read: each outweighs those before it
+abbrev pub outweighed : Ordering → List (List ℕ) → List (List ℕ) → Ordering
+outweighed order [] others = order
+outweighed order (label ∷ labels) [] = order
+outweighed order (label ∷ labels) (other ∷ others) = outweighed (ordering_then (label_order label other) order) labels others
