@@ -1,2 +1,5 @@
 pub mod WireForms
 pub mod Spelling
+pub mod LabelOrder
+pub mod NameTies
+pub mod ReadAgain

@@ -1,9 +1,14 @@
 -- The keys of a cache: a folded name, and what of it is kept.
-use Rattle.std.specs.Prelude.{◌≡◌, ℕ, List, Bool, true, false, ◌&&◌, ◌==◌, nat_eq}
-use Rattle.std.specs.Cmp.Lexicographic.{pointwise}
+use Rattle.std.specs.Prelude.{◌≡◌, ℕ, List, ◌++◌, Bool, true, false, ◌&&◌, ◌==◌, nat_eq}
+use Rattle.std.specs.declared.cmp.Ordering.{Ordering}
+use Rattle.std.specs.Ordering.{nat_cmp, ordering_then}
+use Rattle.std.specs.Cmp.Lexicographic.{pointwise, slice_cmp}
+use Rattle.std.specs.Hash.{HashWrites}
+use Rattle.std.specs.Hash as fed
 use Rattle.rrc_name.specs.declared.slot.Slot.{Slot}
 use Rattle.rrc_name.specs.declared.slot.Slot.TheVariants.{Set, Nx, Failed}
 use Rattle.rrc_name.specs.Wire.{folded}
+use Rattle.rrc_name.specs.Order.{canonical_order}
 
 -- what a key is: the wire form of a name, and a slot of it
 pub record KeyOf : Type 0 where
@@ -21,6 +26,35 @@ slot_eq Nx Nx = true
 slot_eq (Failed a) (Failed b) = a == b
 slot_eq a b = false
 
+-- the place of a slot's kind: sets, then that there is no such name, then failures
+abbrev pub kind_place : Slot → ℕ
+kind_place (Set rtype) = 0
+kind_place Nx = 1
+kind_place (Failed rtype) = 2
+
+-- the type that a slot is of, and 0 for that there is no such name
+abbrev pub type_of : Slot → ℕ
+type_of (Set rtype) = rtype
+type_of Nx = 0
+type_of (Failed rtype) = rtype
+
+-- sets by type, then that there is no such name, then failures by type
+abbrev pub slot_order : Slot → Slot → Ordering
+slot_order a b = ordering_then (nat_cmp (kind_place a) (kind_place b)) (nat_cmp (type_of a) (type_of b))
+
 -- whether the keys are the same, the wanted key first: the one word by which keys are compared
 abbrev pub key_eq : KeyOf → KeyOf → Bool
 key_eq wanted key = pointwise nat_eq wanted.name key.name && slot_eq wanted.slot key.slot
+
+-- keys by the canonical order of their names, and then by slot, which is all between folded names; other names that tie go by
+-- their octets before the slot: the one word by which keys are ordered
+abbrev pub key_order : KeyOf → KeyOf → Ordering
+key_order a b =
+    ordering_then (canonical_order a.name b.name) (ordering_then (slice_cmp nat_cmp a.name b.name) (slot_order a.slot b.slot))
+
+-- what slots and keys are hashed by: the kind's place and the type, behind the octets of a key's name
+abbrev pub slot_hash : Slot → HashWrites
+slot_hash slot = fed.u8 (kind_place slot) ++ fed.u16 (type_of slot)
+
+abbrev pub key_hash : KeyOf → HashWrites
+key_hash key = fed.slice fed.u8 key.name ++ slot_hash key.slot

@@ -1,4 +1,5 @@
 pub mod Wire
+pub mod Order
 pub mod Text
 pub mod Key
 pub mod KeyLaws

@@ -1,5 +1,5 @@
 -- The text of a name (RFC 1035 5.1): labels with a dot between them, and escapes for octets that have no letter.
-use Rattle.std.specs.Prelude.{ℕ, ◌+◌, ◌-◌, ◌*◌, ◌/◌, ◌%◌, List, [], ◌∷◌, ◌++◌, length, if◌then◌else◌, ◌==◌, ◌||◌, nat_lt, nat_le, bytes_eq, Result, Ok, Err}
+use Rattle.std.specs.Prelude.{◌≡◌, ℕ, ◌+◌, ◌-◌, ◌*◌, ◌/◌, ◌%◌, List, [], ◌∷◌, ◌++◌, length, if◌then◌else◌, ◌==◌, ◌||◌, nat_lt, nat_le, bytes_eq, Result, Ok, Err}
 use Rattle.std.specs.List.{flat_map}
 use Rattle.std.specs.Char.{is_ascii_graphic, is_ascii_digit}
 use Rattle.rrc_name.specs.declared.text.Escape.{Escape}
@@ -8,7 +8,7 @@ use Rattle.rrc_name.specs.declared.text.Spelled.{Spelled}
 use Rattle.rrc_name.specs.declared.text.Spelled.TheVariants.{Part, Octet, Dot, NoSpelling}
 use Rattle.rrc_name.specs.declared.fault.NameFault.{NameFault}
 use Rattle.rrc_name.specs.declared.fault.NameFault.TheVariants.{EmptyLabel, LabelTooLong, NameTooLong, BadEscape}
-use Rattle.rrc_name.specs.Wire.{labels_of}
+use Rattle.rrc_name.specs.Wire.{labels_of, IsWireForm}
 
 -- what follows an answer, or its fault
 abbrev pub and_then : Result (List ℕ) NameFault → (List ℕ → Result (List ℕ) NameFault) → Result (List ℕ) NameFault
@@ -84,3 +84,7 @@ text_of_labels (label ∷ labels) = dotted (label ∷ labels)
 -- the text of a name, which ends with a dot
 abbrev pub text_of : List ℕ → List ℕ
 text_of name = text_of_labels (labels_of name)
+
+-- each name is read again from its text, octet for octet
+abbrev pub IsReadAgain : Type 0
+IsReadAgain = (name : List ℕ) → IsWireForm name → name_in (text_of name) ≡ Ok name

@@ -1,5 +1,6 @@
 -- The wire form of a name (RFC 1035 3.1): each label behind its length, and a zero octet at the end.
-use Rattle.std.specs.Prelude.{◌≡◌, ℕ, zero, suc, ◌<◌, ◌≤◌, List, [], ◌∷◌, ◌++◌, length, take, drop, map, if◌then◌else◌, ◌==◌}
+use Rattle.std.specs.Prelude.{◌≡◌, ℕ, zero, suc, ◌<◌, ◌≤◌, List, [], ◌∷◌, ◌++◌, length, take, drop, map, if◌then◌else◌, ◌==◌, Bool, nat_eq}
+use Rattle.std.specs.Cmp.Lexicographic.{pointwise}
 use Rattle.std.specs.List.{AllByRecursion}
 use Rattle.std.specs.Char.{to_ascii_lowercase}
 
@@ -41,6 +42,10 @@ pub record BeginsWith (name label behind : List ℕ) : Type 0 where
 -- the letters A to Z as a to z, every other octet as it is (RFC 4343 3); a length octet is below 'A', so it stays
 abbrev pub folded : List ℕ → List ℕ
 folded octets = map to_ascii_lowercase octets
+
+-- whether the names are the same but for the case of letters
+abbrev pub same_name : List ℕ → List ℕ → Bool
+same_name a b = pointwise nat_eq (folded a) (folded b)
 
 -- the names are the same but for the case of letters
 abbrev pub IsSameName : List ℕ → List ℕ → Type 0

@@ -5,6 +5,8 @@ ghost use Rattle.rrc_name.specs.Key.{key_eq, slot_eq};
 use crate::name::Name;
 use crate::slot::Slot;
 use std::alloc::AllocError;
+use std::cmp::Ordering;
+use std::hash::{Hash, Hasher};
 use std::marker::Model;
 
 /// A folded name, and what of it is kept.
@@ -45,6 +47,7 @@ impl Key {
         ensures folded { IsFolded self.now.name }
         ensures name { IsWireForm self.now.name }
     {
+        // The length is read for what it tells: the name is a wire form.
         let _ = self.name.len();
         &self.name
     }
@@ -86,4 +89,54 @@ impl Eq for Key {
     ghost use Rattle.rrc_name.specs.KeyLaws.{key_eq-laws};
 
     ghost laws = { key_eq-laws };
+}
+
+impl Hash for Key {
+    ghost use Rattle.rrc_name.specs.Key.{key_hash};
+    ghost use Rattle.rrc_name.specs.KeyLaws.{key_hash-alike};
+
+    ghost hash_input = { key_hash };
+
+    ghost respects_eq = { key_hash-alike.fed };
+
+    fn hash<H: Hasher>(&self, state: &mut H) {
+        self.name.hash(state);
+        self.slot.hash(state);
+    }
+}
+
+impl Ord for Key {
+    ghost use Rattle.rrc_name.specs.Key.{key_order};
+    ghost use Rattle.rrc_name.specs.KeyLaws.{key_order-total, key_order-ties};
+    ghost use Rattle.std.specs.Prelude.{refl};
+
+    ghost cmp = { key_order };
+
+    ghost total = { key_order-total };
+
+    ghost matches_partial_cmp = { λ _ _. refl };
+
+    ghost matches_eq = { key_order-ties };
+
+    // Names that are folded and tie in canonical order are one name, so the slots are all that is left to compare.
+    fn cmp(&self, other: &Key) -> Ordering {
+        let names = self.name().canonical_cmp(other.name());
+        names.then(self.slot.cmp(&other.slot))
+    }
+}
+
+impl PartialOrd for Key {
+    ghost use Rattle.rrc_name.specs.Key.{key_order};
+    ghost use Rattle.rrc_name.specs.KeyLaws.{key_order-total, key_order-ties};
+    ghost use Rattle.std.specs.Ordering.{as_partial_cmp};
+    ghost use Rattle.std.specs.Cmp.{partial_order_from_agreeing_total};
+    ghost use Rattle.std.specs.Prelude.{refl};
+
+    ghost partial_cmp = { as_partial_cmp key_order };
+
+    ghost laws = { partial_order_from_agreeing_total key_order key_order-total (λ _ _. refl) key_order-ties };
+
+    fn partial_cmp(&self, other: &Key) -> Option<Ordering> {
+        Some(self.cmp(other))
+    }
 }

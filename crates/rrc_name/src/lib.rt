@@ -4,17 +4,22 @@
 mod fault;
 mod key;
 mod label;
+mod laws;
 mod name;
+#[cfg(test)]
+mod name_tests;
 mod octets;
+mod order;
+#[cfg(test)]
+mod order_tests;
 mod printed;
 mod sequence;
 mod slot;
-#[cfg(test)]
-mod tests;
 mod text;
 
 pub use fault::NameFault;
 pub use key::Key;
+pub use laws::reading_undoes_printing;
 pub use name::Name;
 pub use octets::Octets;
 pub use sequence::Sequence;

@@ -1,17 +1,19 @@
 ghost use Rattle.std.specs.Prelude.{◌≡◌, ◌⊎◌, ◌↔◌, [], ◌∷◌, length, string_bytes, IsTrue, IfOk, IfErr};
-ghost use Rattle.rrc_name.specs.Wire.{folded, IsWireForm, IsSameName};
+ghost use Rattle.rrc_name.specs.Wire.{folded, IsWireForm, IsSameName, same_name};
 ghost use Rattle.rrc_name.specs.Key.{IsFolded};
+ghost use Rattle.rrc_name.specs.Order.{canonical_order, IsAtOrBelow, is_at_or_below};
 ghost use Rattle.rrc_name.specs.Text.{name_in, text_of};
 
 use crate::fault::NameFault;
 use crate::octets::Octets;
-use crate::{printed, text};
+use crate::{order, printed, text};
 use std::alloc::{AllocError, Global};
+use std::cmp::Ordering;
 use std::marker::Model;
 
 /// A name of the DNS, in the spelling received. Contracts see its wire form (RFC 1035 section 3.1): each label of 1 to 63
 /// octets behind its length, and a zero octet at the end, at most 255 octets in all.
-#[derive(Debug, Drop, PartialEq, Eq)]
+#[derive(Debug, Drop, PartialEq, Eq, Hash)]
 pub struct Name {
     pub wire: Octets,
 }
@@ -59,7 +61,8 @@ impl Name {
     /// The text of the name, which ends with a dot: `\.` for a dot within a label, `\\` for a backslash, `\DDD` for an octet
     /// that is no graphic one, by its decimal number; `.` alone for the root. `from_text` reads the name again from it.
     pub fn to_text(&self) -> Result<String, AllocError>
-        ensures { IfOk result (λ text. string_bytes text ≡ text_of self.now) }
+        ensures text { IfOk result (λ text. string_bytes text ≡ text_of self.now) }
+        ensures read_again { IfOk result (λ text. name_in (string_bytes text) ≡ Ok self.now) }
     {
         printed::text_in(self.wire.alloc(), self.wire.as_slice())
     }
@@ -83,11 +86,29 @@ impl Name {
 
     /// Whether the names are the same but for the case of letters (RFC 4343). It takes no memory.
     pub fn same(&self, other: &Name) -> bool
-        ensures { IsTrue result ↔ IsSameName self.now other.now }
+        ensures value { result ≡ same_name self.now other.now }
+        ensures meaning { IsTrue result ↔ IsSameName self.now other.now }
     {
         self.wire
             .as_slice()
             .eq_ignore_ascii_case(other.wire.as_slice())
+    }
+
+    /// The canonical order of names (RFC 4034 section 6.1): by labels from the rightmost, each by its octets with the letters
+    /// A to Z as a to z; an absent label or octet comes first. It takes no memory.
+    pub fn canonical_cmp(&self, other: &Name) -> Ordering
+        ensures value { result ≡ canonical_order self.now other.now }
+        ensures same { (result ≡ Ordering.Equal) ↔ IsSameName self.now other.now }
+    {
+        order::order_of_names(self.wire.as_slice(), other.wire.as_slice())
+    }
+
+    /// Whether the name is the zone's or one of the names below it. It takes no memory.
+    pub fn is_at_or_below(&self, zone: &Name) -> bool
+        ensures value { result ≡ is_at_or_below self.now zone.now }
+        ensures meaning { IsTrue result ↔ IsAtOrBelow self.now zone.now }
+    {
+        order::is_within(self.wire.as_slice(), zone.wire.as_slice())
     }
 }
 

@@ -6,6 +6,7 @@ ghost use Rattle.std.specs.Prelude.{nat_eq};
 ghost use Rattle.rrc_name.specs.Wire.{folded};
 
 use std::alloc::{AllocError, Global};
+use std::hash::{Hash, Hasher};
 use std::marker::Model;
 
 /// Octets, as a message or a trace has them. Contracts see the list of them.
@@ -107,4 +108,17 @@ impl PartialEq for Octets {
 
 impl Eq for Octets {
     ghost laws = { lists_equiv nat_eq_equiv };
+}
+
+impl Hash for Octets {
+    ghost use Rattle.std.specs.Cmp.Lexicographic.{bytes_decides};
+    ghost use Rattle.std.specs.Hash as fed;
+
+    ghost hash_input = { λ o. fed.slice fed.u8 o };
+
+    ghost respects_eq = { (fed.same_Alike (fed.slice fed.u8) bytes_decides).fed };
+
+    fn hash<H: Hasher>(&self, state: &mut H) {
+        self.octets.hash(state);
+    }
 }
