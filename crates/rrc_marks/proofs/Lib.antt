@@ -1,0 +1,4 @@
+pub mod Counts
+pub mod Totals
+pub mod Keeps
+pub mod Allowed

@@ -1,0 +1,5 @@
+pub mod Views
+pub mod Rule
+pub mod Told
+pub mod Seen
+pub mod Limits

@@ -1,0 +1,211 @@
+// The table of marks, and its calls. Word 0 counts the draws, and word m + 1 is the mark m.
+ghost use Rattle.std.specs.Prelude.{◌≡◌, ℕ, ◌+◌, ◌-◌, ◌<◌, ◌≤◌, [], true, false, All, length, IfOk, IfErr, IfSome, IfNone};
+ghost use Rattle.rrc_marks.specs.Limits.{is_within_limits};
+ghost use Rattle.rrc_marks.specs.Views.{times, opening, drew, took, left, gave, given, joined, weight, IsAlone, Holds, Lacks};
+ghost use Rattle.rrc_marks.specs.Seen.{IsPassOf, knowing};
+ghost use Rattle.rrc_marks.specs.Told.{Draws};
+
+use crate::fault::MarksFault;
+use crate::pass::Pass;
+use crate::rule::{Begin, Draw, Finish, Gift, Give, Kept, Look, Merge, Terms, View};
+use atomic_table::{Seat, Table};
+use std::alloc::{AllocError, Global};
+use std::marker::{Brand, Model};
+
+const MOST_MARKS: usize = 4096;
+
+const MOST_LINES: u64 = 1_000_000;
+
+const MOST_TURNS: u64 = 1 << 40;
+
+/// What a try to begin a mark met.
+#[derive(Clone, Copy, Debug, PartialEq, Eq)]
+pub enum Began {
+    /// The mark was free, and the pass holds it now.
+    Mine,
+    /// A pass held the mark.
+    Taken,
+}
+
+/// A table of marks, and of numbers to be drawn. To a contract it is its name, its number of marks, the lines, and the turns at the start.
+#[derive(Drop)]
+pub struct Marks {
+    table: Table<(), View, Terms, Kept, Global>,
+    marks: usize,
+    lines: u64,
+}
+
+impl Model for Marks {
+    ghost use Rattle.rrc_marks.specs.Seen.{Board};
+    ghost use Rattle.std.specs.Prelude.{◌≡◌, ◌+◌};
+
+    ghost Value = { Board };
+
+    ghost view = { λ m. record { table = m.table.shared.table_id; marks = m.marks; lines = m.lines; turns = m.table.shared.key.turns } };
+
+    ghost invariant = { λ m. (m.table.shared.table_id.words ≡ m.marks + 1) × (m.table.shared.table_id.slots ≡ 0) × (m.table.shared.key.marks ≡ m.marks) };
+}
+
+fn is_within(marks: usize, lines: u64, turns: u64) -> bool
+    ensures { result ≡ is_within_limits marks lines turns }
+{
+    1 <= marks && marks <= MOST_MARKS && lines <= MOST_LINES && 1 <= turns && turns <= MOST_TURNS
+}
+
+impl Marks {
+    /// Makes a table of `marks` free marks, and the pass that has all `turns`.
+    ///
+    /// `BadNumber` unless there are 1 to 4,096 marks, at most 1,000,000 lines and 1 to 2^40 turns; else `Memory` where memory is refused.
+    pub fn new(
+        alloc: Global,
+        marks: usize,
+        lines: u64,
+        turns: u64,
+    ) -> Result<(Marks, Pass), MarksFault> {
+        if !is_within(marks, lines, turns) {
+            return Err(MarksFault::BadNumber);
+        }
+        match Marks::within(alloc, marks, lines, turns) {
+            Ok(made) => Ok(made),
+            Err(AllocError) => Err(MarksFault::Memory),
+        }
+    }
+
+    fn within(
+        alloc: Global,
+        marks: usize,
+        lines: u64,
+        turns: u64,
+    ) -> Result<(Marks, Pass), AllocError>
+        requires { is_within_limits marks lines turns ≡ true }
+        ensures table { IfOk result (λ made. made.0 ≡ record { table = made.0.table; marks = marks; lines = lines; turns = turns }) }
+        ensures pass { IfOk result (λ made. made.1 ≡ record { table = made.0.table; view = opening turns }) }
+    {
+        let words = vec![in alloc; 0u64; marks + 1]?;
+        let terms = Terms { marks, turns };
+        let (table, seat) = Table::of_words(alloc, &words, &terms)?;
+        let marks = Marks {
+            table,
+            marks,
+            lines,
+        };
+        let pass = Pass {
+            seat,
+            turns,
+            draws: 0,
+        };
+        Ok((marks, pass))
+    }
+
+    /// Draws the next number, by one turn. `None` where it is not below the table's lines; the pass has drawn it all the same.
+    pub fn draw(&self, pass: &mut Pass) -> Option<u64>
+        requires own { IsPassOf self.now pass.old }
+        requires turn { 0 < pass.old.view.turns }
+        ensures some { IfSome result (λ number. (number < self.now.lines) × Draws pass.old.view number × (pass.new ≡ knowing (drew number pass.old.view) pass.old)) }
+        ensures none { IfNone result ((number : ℕ) × (self.now.lines ≤ number) × Draws pass.old.view number × (pass.new ≡ knowing (drew number pass.old.view) pass.old)) }
+    {
+        let number = self.table.shared.fetch_add::<Draw>(&mut pass.seat, 0, 1);
+        pass.turns -= 1;
+        pass.draws += 1;
+        if number < self.lines {
+            Some(number)
+        } else {
+            None
+        }
+    }
+
+    /// Tries to begin a mark, by one exchange.
+    pub fn begin(&self, pass: &mut Pass, mark: usize) -> Began
+        requires own { IsPassOf self.now pass.old }
+        requires mark { mark < self.now.marks }
+    {
+        if self
+            .table
+            .shared
+            .compare_exchange::<Begin>(&mut pass.seat, mark + 1, 0, 1)
+            == 0
+        {
+            Began::Mine
+        } else {
+            Began::Taken
+        }
+    }
+
+    /// Frees a mark that the pass holds.
+    pub fn finish(&self, pass: &mut Pass, mark: usize)
+        requires own { IsPassOf self.now pass.old }
+        requires mark { mark < self.now.marks }
+        requires holds { Holds pass.old.view mark }
+        ensures { pass.new ≡ knowing (left mark pass.old.view) pass.old }
+    {
+        self.table
+            .shared
+            .store::<Finish>(&mut pass.seat, mark + 1, 0);
+    }
+
+    /// Gives some of the turns that are left to a new pass, for another thread.
+    pub fn split(&self, pass: &mut Pass, turns: u64) -> Pass
+        requires own { IsPassOf self.now pass.old }
+        requires some { 0 < turns }
+        requires has { turns ≤ pass.old.view.turns }
+        requires keeps { turns < weight pass.old.view }
+        ensures giver { pass.new ≡ knowing (gave turns pass.old.view) pass.old }
+        ensures taker { result ≡ knowing (given turns pass.old.view) pass.old }
+    {
+        let seat = self.cut::<Brand>(&mut pass.seat, turns);
+        pass.turns -= turns;
+        Pass {
+            seat,
+            turns,
+            draws: 0,
+        }
+    }
+
+    // The number of turns reaches the proof of the step as a member of the bound.
+    fn cut<G: Gift>(&self, seat: &mut Seat<(), View>, turns: u64) -> Seat<(), View>
+        requires own { seat.old.table_id ≡ self.now.table }
+        requires gift { turns ≡ G.turns }
+        requires some { 0 < turns }
+        requires has { turns ≤ seat.old.me.0.turns }
+        requires keeps { turns < weight seat.old.me.0 }
+        ensures giver { (seat.new.table_id ≡ seat.old.table_id) × (seat.new.me ≡ (gave turns seat.old.me.0, seat.old.me.1)) }
+        ensures taker { (result.table_id ≡ seat.old.table_id) × (result.me ≡ (given turns seat.old.me.0, [])) }
+    {
+        self.table.shared.split_seat::<Give<G>>(seat)
+    }
+
+    /// Takes in another pass: what it drew, what it holds, and the turns that it has left.
+    pub fn join(&self, pass: &mut Pass, other: Pass)
+        requires own { IsPassOf self.now pass.old }
+        requires other { IsPassOf self.now other }
+        ensures { pass.new ≡ knowing (joined pass.old.view other.view) pass.old }
+    {
+        let Pass { seat, turns, draws } = other;
+        self.table.shared.join_seat::<Merge>(&mut pass.seat, seat);
+        self.table.shared.load::<Look>(&mut pass.seat, 0);
+        pass.turns += turns;
+        pass.draws += draws;
+    }
+
+    /// Ends the table, once its turns, left and used, are all in one pass that holds no mark. Answers the number of draws.
+    pub fn close(self, pass: Pass) -> u64
+        requires own { IsPassOf self pass }
+        requires alone { IsAlone pass.view }
+        requires free { pass.view.held ≡ [] }
+    {
+        let Marks {
+            table,
+            marks: _,
+            lines: _,
+        } = self;
+        let Pass {
+            seat,
+            turns: _,
+            draws: _,
+        } = pass;
+        let closed = table.close_with(seat);
+        let draws = closed.word(0);
+        closed.free();
+        draws
+    }
+}
