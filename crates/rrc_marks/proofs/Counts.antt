@@ -3,8 +3,7 @@ use Rattle.std.proofs.Common.{◌≡◌, ◌≢◌, ℕ, zero, suc, ◌+◌, ◌
 use mathlib.Core.Logic.{dite}
 use native.Mathlib.Decide.{ℕ_discrete}
 use Rattle.std.proofs.lemmas.Grind.{common_steps}
-use Rattle.rrc_marks.specs.Views.{times, without}
-use Rattle.rrc_marks.specs.Rule.{once_below}
+use Rattle.rrc_marks.specs.Views.{times, without, once_below}
 
 pub times-append : (x : ℕ) (xs ys : List ℕ) → times x (xs ++ ys) ≡ times x xs + times x ys
 times-append x [] ys = omega arith
@@ -26,9 +25,9 @@ pub times-without_other : (x m : ℕ) (xs : List ℕ) → m ≢ x → times x (w
 times-without_other x m [] apart = refl
 times-without_other x m (y ∷ xs) apart = dite (ℕ_discrete y m)
     (λ e. subst (λ b. times x (cond b (without m xs) (y ∷ without m xs)) ≡ times x (y ∷ xs)) (sym (eq-eqb y m e))
-        (times-without_other x m xs apart ∙ sym (times-cons_other x y xs (λ s. apart (sym e ∙ s)))))
+    (times-without_other x m xs apart ∙ sym (times-cons_other x y xs (λ s. apart (sym e ∙ s)))))
     (λ n. subst (λ b. times x (cond b (without m xs) (y ∷ without m xs)) ≡ times x (y ∷ xs)) (sym (ne_eqb y m n))
-        (ap (λ k. cond (eqb y x) 1 0 + k) (times-without_other x m xs apart)))
+    (ap (λ k. cond (eqb y x) 1 0 + k) (times-without_other x m xs apart)))
 
 pub times-get_or : (xs : List ℕ) (k d : ℕ) → k < length xs → 0 < times (get_or xs k d) xs
 times-get_or [] k d h = absurd (omega arith)
@@ -40,3 +39,6 @@ once_below-next x n = grind (arith, common_steps)
 
 pub once_below-some : (x n : ℕ) → 0 < once_below x n → x < n
 once_below-some x n h = grind (arith, common_steps)
+
+pub once_below-le : (x n : ℕ) → once_below x n ≤ 1
+once_below-le x n = grind (arith, common_steps)

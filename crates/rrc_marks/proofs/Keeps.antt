@@ -6,8 +6,8 @@ use native.Mathlib.Decide.{ℕ_discrete}
 use lib.ListN.{get_elem?}
 use Rattle.atomic_table.proofs.Lists.{set_else}
 use Rattle.rrc_marks.specs.declared.rule.View.{View}
-use Rattle.rrc_marks.specs.Views.{times, without, opening, spent, drew, took, left, gave, given, joined, weight, Holds}
-use Rattle.rrc_marks.specs.Rule.{total, once_below, Stands, IsKept}
+use Rattle.rrc_marks.specs.Views.{times, once_below, without, opening, spent, drew, took, left, gave, given, joined, weight, Holds}
+use Rattle.rrc_marks.specs.Rule.{total, Stands, IsKept}
 use Rattle.rrc_marks.proofs.Counts.{times-append, times-cons_same, times-cons_other, times-without_same, times-without_other, once_below-next}
 use Rattle.rrc_marks.proofs.Totals.{total-set, total-push, part_le, AllStand-set, AllStand-push}
 
@@ -72,7 +72,7 @@ module _ (marks turns : ℕ) (words : List ℕ) (views : List View) (kept : IsKe
         limited = kept.limited;
         holders = λ j. dite (ℕ_discrete j m)
             (λ is. subst (λ (k : ℕ). total (held k) (set views id w) ≡ get_or (set words (m + 1) new) (k + 1) 0) (sym is)
-                (let change = total-set (held m) views id v w at in let was = kept.holders m in rw now (omega arith)))
+            (let change = total-set (held m) views id v w at in let was = kept.holders m in rw now (omega arith)))
             (λ not. let far : j + 1 ≢ m + 1 = omega arith in let change = total-set (held j) views id v w at in let was = kept.holders j in let o = others j not in rw get_or-set_other (omega arith));
         one_holder = λ j. dite (ℕ_discrete j m)
             (λ is. subst (λ (k : ℕ). get_or (set words (m + 1) new) (k + 1) 0 ≤ 1) (sym is) (rw now bit))

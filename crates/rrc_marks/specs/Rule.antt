@@ -1,18 +1,14 @@
 -- The rule of a table of marks: a fact about its words and about what all passes know, at every moment between two steps.
-use Rattle.std.specs.Prelude.{◌≡◌, ℕ, ◌+◌, ◌^◌, ◌<◌, ◌≤◌, ◌⊎◌, if◌then◌else◌, nat_lt, List, [], ◌∷◌, length, slice_index}
+use Rattle.std.specs.Prelude.{◌≡◌, ℕ, ◌+◌, ◌^◌, ◌<◌, ◌≤◌, ◌⊎◌, List, [], ◌∷◌, length, slice_index}
 use mathlib.Core.Option.{some}
 use lib.ListN.{get_elem?}
 use Rattle.rrc_marks.specs.declared.rule.View.{View}
-use Rattle.rrc_marks.specs.Views.{times, spent, weight}
+use Rattle.rrc_marks.specs.Views.{times, once_below, spent, weight}
 
 -- f of each view, added up
 abbrev pub total : (View → ℕ) → List View → ℕ
 total f [] = 0
 total f (v ∷ vs) = f v + total f vs
-
--- 1 for a number below n, else 0
-abbrev pub once_below : ℕ → ℕ → ℕ
-once_below x n = if nat_lt x n then 1 else 0
 
 -- a pass names the turns at the start, and has some, left or used; or it is spent
 abbrev pub Stands : ℕ → View → Type 0

@@ -1,7 +1,9 @@
--- What contracts see of a table of marks and of a pass.
-use Rattle.std.specs.Prelude.{◌≡◌, ℕ, List}
+-- What contracts see of a table of marks and of a pass, and what the types of both keep.
+use Rattle.std.specs.Prelude.{◌≡◌, ℕ, ◌+◌, ◌^◌, ◌<◌, ◌≤◌, List, [], length}
 use Rattle.atomic_table.specs.Seated.{TableId}
 use Rattle.rrc_marks.specs.declared.rule.View.{View}
+use Rattle.rrc_marks.specs.declared.rule.Terms.{Terms}
+use Rattle.rrc_marks.specs.Told.{Sat}
 
 -- a table of marks: which one it is, and its numbers
 pub record Board : Type 0 where
@@ -22,3 +24,18 @@ IsPassOf board hand = hand.table ≡ board.table
 -- the pass knows something else
 abbrev pub knowing : View → Hand → Hand
 knowing v hand = record { table = hand.table; view = v }
+
+-- a table has a word for the draws and one for each mark, no slot, and terms that name its marks
+pub record IsLaidOut (table : TableId) (terms : Terms) (marks : ℕ) : Type 0 where
+  pub word_count : table.words ≡ marks + 1
+  pub slot_count : table.slots ≡ 0
+  pub named : terms.marks ≡ marks
+  pub limited : marks ≤ 4096
+
+-- a pass counts its turns and its draws, of which it has 1 to 2^40 together, and holds no slot
+pub record IsCounted (knows : Sat) (turns draws : ℕ) : Type 0 where
+  pub turns_left : turns ≡ knows.0.turns
+  pub numbers : draws ≡ length knows.0.drawn
+  pub no_slot : knows.1 ≡ []
+  pub some : 0 < turns + draws
+  pub limited : turns + draws ≤ 2 ^ 40

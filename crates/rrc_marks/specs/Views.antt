@@ -1,11 +1,19 @@
 -- What a pass knows of its table, and how each kind of step changes it.
-use Rattle.std.specs.Prelude.{◌≡◌, ℕ, ◌+◌, ◌-◌, ◌<◌, ◌==◌, if◌then◌else◌, List, [], ◌∷◌, ◌++◌, length}
+use Rattle.std.specs.Prelude.{◌≡◌, ℕ, ◌+◌, ◌-◌, ◌<◌, ◌==◌, if◌then◌else◌, nat_lt, List, [], ◌∷◌, ◌++◌, length}
 use Rattle.rrc_marks.specs.declared.rule.View.{View}
 
 -- how often x stands in the list
 abbrev pub times : ℕ → List ℕ → ℕ
 times x [] = 0
 times x (y ∷ ys) = (if y == x then 1 else 0) + times x ys
+
+-- 1 for a number below n, else 0
+abbrev pub once_below : ℕ → ℕ → ℕ
+once_below x n = if nat_lt x n then 1 else 0
+
+-- the list is the numbers below n, each once
+abbrev pub EachOnceBelow : ℕ → List ℕ → Type 0
+EachOnceBelow n xs = (x : ℕ) → times x xs ≡ once_below x n
 
 -- the list with every x taken out
 abbrev pub without : ℕ → List ℕ → List ℕ

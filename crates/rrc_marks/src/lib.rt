@@ -1,11 +1,15 @@
 //! Marks that one thread at a time holds, and numbers that threads draw once each, over words that change in single atomic steps under a rule.
 #![tactic(auto)]
 
+mod began;
 mod fault;
+mod law;
 mod marks;
 mod pass;
 mod rule;
 
+pub use began::Began;
 pub use fault::MarksFault;
-pub use marks::{Began, Marks};
+pub use law::each_step_keeps_the_rule;
+pub use marks::Marks;
 pub use pass::Pass;

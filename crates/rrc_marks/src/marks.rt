@@ -1,14 +1,17 @@
 // The table of marks, and its calls. Word 0 counts the draws, and word m + 1 is the mark m.
-ghost use Rattle.std.specs.Prelude.{◌≡◌, ℕ, ◌+◌, ◌-◌, ◌<◌, ◌≤◌, [], true, false, All, length, IfOk, IfErr, IfSome, IfNone};
+ghost use Rattle.std.specs.Prelude.{◌≡◌, ℕ, ◌+◌, ◌-◌, ◌<◌, ◌≤◌, [], true, false, All, length, slice_index, IfOk, IfErr, IfSome, IfNone};
+ghost use Rattle.rrc_marks.specs.Ends.{last_words, IsSettled, IsWhole};
 ghost use Rattle.rrc_marks.specs.Limits.{is_within_limits};
-ghost use Rattle.rrc_marks.specs.Views.{times, opening, drew, took, left, gave, given, joined, weight, IsAlone, Holds, Lacks};
+ghost use Rattle.rrc_marks.specs.Views.{times, opening, drew, took, left, gave, given, joined, weight, IsAlone, Holds, Lacks, EachOnceBelow};
 ghost use Rattle.rrc_marks.specs.Seen.{IsPassOf, knowing};
 ghost use Rattle.rrc_marks.specs.Told.{Draws};
+ghost use Rattle.rrc_marks.specs.Begins.{Begins};
 
+use crate::began::Began;
 use crate::fault::MarksFault;
 use crate::pass::Pass;
 use crate::rule::{Begin, Draw, Finish, Gift, Give, Kept, Look, Merge, Terms, View};
-use atomic_table::{Seat, Table};
+use atomic_table::{Closed, Seat, Table};
 use std::alloc::{AllocError, Global};
 use std::marker::{Brand, Model};
 
@@ -17,15 +20,6 @@ const MOST_MARKS: usize = 4096;
 const MOST_LINES: u64 = 1_000_000;
 
 const MOST_TURNS: u64 = 1 << 40;
-
-/// What a try to begin a mark met.
-#[derive(Clone, Copy, Debug, PartialEq, Eq)]
-pub enum Began {
-    /// The mark was free, and the pass holds it now.
-    Mine,
-    /// A pass held the mark.
-    Taken,
-}
 
 /// A table of marks, and of numbers to be drawn. To a contract it is its name, its number of marks, the lines, and the turns at the start.
 #[derive(Drop)]
@@ -36,14 +30,13 @@ pub struct Marks {
 }
 
 impl Model for Marks {
-    ghost use Rattle.rrc_marks.specs.Seen.{Board};
-    ghost use Rattle.std.specs.Prelude.{◌≡◌, ◌+◌};
+    ghost use Rattle.rrc_marks.specs.Seen.{Board, IsLaidOut};
 
     ghost Value = { Board };
 
     ghost view = { λ m. record { table = m.table.shared.table_id; marks = m.marks; lines = m.lines; turns = m.table.shared.key.turns } };
 
-    ghost invariant = { λ m. (m.table.shared.table_id.words ≡ m.marks + 1) × (m.table.shared.table_id.slots ≡ 0) × (m.table.shared.key.marks ≡ m.marks) };
+    ghost invariant = { λ m. IsLaidOut m.table.shared.table_id m.table.shared.key m.marks };
 }
 
 fn is_within(marks: usize, lines: u64, turns: u64) -> bool
@@ -192,6 +185,22 @@ impl Marks {
         requires own { IsPassOf self pass }
         requires alone { IsAlone pass.view }
         requires free { pass.view.held ≡ [] }
+        ensures draws { result ≡ length pass.view.drawn }
+        ensures each_once { EachOnceBelow result pass.view.drawn }
+    {
+        let closed = self.into_words(pass);
+        let draws = closed.word(0);
+        closed.free();
+        draws
+    }
+
+    // The words as they are at the end: the number of draws, and free marks.
+    fn into_words(self, pass: Pass) -> Closed<(), Global>
+        requires own { IsPassOf self pass }
+        requires alone { IsAlone pass.view }
+        requires free { pass.view.held ≡ [] }
+        ensures whole { IsWhole result }
+        ensures settled { IsSettled (last_words result) pass.view }
     {
         let Marks {
             table,
@@ -203,9 +212,6 @@ impl Marks {
             turns: _,
             draws: _,
         } = pass;
-        let closed = table.close_with(seat);
-        let draws = closed.word(0);
-        closed.free();
-        draws
+        table.close_with(seat)
     }
 }

@@ -16,14 +16,13 @@ pub struct Pass {
 }
 
 impl Model for Pass {
-    ghost use Rattle.rrc_marks.specs.Seen.{Hand};
-    ghost use Rattle.std.specs.Prelude.{◌≡◌, ◌+◌, ◌^◌, ◌<◌, ◌≤◌, [], length};
+    ghost use Rattle.rrc_marks.specs.Seen.{Hand, IsCounted};
 
     ghost Value = { Hand };
 
     ghost view = { λ p. record { table = p.seat.table_id; view = p.seat.me.0 } };
 
-    ghost invariant = { λ p. (p.turns ≡ p.seat.me.0.turns) × (p.draws ≡ length p.seat.me.0.drawn) × (p.seat.me.1 ≡ []) × (0 < p.turns + p.draws) × (p.turns + p.draws ≤ 2 ^ 40) };
+    ghost invariant = { λ p. IsCounted p.seat.me p.turns p.draws };
 }
 
 impl Pass {

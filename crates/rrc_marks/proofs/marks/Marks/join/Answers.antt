@@ -1,0 +1,17 @@
+use Rattle.std.proofs.Common.{rules, arith, ap, ◌∙◌, sym, subst}
+use Rattle.rrc_marks.proofs.Allowed.{join_allowed, look_allowed}
+use Rattle.rrc_marks.proofs.Counted.{weighs_join, counted_join}
+use Rattle.rrc_marks.proofs.marks.Marks.join.Goals as goal
+
+pub join_seat-requires : goal.join_seat-requires
+join_seat-requires c = (search rules, search rules, search rules, omega arith, join_allowed _ _ _ _ _ _ (omega arith))
+
+pub load-requires : goal.load-requires
+load-requires c = (
+  search rules,
+  omega arith,
+  look_allowed _ _ _ _ _ (weighs_join _ _ _ _ _ _ _ c.pass.invariant c.other.invariant c.join_seat.ensures.2),
+)
+
+pub invariant_of-pass : goal.invariant_of-pass
+invariant_of-pass c = counted_join _ _ _ _ _ _ _ _ c.pass.invariant c.other.invariant c.join_seat.ensures.2 c.load.ensures.2

@@ -1,0 +1,49 @@
+-- The kinds of step on a table of marks, each on one word by one pass, and the law that each keeps the rule.
+use Rattle.std.specs.Prelude.{◌≡◌, ◌≢◌, ℕ, ◌+◌, ◌<◌, ◌≤◌, List, [], ◌∷◌, ◌++◌, length, slice_index, slice_set}
+use mathlib.Core.Option.{some}
+use lib.ListN.{get_elem?}
+use Rattle.rrc_marks.specs.declared.rule.View.{View}
+use Rattle.rrc_marks.specs.Views.{times, spent, drew, took, left, gave, given, joined, weight, IsAlone, Holds}
+use Rattle.rrc_marks.specs.Rule.{IsKept}
+use Rattle.rrc_marks.specs.Ends.{IsSettled}
+
+-- the words of a table, and what its passes know
+pub record Moment : Type 0 where
+  pub words : List ℕ
+  pub views : List View
+
+abbrev pub moment : List ℕ → List View → Moment
+moment words views = record { words = words; views = views }
+
+-- a draw, a begin that won or lost, a finish, each with its mark, a split with the turns given, a join with the other pass, and the look behind a join
+pub data Kind : Type 0 where
+  draws : Kind
+  wins : ℕ → Kind
+  loses : ℕ → Kind
+  finishes : ℕ → Kind
+  splits : ℕ → Kind
+  joins : ℕ → Kind
+  looks : Kind
+
+-- the pass id, which knows v, takes a table of so many marks from one moment to the next by one step of a kind
+abbrev pub Steps : ℕ → Kind → ℕ → View → Moment → Moment → Type 0
+Steps marks draws id v s t = (0 < v.turns) × (t ≡ moment (slice_set s.words 0 (slice_index s.words 0 + 1)) (slice_set s.views id (drew (slice_index s.words 0) v)))
+Steps marks (wins m) id v s t = (m < marks) × (slice_index s.words (m + 1) ≡ 0) × (t ≡ moment (slice_set s.words (m + 1) 1) (slice_set s.views id (took m v)))
+Steps marks (loses m) id v s t = (m < marks) × (slice_index s.words (m + 1) ≡ 1) × (t ≡ s)
+Steps marks (finishes m) id v s t = (m < marks) × Holds v m × (t ≡ moment (slice_set s.words (m + 1) 0) (slice_set s.views id (left m v)))
+Steps marks (splits turns) id v s t = (0 < turns) × (turns ≤ v.turns) × (turns < weight v) × (t ≡ moment s.words (slice_set s.views id (gave turns v) ++ given turns v ∷ []))
+Steps marks (joins other) id v s t = (w : View) × (other ≢ id) × (get_elem? s.views other ≡ some w) × (t ≡ moment s.words (slice_set (slice_set s.views id (joined v w)) other spent))
+Steps marks looks id v s t = t ≡ s
+
+-- a step of any kind, by a pass that is not spent, keeps the rule
+abbrev pub EachStepKeepsTheRule : Type 0
+EachStepKeepsTheRule =
+    (marks turns : ℕ) (kind : Kind) (id : ℕ) (v : View) (s t : Moment)
+    → IsKept marks turns s.words s.views → get_elem? s.views id ≡ some v → 0 < weight v → Steps marks kind id v s t → IsKept marks turns t.words t.views
+
+-- where a pass that is alone holds no mark, the words are settled
+abbrev pub AloneAtTheEnd : Type 0
+AloneAtTheEnd =
+    (marks turns : ℕ) (id : ℕ) (v : View) (s : Moment)
+    → IsKept marks turns s.words s.views → get_elem? s.views id ≡ some v → 0 < weight v → IsAlone v → v.held ≡ []
+    → IsSettled s.words v
