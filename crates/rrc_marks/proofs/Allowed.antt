@@ -10,7 +10,7 @@ use lib.ListN.{get_elem?}
 use prog.Atomic.{either}
 use Rattle.atomic_table.specs.Table.{State, Me, step, keeps, stepped, Allows, Splits, Joins, Seen}
 use Rattle.rrc_marks.specs.declared.rule.View.{View}
-use Rattle.rrc_marks.specs.Views.{times, once_below, drew, took, left, gave, given, joined, spent, weight, IsAlone, Holds, Lacks}
+use Rattle.rrc_marks.specs.Views.{times, once_below, after_draw, after_win, after_finish, after_split, split_off, after_join, spent_view, all_turns, IsAlone, Holds, Lacks}
 use Rattle.rrc_marks.specs.Rule.{total, Stands, IsKept}
 use Rattle.rrc_marks.specs.Ends.{IsSettled}
 use Rattle.rrc_marks.specs.Told.{Sat, Draws, Finds, IsBounded, told_draw, told_begin, told_finish, told_look}
@@ -23,16 +23,16 @@ abbrev pub Kept : ℕ → ℕ → State (Unit {0}) View → Type 0
 Kept marks turns s = IsKept marks turns s.words s.views
 
 -- all that the passes have, turns and draws, is the turns at the start
-whole : (marks turns : ℕ) (words : List ℕ) (views : List View) → IsKept marks turns words views → total weight views ≡ turns
+whole : (marks turns : ℕ) (words : List ℕ) (views : List View) → IsKept marks turns words views → total all_turns views ≡ turns
 whole marks turns words views kept =
     let parts = total-sum (λ v. v.turns) (λ v. length v.drawn) views in
     let balanced = kept.balanced in
     let counted = kept.counted in
     omega arith
 
-module _ (marks turns : ℕ) (words : List ℕ) (views : List View) (kept : IsKept marks turns words views) (id : ℕ) (v : View) (at : get_elem? views id ≡ some v) (has : 0 < weight v) where
+module _ (marks turns : ℕ) (words : List ℕ) (views : List View) (kept : IsKept marks turns words views) (id : ℕ) (v : View) (at : get_elem? views id ≡ some v) (has : 0 < all_turns v) where
   -- what a pass that is alone has none of, no pass has
-  alone : (f : View → ℕ) → f spent ≡ 0 → IsAlone v → total f views ≡ f v
+  alone : (f : View → ℕ) → f spent_view ≡ 0 → IsAlone v → total f views ≡ f v
   alone f nothing all =
       let sum = whole marks turns words views kept in
       let start = names turns v (kept.standing id v at) has in
@@ -58,14 +58,14 @@ draw_allowed marks turns slots id me some_turn s kept _ at _ =
     let balanced = kept.balanced in
     let limited = kept.limited in
     let plain : (n + 1) % 18446744073709551616 ≡ n + 1 = omega arith in
-    (drew n me.0, keeps, tt, subst (λ (k : ℕ). IsKept marks turns (set s.words 0 k) (set s.views id (drew n me.0))) (sym plain) (draw_keeps marks turns s.words s.views kept id me.0 at some_turn), (refl, draws_next marks turns s.words s.views kept id me.0 at (omega arith) some_turn))
+    (after_draw n me.0, keeps, tt, subst (λ (k : ℕ). IsKept marks turns (set s.words 0 k) (set s.views id (after_draw n me.0))) (sym plain) (draw_keeps marks turns s.words s.views kept id me.0 at some_turn), (refl, draws_next marks turns s.words s.views kept id me.0 at (omega arith) some_turn))
 
 -- where nothing changes, the rule is kept
 stays : (marks turns : ℕ) (words : List ℕ) (views : List View) (i id : ℕ) (v : View) → IsKept marks turns words views → get_elem? views id ≡ some v
     → IsKept marks turns (set words i (get_or words i 0)) (set views id v)
 stays marks turns words views i id v kept at = subst (λ (z : List ℕ × List View). IsKept marks turns z.0 z.1) (λ k. (sym (set-get_or words i 0) k, sym (set_again views id v at) k)) kept
 
-module _ (marks turns : ℕ) (words : List ℕ) (views : List View) (kept : IsKept marks turns words views) (id : ℕ) (v : View) (at : get_elem? views id ≡ some v) (has : 0 < weight v) where
+module _ (marks turns : ℕ) (words : List ℕ) (views : List View) (kept : IsKept marks turns words views) (id : ℕ) (v : View) (at : get_elem? views id ≡ some v) (has : 0 < all_turns v) where
   finds : (m : ℕ) → Finds v m (get_or words (m + 1) 0)
   finds m = record {
     free = λ none. let part = part_le (λ u. times m u.held) views id v at in let was = kept.holders m in omega arith;
@@ -75,7 +75,7 @@ module _ (marks turns : ℕ) (words : List ℕ) (views : List View) (kept : IsKe
 
   bounded : IsBounded v
   bounded = record {
-    within = let part = part_le weight views id v at in let sum = whole marks turns words views kept in let start = names turns v (kept.standing id v at) has in omega arith;
+    within = let part = part_le all_turns views id v at in let sum = whole marks turns words views kept in let start = names turns v (kept.standing id v at) has in omega arith;
     limited = let start = names turns v (kept.standing id v at) has in let limited = kept.limited in omega arith;
     drawn_once = λ x. let part = part_le (λ u. times x u.drawn) views id v at in let was = kept.each_once x in let most = once_below-le x (get_or words 0 0) in omega arith;
     held_once = λ m. let part = part_le (λ u. times m u.held) views id v at in let was = kept.holders m in let bit = kept.one_holder m in omega arith;
@@ -93,7 +93,7 @@ module _ (marks turns : ℕ) (words : List ℕ) (views : List View) (kept : IsKe
 same_mark : (mark other : ℕ) → mark + 1 ≡ other + 1 → other ≡ mark
 same_mark mark other e = omega arith
 
-pub begin_allowed : (marks turns slots id : ℕ) (me : Sat) (mark : ℕ) → 0 < weight me.0 → mark < marks
+pub begin_allowed : (marks turns slots id : ℕ) (me : Sat) (mark : ℕ) → 0 < all_turns me.0 → mark < marks
     → Allows (Kept marks turns) slots id me (mark + 1) (λ n. either (eqb n 0) 1 n) (told_begin (step slots (mark + 1) 0 1 none) me)
 begin_allowed marks turns slots id me mark has below s kept _ at _ =
     let x : ℕ = get_or s.words (mark + 1) 0 in
@@ -101,43 +101,43 @@ begin_allowed marks turns slots id me mark has below s kept _ at _ =
     let bit = kept.one_holder mark in
     dite (ℕ_discrete x 0)
     (λ free. (
-      took mark me.0,
+      after_win mark me.0,
       keeps,
       tt,
-      subst (λ b. IsKept marks turns (set s.words (mark + 1) (either b 1 x)) (set s.views id (took mark me.0))) (sym (eq-eqb x 0 free)) (win_keeps marks turns s.words s.views kept id me.0 at mark has below free),
-      λ other is. subst (λ k. (((x ≡ 0) × (let now : Sat = (took mark me.0, me.1) in now ≡ (took k me.0, me.1))) ⊎ ((x ≡ 1) × (let now : Sat = (took mark me.0, me.1) in now ≡ me))) × Finds me.0 k x) (sym (same_mark mark other is)) (inl (free, refl), found),
+      subst (λ b. IsKept marks turns (set s.words (mark + 1) (either b 1 x)) (set s.views id (after_win mark me.0))) (sym (eq-eqb x 0 free)) (win_keeps marks turns s.words s.views kept id me.0 at mark has below free),
+      λ other is. subst (λ k. (((x ≡ 0) × (let now : Sat = (after_win mark me.0, me.1) in now ≡ (after_win k me.0, me.1))) ⊎ ((x ≡ 1) × (let now : Sat = (after_win mark me.0, me.1) in now ≡ me))) × Finds me.0 k x) (sym (same_mark mark other is)) (inl (free, refl), found),
     ))
     (λ taken. (
       me.0,
       keeps,
       tt,
       subst (λ b. IsKept marks turns (set s.words (mark + 1) (either b 1 x)) (set s.views id me.0)) (sym (ne_eqb x 0 taken)) (stays marks turns s.words s.views (mark + 1) id me.0 kept at),
-      λ other is. subst (λ k. (((x ≡ 0) × (me ≡ (took k me.0, me.1))) ⊎ ((x ≡ 1) × (me ≡ me))) × Finds me.0 k x) (sym (same_mark mark other is)) (inr (omega arith, refl), found),
+      λ other is. subst (λ k. (((x ≡ 0) × (me ≡ (after_win k me.0, me.1))) ⊎ ((x ≡ 1) × (me ≡ me))) × Finds me.0 k x) (sym (same_mark mark other is)) (inr (omega arith, refl), found),
     ))
 
-pub finish_allowed : (marks turns slots id : ℕ) (me : Sat) (mark : ℕ) → 0 < weight me.0 → mark < marks → Holds me.0 mark
+pub finish_allowed : (marks turns slots id : ℕ) (me : Sat) (mark : ℕ) → 0 < all_turns me.0 → mark < marks → Holds me.0 mark
     → Allows (Kept marks turns) slots id me (mark + 1) (λ _. 0) (λ _. told_finish (step slots (mark + 1) 0 0 none) me 0)
 finish_allowed marks turns slots id me mark has below holds s kept _ at _ = (
-  left mark me.0,
+  after_finish mark me.0,
   keeps,
   tt,
   finish_keeps marks turns s.words s.views kept id me.0 at mark has below holds,
-  λ other is. ap (λ k. (left k me.0, me.1)) (sym (same_mark mark other is)),
+  λ other is. ap (λ k. (after_finish k me.0, me.1)) (sym (same_mark mark other is)),
 )
 
-pub look_allowed : (marks turns slots id : ℕ) (me : Sat) → 0 < weight me.0
+pub look_allowed : (marks turns slots id : ℕ) (me : Sat) → 0 < all_turns me.0
     → Allows (Kept marks turns) slots id me 0 (λ n. n) (told_look (step slots 0 0 0 none) me)
 look_allowed marks turns slots id me has s kept _ at _ =
     (me.0, keeps, tt, stays marks turns s.words s.views 0 id me.0 kept at, (refl, bounded marks turns s.words s.views kept id me.0 at has))
 
-pub split_allowed : (marks turns id : ℕ) (v : View) (k : ℕ) → 0 < k → k ≤ v.turns → k < weight v → Splits (Kept marks turns) id v (gave k v) (given k v)
+pub split_allowed : (marks turns id : ℕ) (v : View) (k : ℕ) → 0 < k → k ≤ v.turns → k < all_turns v → Splits (Kept marks turns) id v (after_split k v) (split_off k v)
 split_allowed marks turns id v k some_turns enough keeps_some s kept at = split_keeps marks turns s.words s.views kept id v at k some_turns enough keeps_some
 
-pub join_allowed : (marks turns id : ℕ) (v : View) (other : ℕ) (w : View) → 0 < weight v → Joins (Kept marks turns) id v other w (joined v w) spent
+pub join_allowed : (marks turns id : ℕ) (v : View) (other : ℕ) (w : View) → 0 < all_turns v → Joins (Kept marks turns) id v other w (after_join v w) spent_view
 join_allowed marks turns id v other w has s kept at apart there =
-    join_keeps marks turns s.words s.views kept id v at other w has apart (sym (set_else s.views id other (joined v w) apart) ∙ there)
+    join_keeps marks turns s.words s.views kept id v at other w has apart (sym (set_else s.views id other (after_join v w) apart) ∙ there)
 
 -- what the words are that a table hands out at its end
-pub hands_out : (marks turns id : ℕ) (v : View) (words : List ℕ) (s : State (Unit {0}) View) → Seen (Kept marks turns) id v s → s.words ≡ words → 0 < weight v → IsAlone v → v.held ≡ []
+pub hands_out : (marks turns id : ℕ) (v : View) (words : List ℕ) (s : State (Unit {0}) View) → Seen (Kept marks turns) id v s → s.words ≡ words → 0 < all_turns v → IsAlone v → v.held ≡ []
     → IsSettled words v
 hands_out marks turns id v words s seen is has all free = subst (λ ws. IsSettled ws v) is (ends marks turns s.words s.views seen.0 id v seen.1 has all free)

@@ -1,33 +1,33 @@
 -- After each step a pass still counts what it has.
 use Rattle.std.proofs.Common.{◌≡◌, ◌⊎◌, ℕ, ◌+◌, ◌-◌, ◌^◌, ◌<◌, ◌≤◌, List, [], ◌++◌, length, sym, ap, ◌∙◌, subst, ⊎_elim, arith, length-append}
-use Rattle.rrc_marks.specs.Views.{took, left, joined, weight}
+use Rattle.rrc_marks.specs.Views.{after_win, after_finish, after_join, all_turns}
 use Rattle.rrc_marks.specs.Told.{Sat, Finds, IsBounded}
 use Rattle.rrc_marks.specs.Seen.{IsCounted}
 
 pub counted_begin : (knew knows : Sat) (turns draws mark found : ℕ) → IsCounted knew turns draws
-    → (((found ≡ 0) × (knows ≡ (took mark knew.0, knew.1))) ⊎ ((found ≡ 1) × (knows ≡ knew))) × Finds knew.0 mark found → IsCounted knows turns draws
+    → (((found ≡ 0) × (knows ≡ (after_win mark knew.0, knew.1))) ⊎ ((found ≡ 1) × (knows ≡ knew))) × Finds knew.0 mark found → IsCounted knows turns draws
 counted_begin knew knows turns draws mark found counted told =
     ⊎_elim
-    (λ (won : (found ≡ 0) × (knows ≡ (took mark knew.0, knew.1))). subst (λ (m : Sat). IsCounted m turns draws) (sym won.1)
+    (λ (won : (found ≡ 0) × (knows ≡ (after_win mark knew.0, knew.1))). subst (λ (m : Sat). IsCounted m turns draws) (sym won.1)
     record { turns_left = counted.turns_left; numbers = counted.numbers; no_slot = counted.no_slot; some = counted.some; limited = counted.limited })
     (λ (lost : (found ≡ 1) × (knows ≡ knew)). subst (λ (m : Sat). IsCounted m turns draws) (sym lost.1) counted)
     told.0
 
-pub counted_finish : (knew knows : Sat) (turns draws mark : ℕ) → IsCounted knew turns draws → knows ≡ (left mark knew.0, knew.1) → IsCounted knows turns draws
+pub counted_finish : (knew knows : Sat) (turns draws mark : ℕ) → IsCounted knew turns draws → knows ≡ (after_finish mark knew.0, knew.1) → IsCounted knows turns draws
 counted_finish knew knows turns draws mark counted told =
     subst (λ (m : Sat). IsCounted m turns draws) (sym told)
     record { turns_left = counted.turns_left; numbers = counted.numbers; no_slot = counted.no_slot; some = counted.some; limited = counted.limited }
 
--- a pass that joined another has turns, left or used
-pub weighs_join : (knew other knows : Sat) (turns draws more_turns more_draws : ℕ) → IsCounted knew turns draws → IsCounted other more_turns more_draws → knows ≡ (joined knew.0 other.0, knew.1) → 0 < weight knows.0
+-- a pass that took in another has turns, left or used
+pub weighs_join : (knew other knows : Sat) (turns draws more_turns more_draws : ℕ) → IsCounted knew turns draws → IsCounted other more_turns more_draws → knows ≡ (after_join knew.0 other.0, knew.1) → 0 < all_turns knows.0
 weighs_join knew other knows turns draws more_turns more_draws counted more told =
-    subst (λ (m : Sat). 0 < weight m.0) (sym told)
+    subst (λ (m : Sat). 0 < all_turns m.0) (sym told)
     (let long = length-append knew.0.drawn other.0.drawn in let some = counted.some in let a = counted.turns_left in let b = counted.numbers in omega arith)
 
 pub counted_join : (knew other knows seen : Sat) (turns draws more_turns more_draws : ℕ) → IsCounted knew turns draws → IsCounted other more_turns more_draws
-    → knows ≡ (joined knew.0 other.0, knew.1) → (seen ≡ knows) × IsBounded knows.0 → IsCounted seen (turns + more_turns) (draws + more_draws)
+    → knows ≡ (after_join knew.0 other.0, knew.1) → (seen ≡ knows) × IsBounded knows.0 → IsCounted seen (turns + more_turns) (draws + more_draws)
 counted_join knew other knows seen turns draws more_turns more_draws counted more told looked =
-    let same : seen ≡ (joined knew.0 other.0, knew.1) = looked.0 ∙ told in
+    let same : seen ≡ (after_join knew.0 other.0, knew.1) = looked.0 ∙ told in
     let bounded = subst (λ (m : Sat). IsBounded m.0) told looked.1 in
     let long = length-append knew.0.drawn other.0.drawn in
     let a = counted.turns_left in

@@ -6,7 +6,7 @@ use native.Mathlib.Decide.{ℕ_discrete}
 use lib.ListN.{get_elem?}
 use Rattle.atomic_table.proofs.Lists.{set_else}
 use Rattle.rrc_marks.specs.declared.rule.View.{View}
-use Rattle.rrc_marks.specs.Views.{times, once_below, without, opening, spent, drew, took, left, gave, given, joined, weight, Holds}
+use Rattle.rrc_marks.specs.Views.{times, once_below, without, opening_view, spent_view, after_draw, after_win, after_finish, after_split, split_off, after_join, all_turns, Holds}
 use Rattle.rrc_marks.specs.Rule.{total, Stands, IsKept}
 use Rattle.rrc_marks.proofs.Counts.{times-append, times-cons_same, times-cons_other, times-without_same, times-without_other, once_below-next}
 use Rattle.rrc_marks.proofs.Totals.{total-set, total-push, part_le, AllStand-set, AllStand-push}
@@ -24,15 +24,15 @@ abbrev turns_of : View → ℕ
 turns_of v = v.turns
 
 -- a pass that has turns, left or used, names those at the start
-pub names : (turns : ℕ) (v : View) → Stands turns v → 0 < weight v → v.start ≡ turns
+pub names : (turns : ℕ) (v : View) → Stands turns v → 0 < all_turns v → v.start ≡ turns
 names turns v stands some_weight =
-    ⊎_elim (λ (h : (v.start ≡ turns) × (0 < weight v)). h.0) (λ (is : v ≡ spent). absurd (let none : weight v ≡ 0 = ap weight is in omega arith)) stands
+    ⊎_elim (λ (h : (v.start ≡ turns) × (0 < all_turns v)). h.0) (λ (is : v ≡ spent_view). absurd (let none : all_turns v ≡ 0 = ap all_turns is in omega arith)) stands
 
 module _ (marks turns : ℕ) (words : List ℕ) (views : List View) (kept : IsKept marks turns words views) (id : ℕ) (v : View) (at : get_elem? views id ≡ some v) where
-  pub draw_keeps : 0 < v.turns → IsKept marks turns (set words 0 (get_or words 0 0 + 1)) (set views id (drew (get_or words 0 0) v))
+  pub draw_keeps : 0 < v.turns → IsKept marks turns (set words 0 (get_or words 0 0 + 1)) (set views id (after_draw (get_or words 0 0) v))
   draw_keeps some_turn =
       let n : ℕ = get_or words 0 0 in
-      let w : View = drew n v in
+      let w : View = after_draw n v in
       let sized = kept.sized in
       let room : 0 < length words = omega arith in
       let now : get_or (set words 0 (n + 1)) 0 0 ≡ n + 1 = get_or-set_same words 0 (n + 1) 0 room in
@@ -53,7 +53,7 @@ module _ (marks turns : ℕ) (words : List ℕ) (views : List View) (kept : IsKe
       }
 
   -- a step on the word of the mark m, after which the pass holds these marks
-  pub marked : (m new : ℕ) (marks_held : List ℕ) → 0 < weight v → m < marks → new ≤ 1
+  pub marked : (m new : ℕ) (marks_held : List ℕ) → 0 < all_turns v → m < marks → new ≤ 1
       → times m marks_held + get_or words (m + 1) 0 ≡ times m v.held + new → ((j : ℕ) → j ≢ m → times j marks_held ≡ times j v.held)
       → IsKept marks turns (set words (m + 1) new) (set views id record { drawn = v.drawn; held = marks_held; turns = v.turns; start = v.start })
   marked m new marks_held has below bit mine others =
@@ -84,7 +84,7 @@ module _ (marks turns : ℕ) (words : List ℕ) (views : List View) (kept : IsKe
       }
 
   -- a mark that was free is held
-  pub win_keeps : (m : ℕ) → 0 < weight v → m < marks → get_or words (m + 1) 0 ≡ 0 → IsKept marks turns (set words (m + 1) 1) (set views id (took m v))
+  pub win_keeps : (m : ℕ) → 0 < all_turns v → m < marks → get_or words (m + 1) 0 ≡ 0 → IsKept marks turns (set words (m + 1) 1) (set views id (after_win m v))
   win_keeps m has below free =
       let more = times-cons_same m v.held in
       marked m 1 (m ∷ v.held) has below (omega arith) (omega arith) (λ j not. times-cons_other j m v.held (λ e. not (sym e)))
@@ -97,37 +97,37 @@ module _ (marks turns : ℕ) (words : List ℕ) (views : List View) (kept : IsKe
       let bit = kept.one_holder m in
       (omega arith, omega arith)
 
-  pub finish_keeps : (m : ℕ) → 0 < weight v → m < marks → Holds v m → IsKept marks turns (set words (m + 1) 0) (set views id (left m v))
+  pub finish_keeps : (m : ℕ) → 0 < all_turns v → m < marks → Holds v m → IsKept marks turns (set words (m + 1) 0) (set views id (after_finish m v))
   finish_keeps m has below holds =
       let here = held_here m holds in
       let none = times-without_same m v.held in
       marked m 0 (without m v.held) has below (omega arith) (omega arith) (λ j not. times-without_other j m v.held (λ e. not (sym e)))
 
-  pub split_keeps : (k : ℕ) → 0 < k → k ≤ v.turns → k < weight v → IsKept marks turns words (set views id (gave k v) ++ given k v ∷ [])
+  pub split_keeps : (k : ℕ) → 0 < k → k ≤ v.turns → k < all_turns v → IsKept marks turns words (set views id (after_split k v) ++ split_off k v ∷ [])
   split_keeps k some_turns enough keeps =
-      let after : List View = set views id (gave k v) in
+      let after : List View = set views id (after_split k v) in
       let start = names turns v (kept.standing id v at) (omega arith) in
       let counted = kept.counted in
       let balanced = kept.balanced in
-      let same = total-set draws views id v (gave k v) at in
-      let new = total-push draws after (given k v) in
-      let fewer = total-set turns_of views id v (gave k v) at in
-      let more = total-push turns_of after (given k v) in
+      let same = total-set draws views id v (after_split k v) at in
+      let new = total-push draws after (split_off k v) in
+      let fewer = total-set turns_of views id v (after_split k v) at in
+      let more = total-push turns_of after (split_off k v) in
       record {
         sized = kept.sized;
         limited = kept.limited;
-        holders = λ m. let a = total-set (held m) views id v (gave k v) at in let b = total-push (held m) after (given k v) in let was = kept.holders m in omega arith;
+        holders = λ m. let a = total-set (held m) views id v (after_split k v) at in let b = total-push (held m) after (split_off k v) in let was = kept.holders m in omega arith;
         one_holder = kept.one_holder;
-        each_once = λ x. let a = total-set (drawn x) views id v (gave k v) at in let b = total-push (drawn x) after (given k v) in let was = kept.each_once x in omega arith;
+        each_once = λ x. let a = total-set (drawn x) views id v (after_split k v) at in let b = total-push (drawn x) after (split_off k v) in let was = kept.each_once x in omega arith;
         counted = omega arith;
         balanced = omega arith;
-        standing = AllStand-push turns after (given k v) (AllStand-set turns views id (gave k v) kept.standing (inl (start, omega arith))) (inl (start, omega arith));
+        standing = AllStand-push turns after (split_off k v) (AllStand-set turns views id (after_split k v) kept.standing (inl (start, omega arith))) (inl (start, omega arith));
       }
 
-  pub join_keeps : (other : ℕ) (w : View) → 0 < weight v → other ≢ id → get_elem? views other ≡ some w
-      → IsKept marks turns words (set (set views id (joined v w)) other spent)
+  pub join_keeps : (other : ℕ) (w : View) → 0 < all_turns v → other ≢ id → get_elem? views other ≡ some w
+      → IsKept marks turns words (set (set views id (after_join v w)) other spent_view)
   join_keeps other w has apart there =
-      let both : View = joined v w in
+      let both : View = after_join v w in
       let after : List View = set views id both in
       let still : get_elem? after other ≡ some w = set_else views id other both apart ∙ there in
       let start = names turns v (kept.standing id v at) has in
@@ -135,16 +135,16 @@ module _ (marks turns : ℕ) (words : List ℕ) (views : List View) (kept : IsKe
       let balanced = kept.balanced in
       let long = length-append v.drawn w.drawn in
       let a = total-set draws views id v both at in
-      let b = total-set draws after other w spent still in
+      let b = total-set draws after other w spent_view still in
       let c = total-set turns_of views id v both at in
-      let d = total-set turns_of after other w spent still in
+      let d = total-set turns_of after other w spent_view still in
       record {
         sized = kept.sized;
         limited = kept.limited;
-        holders = λ m. let e = total-set (held m) views id v both at in let f = total-set (held m) after other w spent still in let parts = times-append m v.held w.held in let was = kept.holders m in omega arith;
+        holders = λ m. let e = total-set (held m) views id v both at in let f = total-set (held m) after other w spent_view still in let parts = times-append m v.held w.held in let was = kept.holders m in omega arith;
         one_holder = kept.one_holder;
-        each_once = λ x. let e = total-set (drawn x) views id v both at in let f = total-set (drawn x) after other w spent still in let parts = times-append x v.drawn w.drawn in let was = kept.each_once x in omega arith;
+        each_once = λ x. let e = total-set (drawn x) views id v both at in let f = total-set (drawn x) after other w spent_view still in let parts = times-append x v.drawn w.drawn in let was = kept.each_once x in omega arith;
         counted = omega arith;
         balanced = omega arith;
-        standing = AllStand-set turns after other spent (AllStand-set turns views id both kept.standing (inl (start, omega arith))) (inr refl);
+        standing = AllStand-set turns after other spent_view (AllStand-set turns views id both kept.standing (inl (start, omega arith))) (inr refl);
       }

@@ -2,5 +2,6 @@ pub mod Counts
 pub mod Totals
 pub mod Keeps
 pub mod Allowed
+pub mod Answered
 pub mod Counted
 pub mod StepsKeep

@@ -3,7 +3,7 @@ use Rattle.std.proofs.Common.{◌≡◌, ◌≢◌, ℕ, ◌+◌, ◌<◌, List,
 use mathlib.Core.Option.{some}
 use lib.ListN.{get_elem?}
 use Rattle.rrc_marks.specs.declared.rule.View.{View}
-use Rattle.rrc_marks.specs.Views.{weight}
+use Rattle.rrc_marks.specs.Views.{all_turns}
 use Rattle.rrc_marks.specs.Rule.{IsKept}
 use Rattle.rrc_marks.specs.Steps.{Moment, Kind, draws, wins, loses, finishes, splits, joins, looks, Steps, EachStepKeepsTheRule, AloneAtTheEnd}
 use Rattle.rrc_marks.proofs.Keeps.{draw_keeps, win_keeps, finish_keeps, split_keeps, join_keeps}

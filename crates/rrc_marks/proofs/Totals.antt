@@ -4,7 +4,7 @@ use mathlib.Core.Option.{some, some-injective, some-ne-none}
 use lib.ListN.{get_elem?}
 use Rattle.atomic_table.proofs.Lists.{at_set, at_snoc}
 use Rattle.rrc_marks.specs.declared.rule.View.{View}
-use Rattle.rrc_marks.specs.Views.{spent, weight}
+use Rattle.rrc_marks.specs.Views.{spent_view, all_turns}
 use Rattle.rrc_marks.specs.Rule.{total, Stands}
 
 pub total-set : (f : View → ℕ) (views : List View) (id : ℕ) (v w : View) → get_elem? views id ≡ some v → total f (set views id w) + f v ≡ total f views + f w
@@ -43,13 +43,13 @@ AllStand-push turns views w all mine j u at =
     (λ (is : w ≡ u). subst (Stands turns) is mine)
     (at_snoc views w u j at)
 
--- a view of no weight is spent
-weightless : (turns : ℕ) (v : View) → Stands turns v → weight v ≡ 0 → v ≡ spent
+-- a view of no turns is spent
+weightless : (turns : ℕ) (v : View) → Stands turns v → all_turns v ≡ 0 → v ≡ spent_view
 weightless turns v stands none =
-    ⊎_elim (λ (h : (v.start ≡ turns) × (0 < weight v)). absurd (let has = h.1 in omega arith)) (λ (is : v ≡ spent). is) stands
+    ⊎_elim (λ (h : (v.start ≡ turns) × (0 < all_turns v)). absurd (let has = h.1 in omega arith)) (λ (is : v ≡ spent_view). is) stands
 
-module _ (f : View → ℕ) (nothing : f spent ≡ 0) (turns : ℕ) where
-  total-weightless : (views : List View) → AllStand turns views → total weight views ≡ 0 → total f views ≡ 0
+module _ (f : View → ℕ) (nothing : f spent_view ≡ 0) (turns : ℕ) where
+  total-weightless : (views : List View) → AllStand turns views → total all_turns views ≡ 0 → total f views ≡ 0
   total-weightless [] all none = refl
   total-weightless (x ∷ xs) all none =
       let is = weightless turns x (all zero x refl) (omega arith) in
@@ -57,17 +57,17 @@ module _ (f : View → ℕ) (nothing : f spent ≡ 0) (turns : ℕ) where
       let r = total-weightless xs (λ id v at. all (suc id) v at) (omega arith) in
       omega arith
 
-  -- where one view has all the weight, it has all of whatever a spent view has none of
-  pub total-alone : (views : List View) (id : ℕ) (v : View) → AllStand turns views → get_elem? views id ≡ some v → total weight views ≤ weight v → total f views ≡ f v
+  -- where one view has all the turns, it has all of whatever a spent view has none of
+  pub total-alone : (views : List View) (id : ℕ) (v : View) → AllStand turns views → get_elem? views id ≡ some v → total all_turns views ≤ all_turns v → total f views ≡ f v
   total-alone [] id v all at most = absurd (some-ne-none v (sym at))
   total-alone (x ∷ xs) zero v all at most =
       let same = some-injective x v at in
       let is : f x ≡ f v = ap f same in
-      let heavy : weight x ≡ weight v = ap weight same in
+      let heavy : all_turns x ≡ all_turns v = ap all_turns same in
       let r = total-weightless xs (λ id u there. all (suc id) u there) (omega arith) in
       omega arith
   total-alone (x ∷ xs) (suc id) v all at most =
-      let mine : weight v ≤ total weight xs = part_le weight xs id v at in
+      let mine : all_turns v ≤ total all_turns xs = part_le all_turns xs id v at in
       let is = weightless turns x (all zero x refl) (omega arith) in
       let none : f x ≡ 0 = ap f is ∙ nothing in
       let r = total-alone xs id v (λ j u there. all (suc j) u there) at (omega arith) in

@@ -3,7 +3,7 @@ use Rattle.std.specs.Prelude.{◌≡◌, ℕ, ◌+◌, ◌^◌, ◌<◌, ◌≤�
 use mathlib.Core.Option.{some}
 use lib.ListN.{get_elem?}
 use Rattle.rrc_marks.specs.declared.rule.View.{View}
-use Rattle.rrc_marks.specs.Views.{times, once_below, spent, weight}
+use Rattle.rrc_marks.specs.Views.{times, once_below, spent_view, all_turns}
 
 -- f of each view, added up
 abbrev pub total : (View → ℕ) → List View → ℕ
@@ -12,7 +12,7 @@ total f (v ∷ vs) = f v + total f vs
 
 -- a pass names the turns at the start, and has some, left or used; or it is spent
 abbrev pub Stands : ℕ → View → Type 0
-Stands turns v = ((v.start ≡ turns) × (0 < weight v)) ⊎ (v ≡ spent)
+Stands turns v = ((v.start ≡ turns) × (0 < all_turns v)) ⊎ (v ≡ spent_view)
 
 -- word 0 counts the draws, and word m + 1 is 1 exactly where one pass holds the mark m
 pub record IsKept (marks turns : ℕ) (words : List ℕ) (views : List View) : Type 0 where

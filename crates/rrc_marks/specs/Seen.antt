@@ -5,12 +5,11 @@ use Rattle.rrc_marks.specs.declared.rule.View.{View}
 use Rattle.rrc_marks.specs.declared.rule.Terms.{Terms}
 use Rattle.rrc_marks.specs.Told.{Sat}
 
--- a table of marks: which one it is, and its numbers
+-- a table of marks: which one it is, how many marks it has, and below which number a draw is answered
 pub record Board : Type 0 where
   pub table : TableId
   pub marks : ℕ
   pub lines : ℕ
-  pub turns : ℕ
 
 -- a pass: which table it is of, and what it knows
 pub record Hand : Type 0 where
@@ -20,10 +19,6 @@ pub record Hand : Type 0 where
 -- the pass is of the table
 abbrev pub IsPassOf : Board → Hand → Type 0
 IsPassOf board hand = hand.table ≡ board.table
-
--- the pass knows something else
-abbrev pub knowing : View → Hand → Hand
-knowing v hand = record { table = hand.table; view = v }
 
 -- a table has a word for the draws and one for each mark, no slot, and terms that name its marks
 pub record IsLaidOut (table : TableId) (terms : Terms) (marks : ℕ) : Type 0 where

@@ -3,7 +3,7 @@ use Rattle.std.specs.Prelude.{◌≡◌, ◌≢◌, ℕ, ◌+◌, ◌<◌, ◌�
 use mathlib.Core.Option.{some}
 use lib.ListN.{get_elem?}
 use Rattle.rrc_marks.specs.declared.rule.View.{View}
-use Rattle.rrc_marks.specs.Views.{times, spent, drew, took, left, gave, given, joined, weight, IsAlone, Holds}
+use Rattle.rrc_marks.specs.Views.{times, spent_view, after_draw, after_win, after_finish, after_split, split_off, after_join, all_turns, IsAlone, Holds}
 use Rattle.rrc_marks.specs.Rule.{IsKept}
 use Rattle.rrc_marks.specs.Ends.{IsSettled}
 
@@ -15,7 +15,7 @@ pub record Moment : Type 0 where
 abbrev pub moment : List ℕ → List View → Moment
 moment words views = record { words = words; views = views }
 
--- a draw, a begin that won or lost, a finish, each with its mark, a split with the turns given, a join with the other pass, and the look behind a join
+-- a draw, a begin that won or lost, a finish, each with its mark, a split with the turns that go, a join with the other pass, and the look behind a join
 pub data Kind : Type 0 where
   draws : Kind
   wins : ℕ → Kind
@@ -27,23 +27,23 @@ pub data Kind : Type 0 where
 
 -- the pass id, which knows v, takes a table of so many marks from one moment to the next by one step of a kind
 abbrev pub Steps : ℕ → Kind → ℕ → View → Moment → Moment → Type 0
-Steps marks draws id v s t = (0 < v.turns) × (t ≡ moment (slice_set s.words 0 (slice_index s.words 0 + 1)) (slice_set s.views id (drew (slice_index s.words 0) v)))
-Steps marks (wins m) id v s t = (m < marks) × (slice_index s.words (m + 1) ≡ 0) × (t ≡ moment (slice_set s.words (m + 1) 1) (slice_set s.views id (took m v)))
+Steps marks draws id v s t = (0 < v.turns) × (t ≡ moment (slice_set s.words 0 (slice_index s.words 0 + 1)) (slice_set s.views id (after_draw (slice_index s.words 0) v)))
+Steps marks (wins m) id v s t = (m < marks) × (slice_index s.words (m + 1) ≡ 0) × (t ≡ moment (slice_set s.words (m + 1) 1) (slice_set s.views id (after_win m v)))
 Steps marks (loses m) id v s t = (m < marks) × (slice_index s.words (m + 1) ≡ 1) × (t ≡ s)
-Steps marks (finishes m) id v s t = (m < marks) × Holds v m × (t ≡ moment (slice_set s.words (m + 1) 0) (slice_set s.views id (left m v)))
-Steps marks (splits turns) id v s t = (0 < turns) × (turns ≤ v.turns) × (turns < weight v) × (t ≡ moment s.words (slice_set s.views id (gave turns v) ++ given turns v ∷ []))
-Steps marks (joins other) id v s t = (w : View) × (other ≢ id) × (get_elem? s.views other ≡ some w) × (t ≡ moment s.words (slice_set (slice_set s.views id (joined v w)) other spent))
+Steps marks (finishes m) id v s t = (m < marks) × Holds v m × (t ≡ moment (slice_set s.words (m + 1) 0) (slice_set s.views id (after_finish m v)))
+Steps marks (splits turns) id v s t = (0 < turns) × (turns ≤ v.turns) × (turns < all_turns v) × (t ≡ moment s.words (slice_set s.views id (after_split turns v) ++ split_off turns v ∷ []))
+Steps marks (joins other) id v s t = (w : View) × (other ≢ id) × (get_elem? s.views other ≡ some w) × (t ≡ moment s.words (slice_set (slice_set s.views id (after_join v w)) other spent_view))
 Steps marks looks id v s t = t ≡ s
 
 -- a step of any kind, by a pass that is not spent, keeps the rule
 abbrev pub EachStepKeepsTheRule : Type 0
 EachStepKeepsTheRule =
     (marks turns : ℕ) (kind : Kind) (id : ℕ) (v : View) (s t : Moment)
-    → IsKept marks turns s.words s.views → get_elem? s.views id ≡ some v → 0 < weight v → Steps marks kind id v s t → IsKept marks turns t.words t.views
+    → IsKept marks turns s.words s.views → get_elem? s.views id ≡ some v → 0 < all_turns v → Steps marks kind id v s t → IsKept marks turns t.words t.views
 
 -- where a pass that is alone holds no mark, the words are settled
 abbrev pub AloneAtTheEnd : Type 0
 AloneAtTheEnd =
     (marks turns : ℕ) (id : ℕ) (v : View) (s : Moment)
-    → IsKept marks turns s.words s.views → get_elem? s.views id ≡ some v → 0 < weight v → IsAlone v → v.held ≡ []
+    → IsKept marks turns s.words s.views → get_elem? s.views id ≡ some v → 0 < all_turns v → IsAlone v → v.held ≡ []
     → IsSettled s.words v

@@ -20,45 +20,45 @@ abbrev pub without : ℕ → List ℕ → List ℕ
 without x [] = []
 without x (y ∷ ys) = if y == x then without x ys else (y ∷ without x ys)
 
--- the pass of a new table: it has drawn nothing, holds nothing, and has all turns
-abbrev pub opening : ℕ → View
-opening turns = record { drawn = []; held = []; turns = turns; start = turns }
+-- the first pass of a table: it has drawn nothing, holds nothing, and has all turns
+abbrev pub opening_view : ℕ → View
+opening_view turns = record { drawn = []; held = []; turns = turns; start = turns }
 
--- what is left of a pass that was joined to another
-abbrev pub spent : View
-spent = record { drawn = []; held = []; turns = 0; start = 0 }
+-- what is left of a pass that another took in
+abbrev pub spent_view : View
+spent_view = record { drawn = []; held = []; turns = 0; start = 0 }
 
 -- one number more was drawn, by one turn
-abbrev pub drew : ℕ → View → View
-drew number v = record { drawn = v.drawn ++ number ∷ []; held = v.held; turns = v.turns - 1; start = v.start }
+abbrev pub after_draw : ℕ → View → View
+after_draw number v = record { drawn = v.drawn ++ number ∷ []; held = v.held; turns = v.turns - 1; start = v.start }
 
 -- one mark more is held
-abbrev pub took : ℕ → View → View
-took mark v = record { drawn = v.drawn; held = mark ∷ v.held; turns = v.turns; start = v.start }
+abbrev pub after_win : ℕ → View → View
+after_win mark v = record { drawn = v.drawn; held = mark ∷ v.held; turns = v.turns; start = v.start }
 
 -- the mark is held no more
-abbrev pub left : ℕ → View → View
-left mark v = record { drawn = v.drawn; held = without mark v.held; turns = v.turns; start = v.start }
+abbrev pub after_finish : ℕ → View → View
+after_finish mark v = record { drawn = v.drawn; held = without mark v.held; turns = v.turns; start = v.start }
 
--- so many turns were given away
-abbrev pub gave : ℕ → View → View
-gave turns v = record { drawn = v.drawn; held = v.held; turns = v.turns - turns; start = v.start }
+-- so many turns went to a new pass
+abbrev pub after_split : ℕ → View → View
+after_split turns v = record { drawn = v.drawn; held = v.held; turns = v.turns - turns; start = v.start }
 
--- a new pass, of so many turns of another
-abbrev pub given : ℕ → View → View
-given turns v = record { drawn = []; held = []; turns = turns; start = v.start }
+-- the new pass, which has those turns and nothing else
+abbrev pub split_off : ℕ → View → View
+split_off turns v = record { drawn = []; held = []; turns = turns; start = v.start }
 
--- all that two passes know, in one
-abbrev pub joined : View → View → View
-joined v w = record { drawn = v.drawn ++ w.drawn; held = v.held ++ w.held; turns = v.turns + w.turns; start = v.start }
+-- all that two passes have
+abbrev pub after_join : View → View → View
+after_join v w = record { drawn = v.drawn ++ w.drawn; held = v.held ++ w.held; turns = v.turns + w.turns; start = v.start }
 
 -- the turns that are left and those that were used
-abbrev pub weight : View → ℕ
-weight v = v.turns + length v.drawn
+abbrev pub all_turns : View → ℕ
+all_turns v = v.turns + length v.drawn
 
--- it has all turns, left and used, so no other pass has any
+-- it has all turns of the table, left and used, so no other pass has any
 abbrev pub IsAlone : View → Type 0
-IsAlone v = weight v ≡ v.start
+IsAlone v = all_turns v ≡ v.start
 
 -- it holds the mark
 abbrev pub Holds : View → ℕ → Type 0

@@ -1,7 +1,7 @@
 // The rule of the table, and what each kind of step tells.
 ghost use Rattle.std.specs.Prelude.{ℕ};
 ghost use Rattle.rrc_marks.specs.Rule.{IsKept};
-ghost use Rattle.rrc_marks.specs.Views.{opening, gave, given, joined, spent};
+ghost use Rattle.rrc_marks.specs.Views.{opening_view, after_split, split_off, after_join, spent_view};
 ghost use Rattle.rrc_marks.specs.Told.{told_draw, told_begin, told_finish, told_look};
 
 use atomic_table::{Join, Play, Split, TableRule};
@@ -28,7 +28,7 @@ pub struct Kept;
 impl TableRule<(), View, Terms> for Kept {
     ghost holds = { λ terms state. IsKept terms.marks terms.turns state.words state.views };
 
-    ghost first = { λ terms. opening terms.turns };
+    ghost first = { λ terms. opening_view terms.turns };
 }
 
 pub struct Draw;
@@ -70,15 +70,15 @@ pub struct Give<G> {
 }
 
 impl<G: Gift> Split<View> for Give<G> {
-    ghost left = { gave G.turns };
+    ghost left = { after_split G.turns };
 
-    ghost right = { given G.turns };
+    ghost right = { split_off G.turns };
 }
 
 pub struct Merge;
 
 impl Join<View> for Merge {
-    ghost both = { joined };
+    ghost both = { after_join };
 
-    ghost spent = { spent };
+    ghost spent = { spent_view };
 }
