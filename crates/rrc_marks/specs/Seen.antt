@@ -3,6 +3,7 @@ use Rattle.std.specs.Prelude.{◌≡◌, ℕ, ◌+◌, ◌^◌, ◌<◌, ◌≤�
 use Rattle.atomic_table.specs.Seated.{TableId}
 use Rattle.rrc_marks.specs.declared.rule.View.{View}
 use Rattle.rrc_marks.specs.declared.rule.Terms.{Terms}
+use Rattle.rrc_marks.specs.Views.{all_turns}
 use Rattle.rrc_marks.specs.Told.{Sat}
 
 -- a table of marks: which one it is, how many marks it has, and below which number a draw is answered
@@ -19,6 +20,13 @@ pub record Hand : Type 0 where
 -- the pass is of the table
 abbrev pub IsPassOf : Board → Hand → Type 0
 IsPassOf board hand = hand.table ≡ board.table
+
+-- from the first to the second a pass did nothing but draw
+pub record OnlyDraws (old new : Hand) : Type 0 where
+  pub table : new.table ≡ old.table
+  pub start : new.view.start ≡ old.view.start
+  pub held : new.view.held ≡ old.view.held
+  pub turns : all_turns new.view ≡ all_turns old.view
 
 -- a table has a word for the draws and one for each mark, no slot, and terms that name its marks
 pub record IsLaidOut (table : TableId) (terms : Terms) (marks : ℕ) : Type 0 where

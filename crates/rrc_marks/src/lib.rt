@@ -13,3 +13,6 @@ pub use fault::MarksFault;
 pub use law::each_step_keeps_the_rule;
 pub use marks::Marks;
 pub use pass::Pass;
+
+#[cfg(test)]
+mod tests;
