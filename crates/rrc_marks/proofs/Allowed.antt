@@ -13,7 +13,7 @@ use Rattle.rrc_marks.specs.declared.rule.View.{View}
 use Rattle.rrc_marks.specs.Views.{times, once_below, after_draw, after_win, after_finish, after_split, split_off, after_join, spent_view, all_turns, IsAlone, Holds, Lacks}
 use Rattle.rrc_marks.specs.Rule.{total, Stands, IsKept}
 use Rattle.rrc_marks.specs.Ends.{IsSettled}
-use Rattle.rrc_marks.specs.Told.{Sat, Draws, Finds, IsBounded, told_draw, told_begin, told_finish, told_look}
+use Rattle.rrc_marks.specs.Told.{Sat, Draws, Exchanges, IsBounded, told_draw, told_begin, told_finish, told_look}
 use Rattle.atomic_table.proofs.Lists.{set_again, set_else, exchanged}
 use Rattle.rrc_marks.proofs.Counts.{times-get_or, once_below-some, once_below-le}
 use Rattle.rrc_marks.proofs.Totals.{part_le, total-sum, total-alone}
@@ -38,8 +38,9 @@ module _ (marks turns : ℕ) (words : List ℕ) (views : List View) (kept : IsKe
       let start = names turns v (kept.standing id v at) has in
       total-alone f nothing turns views id v kept.standing at (omega arith)
 
-  draws_next : 0 < v.turns → Draws v (get_or words 0 0)
+  draws_next : 0 < v.turns → Draws v (get_or words 0 0) (after_draw (get_or words 0 0) v)
   draws_next some_turn = record {
+    after = refl;
     below = let start = names turns v (kept.standing id v at) has in let least = part_le (λ u. u.turns) views id v at in let balanced = kept.balanced in omega arith;
     greatest = λ k d h.
         let x : ℕ = get_or v.drawn k d in
@@ -58,7 +59,7 @@ draw_allowed marks turns slots id me some_turn s kept _ at _ =
     let balanced = kept.balanced in
     let limited = kept.limited in
     let plain : (n + 1) % 18446744073709551616 ≡ n + 1 = omega arith in
-    (after_draw n me.0, keeps, tt, subst (λ (k : ℕ). IsKept marks turns (set s.words 0 k) (set s.views id (after_draw n me.0))) (sym plain) (draw_keeps marks turns s.words s.views kept id me.0 at some_turn), (refl, draws_next marks turns s.words s.views kept id me.0 at (omega arith) some_turn))
+    (after_draw n me.0, keeps, tt, subst (λ (k : ℕ). IsKept marks turns (set s.words 0 k) (set s.views id (after_draw n me.0))) (sym plain) (draw_keeps marks turns s.words s.views kept id me.0 at some_turn), (draws_next marks turns s.words s.views kept id me.0 at (omega arith) some_turn, refl))
 
 -- where nothing changes, the rule is kept
 stays : (marks turns : ℕ) (words : List ℕ) (views : List View) (i id : ℕ) (v : View) → IsKept marks turns words views → get_elem? views id ≡ some v
@@ -66,10 +67,13 @@ stays : (marks turns : ℕ) (words : List ℕ) (views : List View) (i id : ℕ) 
 stays marks turns words views i id v kept at = subst (λ (z : List ℕ × List View). IsKept marks turns z.0 z.1) (λ k. (sym (set-get_or words i 0) k, sym (set_again views id v at) k)) kept
 
 module _ (marks turns : ℕ) (words : List ℕ) (views : List View) (kept : IsKept marks turns words views) (id : ℕ) (v : View) (at : get_elem? views id ≡ some v) (has : 0 < all_turns v) where
-  finds : (m : ℕ) → Finds v m (get_or words (m + 1) 0)
-  finds m = record {
+  -- the exchange of a mark, of which x was found, after which the pass knows w
+  exchanges : (m : ℕ) (w : View) → (get_or words (m + 1) 0 ≡ 0 → w ≡ after_win m v) → (get_or words (m + 1) 0 ≢ 0 → w ≡ v) → Exchanges v m (get_or words (m + 1) 0) w
+  exchanges m w won lost = record {
+    won = won;
     free = λ none. let part = part_le (λ u. times m u.held) views id v at in let was = kept.holders m in omega arith;
-    own = λ holds. (held_here marks turns words views kept id v at m holds).0;
+    lost = lost;
+    own = λ holds none. let here = (held_here marks turns words views kept id v at m holds).0 in omega arith;
     alone = λ all lacks. let one = alone marks turns words views kept id v at has (λ u. times m u.held) refl all in let was = kept.holders m in omega arith;
   }
 
@@ -97,22 +101,21 @@ pub begin_allowed : (marks turns slots id : ℕ) (me : Sat) (mark : ℕ) → 0 <
     → Allows (Kept marks turns) slots id me (mark + 1) (λ n. either (eqb n 0) 1 n) (told_begin (step slots (mark + 1) 0 1 none) me)
 begin_allowed marks turns slots id me mark has below s kept _ at _ =
     let x : ℕ = get_or s.words (mark + 1) 0 in
-    let found = finds marks turns s.words s.views kept id me.0 at has mark in
-    let bit = kept.one_holder mark in
+    let told = exchanges marks turns s.words s.views kept id me.0 at has mark in
     dite (ℕ_discrete x 0)
     (λ free. (
       after_win mark me.0,
       keeps,
       tt,
       subst (λ b. IsKept marks turns (set s.words (mark + 1) (either b 1 x)) (set s.views id (after_win mark me.0))) (sym (eq-eqb x 0 free)) (win_keeps marks turns s.words s.views kept id me.0 at mark has below free),
-      λ other is. subst (λ k. (((x ≡ 0) × (let now : Sat = (after_win mark me.0, me.1) in now ≡ (after_win k me.0, me.1))) ⊎ ((x ≡ 1) × (let now : Sat = (after_win mark me.0, me.1) in now ≡ me))) × Finds me.0 k x) (sym (same_mark mark other is)) (inl (free, refl), found),
+      λ other is. subst (λ k. Exchanges me.0 k x (after_win mark me.0) × (me.1 ≡ me.1)) (sym (same_mark mark other is)) (told (after_win mark me.0) (λ _. refl) (λ some. absurd (some free)), refl),
     ))
     (λ taken. (
       me.0,
       keeps,
       tt,
       subst (λ b. IsKept marks turns (set s.words (mark + 1) (either b 1 x)) (set s.views id me.0)) (sym (ne_eqb x 0 taken)) (stays marks turns s.words s.views (mark + 1) id me.0 kept at),
-      λ other is. subst (λ k. (((x ≡ 0) × (me ≡ (after_win k me.0, me.1))) ⊎ ((x ≡ 1) × (me ≡ me))) × Finds me.0 k x) (sym (same_mark mark other is)) (inr (omega arith, refl), found),
+      λ other is. subst (λ k. Exchanges me.0 k x me.0 × (me.1 ≡ me.1)) (sym (same_mark mark other is)) (told me.0 (λ free. absurd (taken free)) (λ _. refl), refl),
     ))
 
 pub finish_allowed : (marks turns slots id : ℕ) (me : Sat) (mark : ℕ) → 0 < all_turns me.0 → mark < marks → Holds me.0 mark

@@ -1,17 +1,20 @@
 -- After each step a pass still counts what it has.
 use Rattle.std.proofs.Common.{◌≡◌, ◌⊎◌, ℕ, ◌+◌, ◌-◌, ◌^◌, ◌<◌, ◌≤◌, List, [], ◌++◌, length, sym, ap, ◌∙◌, subst, ⊎_elim, arith, length-append}
+use mathlib.Core.Logic.{dite}
+use native.Mathlib.Decide.{ℕ_discrete}
+use Rattle.rrc_marks.specs.declared.rule.View.{View}
 use Rattle.rrc_marks.specs.Views.{after_win, after_finish, after_join, all_turns}
-use Rattle.rrc_marks.specs.Told.{Sat, Finds, IsBounded}
+use Rattle.rrc_marks.specs.Told.{Sat, Exchanges, IsBounded}
 use Rattle.rrc_marks.specs.Seen.{IsCounted}
 
-pub counted_begin : (knew knows : Sat) (turns draws mark found : ℕ) → IsCounted knew turns draws
-    → (((found ≡ 0) × (knows ≡ (after_win mark knew.0, knew.1))) ⊎ ((found ≡ 1) × (knows ≡ knew))) × Finds knew.0 mark found → IsCounted knows turns draws
-counted_begin knew knows turns draws mark found counted told =
-    ⊎_elim
-    (λ (won : (found ≡ 0) × (knows ≡ (after_win mark knew.0, knew.1))). subst (λ (m : Sat). IsCounted m turns draws) (sym won.1)
-    record { turns_left = counted.turns_left; numbers = counted.numbers; no_slot = counted.no_slot; some = counted.some; limited = counted.limited })
-    (λ (lost : (found ≡ 1) × (knows ≡ knew)). subst (λ (m : Sat). IsCounted m turns draws) (sym lost.1) counted)
-    told.0
+pub counted_exchange : (knew knows : Sat) (turns draws mark found : ℕ) → IsCounted knew turns draws → Exchanges knew.0 mark found knows.0 × (knows.1 ≡ knew.1) → IsCounted knows turns draws
+counted_exchange knew knows turns draws mark found counted told =
+    let slots = told.1 ∙ counted.no_slot in
+    dite (ℕ_discrete found 0)
+    (λ free. let is = sym (told.0.won free) in
+    record { turns_left = counted.turns_left ∙ ap (λ (v : View). v.turns) is; numbers = counted.numbers ∙ ap (λ (v : View). length v.drawn) is; no_slot = slots; some = counted.some; limited = counted.limited })
+    (λ some. let is = sym (told.0.lost some) in
+    record { turns_left = counted.turns_left ∙ ap (λ (v : View). v.turns) is; numbers = counted.numbers ∙ ap (λ (v : View). length v.drawn) is; no_slot = slots; some = counted.some; limited = counted.limited })
 
 pub counted_finish : (knew knows : Sat) (turns draws mark : ℕ) → IsCounted knew turns draws → knows ≡ (after_finish mark knew.0, knew.1) → IsCounted knows turns draws
 counted_finish knew knows turns draws mark counted told =

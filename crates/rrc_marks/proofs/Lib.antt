@@ -2,6 +2,5 @@ pub mod Counts
 pub mod Totals
 pub mod Keeps
 pub mod Allowed
-pub mod Answered
 pub mod Counted
 pub mod StepsKeep

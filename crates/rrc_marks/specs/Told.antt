@@ -1,5 +1,5 @@
 -- What each kind of step tells the pass that steps: of the step, what the pass knew, the number found, and what it knows then.
-use Rattle.std.specs.Prelude.{◌≡◌, ℕ, ◌+◌, ◌^◌, ◌<◌, ◌≤◌, ◌⊎◌, All, List, length}
+use Rattle.std.specs.Prelude.{◌≡◌, ◌≢◌, ℕ, ◌+◌, ◌^◌, ◌<◌, ◌≤◌, All, List, length}
 use Rattle.atomic_table.specs.Table.{Me, Step}
 use Rattle.rrc_marks.specs.declared.rule.View.{View}
 use Rattle.rrc_marks.specs.Views.{times, after_draw, after_win, after_finish, all_turns, IsAlone, Holds, Lacks}
@@ -8,17 +8,20 @@ use Rattle.rrc_marks.specs.Views.{times, after_draw, after_win, after_finish, al
 abbrev pub Sat : Type 0
 Sat = Me (Unit {0}) View
 
--- a drawn number is greater than all that the pass after_draw before, and one that is alone draws them in their order
-pub record Draws (v : View) (number : ℕ) : Type 0 where
-  pub below : number < v.start
-  pub greatest : All (λ x. x < number) v.drawn
-  pub next : IsAlone v → number ≡ length v.drawn
+-- the number joins the list and one turn goes; it is greater than all that the pass drew before, and a pass that is alone draws them in their order
+pub record Draws (old : View) (number : ℕ) (new : View) : Type 0 where
+  pub after : new ≡ after_draw number old
+  pub below : number < old.start
+  pub greatest : All (λ x. x < number) old.drawn
+  pub next : IsAlone old → number ≡ length old.drawn
 
--- a mark found free was not held by this pass, and one that this pass holds is not found free; one that is alone finds free whatever it does not hold
-pub record Finds (v : View) (mark found : ℕ) : Type 0 where
-  pub free : found ≡ 0 → Lacks v mark
-  pub own : Holds v mark → found ≡ 1
-  pub alone : IsAlone v → Lacks v mark → found ≡ 0
+-- where 0 was found the mark is held, which it was not before, and else nothing changed; a mark that the pass holds is not found free, and a pass that is alone finds free whatever it does not hold
+pub record Exchanges (old : View) (mark found : ℕ) (new : View) : Type 0 where
+  pub won : found ≡ 0 → new ≡ after_win mark old
+  pub free : found ≡ 0 → Lacks old mark
+  pub lost : found ≢ 0 → new ≡ old
+  pub own : Holds old mark → found ≢ 0
+  pub alone : IsAlone old → Lacks old mark → found ≡ 0
 
 -- what a pass knows is within the turns at the start, with no number and no mark twice
 pub record IsBounded (v : View) : Type 0 where
@@ -27,15 +30,13 @@ pub record IsBounded (v : View) : Type 0 where
   pub drawn_once : (x : ℕ) → times x v.drawn ≤ 1
   pub held_once : (m : ℕ) → times m v.held ≤ 1
 
--- the number found joins the list, and one turn goes
+-- the number found was drawn
 abbrev pub told_draw : Step (Unit {0}) → Sat → ℕ → Sat → Type 0
-told_draw st m found m' = (m' ≡ (after_draw found m.0, m.1)) × Draws m.0 found
+told_draw st m found m' = Draws m.0 found m'.0 × (m'.1 ≡ m.1)
 
--- where 0 was found the mark is held, and else nothing changed
+-- the mark of the word was exchanged
 abbrev pub told_begin : Step (Unit {0}) → Sat → ℕ → Sat → Type 0
-told_begin st m found m' =
-    (mark : ℕ) → st.word ≡ mark + 1
-    → (((found ≡ 0) × (m' ≡ (after_win mark m.0, m.1))) ⊎ ((found ≡ 1) × (m' ≡ m))) × Finds m.0 mark found
+told_begin st m found m' = (mark : ℕ) → st.word ≡ mark + 1 → Exchanges m.0 mark found m'.0 × (m'.1 ≡ m.1)
 
 -- the mark is held no more
 abbrev pub told_finish : Step (Unit {0}) → Sat → ℕ → Sat → Type 0

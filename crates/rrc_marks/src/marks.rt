@@ -1,9 +1,9 @@
 // The table of marks, and its calls. Word 0 counts the draws, and word m + 1 is the mark m: 1 where a pass holds it, else 0.
 ghost use Rattle.std.specs.Prelude.{◌≡◌, ℕ, ◌<◌, ◌≤◌, [], true, false, length, IfOk, IfSome, IfNone, MatchResult};
 ghost use Rattle.rrc_marks.specs.Limits.{is_within_limits, IsFaultOf};
-ghost use Rattle.rrc_marks.specs.Views.{opening_view, after_draw, after_finish, after_split, split_off, after_join, all_turns, IsAlone, Holds, Lacks, EachOnceBelow};
+ghost use Rattle.rrc_marks.specs.Views.{opening_view, after_finish, after_split, split_off, after_join, all_turns, IsAlone, Holds, Lacks, EachOnceBelow};
 ghost use Rattle.rrc_marks.specs.Seen.{IsPassOf};
-ghost use Rattle.rrc_marks.specs.Told.{Draws, IsBounded};
+ghost use Rattle.rrc_marks.specs.Told.{Draws, Exchanges, IsBounded};
 ghost use Rattle.rrc_marks.specs.Begins.{Begins};
 ghost use Rattle.rrc_marks.specs.Ends.{last_words, IsSettled, IsWhole};
 
@@ -101,8 +101,9 @@ impl Marks {
     pub fn draw(&self, pass: &mut Pass) -> Option<u64>
         requires own { IsPassOf self.now pass.old }
         requires turn { 0 < pass.old.view.turns }
-        ensures some { IfSome result (λ number. (number < self.now.lines) × Draws pass.old.view number × (pass.new ≡ record pass.old { view = after_draw number pass.old.view })) }
-        ensures none { IfNone result ((number : ℕ) × (self.now.lines ≤ number) × Draws pass.old.view number × (pass.new ≡ record pass.old { view = after_draw number pass.old.view })) }
+        ensures some { IfSome result (λ number. (number < self.now.lines) × Draws pass.old.view number pass.new.view) }
+        ensures none { IfNone result ((number : ℕ) × (self.now.lines ≤ number) × Draws pass.old.view number pass.new.view) }
+        ensures own { pass.new.table ≡ pass.old.table }
     {
         let number = self.table.shared.fetch_add::<Draw>(&mut pass.seat, 0, 1);
         pass.turns -= 1;
@@ -123,16 +124,22 @@ impl Marks {
         ensures held_is_taken { Holds pass.old.view mark → result ≡ Began.Taken }
         ensures alone_gets_mine { IsAlone pass.old.view → Lacks pass.old.view mark → result ≡ Began.Mine }
     {
-        if self
-            .table
-            .shared
-            .compare_exchange::<Begin>(&mut pass.seat, mark + 1, 0, 1)
-            == 0
-        {
+        if self.exchange(pass, mark) == 0 {
             Began::Mine
         } else {
             Began::Taken
         }
+    }
+
+    // Puts 1 in place of 0, and answers what was found.
+    fn exchange(&self, pass: &mut Pass, mark: usize) -> u64
+        requires own { IsPassOf self.now pass.old }
+        requires mark { mark < self.now.marks }
+        ensures outcome { Exchanges pass.old.view mark result pass.new.view }
+        ensures own { pass.new.table ≡ pass.old.table }
+    {
+        let shared = &self.table.shared;
+        shared.compare_exchange::<Begin>(&mut pass.seat, mark + 1, 0, 1)
     }
 
     /// Frees a mark that the pass holds.
@@ -142,9 +149,8 @@ impl Marks {
         requires holds { Holds pass.old.view mark }
         ensures { pass.new ≡ record pass.old { view = after_finish mark pass.old.view } }
     {
-        self.table
-            .shared
-            .store::<Finish>(&mut pass.seat, mark + 1, 0);
+        let shared = &self.table.shared;
+        shared.store::<Finish>(&mut pass.seat, mark + 1, 0);
     }
 
     /// Gives some of the turns that are left to a new pass, as for another thread.
