@@ -3,7 +3,7 @@ use Rattle.std.specs.Prelude.{◌≡◌, ℕ, ◌+◌, ◌^◌, ◌<◌, ◌≤�
 use Rattle.atomic_table.specs.Seated.{TableId}
 use Rattle.rrc_marks.specs.declared.rule.View.{View}
 use Rattle.rrc_marks.specs.declared.rule.Terms.{Terms}
-use Rattle.rrc_marks.specs.Views.{all_turns}
+use Rattle.rrc_marks.specs.Views.{all_turns, Holds}
 use Rattle.rrc_marks.specs.Told.{Sat}
 
 -- a table of marks: which one it is, how many marks it has, and below which number a draw is answered
@@ -35,10 +35,11 @@ pub record IsLaidOut (table : TableId) (terms : Terms) (marks : ℕ) : Type 0 wh
   pub named : terms.marks ≡ marks
   pub limited : marks ≤ 4096
 
--- a pass counts its turns and its draws, of which it has 1 to 2^40 together, and holds no slot
-pub record IsCounted (knows : Sat) (turns draws : ℕ) : Type 0 where
+-- a pass counts its turns and its draws, of which it has 1 to 2^40 together, and holds no slot and no mark but the table's
+pub record IsCounted (table : TableId) (knows : Sat) (turns draws : ℕ) : Type 0 where
   pub turns_left : turns ≡ knows.0.turns
   pub numbers : draws ≡ length knows.0.drawn
   pub no_slot : knows.1 ≡ []
+  pub marks : (m : ℕ) → Holds knows.0 m → m + 1 < table.words
   pub some : 0 < turns + draws
   pub limited : turns + draws ≤ 2 ^ 40

@@ -145,7 +145,6 @@ impl Marks {
     /// Frees a mark that the pass holds.
     pub fn finish(&self, pass: &mut Pass, mark: usize)
         requires own { IsPassOf self.now pass.old }
-        requires mark { mark < self.now.marks }
         requires holds { Holds pass.old.view mark }
         ensures { pass.new ≡ record pass.old { view = after_finish mark pass.old.view } }
     {

@@ -22,7 +22,7 @@ impl Model for Pass {
 
     ghost view = { λ p. record { table = p.seat.table_id; view = p.seat.me.0 } };
 
-    ghost invariant = { λ p. IsCounted p.seat.me p.turns p.draws };
+    ghost invariant = { λ p. IsCounted p.seat.table_id p.seat.me p.turns p.draws };
 }
 
 impl Pass {
