@@ -13,14 +13,20 @@ use Rattle.rrc_marks.specs.declared.rule.View.{View}
 use Rattle.rrc_marks.specs.Views.{times, once_below, after_draw, after_win, after_finish, after_split, split_off, after_join, spent_view, all_turns, IsAlone, Holds, Lacks}
 use Rattle.rrc_marks.specs.Rule.{total, Stands, IsKept}
 use Rattle.rrc_marks.specs.Ends.{IsSettled}
+use Rattle.rrc_marks.specs.Steps.{Moment, moment, draws, wins, finishes, splits, joins}
 use Rattle.rrc_marks.specs.Told.{Sat, Draws, Exchanges, IsBounded, told_draw, told_begin, told_finish, told_look}
 use Rattle.atomic_table.proofs.Lists.{set_again, set_else, exchanged}
 use Rattle.rrc_marks.proofs.Counts.{times-get_or, once_below-some, once_below-le}
 use Rattle.rrc_marks.proofs.Totals.{part_le, total-sum, total-alone}
-use Rattle.rrc_marks.proofs.Keeps.{names, draw_keeps, win_keeps, held_here, finish_keeps, split_keeps, join_keeps}
+use Rattle.rrc_marks.proofs.Keeps.{names, held_here}
+use Rattle.rrc_marks.proofs.StepsKeep.{steps_keep}
 
 abbrev pub Kept : ℕ → ℕ → State (Unit {0}) View → Type 0
 Kept marks turns s = IsKept marks turns s.words s.views
+
+-- the words and the views of a table
+abbrev at_first : State (Unit {0}) View → Moment
+at_first s = moment s.words s.views
 
 -- all that the passes have, turns and draws, is the turns at the start
 whole : (marks turns : ℕ) (words : List ℕ) (views : List View) → IsKept marks turns words views → total all_turns views ≡ turns
@@ -59,7 +65,7 @@ draw_allowed marks turns slots id me some_turn s kept _ at _ =
     let balanced = kept.balanced in
     let limited = kept.limited in
     let plain : (n + 1) % 18446744073709551616 ≡ n + 1 = omega arith in
-    (after_draw n me.0, keeps, tt, subst (λ (k : ℕ). IsKept marks turns (set s.words 0 k) (set s.views id (after_draw n me.0))) (sym plain) (draw_keeps marks turns s.words s.views kept id me.0 at some_turn), (draws_next marks turns s.words s.views kept id me.0 at (omega arith) some_turn, refl))
+    (after_draw n me.0, keeps, tt, subst (λ (k : ℕ). IsKept marks turns (set s.words 0 k) (set s.views id (after_draw n me.0))) (sym plain) (steps_keep marks turns draws id me.0 (at_first s) (moment (set s.words 0 (n + 1)) (set s.views id (after_draw n me.0))) kept at (omega arith) (some_turn, refl)), (draws_next marks turns s.words s.views kept id me.0 at (omega arith) some_turn, refl))
 
 -- where nothing changes, the rule is kept
 stays : (marks turns : ℕ) (words : List ℕ) (views : List View) (i id : ℕ) (v : View) → IsKept marks turns words views → get_elem? views id ≡ some v
@@ -107,7 +113,7 @@ begin_allowed marks turns slots id me mark has below s kept _ at _ =
       after_win mark me.0,
       keeps,
       tt,
-      subst (λ b. IsKept marks turns (set s.words (mark + 1) (either b 1 x)) (set s.views id (after_win mark me.0))) (sym (eq-eqb x 0 free)) (win_keeps marks turns s.words s.views kept id me.0 at mark has below free),
+      subst (λ b. IsKept marks turns (set s.words (mark + 1) (either b 1 x)) (set s.views id (after_win mark me.0))) (sym (eq-eqb x 0 free)) (steps_keep marks turns (wins mark) id me.0 (at_first s) (moment (set s.words (mark + 1) 1) (set s.views id (after_win mark me.0))) kept at has (below, free, refl)),
       λ other is. subst (λ k. Exchanges me.0 k x (after_win mark me.0) × (me.1 ≡ me.1)) (sym (same_mark mark other is)) (told (after_win mark me.0) (λ _. refl) (λ some. absurd (some free)), refl),
     ))
     (λ taken. (
@@ -124,7 +130,7 @@ finish_allowed marks turns slots id me mark has below holds s kept _ at _ = (
   after_finish mark me.0,
   keeps,
   tt,
-  finish_keeps marks turns s.words s.views kept id me.0 at mark has below holds,
+  steps_keep marks turns (finishes mark) id me.0 (at_first s) (moment (set s.words (mark + 1) 0) (set s.views id (after_finish mark me.0))) kept at has (below, holds, refl),
   λ other is. ap (λ k. (after_finish k me.0, me.1)) (sym (same_mark mark other is)),
 )
 
@@ -134,11 +140,12 @@ look_allowed marks turns slots id me has s kept _ at _ =
     (me.0, keeps, tt, stays marks turns s.words s.views 0 id me.0 kept at, (refl, bounded marks turns s.words s.views kept id me.0 at has))
 
 pub split_allowed : (marks turns id : ℕ) (v : View) (k : ℕ) → 0 < k → k ≤ v.turns → k < all_turns v → Splits (Kept marks turns) id v (after_split k v) (split_off k v)
-split_allowed marks turns id v k some_turns enough keeps_some s kept at = split_keeps marks turns s.words s.views kept id v at k some_turns enough keeps_some
+split_allowed marks turns id v k some_turns enough keeps_some s kept at =
+    steps_keep marks turns (splits k) id v (at_first s) (moment s.words (set s.views id (after_split k v) ++ split_off k v ∷ [])) kept at (omega arith) (some_turns, enough, keeps_some, refl)
 
 pub join_allowed : (marks turns id : ℕ) (v : View) (other : ℕ) (w : View) → 0 < all_turns v → Joins (Kept marks turns) id v other w (after_join v w) spent_view
 join_allowed marks turns id v other w has s kept at apart there =
-    join_keeps marks turns s.words s.views kept id v at other w has apart (sym (set_else s.views id other (after_join v w) apart) ∙ there)
+    steps_keep marks turns (joins other) id v (at_first s) (moment s.words (set (set s.views id (after_join v w)) other spent_view)) kept at has (w, apart, sym (set_else s.views id other (after_join v w) apart) ∙ there, refl)
 
 -- what the words are that a table hands out at its end
 pub hands_out : (marks turns id : ℕ) (v : View) (words : List ℕ) (s : State (Unit {0}) View) → Seen (Kept marks turns) id v s → s.words ≡ words → 0 < all_turns v → IsAlone v → v.held ≡ []

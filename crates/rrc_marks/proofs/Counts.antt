@@ -42,3 +42,6 @@ once_below-some x n h = grind (arith, common_steps)
 
 pub once_below-le : (x n : ℕ) → once_below x n ≤ 1
 once_below-le x n = grind (arith, common_steps)
+
+pub once_below-self : (n : ℕ) → once_below n n ≡ 0
+once_below-self n = grind (arith, common_steps)

@@ -4,3 +4,4 @@ pub mod Keeps
 pub mod Allowed
 pub mod Counted
 pub mod StepsKeep
+pub mod Apart

@@ -1,26 +1,19 @@
--- The law of the table, each kind of step after the other.
+-- A step of any kind keeps the rule.
 use Rattle.std.proofs.Common.{◌≡◌, ◌≢◌, ℕ, ◌+◌, ◌<◌, List, get_or, set, sym, subst}
 use mathlib.Core.Option.{some}
 use lib.ListN.{get_elem?}
 use Rattle.rrc_marks.specs.declared.rule.View.{View}
 use Rattle.rrc_marks.specs.Views.{all_turns}
 use Rattle.rrc_marks.specs.Rule.{IsKept}
-use Rattle.rrc_marks.specs.Steps.{Moment, Kind, draws, wins, loses, finishes, splits, joins, looks, Steps, EachStepKeepsTheRule, AloneAtTheEnd}
+use Rattle.rrc_marks.specs.Steps.{Moment, Kind, draws, wins, loses, finishes, splits, joins, looks, Steps}
+use Rattle.rrc_marks.specs.Laws.{Keeps, EachStepKeepsTheRule}
 use Rattle.rrc_marks.proofs.Keeps.{draw_keeps, win_keeps, finish_keeps, split_keeps, join_keeps}
-use Rattle.rrc_marks.proofs.Allowed.{ends}
-
--- the rule, at a moment
-abbrev KeptAt : ℕ → ℕ → Moment → Type 0
-KeptAt marks turns s = IsKept marks turns s.words s.views
 
 pub steps_keep : EachStepKeepsTheRule
-steps_keep marks turns draws id v s t kept at has step = subst (KeptAt marks turns) (sym step.1) (draw_keeps marks turns s.words s.views kept id v at step.0)
-steps_keep marks turns (wins m) id v s t kept at has step = subst (KeptAt marks turns) (sym step.2) (win_keeps marks turns s.words s.views kept id v at m has step.0 step.1)
-steps_keep marks turns (loses m) id v s t kept at has step = subst (KeptAt marks turns) (sym step.2) kept
-steps_keep marks turns (finishes m) id v s t kept at has step = subst (KeptAt marks turns) (sym step.2) (finish_keeps marks turns s.words s.views kept id v at m has step.0 step.1)
-steps_keep marks turns (splits k) id v s t kept at has step = subst (KeptAt marks turns) (sym step.3) (split_keeps marks turns s.words s.views kept id v at k step.0 step.1 step.2)
-steps_keep marks turns (joins other) id v s t kept at has step = subst (KeptAt marks turns) (sym step.3) (join_keeps marks turns s.words s.views kept id v at other step.0 has step.1 step.2)
-steps_keep marks turns looks id v s t kept at has step = subst (KeptAt marks turns) (sym step) kept
-
-pub ends_alone : AloneAtTheEnd
-ends_alone marks turns id v s kept at has all free = ends marks turns s.words s.views kept id v at has all free
+steps_keep marks turns draws id v s t kept at has step = subst (Keeps marks turns) (sym step.1) (draw_keeps marks turns s.words s.views kept id v at step.0)
+steps_keep marks turns (wins m) id v s t kept at has step = subst (Keeps marks turns) (sym step.2) (win_keeps marks turns s.words s.views kept id v at m has step.0 step.1)
+steps_keep marks turns (loses m) id v s t kept at has step = subst (Keeps marks turns) (sym step.2) kept
+steps_keep marks turns (finishes m) id v s t kept at has step = subst (Keeps marks turns) (sym step.2) (finish_keeps marks turns s.words s.views kept id v at m has step.0 step.1)
+steps_keep marks turns (splits k) id v s t kept at has step = subst (Keeps marks turns) (sym step.3) (split_keeps marks turns s.words s.views kept id v at k step.0 step.1 step.2)
+steps_keep marks turns (joins other) id v s t kept at has step = subst (Keeps marks turns) (sym step.3) (join_keeps marks turns s.words s.views kept id v at other step.0 has step.1 step.2)
+steps_keep marks turns looks id v s t kept at has step = subst (Keeps marks turns) (sym step) kept

@@ -25,6 +25,13 @@ part_le f [] id v at = absurd (some-ne-none v (sym at))
 part_le f (x ∷ xs) zero v at = let is : f x ≡ f v = ap f (some-injective x v at) in omega arith
 part_le f (x ∷ xs) (suc id) v at = let r = part_le f xs id v at in omega arith
 
+pub two_parts_le : (f : View → ℕ) (views : List View) (i j : ℕ) (v w : View) → i ≢ j → get_elem? views i ≡ some v → get_elem? views j ≡ some w → f v + f w ≤ total f views
+two_parts_le f [] i j v w apart at there = absurd (some-ne-none v (sym at))
+two_parts_le f (x ∷ xs) zero zero v w apart at there = absurd (apart refl)
+two_parts_le f (x ∷ xs) zero (suc j) v w apart at there = let is : f x ≡ f v = ap f (some-injective x v at) in let part = part_le f xs j w there in omega arith
+two_parts_le f (x ∷ xs) (suc i) zero v w apart at there = let is : f x ≡ f w = ap f (some-injective x w there) in let part = part_le f xs i v at in omega arith
+two_parts_le f (x ∷ xs) (suc i) (suc j) v w apart at there = let r = two_parts_le f xs i j v w (λ e. apart (ap suc e)) at there in omega arith
+
 -- each view stands, or is spent
 abbrev pub AllStand : ℕ → List View → Type 0
 AllStand turns views = (id : ℕ) (v : View) → get_elem? views id ≡ some v → Stands turns v

@@ -5,4 +5,5 @@ pub mod Told
 pub mod Seen
 pub mod Begins
 pub mod Ends
+pub mod Laws
 pub mod Limits

@@ -1,11 +1,9 @@
--- The kinds of step on a table of marks, each on one word by one pass, and the law that each keeps the rule.
+-- The kinds of step on a table of marks, each on one word by one pass.
 use Rattle.std.specs.Prelude.{◌≡◌, ◌≢◌, ℕ, ◌+◌, ◌<◌, ◌≤◌, List, [], ◌∷◌, ◌++◌, length, slice_index, slice_set}
 use mathlib.Core.Option.{some}
 use lib.ListN.{get_elem?}
 use Rattle.rrc_marks.specs.declared.rule.View.{View}
 use Rattle.rrc_marks.specs.Views.{times, spent_view, after_draw, after_win, after_finish, after_split, split_off, after_join, all_turns, IsAlone, Holds}
-use Rattle.rrc_marks.specs.Rule.{IsKept}
-use Rattle.rrc_marks.specs.Ends.{IsSettled}
 
 -- the words of a table, and what its passes know
 pub record Moment : Type 0 where
@@ -34,16 +32,3 @@ Steps marks (finishes m) id v s t = (m < marks) × Holds v m × (t ≡ moment (s
 Steps marks (splits turns) id v s t = (0 < turns) × (turns ≤ v.turns) × (turns < all_turns v) × (t ≡ moment s.words (slice_set s.views id (after_split turns v) ++ split_off turns v ∷ []))
 Steps marks (joins other) id v s t = (w : View) × (other ≢ id) × (get_elem? s.views other ≡ some w) × (t ≡ moment s.words (slice_set (slice_set s.views id (after_join v w)) other spent_view))
 Steps marks looks id v s t = t ≡ s
-
--- a step of any kind, by a pass that is not spent, keeps the rule
-abbrev pub EachStepKeepsTheRule : Type 0
-EachStepKeepsTheRule =
-    (marks turns : ℕ) (kind : Kind) (id : ℕ) (v : View) (s t : Moment)
-    → IsKept marks turns s.words s.views → get_elem? s.views id ≡ some v → 0 < all_turns v → Steps marks kind id v s t → IsKept marks turns t.words t.views
-
--- where a pass that is alone holds no mark, the words are settled
-abbrev pub AloneAtTheEnd : Type 0
-AloneAtTheEnd =
-    (marks turns : ℕ) (id : ℕ) (v : View) (s : Moment)
-    → IsKept marks turns s.words s.views → get_elem? s.views id ≡ some v → 0 < all_turns v → IsAlone v → v.held ≡ []
-    → IsSettled s.words v
