@@ -1,11 +1,7 @@
 -- What the rule says of passes beside one another.
-use Rattle.std.proofs.Common.{◌≡◌, ◌≢◌, ℕ, ◌+◌, ◌<◌, ◌≤◌, [], get_or, arith}
-use Rattle.rrc_marks.specs.declared.rule.View.{View}
-use Rattle.rrc_marks.specs.Views.{times, once_below, all_turns, IsAlone, Holds, Lacks}
-use Rattle.rrc_marks.specs.Rule.{total, IsKept}
-use Rattle.rrc_marks.specs.Ends.{IsSettled}
-use Rattle.rrc_marks.specs.Steps.{Moment}
-use Rattle.rrc_marks.specs.Laws.{Keeps, Knows, EachMarkHasOneHolder, EachNumberIsDrawnOnce, NextNumberIsNew, AloneAtTheEnd}
+use Rattle.std.proofs.Common.{ℕ, get_or, arith}
+use Rattle.rrc_marks.specs.Views.{times}
+use Rattle.rrc_marks.specs.Laws.{EachMarkHasOneHolder, EachNumberIsDrawnOnce, NextNumberIsNew, AloneAtTheEnd}
 use Rattle.rrc_marks.proofs.Counts.{once_below-le, once_below-self}
 use Rattle.rrc_marks.proofs.Totals.{part_le, two_parts_le}
 use Rattle.rrc_marks.proofs.Allowed.{ends}

@@ -1,13 +1,13 @@
 -- Each kind of step keeps the rule.
-use Rattle.std.proofs.Common.{◌≡◌, ◌≢◌, ◌⊎◌, ℕ, zero, suc, ◌+◌, ◌-◌, ◌<◌, ◌≤◌, List, [], ◌∷◌, ◌++◌, length, get_or, set, refl, sym, ap, ◌∙◌, subst, inl, inr, ⊎_elim, arith, length-append, length-set, get_or-set_same, get_or-set_other}
+use Rattle.std.proofs.Common.{◌≡◌, ◌≢◌, ℕ, ◌+◌, ◌<◌, ◌≤◌, List, [], ◌∷◌, ◌++◌, length, get_or, set, refl, sym, ap, ◌∙◌, subst, inl, inr, ⊎_elim, arith, length-append, length-set, get_or-set_same, get_or-set_other}
 use mathlib.Core.Option.{some}
 use mathlib.Core.Logic.{dite}
 use native.Mathlib.Decide.{ℕ_discrete}
 use lib.ListN.{get_elem?}
 use Rattle.atomic_table.proofs.Lists.{set_else}
 use Rattle.rrc_marks.specs.declared.rule.View.{View}
-use Rattle.rrc_marks.specs.Views.{times, once_below, without, opening_view, spent_view, after_draw, after_win, after_finish, after_split, split_off, after_join, all_turns, Holds}
-use Rattle.rrc_marks.specs.Rule.{total, Stands, IsKept}
+use Rattle.rrc_marks.specs.Views.{times, without, spent_view, after_draw, after_win, after_finish, after_split, split_off, after_join, all_turns, Holds}
+use Rattle.rrc_marks.specs.Rule.{total, Stands, MarksKept}
 use Rattle.rrc_marks.proofs.Counts.{times-append, times-cons_same, times-cons_other, times-without_same, times-without_other, once_below-next}
 use Rattle.rrc_marks.proofs.Totals.{total-set, total-push, part_le, AllStand-set, AllStand-push}
 
@@ -28,8 +28,8 @@ pub names : (turns : ℕ) (v : View) → Stands turns v → 0 < all_turns v → 
 names turns v stands some_weight =
     ⊎_elim (λ (h : (v.start ≡ turns) × (0 < all_turns v)). h.0) (λ (is : v ≡ spent_view). absurd (let none : all_turns v ≡ 0 = ap all_turns is in omega arith)) stands
 
-module _ (marks turns : ℕ) (words : List ℕ) (views : List View) (kept : IsKept marks turns words views) (id : ℕ) (v : View) (at : get_elem? views id ≡ some v) where
-  pub draw_keeps : 0 < v.turns → IsKept marks turns (set words 0 (get_or words 0 0 + 1)) (set views id (after_draw (get_or words 0 0) v))
+module _ (marks turns : ℕ) (words : List ℕ) (views : List View) (kept : MarksKept marks turns words views) (id : ℕ) (v : View) (at : get_elem? views id ≡ some v) where
+  pub draw_keeps : 0 < v.turns → MarksKept marks turns (set words 0 (get_or words 0 0 + 1)) (set views id (after_draw (get_or words 0 0) v))
   draw_keeps some_turn =
       let n : ℕ = get_or words 0 0 in
       let w : View = after_draw n v in
@@ -55,7 +55,7 @@ module _ (marks turns : ℕ) (words : List ℕ) (views : List View) (kept : IsKe
   -- a step on the word of the mark m, after which the pass holds these marks
   pub marked : (m new : ℕ) (marks_held : List ℕ) → 0 < all_turns v → m < marks → new ≤ 1
       → times m marks_held + get_or words (m + 1) 0 ≡ times m v.held + new → ((j : ℕ) → j ≢ m → times j marks_held ≡ times j v.held)
-      → IsKept marks turns (set words (m + 1) new) (set views id record { drawn = v.drawn; held = marks_held; turns = v.turns; start = v.start })
+      → MarksKept marks turns (set words (m + 1) new) (set views id record { drawn = v.drawn; held = marks_held; turns = v.turns; start = v.start })
   marked m new marks_held has below bit mine others =
       let w : View = record { drawn = v.drawn; held = marks_held; turns = v.turns; start = v.start } in
       let sized = kept.sized in
@@ -84,7 +84,7 @@ module _ (marks turns : ℕ) (words : List ℕ) (views : List View) (kept : IsKe
       }
 
   -- a mark that was free is held
-  pub win_keeps : (m : ℕ) → 0 < all_turns v → m < marks → get_or words (m + 1) 0 ≡ 0 → IsKept marks turns (set words (m + 1) 1) (set views id (after_win m v))
+  pub win_keeps : (m : ℕ) → 0 < all_turns v → m < marks → get_or words (m + 1) 0 ≡ 0 → MarksKept marks turns (set words (m + 1) 1) (set views id (after_win m v))
   win_keeps m has below free =
       let more = times-cons_same m v.held in
       marked m 1 (m ∷ v.held) has below (omega arith) (omega arith) (λ j not. times-cons_other j m v.held (λ e. not (sym e)))
@@ -97,13 +97,13 @@ module _ (marks turns : ℕ) (words : List ℕ) (views : List View) (kept : IsKe
       let bit = kept.one_holder m in
       (omega arith, omega arith)
 
-  pub finish_keeps : (m : ℕ) → 0 < all_turns v → m < marks → Holds v m → IsKept marks turns (set words (m + 1) 0) (set views id (after_finish m v))
+  pub finish_keeps : (m : ℕ) → 0 < all_turns v → m < marks → Holds v m → MarksKept marks turns (set words (m + 1) 0) (set views id (after_finish m v))
   finish_keeps m has below holds =
       let here = held_here m holds in
       let none = times-without_same m v.held in
       marked m 0 (without m v.held) has below (omega arith) (omega arith) (λ j not. times-without_other j m v.held (λ e. not (sym e)))
 
-  pub split_keeps : (k : ℕ) → 0 < k → k ≤ v.turns → k < all_turns v → IsKept marks turns words (set views id (after_split k v) ++ split_off k v ∷ [])
+  pub split_keeps : (k : ℕ) → 0 < k → k ≤ v.turns → k < all_turns v → MarksKept marks turns words (set views id (after_split k v) ++ split_off k v ∷ [])
   split_keeps k some_turns enough keeps =
       let after : List View = set views id (after_split k v) in
       let start = names turns v (kept.standing id v at) (omega arith) in
@@ -125,7 +125,7 @@ module _ (marks turns : ℕ) (words : List ℕ) (views : List View) (kept : IsKe
       }
 
   pub join_keeps : (other : ℕ) (w : View) → 0 < all_turns v → other ≢ id → get_elem? views other ≡ some w
-      → IsKept marks turns words (set (set views id (after_join v w)) other spent_view)
+      → MarksKept marks turns words (set (set views id (after_join v w)) other spent_view)
   join_keeps other w has apart there =
       let both : View = after_join v w in
       let after : List View = set views id both in

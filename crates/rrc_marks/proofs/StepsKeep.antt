@@ -1,11 +1,6 @@
 -- A step of any kind keeps the rule.
-use Rattle.std.proofs.Common.{◌≡◌, ◌≢◌, ℕ, ◌+◌, ◌<◌, List, get_or, set, sym, subst}
-use mathlib.Core.Option.{some}
-use lib.ListN.{get_elem?}
-use Rattle.rrc_marks.specs.declared.rule.View.{View}
-use Rattle.rrc_marks.specs.Views.{all_turns}
-use Rattle.rrc_marks.specs.Rule.{IsKept}
-use Rattle.rrc_marks.specs.Steps.{Moment, Kind, draws, wins, loses, finishes, splits, joins, looks, Steps}
+use Rattle.std.proofs.Common.{sym, subst}
+use Rattle.rrc_marks.specs.Steps.{draws, wins, loses, finishes, splits, joins, looks}
 use Rattle.rrc_marks.specs.Laws.{Keeps, EachStepKeepsTheRule}
 use Rattle.rrc_marks.proofs.Keeps.{draw_keeps, win_keeps, finish_keeps, split_keeps, join_keeps}
 

@@ -4,13 +4,13 @@ use mathlib.Core.Option.{some}
 use lib.ListN.{get_elem?}
 use Rattle.rrc_marks.specs.declared.rule.View.{View}
 use Rattle.rrc_marks.specs.Views.{times, all_turns, IsAlone, Holds, Lacks}
-use Rattle.rrc_marks.specs.Rule.{IsKept}
+use Rattle.rrc_marks.specs.Rule.{MarksKept}
 use Rattle.rrc_marks.specs.Ends.{IsSettled}
 use Rattle.rrc_marks.specs.Steps.{Moment, Kind, Steps}
 
 -- the rule, at a moment
 abbrev pub Keeps : ℕ → ℕ → Moment → Type 0
-Keeps marks turns s = IsKept marks turns s.words s.views
+Keeps marks turns s = MarksKept marks turns s.words s.views
 
 -- the pass id knows v
 abbrev pub Knows : Moment → ℕ → View → Type 0

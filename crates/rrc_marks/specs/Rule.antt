@@ -15,7 +15,7 @@ abbrev pub Stands : ℕ → View → Type 0
 Stands turns v = ((v.start ≡ turns) × (0 < all_turns v)) ⊎ (v ≡ spent_view)
 
 -- word 0 counts the draws, and word m + 1 is 1 exactly where one pass holds the mark m
-pub record IsKept (marks turns : ℕ) (words : List ℕ) (views : List View) : Type 0 where
+pub record MarksKept (marks turns : ℕ) (words : List ℕ) (views : List View) : Type 0 where
   pub sized : length words ≡ marks + 1
   pub limited : turns ≤ 2 ^ 40
   -- a mark is held by as many passes as its word says, and that is at most one

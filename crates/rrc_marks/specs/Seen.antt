@@ -1,5 +1,5 @@
 -- What contracts see of a table of marks and of a pass, and what the types of both keep.
-use Rattle.std.specs.Prelude.{◌≡◌, ℕ, ◌+◌, ◌^◌, ◌<◌, ◌≤◌, List, [], length}
+use Rattle.std.specs.Prelude.{◌≡◌, ℕ, ◌+◌, ◌^◌, ◌<◌, ◌≤◌, [], length}
 use Rattle.atomic_table.specs.Seated.{TableId}
 use Rattle.rrc_marks.specs.declared.rule.View.{View}
 use Rattle.rrc_marks.specs.declared.rule.Terms.{Terms}

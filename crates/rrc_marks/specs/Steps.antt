@@ -1,15 +1,16 @@
 -- The kinds of step on a table of marks, each on one word by one pass.
-use Rattle.std.specs.Prelude.{◌≡◌, ◌≢◌, ℕ, ◌+◌, ◌<◌, ◌≤◌, List, [], ◌∷◌, ◌++◌, length, slice_index, slice_set}
+use Rattle.std.specs.Prelude.{◌≡◌, ◌≢◌, ℕ, ◌+◌, ◌<◌, ◌≤◌, List, [], ◌∷◌, ◌++◌, slice_index, slice_set}
 use mathlib.Core.Option.{some}
 use lib.ListN.{get_elem?}
 use Rattle.rrc_marks.specs.declared.rule.View.{View}
-use Rattle.rrc_marks.specs.Views.{times, spent_view, after_draw, after_win, after_finish, after_split, split_off, after_join, all_turns, IsAlone, Holds}
+use Rattle.rrc_marks.specs.Views.{spent_view, after_draw, after_win, after_finish, after_split, split_off, after_join, all_turns, Holds}
 
 -- the words of a table, and what its passes know
 pub record Moment : Type 0 where
   pub words : List ℕ
   pub views : List View
 
+-- the moment of these words and views
 abbrev pub moment : List ℕ → List View → Moment
 moment words views = record { words = words; views = views }
 

@@ -1,10 +1,10 @@
 -- What each kind of step tells the pass that steps: of the step, what the pass knew, the number found, and what it knows then.
-use Rattle.std.specs.Prelude.{◌≡◌, ◌≢◌, ℕ, ◌+◌, ◌^◌, ◌<◌, ◌≤◌, All, List, length}
+use Rattle.std.specs.Prelude.{◌≡◌, ◌≢◌, ℕ, ◌+◌, ◌^◌, ◌<◌, ◌≤◌, All, length}
 use Rattle.atomic_table.specs.Table.{Me, Step}
 use Rattle.rrc_marks.specs.declared.rule.View.{View}
 use Rattle.rrc_marks.specs.Views.{times, after_draw, after_win, after_finish, all_turns, IsAlone, Holds, Lacks}
 
--- a pass of the table, with the slots that it after_win: there are none
+-- what a pass knows, and the slots that it holds, of which there are none
 abbrev pub Sat : Type 0
 Sat = Me (Unit {0}) View
 
@@ -31,17 +31,17 @@ pub record IsBounded (v : View) : Type 0 where
   pub held_once : (m : ℕ) → times m v.held ≤ 1
 
 -- the number found was drawn
-abbrev pub told_draw : Step (Unit {0}) → Sat → ℕ → Sat → Type 0
-told_draw st m found m' = Draws m.0 found m'.0 × (m'.1 ≡ m.1)
+abbrev pub TellsDraw : Step (Unit {0}) → Sat → ℕ → Sat → Type 0
+TellsDraw st m found m' = Draws m.0 found m'.0 × (m'.1 ≡ m.1)
 
 -- the mark of the word was exchanged
-abbrev pub told_begin : Step (Unit {0}) → Sat → ℕ → Sat → Type 0
-told_begin st m found m' = (mark : ℕ) → st.word ≡ mark + 1 → Exchanges m.0 mark found m'.0 × (m'.1 ≡ m.1)
+abbrev pub TellsBegin : Step (Unit {0}) → Sat → ℕ → Sat → Type 0
+TellsBegin st m found m' = (mark : ℕ) → st.word ≡ mark + 1 → Exchanges m.0 mark found m'.0 × (m'.1 ≡ m.1)
 
 -- the mark is held no more
-abbrev pub told_finish : Step (Unit {0}) → Sat → ℕ → Sat → Type 0
-told_finish st m stored m' = (mark : ℕ) → st.word ≡ mark + 1 → m' ≡ (after_finish mark m.0, m.1)
+abbrev pub TellsFinish : Step (Unit {0}) → Sat → ℕ → Sat → Type 0
+TellsFinish st m stored m' = (mark : ℕ) → st.word ≡ mark + 1 → m' ≡ (after_finish mark m.0, m.1)
 
 -- nothing changed, and what the pass knows is bounded
-abbrev pub told_look : Step (Unit {0}) → Sat → ℕ → Sat → Type 0
-told_look st m found m' = (m' ≡ m) × IsBounded m.0
+abbrev pub TellsLook : Step (Unit {0}) → Sat → ℕ → Sat → Type 0
+TellsLook st m found m' = (m' ≡ m) × IsBounded m.0

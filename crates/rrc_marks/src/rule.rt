@@ -1,8 +1,8 @@
 // The rule of the table, and what each kind of step tells.
 ghost use Rattle.std.specs.Prelude.{ℕ};
-ghost use Rattle.rrc_marks.specs.Rule.{IsKept};
+ghost use Rattle.rrc_marks.specs.Rule.{MarksKept};
 ghost use Rattle.rrc_marks.specs.Views.{opening_view, after_split, split_off, after_join, spent_view};
-ghost use Rattle.rrc_marks.specs.Told.{told_draw, told_begin, told_finish, told_look};
+ghost use Rattle.rrc_marks.specs.Told.{TellsDraw, TellsBegin, TellsFinish, TellsLook};
 
 use atomic_table::{Join, Play, Split, TableRule};
 use std::collections::LinkedList;
@@ -26,7 +26,7 @@ pub struct Terms {
 pub struct Kept;
 
 impl TableRule<(), View, Terms> for Kept {
-    ghost holds = { λ terms state. IsKept terms.marks terms.turns state.words state.views };
+    ghost holds = { λ terms state. MarksKept terms.marks terms.turns state.words state.views };
 
     ghost first = { λ terms. opening_view terms.turns };
 }
@@ -34,26 +34,26 @@ impl TableRule<(), View, Terms> for Kept {
 pub struct Draw;
 
 impl Play<(), View> for Draw {
-    ghost then = { told_draw };
+    ghost then = { TellsDraw };
 }
 
 pub struct Begin;
 
 impl Play<(), View> for Begin {
-    ghost then = { told_begin };
+    ghost then = { TellsBegin };
 }
 
 pub struct Finish;
 
 impl Play<(), View> for Finish {
-    ghost then = { told_finish };
+    ghost then = { TellsFinish };
 }
 
 // A read after a join, which changes nothing.
 pub struct Look;
 
 impl Play<(), View> for Look {
-    ghost then = { told_look };
+    ghost then = { TellsLook };
 }
 
 // A number of turns that is known at run time: the proof of a call picks it.

@@ -1,5 +1,4 @@
 use Rattle.std.proofs.Common.{◌≡◌, ◌≤◌}
-use Rattle.rrc_marks.specs.Seen.{OnlyDraws}
 use Rattle.bench_marks.proofs.work.begin_often.Given as goal
 
 abbrev pub invariant-loop : goal.invariant-loop

@@ -1,4 +1,4 @@
-use Rattle.std.proofs.Common.{rules, arith, ap, ◌∙◌, sym, subst, ◌≤◌, ◌<◌, ℕ}
+use Rattle.std.proofs.Common.{rules, arith}
 use Rattle.rrc_marks.proofs.Allowed.{split_allowed}
 use Rattle.rrc_marks.proofs.marks.Marks.cut.Goals as goal
 

@@ -1,4 +1,4 @@
-use Rattle.std.proofs.Common.{rules, arith, ap, ◌∙◌, sym, subst, ◌≡◌}
+use Rattle.std.proofs.Common.{rules, arith, ap, ◌∙◌, sym}
 use Rattle.rrc_marks.proofs.Allowed.{join_allowed, look_allowed}
 use Rattle.rrc_marks.proofs.Counted.{weighs_join, counted_join}
 use Rattle.rrc_marks.proofs.marks.Marks.join.Goals as goal
