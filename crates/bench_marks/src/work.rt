@@ -105,18 +105,18 @@ pub fn by_four<R: Threads + Sync>(
     ensures { OnlyDraws pass result }
 {
     let half = pass.turns() / 2;
-    let other = marks.split(&mut pass, half);
-    let (mut pass, other) = join(
+    let rest = marks.split(&mut pass, half);
+    let (mut pass, rest) = join(
         rt,
         move || -> Pass
             requires { IsSync R.row × IsPassOf marks.now pass × (4 ≤ marks.now.marks) × (pass.view.held ≡ []) × (2 ≤ pass.view.turns) }
             ensures { OnlyDraws pass result }
         { by_two(rt, marks, pass, task, 0, begun) },
         move || -> Pass
-            requires { IsSync R.row × IsPassOf marks.now other × (4 ≤ marks.now.marks) × (other.view.held ≡ []) × (2 ≤ other.view.turns) }
-            ensures { OnlyDraws other result }
-        { by_two(rt, marks, other, task, 2, begun) },
+            requires { IsSync R.row × IsPassOf marks.now rest × (4 ≤ marks.now.marks) × (rest.view.held ≡ []) × (2 ≤ rest.view.turns) }
+            ensures { OnlyDraws rest result }
+        { by_two(rt, marks, rest, task, 2, begun) },
     );
-    marks.join(&mut pass, other);
+    marks.join(&mut pass, rest);
     pass
 }
