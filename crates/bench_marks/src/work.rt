@@ -1,7 +1,7 @@
 // What each thread does, and how the work is spread over one, two or four threads.
 ghost use Rattle.std.specs.Prelude.{◌≡◌, ◌+◌, ◌*◌, ◌^◌, ◌<◌, ◌≤◌, [], length};
 ghost use Rattle.std.specs.Thread.{IsSync};
-ghost use Rattle.rrc_marks.specs.Seen.{IsPassOf, OnlyDraws};
+ghost use Rattle.rrc_marks.specs.Seen.{IsPassOf, KeepsShare};
 
 use rrc_marks::{Began, Marks, Pass};
 use std::sync::atomic::AtomicU64;
@@ -18,7 +18,7 @@ pub enum Task {
 /// Uses all turns of the pass.
 fn draw_all(marks: &Marks, mut pass: Pass) -> Pass
     requires { IsPassOf marks.now pass }
-    ensures { OnlyDraws pass result }
+    ensures { KeepsShare pass result }
 {
     while pass.turns() > 0 {
         let _number = marks.draw(&mut pass);
@@ -31,7 +31,7 @@ fn begin_often(marks: &Marks, mut pass: Pass, mark: usize, count: u64, begun: &A
     requires own { IsPassOf marks.now pass }
     requires mark { mark < marks.now.marks }
     requires free { pass.view.held ≡ [] }
-    ensures { OnlyDraws pass result }
+    ensures { KeepsShare pass result }
 {
     let mut mine = 0;
     for _ in 0..count {
@@ -49,7 +49,7 @@ pub fn by_one(marks: &Marks, pass: Pass, task: Task, mark: usize, begun: &Atomic
     requires own { IsPassOf marks.now pass }
     requires mark { mark < marks.now.marks }
     requires free { pass.view.held ≡ [] }
-    ensures { OnlyDraws pass result }
+    ensures { KeepsShare pass result }
 {
     match task {
         Task::Draws => draw_all(marks, pass),
@@ -70,7 +70,7 @@ pub fn by_two<R: Threads + Sync>(
     requires mark { (mark < 3) × (4 ≤ marks.now.marks) }
     requires free { pass.view.held ≡ [] }
     requires turns { 2 ≤ pass.view.turns }
-    ensures { OnlyDraws pass result }
+    ensures { KeepsShare pass result }
 {
     let half = pass.turns() / 2;
     let other = marks.split(&mut pass, half);
@@ -79,11 +79,11 @@ pub fn by_two<R: Threads + Sync>(
         rt,
         move || -> Pass
             requires { IsPassOf marks.now pass × (mark < marks.now.marks) × (pass.view.held ≡ []) }
-            ensures { OnlyDraws pass result }
+            ensures { KeepsShare pass result }
         { by_one(marks, pass, task, mark, begun) },
         move || -> Pass
             requires { IsPassOf marks.now other × (next < marks.now.marks) × (other.view.held ≡ []) }
-            ensures { OnlyDraws other result }
+            ensures { KeepsShare other result }
         { by_one(marks, other, task, next, begun) },
     );
     marks.join(&mut pass, other);
@@ -102,7 +102,7 @@ pub fn by_four<R: Threads + Sync>(
     requires mark { 4 ≤ marks.now.marks }
     requires free { pass.view.held ≡ [] }
     requires turns { 4 ≤ pass.view.turns }
-    ensures { OnlyDraws pass result }
+    ensures { KeepsShare pass result }
 {
     let half = pass.turns() / 2;
     let rest = marks.split(&mut pass, half);
@@ -110,11 +110,11 @@ pub fn by_four<R: Threads + Sync>(
         rt,
         move || -> Pass
             requires { IsSync R.row × IsPassOf marks.now pass × (4 ≤ marks.now.marks) × (pass.view.held ≡ []) × (2 ≤ pass.view.turns) }
-            ensures { OnlyDraws pass result }
+            ensures { KeepsShare pass result }
         { by_two(rt, marks, pass, task, 0, begun) },
         move || -> Pass
             requires { IsSync R.row × IsPassOf marks.now rest × (4 ≤ marks.now.marks) × (rest.view.held ≡ []) × (2 ≤ rest.view.turns) }
-            ensures { OnlyDraws rest result }
+            ensures { KeepsShare rest result }
         { by_two(rt, marks, rest, task, 2, begun) },
     );
     marks.join(&mut pass, rest);

@@ -12,7 +12,7 @@ use Rattle.rrc_marks.specs.Views.{times, after_draw, after_win, after_finish, af
 use Rattle.rrc_marks.specs.Rule.{total, MarksKept}
 use Rattle.rrc_marks.specs.Ends.{IsSettled}
 use Rattle.rrc_marks.specs.Steps.{Moment, moment, draws, wins, finishes, splits, joins}
-use Rattle.rrc_marks.specs.Told.{Sat, Draws, Exchanges, IsBounded, TellsDraw, TellsBegin, TellsFinish, TellsLook}
+use Rattle.rrc_marks.specs.Told.{Known, Draws, Exchanges, IsBounded, TellsDraw, TellsBegin, TellsFinish, TellsLook}
 use Rattle.atomic_table.proofs.Lists.{set_again, set_else}
 use Rattle.rrc_marks.proofs.Counts.{times-get_or, once_below-some, once_below-le}
 use Rattle.rrc_marks.proofs.Totals.{part_le, total-sum, total-alone}
@@ -55,7 +55,7 @@ module _ (marks turns : ℕ) (words : List ℕ) (views : List View) (kept : Mark
     next = λ all. let one = alone (λ u. length u.drawn) refl all in let counted = kept.counted in omega arith;
   }
 
-pub draw_allowed : (marks turns slots id : ℕ) (me : Sat) → 0 < me.0.turns
+pub draw_allowed : (marks turns slots id : ℕ) (me : Known) → 0 < me.0.turns
     → Allows (Kept marks turns) slots id me 0 (λ n. (n + 1) % 2 ^ 64) (TellsDraw (step slots 0 1 0 none) me)
 draw_allowed marks turns slots id me some_turn s kept _ at _ =
     let n : ℕ = get_or s.words 0 0 in
@@ -101,7 +101,7 @@ module _ (marks turns : ℕ) (words : List ℕ) (views : List View) (kept : Mark
 same_mark : (mark other : ℕ) → mark + 1 ≡ other + 1 → other ≡ mark
 same_mark mark other e = omega arith
 
-pub begin_allowed : (marks turns slots id : ℕ) (me : Sat) (mark : ℕ) → 0 < all_turns me.0 → mark < marks
+pub begin_allowed : (marks turns slots id : ℕ) (me : Known) (mark : ℕ) → 0 < all_turns me.0 → mark < marks
     → Allows (Kept marks turns) slots id me (mark + 1) (λ n. either (eqb n 0) 1 n) (TellsBegin (step slots (mark + 1) 0 1 none) me)
 begin_allowed marks turns slots id me mark has below s kept _ at _ =
     let x : ℕ = get_or s.words (mark + 1) 0 in
@@ -122,7 +122,7 @@ begin_allowed marks turns slots id me mark has below s kept _ at _ =
       λ other is. subst (λ k. Exchanges me.0 k x me.0 × (me.1 ≡ me.1)) (sym (same_mark mark other is)) (told me.0 (λ free. absurd (taken free)) (λ _. refl), refl),
     ))
 
-pub finish_allowed : (marks turns slots id : ℕ) (me : Sat) (mark : ℕ) → 0 < all_turns me.0 → mark < marks → Holds me.0 mark
+pub finish_allowed : (marks turns slots id : ℕ) (me : Known) (mark : ℕ) → 0 < all_turns me.0 → mark < marks → Holds me.0 mark
     → Allows (Kept marks turns) slots id me (mark + 1) (λ _. 0) (λ _. TellsFinish (step slots (mark + 1) 0 0 none) me 0)
 finish_allowed marks turns slots id me mark has below holds s kept _ at _ = (
   after_finish mark me.0,
@@ -132,7 +132,7 @@ finish_allowed marks turns slots id me mark has below holds s kept _ at _ = (
   λ other is. ap (λ k. (after_finish k me.0, me.1)) (sym (same_mark mark other is)),
 )
 
-pub look_allowed : (marks turns slots id : ℕ) (me : Sat) → 0 < all_turns me.0
+pub look_allowed : (marks turns slots id : ℕ) (me : Known) → 0 < all_turns me.0
     → Allows (Kept marks turns) slots id me 0 (λ n. n) (TellsLook (step slots 0 0 0 none) me)
 look_allowed marks turns slots id me has s kept _ at _ =
     (me.0, keeps, tt, stays marks turns s.words s.views 0 id me.0 kept at, (refl, bounded marks turns s.words s.views kept id me.0 at has))

@@ -4,7 +4,7 @@ use Rattle.atomic_table.specs.Seated.{TableId}
 use Rattle.rrc_marks.specs.declared.rule.View.{View}
 use Rattle.rrc_marks.specs.declared.rule.Terms.{Terms}
 use Rattle.rrc_marks.specs.Views.{all_turns, Holds}
-use Rattle.rrc_marks.specs.Told.{Sat}
+use Rattle.rrc_marks.specs.Told.{Known}
 
 -- a table of marks: which one it is, how many marks it has, and below which number a draw is answered
 pub record Board : Type 0 where
@@ -21,8 +21,8 @@ pub record Hand : Type 0 where
 abbrev pub IsPassOf : Board → Hand → Type 0
 IsPassOf board hand = hand.table ≡ board.table
 
--- from the first to the second a pass did nothing but draw
-pub record OnlyDraws (old new : Hand) : Type 0 where
+-- the pass is of the same table, has as many turns in all, and holds the same marks
+pub record KeepsShare (old new : Hand) : Type 0 where
   pub table : new.table ≡ old.table
   pub start : new.view.start ≡ old.view.start
   pub held : new.view.held ≡ old.view.held
@@ -36,7 +36,7 @@ pub record IsLaidOut (table : TableId) (terms : Terms) (marks : ℕ) : Type 0 wh
   pub limited : marks ≤ 4096
 
 -- a pass counts its turns and its draws, of which it has 1 to 2^40 together, and holds no slot and no mark but the table's
-pub record IsCounted (table : TableId) (knows : Sat) (turns draws : ℕ) : Type 0 where
+pub record IsCounted (table : TableId) (knows : Known) (turns draws : ℕ) : Type 0 where
   pub turns_left : turns ≡ knows.0.turns
   pub numbers : draws ≡ length knows.0.drawn
   pub no_slot : knows.1 ≡ []

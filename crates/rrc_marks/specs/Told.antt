@@ -5,8 +5,8 @@ use Rattle.rrc_marks.specs.declared.rule.View.{View}
 use Rattle.rrc_marks.specs.Views.{times, after_draw, after_win, after_finish, all_turns, IsAlone, Holds, Lacks}
 
 -- what a pass knows, and the slots that it holds, of which there are none
-abbrev pub Sat : Type 0
-Sat = Me (Unit {0}) View
+abbrev pub Known : Type 0
+Known = Me (Unit {0}) View
 
 -- the number joins the list and one turn goes; it is greater than all that the pass drew before, and a pass that is alone draws them in their order
 pub record Draws (old : View) (number : ℕ) (new : View) : Type 0 where
@@ -31,17 +31,17 @@ pub record IsBounded (v : View) : Type 0 where
   pub held_once : (m : ℕ) → times m v.held ≤ 1
 
 -- the number found was drawn
-abbrev pub TellsDraw : Step (Unit {0}) → Sat → ℕ → Sat → Type 0
+abbrev pub TellsDraw : Step (Unit {0}) → Known → ℕ → Known → Type 0
 TellsDraw st m found m' = Draws m.0 found m'.0 × (m'.1 ≡ m.1)
 
 -- the mark of the word was exchanged
-abbrev pub TellsBegin : Step (Unit {0}) → Sat → ℕ → Sat → Type 0
+abbrev pub TellsBegin : Step (Unit {0}) → Known → ℕ → Known → Type 0
 TellsBegin st m found m' = (mark : ℕ) → st.word ≡ mark + 1 → Exchanges m.0 mark found m'.0 × (m'.1 ≡ m.1)
 
 -- the mark is held no more
-abbrev pub TellsFinish : Step (Unit {0}) → Sat → ℕ → Sat → Type 0
+abbrev pub TellsFinish : Step (Unit {0}) → Known → ℕ → Known → Type 0
 TellsFinish st m stored m' = (mark : ℕ) → st.word ≡ mark + 1 → m' ≡ (after_finish mark m.0, m.1)
 
 -- nothing changed, and what the pass knows is bounded
-abbrev pub TellsLook : Step (Unit {0}) → Sat → ℕ → Sat → Type 0
+abbrev pub TellsLook : Step (Unit {0}) → Known → ℕ → Known → Type 0
 TellsLook st m found m' = (m' ≡ m) × IsBounded m.0

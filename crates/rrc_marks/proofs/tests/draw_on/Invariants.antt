@@ -1,8 +1,0 @@
-use Rattle.rrc_marks.specs.Seen.{OnlyDraws}
-use Rattle.rrc_marks.proofs.tests.draw_on.Given as goal
-
-abbrev pub invariant-loop-pass : goal.invariant-loop-pass
-invariant-loop-pass l = OnlyDraws l.initial.pass l.pass
-
-abbrev pub decreases-loop-pass : goal.decreases-loop-pass
-decreases-loop-pass l = l.pass.view.turns
