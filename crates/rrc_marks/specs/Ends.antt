@@ -1,0 +1,22 @@
+-- What the words of a table are at its end.
+use Rattle.std.specs.Prelude.{◌≡◌, ℕ, ◌+◌, ◌<◌, ◌≤◌, List, true, false, length, slice_index, slice_index_or}
+use Rattle.std.specs.Global.{Global}
+use Rattle.atomic_table.specs.declared.owned.Closed.{Closed}
+use Rattle.rrc_marks.specs.declared.rule.View.{View}
+use Rattle.rrc_marks.specs.Views.{EachOnceBelow}
+
+-- every mark is free, and the numbers below word 0 are the list of the one pass, each once
+pub record IsSettled (words : List ℕ) (v : View) : Type 0 where
+  pub free : (m : ℕ) → slice_index words (m + 1) ≡ 0
+  pub drawn_once : EachOnceBelow (slice_index words 0) v.drawn
+  pub draws : slice_index words 0 ≡ length v.drawn
+
+-- the words that a table hands out, word 0 first
+abbrev pub last_words : Closed (Unit {0}) Global → List ℕ
+last_words closed = closed.words.items
+
+-- each word can be read, there is one at least, and there is no slot
+pub record IsWhole (closed : Closed (Unit {0}) Global) : Type 0 where
+  pub full : (k : ℕ) → 0 ≤ k → k < closed.words.len → slice_index_or closed.words.filled k false ≡ true
+  pub some : 0 < closed.words.len
+  pub none : closed.slots.len ≡ 0
