@@ -26,7 +26,7 @@ fields_of message =
     }
 
 -- the header of a response with one question
-abbrev pub header_of : List ℕ → Result Header WireFault
+unfoldable pub header_of : List ℕ → Result Header WireFault
 header_of message =
     if nat_lt 65535 (length message) then Err TooLong
     else if nat_lt (length message) 12 then Err Short

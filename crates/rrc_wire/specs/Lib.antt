@@ -3,3 +3,7 @@ pub mod Layout
 pub mod Header
 pub mod Item
 pub mod Name
+pub mod Question
+pub mod Data
+pub mod Record
+pub mod Message

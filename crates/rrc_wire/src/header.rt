@@ -66,6 +66,7 @@ fn fields_of(message: &[u8]) -> Header
 }
 
 /// The header of a message, where it is a response with one question.
+#[tactic(auto, unfolding(crate::specs::Header::header_of))]
 pub(crate) fn header_of(message: &[u8]) -> Result<Header, WireFault>
     ensures { Gives (λ header. header) result (header_of message.now) }
 {

@@ -4,12 +4,12 @@ ghost use Rattle.rrc_wire.specs.Layout.{layout_of, is_kept};
 /// How the data of a type stand in a message: fixed octets, names, fixed octets.
 #[derive(Clone, Copy, Debug, PartialEq, Eq)]
 pub(crate) struct Layout {
-    pub(crate) before: usize,
-    pub(crate) names: usize,
-    pub(crate) behind: usize,
+    pub(crate) before: u8,
+    pub(crate) names: u8,
+    pub(crate) behind: u8,
 }
 
-fn row(before: usize, names: usize, behind: usize) -> Option<Layout>
+fn row(before: u8, names: u8, behind: u8) -> Option<Layout>
     ensures { result ≡ Some (record { before = before; names = names; behind = behind }) }
 {
     Some(Layout {
