@@ -1,3 +1,4 @@
 pub mod Items
 pub mod NameLoop
 pub mod Pieces
+pub mod NameGrammar

@@ -45,24 +45,24 @@ pub no_labels : AreLabels []
 no_labels = record { labels = []; all = tt; octets = refl; room = omega arith }
 
 -- an item that is a fault is the name's
-name_from-Err : (items : ℕ) (message : List ℕ) (run : Run) (before : List ℕ) (behind : Option ℕ) (place : ℕ) (fault : WireFault) → 0 < items
+pub name_from-Err : (items : ℕ) (message : List ℕ) (run : Run) (before : List ℕ) (behind : Option ℕ) (place : ℕ) (fault : WireFault) → 0 < items
     → item_at message run (length before) place ≡ Err fault → name_from items message run before behind place ≡ Err fault
 name_from-Err zero message run before behind place fault some h = absurd (omega arith)
 name_from-Err (suc items) message run before behind place fault some h = rw (name_from, h) refl
 
-name_from-End : (items : ℕ) (message : List ℕ) (run : Run) (before : List ℕ) (behind : Option ℕ) (place : ℕ) → 0 < items
+pub name_from-End : (items : ℕ) (message : List ℕ) (run : Run) (before : List ℕ) (behind : Option ℕ) (place : ℕ) → 0 < items
     → item_at message run (length before) place ≡ Ok End → name_from items message run before behind place ≡ Ok (before ++ 0 ∷ [], unwrap_or behind (place + 1))
 name_from-End zero message run before behind place some h = absurd (omega arith)
 name_from-End (suc items) message run before behind place some h = rw (name_from, h) refl
 
-name_from-Label : (items : ℕ) (message : List ℕ) (run : Run) (before : List ℕ) (behind : Option ℕ) (place octets : ℕ) → 0 < items
+pub name_from-Label : (items : ℕ) (message : List ℕ) (run : Run) (before : List ℕ) (behind : Option ℕ) (place octets : ℕ) → 0 < items
     → item_at message run (length before) place ≡ Ok (Label octets)
     → name_from items message run before behind place ≡ name_from (items - 1) message run (before ++ slice_range message place (place + 1 + octets)) behind (place + 1 + octets)
 name_from-Label zero message run before behind place octets some h = absurd (omega arith)
 name_from-Label (suc items) message run before behind place octets some h =
     let less : suc items - 1 ≡ items = omega arith in rw (less, name_from, h) refl
 
-name_from-Pointer : (items : ℕ) (message : List ℕ) (run : Run) (before : List ℕ) (behind : Option ℕ) (place target : ℕ) → 0 < items
+pub name_from-Pointer : (items : ℕ) (message : List ℕ) (run : Run) (before : List ℕ) (behind : Option ℕ) (place target : ℕ) → 0 < items
     → item_at message run (length before) place ≡ Ok (Pointer target)
     → name_from items message run before behind place ≡ name_from (items - 1) message (to_end message target) before (Some (unwrap_or behind (place + 2))) target
 name_from-Pointer zero message run before behind place target some h = absurd (omega arith)

@@ -7,3 +7,4 @@ pub mod Question
 pub mod Data
 pub mod Record
 pub mod Message
+pub mod Grammar
