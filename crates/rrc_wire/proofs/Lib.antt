@@ -1,4 +1,5 @@
 pub mod Items
 pub mod NameLoop
 pub mod Pieces
+pub mod Steps
 pub mod NameGrammar

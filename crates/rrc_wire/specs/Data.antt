@@ -25,10 +25,10 @@ laid_out_at message layout place end =
     then times (name_in_data message end) layout.names (slice_range message place names) names >>= last_octets message layout end
     else Err BadData
 
--- the data of a kept type, which end at `end`, with the names in them expanded
+-- the data of a kept type, which end at `end`, with the names in them expanded; without a layout they are opaque octets
+abbrev pub data_of : Option Layout → List ℕ → ℕ → ℕ → Result (List ℕ) WireFault
+data_of (Some layout) message place end = laid_out_at message layout place end
+data_of None message place end = Ok (slice_range message place end)
+
 abbrev pub data_at : List ℕ → ℕ → ℕ → ℕ → Result (List ℕ) WireFault
-data_at message rtype place end =
-    elim (layout_of rtype) [
-      | Some layout ↦ laid_out_at message layout place end
-      | None ↦ Ok (slice_range message place end)
-    ]
+data_at message rtype place end = data_of (layout_of rtype) message place end

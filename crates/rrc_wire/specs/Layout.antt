@@ -11,7 +11,7 @@ abbrev pub is_one : ℕ → List ℕ → Bool
 is_one rtype types = list_any (λ one. rtype == one) types
 
 -- the data of these types are fixed octets, names and fixed octets; those of any other type are opaque octets
-abbrev pub layout_of : ℕ → Option Layout
+unfoldable pub layout_of : ℕ → Option Layout
 layout_of rtype =
     if is_one rtype (2 ∷ 3 ∷ 4 ∷ 5 ∷ 7 ∷ 8 ∷ 9 ∷ 12 ∷ []) then fixed 0 1 0   -- NS, MD, MF, CNAME, MB, MG, MR, PTR (RFC 1035 3.3)
     else if is_one rtype (6 ∷ []) then fixed 0 2 20                            -- SOA, whose last four octets are MINIMUM (RFC 1035 3.3.13)

@@ -21,6 +21,7 @@ fn row(before: u8, names: u8, behind: u8) -> Option<Layout>
 
 /// The layout of a type whose data hold names (RFC 1035 section 3.3, RFC 1183, RFC 2163 and RFC 2782), or `None` where they are
 /// opaque octets.
+#[tactic(auto, unfolding(crate::specs::Layout::layout_of))]
 pub(crate) fn layout_of(rtype: u16) -> Option<Layout>
     ensures { result ≡ layout_of rtype }
 {
