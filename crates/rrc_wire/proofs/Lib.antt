@@ -3,3 +3,4 @@ pub mod NameLoop
 pub mod Pieces
 pub mod Steps
 pub mod NameGrammar
+pub mod RecordGrammar
