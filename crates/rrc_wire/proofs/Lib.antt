@@ -4,3 +4,6 @@ pub mod Pieces
 pub mod Steps
 pub mod NameGrammar
 pub mod RecordGrammar
+pub mod MessageGrammar
+pub mod NoMemory
+pub mod Laws

@@ -8,3 +8,4 @@ pub mod Data
 pub mod Record
 pub mod Message
 pub mod Grammar
+pub mod Law

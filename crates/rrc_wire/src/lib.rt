@@ -14,6 +14,6 @@ mod record;
 
 pub use fault::WireFault;
 pub use layout::is_kept;
-pub use message::{Message, read_whole};
+pub use message::{Message, one_message_or_fault, read_message};
 pub use question::Question;
 pub use record::Rr;

@@ -1,5 +1,8 @@
+ghost use Rattle.std.specs.Prelude.{◌≡◌, ◌⊎◌, ℕ, List, IfOk, IfErr};
 ghost use Rattle.rrc_wire.specs.Reading.{Gives};
-ghost use Rattle.rrc_wire.specs.Message.{message_in};
+ghost use Rattle.rrc_wire.specs.Message.{message_in, FirstFault};
+ghost use Rattle.rrc_wire.specs.Grammar.{MessageOf};
+ghost use Rattle.rrc_wire.specs.Law.{BeginsWithMessage, HasFault};
 
 use crate::fault::WireFault;
 use crate::header::{self, header_of};
@@ -28,8 +31,26 @@ pub struct Message {
     pub additional: Sequence<Rr>,
 }
 
-/// Reads a message whole, field by field.
-pub fn read_whole(alloc: Global, message: &[u8]) -> Result<Message, WireFault>
+/// The message that some octets begin with; those behind its last record are ignored. Records of a class other than IN, or of a
+/// type that is not kept, are read over. A message of n octets takes time in proportion to n and to what its names expand to.
+///
+/// The first fault in the order of reading is answered, or `Memory` where memory was refused before it.
+pub fn read_message(alloc: Global, octets: &[u8]) -> Result<Message, WireFault>
+    ensures ok { IfOk result (λ message. MessageOf octets.now message) }
+    ensures err { IfErr result (λ fault. (fault ≡ WireFault.Memory) ⊎ FirstFault octets.now fault) }
+{
+    read_whole(alloc, octets)
+}
+
+/// The law of the reader: all octets either begin with one message and have no fault, or have one first fault and begin with
+/// no message.
+pub fn one_message_or_fault()
+    ensures { (octets : List ℕ) → BeginsWithMessage octets ⊎ HasFault octets }
+{
+}
+
+/// The message that some octets begin with, field by field.
+fn read_whole(alloc: Global, message: &[u8]) -> Result<Message, WireFault>
     ensures { Gives (λ found. found) result (message_in message.now) }
 {
     let header = header_of(message)?;
