@@ -1,5 +1,5 @@
 -- A message is read where the octets begin with one, and only there.
-use Rattle.std.proofs.Common.{◌≡◌, ℕ, ◌≤◌, Bool, true, false, cond, List, length, Result, Ok, Err, refl, sym, ap, subst, ◌∙◌, eqb, nat_lt, inl, inr}
+use Rattle.std.proofs.Common.{◌≡◌, ℕ, ◌≤◌, Bool, true, false, cond, List, length, Result, Ok, Err, refl, sym, ap, subst, ◌∙◌, eqb, nat_lt}
 use Rattle.std.specs.Prelude.{not}
 use Rattle.rrc_wire.specs.declared.fault.WireFault.{WireFault}
 use Rattle.rrc_wire.specs.declared.fault.WireFault.TheVariants.{Short, NotResponse, NotOneQuestion, TooLong}
@@ -12,7 +12,7 @@ use Rattle.rrc_wire.specs.Header.{flag, fields_of, header_of}
 use Rattle.rrc_wire.specs.Question.{question_at}
 use Rattle.rrc_wire.specs.Record.{section_at}
 use Rattle.rrc_wire.specs.Message.{message_of, message_in}
-use Rattle.rrc_wire.specs.Grammar.{HeaderOf, MessageOf}
+use Rattle.rrc_wire.specs.Grammar.{MessageOf}
 use Rattle.rrc_wire.proofs.Steps.{ok_is, bind_ok, then_ok, refused_ok, false_lt, lt_false, true_eq, eq_true}
 use Rattle.rrc_wire.proofs.RecordGrammar.{question_at-finds, question_at-reads, section_at-finds, section_at-reads}
 

@@ -8,11 +8,10 @@ use Rattle.rrc_wire.specs.declared.fault.WireFault.TheVariants.{Short}
 use Rattle.rrc_wire.specs.declared.item.Item.{Item}
 use Rattle.rrc_wire.specs.declared.item.Item.TheVariants.{End, Label, Pointer}
 use Rattle.rrc_wire.specs.declared.item.Run.{Run}
-use Rattle.rrc_wire.specs.Reading.{◌>>=◌}
-use Rattle.rrc_wire.specs.Item.{item_at, to_end, target_at}
+use Rattle.rrc_wire.specs.Item.{item_at, to_end}
 use Rattle.rrc_wire.specs.Name.{name_from, name_at}
 use Rattle.rrc_wire.specs.Grammar.{NameAt, root, label, pointer, StandsAt}
-use Rattle.rrc_wire.proofs.Items.{EndStands, LabelStands, PointerStands, item_at-End, item_at-Label, item_at-Pointer, slice_range-label, length-slice_range}
+use Rattle.rrc_wire.proofs.Items.{LabelStands, PointerStands, item_at-End, item_at-Label, item_at-Pointer, slice_range-label, length-slice_range}
 use Rattle.rrc_wire.proofs.NameLoop.{name_from-End, name_from-Label, name_from-Pointer}
 
 -- behind the labels before it, the rest of a name was found at a place

@@ -1,17 +1,14 @@
 -- What one item does to a name that is read.
-use Rattle.std.proofs.Common.{◌≡◌, ℕ, zero, suc, ◌+◌, ◌-◌, ◌<◌, ◌≤◌, List, [], ◌∷◌, ◌++◌, length, Option, Some, None, Result, Ok, Err, refl, sym, ap, subst, ◌∙◌, arith, length-append, unwrap_or, MatchOption, slice_index}
+use Rattle.std.proofs.Common.{◌≡◌, ℕ, zero, suc, ◌+◌, ◌-◌, ◌<◌, ◌≤◌, List, [], ◌∷◌, ◌++◌, length, Option, Some, None, Ok, Err, refl, sym, ap, subst, ◌∙◌, arith, length-append, unwrap_or, MatchOption, slice_index}
 use Rattle.std.specs.Prelude.{slice_range}
-use Rattle.std.specs.List.{AllByRecursion}
-use Rattle.rrc_name.specs.Wire.{IsLabel, IsWireForm}
-use Rattle.rrc_name.proofs.WireForms.{front_of, all_labels-push, front_of-push}
+use Rattle.rrc_name.proofs.WireForms.{all_labels-push, front_of-push}
 use Rattle.rrc_name.proofs.Spelling.{AreLabels}
 use Rattle.rrc_wire.specs.declared.fault.WireFault.{WireFault}
 use Rattle.rrc_wire.specs.declared.item.Item.TheVariants.{End, Label, Pointer}
 use Rattle.rrc_wire.specs.declared.item.Run.{Run}
-use Rattle.rrc_wire.specs.Reading.{◌>>=◌}
 use Rattle.rrc_wire.specs.Item.{item_at, to_end}
 use Rattle.rrc_wire.specs.Name.{name_from, name_at}
-use Rattle.rrc_wire.proofs.Items.{LabelStands, PointerStands, item_at-Label, item_at-Pointer, slice_range-label, length-slice_range, octets-slice_range}
+use Rattle.rrc_wire.proofs.Items.{LabelStands, item_at-Label, item_at-Pointer, slice_range-label, length-slice_range, octets-slice_range}
 
 -- behind the labels so far, what is left to read is the rest of the name
 pub record Goes (message : List ℕ) (first run : Run) (before : List ℕ) (behind : Option ℕ) (place : ℕ) : Type 0 where

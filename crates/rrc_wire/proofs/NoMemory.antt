@@ -1,10 +1,9 @@
 -- Reading needs no memory: that fault is the reader's own.
-use Rattle.std.proofs.Common.{◌≡◌, ◌≢◌, ℕ, zero, suc, ◌+◌, Bool, true, false, cond, List, [], ◌∷◌, ◌++◌, length, Option, Some, None, Result, Ok, Err, refl, sym, ap, ◌∙◌, nat_le, nat_lt, eqb, unwrap_or, arith}
+use Rattle.std.proofs.Common.{◌≡◌, ◌≢◌, ℕ, zero, suc, ◌+◌, Bool, true, false, cond, List, [], ◌∷◌, ◌++◌, length, Option, Some, None, Result, Ok, Err, refl, nat_le, nat_lt, eqb, unwrap_or, arith}
 use Rattle.std.specs.Prelude.{slice_range, not}
 use Rattle.std.proofs.lemmas.Bool.Decides.{nat_tests}
 use Rattle.rrc_wire.specs.declared.fault.WireFault.{WireFault}
 use Rattle.rrc_wire.specs.declared.fault.WireFault.TheVariants.{Short, BadData, NotResponse, NotOneQuestion, TooLong, Memory}
-use Rattle.rrc_wire.specs.declared.header.Header.{Header}
 use Rattle.rrc_wire.specs.declared.item.Item.{Item}
 use Rattle.rrc_wire.specs.declared.item.Item.TheVariants.{End, Label, Pointer}
 use Rattle.rrc_wire.specs.declared.item.Run.{Run}
@@ -16,9 +15,9 @@ use Rattle.rrc_wire.specs.Layout.{layout_of}
 use Rattle.rrc_wire.specs.Item.{item_at, to_end, in_data}
 use Rattle.rrc_wire.specs.Name.{name_from, name_at}
 use Rattle.rrc_wire.specs.Question.{question_at}
-use Rattle.rrc_wire.specs.Data.{name_in_data, last_octets, laid_out_at, data_of, data_at}
+use Rattle.rrc_wire.specs.Data.{name_in_data, last_octets, data_of, data_at}
 use Rattle.rrc_wire.specs.Record.{keeps, rr_of, kept_at, record_at, section_at}
-use Rattle.rrc_wire.specs.Message.{message_of, message_in}
+use Rattle.rrc_wire.specs.Message.{message_in}
 
 -- the answer is not that memory was refused
 abbrev pub Reads : {A : Type 0} → Result A WireFault → Type 0

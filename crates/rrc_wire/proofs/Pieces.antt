@@ -1,7 +1,7 @@
 -- Pieces that are read one after another, as a loop does.
-use Rattle.std.proofs.Common.{◌≡◌, ℕ, suc, ◌+◌, ◌-◌, ◌<◌, ◌≤◌, List, ◌++◌, Result, Ok, Err, refl, sym, ap, ◌∙◌, arith}
+use Rattle.std.proofs.Common.{◌≡◌, ℕ, suc, ◌+◌, ◌-◌, ◌<◌, ◌≤◌, List, ◌++◌, Result, Ok, Err, refl, arith}
 use Rattle.rrc_wire.specs.declared.fault.WireFault.{WireFault}
-use Rattle.rrc_wire.specs.Reading.{◌>>=◌, times}
+use Rattle.rrc_wire.specs.Reading.{times}
 
 abbrev pub Reader : Type 0 → Type 0
 Reader A = ℕ → Result (List A × ℕ) WireFault

@@ -1,5 +1,5 @@
 -- Data, records and questions are read where they stand, and only there.
-use Rattle.std.proofs.Common.{◌≡◌, ℕ, ◌+◌, ◌≤◌, Bool, true, false, cond, List, [], ◌∷◌, ◌++◌, length, Option, Some, None, Result, Ok, Err, refl, sym, ap, subst, ◌∙◌, append_assoc, arith, nat_le, eqb, MatchOption}
+use Rattle.std.proofs.Common.{◌≡◌, ℕ, ◌+◌, ◌≤◌, Bool, true, false, cond, List, [], ◌∷◌, ◌++◌, length, Option, Some, None, Result, Ok, Err, refl, sym, ap, subst, ◌∙◌, arith, nat_le, eqb, MatchOption}
 use Rattle.std.specs.Prelude.{slice_range}
 use Rattle.rrc_wire.specs.declared.fault.WireFault.{WireFault}
 use Rattle.rrc_wire.specs.declared.fault.WireFault.TheVariants.{Short, BadData}
@@ -13,7 +13,7 @@ use Rattle.rrc_wire.specs.Name.{name_at}
 use Rattle.rrc_wire.specs.Question.{question_at}
 use Rattle.rrc_wire.specs.Data.{name_in_data, last_octets, laid_out_at, data_of, data_at}
 use Rattle.rrc_wire.specs.Record.{keeps, rr_of, kept_at, record_at, section_at}
-use Rattle.rrc_wire.specs.Grammar.{StandsAt, Follow, IsLaidOut, IsData, Keeps, kept, read_over, RecordAt, QuestionAt}
+use Rattle.rrc_wire.specs.Grammar.{StandsAt, Follow, IsLaidOut, Keeps, kept, read_over, RecordAt, QuestionAt}
 use Rattle.rrc_wire.proofs.Steps.{ok_is, bind_ok, then_ok, test_ok, test_true, le_true, true_le, eq_true, true_eq, within-finds, within-reads, times-finds, times-reads}
 use Rattle.rrc_wire.proofs.NameGrammar.{name_at-stands, StandsAt-reads}
 

@@ -1,5 +1,5 @@
 -- Reading the data of a record.
-use Rattle.std.specs.Prelude.{ℕ, ◌+◌, ◌==◌, nat_le, List, [], ◌++◌, slice_range, Option, Some, None, if◌then◌else◌, Result, Ok, Err}
+use Rattle.std.specs.Prelude.{ℕ, ◌+◌, ◌==◌, nat_le, List, ◌++◌, slice_range, Option, Some, None, if◌then◌else◌, Result, Ok, Err}
 use Rattle.rrc_wire.specs.declared.fault.WireFault.{WireFault}
 use Rattle.rrc_wire.specs.declared.fault.WireFault.TheVariants.{BadData}
 use Rattle.rrc_wire.specs.declared.layout.Layout.{Layout}

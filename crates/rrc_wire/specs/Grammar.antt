@@ -1,11 +1,11 @@
 -- What stands where in a response (RFC 1035 4.1), apart from how it is read.
-use Rattle.std.specs.Prelude.{◌≡◌, ◌<◌, ◌≤◌, ℕ, zero, suc, ◌+◌, ◌/◌, ◌%◌, ◌^◌, Bool, true, false, List, [], ◌∷◌, ◌++◌, length, slice_index, slice_range, MatchOption}
+use Rattle.std.specs.Prelude.{◌≡◌, ◌<◌, ◌≤◌, ℕ, zero, suc, ◌+◌, ◌/◌, ◌%◌, ◌^◌, true, false, List, [], ◌∷◌, ◌++◌, length, slice_index, slice_range, MatchOption}
 use Rattle.rrc_name.specs.Wire.{wire_of}
 use Rattle.rrc_wire.specs.declared.layout.Layout.{Layout}
 use Rattle.rrc_wire.specs.declared.question.Question.{Question}
 use Rattle.rrc_wire.specs.declared.record.Rr.{Rr}
 use Rattle.rrc_wire.specs.declared.message.Message.{Message}
-use Rattle.rrc_wire.specs.Reading.{word_at, long_at}
+use Rattle.rrc_wire.specs.Reading.{word_at}
 use Rattle.rrc_wire.specs.Layout.{layout_of}
 use Rattle.rrc_wire.specs.Header.{flag}
 use Rattle.rrc_wire.specs.Item.{target_at}

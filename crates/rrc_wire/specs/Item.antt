@@ -1,5 +1,5 @@
 -- The items of a name, in the order of their faults (RFC 1035 4.1.4).
-use Rattle.std.specs.Prelude.{ℕ, ◌+◌, ◌*◌, ◌%◌, ◌^◌, ◌==◌, nat_lt, nat_le, List, slice_index, length, if◌then◌else◌, Result, Ok, Err}
+use Rattle.std.specs.Prelude.{ℕ, ◌+◌, ◌%◌, ◌^◌, ◌==◌, nat_lt, nat_le, List, slice_index, length, if◌then◌else◌, Result, Ok, Err}
 use Rattle.rrc_wire.specs.declared.fault.WireFault.{WireFault}
 use Rattle.rrc_wire.specs.declared.fault.WireFault.TheVariants.{Short, BadData, ReservedLabel, BadPointer, NameTooLong}
 use Rattle.rrc_wire.specs.declared.item.Item.{Item}
@@ -26,9 +26,9 @@ item_at message run size place =
     if nat_le run.end place then Err run.past
     else if octet == 0 then Ok End
     else if nat_lt octet 64 then
-      (if nat_lt 255 (size + octet + 2) then Err NameTooLong
-      else if nat_lt run.end (place + 1 + octet) then Err run.past
-      else Ok (Label octet))
+    (if nat_lt 255 (size + octet + 2) then Err NameTooLong
+    else if nat_lt run.end (place + 1 + octet) then Err run.past
+    else Ok (Label octet))
     else if nat_lt octet 192 then Err ReservedLabel
     else if nat_lt run.end (place + 2) then Err run.past
     else if nat_lt (target_at message place) run.start then Ok (Pointer (target_at message place))

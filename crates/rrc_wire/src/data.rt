@@ -11,7 +11,14 @@ use std::alloc::Global;
 
 /// So many names one after another in the data of a record, which end at `end`, behind the data before them; and the place
 /// behind them.
-fn read_names(alloc: Global, message: &[u8], names: u8, mut before: Vec<u8>, place: usize, end: usize) -> Result<(Vec<u8>, usize), WireFault>
+fn read_names(
+    alloc: Global,
+    message: &[u8],
+    names: u8,
+    mut before: Vec<u8>,
+    place: usize,
+    end: usize,
+) -> Result<(Vec<u8>, usize), WireFault>
     requires { end ≤ length message.now }
     ensures { Gives (λ read. (read.0.items, read.1)) result (times (name_in_data message.now end) names before.items place) }
 {
@@ -25,7 +32,13 @@ fn read_names(alloc: Global, message: &[u8], names: u8, mut before: Vec<u8>, pla
 }
 
 /// The data from `place` to `end` of a layout, with their names expanded.
-fn read_laid_out(alloc: Global, message: &[u8], layout: Layout, place: usize, end: usize) -> Result<Octets, WireFault>
+fn read_laid_out(
+    alloc: Global,
+    message: &[u8],
+    layout: Layout,
+    place: usize,
+    end: usize,
+) -> Result<Octets, WireFault>
     requires begins { place ≤ end }
     requires ends { end ≤ length message.now }
     ensures { Gives (λ octets. octets) result (laid_out_at message.now layout place end) }
@@ -45,7 +58,13 @@ fn read_laid_out(alloc: Global, message: &[u8], layout: Layout, place: usize, en
 }
 
 /// The data from `place` to `end` of a kept record, with the names in them expanded.
-pub(crate) fn read_data(alloc: Global, message: &[u8], rtype: u16, place: usize, end: usize) -> Result<Octets, WireFault>
+pub(crate) fn read_data(
+    alloc: Global,
+    message: &[u8],
+    rtype: u16,
+    place: usize,
+    end: usize,
+) -> Result<Octets, WireFault>
     requires begins { place ≤ end }
     requires ends { end ≤ length message.now }
     ensures { Gives (λ octets. octets) result (data_at message.now rtype place end) }

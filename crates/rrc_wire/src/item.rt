@@ -49,7 +49,12 @@ impl Run {
 }
 
 /// The item at a place, of a name that has `size` octets before it.
-pub(crate) fn item_at(message: &[u8], run: Run, size: usize, place: usize) -> Result<Item, WireFault>
+pub(crate) fn item_at(
+    message: &[u8],
+    run: Run,
+    size: usize,
+    place: usize,
+) -> Result<Item, WireFault>
     requires within { run.end ≤ length message.now }
     requires size { size ≤ 255 }
     ensures { Gives (λ item. item) result (item_at message.now run size place) }

@@ -17,3 +17,6 @@ pub use layout::is_kept;
 pub use message::{Message, one_message_or_fault, read_message};
 pub use question::Question;
 pub use record::Rr;
+
+#[cfg(test)]
+mod tests;

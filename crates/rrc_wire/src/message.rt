@@ -46,8 +46,7 @@ pub fn read_message(alloc: Global, octets: &[u8]) -> Result<Message, WireFault>
 /// no message.
 pub fn one_message_or_fault()
     ensures { (octets : List ℕ) → BeginsWithMessage octets ⊎ HasFault octets }
-{
-}
+{}
 
 /// The message that some octets begin with, field by field.
 fn read_whole(alloc: Global, message: &[u8]) -> Result<Message, WireFault>

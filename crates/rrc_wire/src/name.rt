@@ -11,7 +11,11 @@ use std::alloc::Global;
 const USUAL_SIZE: usize = 64;
 
 /// The name whose first run is given, with the pointers in it followed, and the place behind it.
-pub(crate) fn read_name(alloc: Global, message: &[u8], first: Run) -> Result<(Name, usize), WireFault>
+pub(crate) fn read_name(
+    alloc: Global,
+    message: &[u8],
+    first: Run,
+) -> Result<(Name, usize), WireFault>
     requires { first.end ≤ length message.now }
     ensures gives { Gives (λ read. read) result (name_at message.now first) }
     ensures within { IfOk result (λ read. read.1 ≤ first.end) }

@@ -19,7 +19,11 @@ pub struct Question {
 
 /// The question at a place, and the place behind it.
 #[tactic(auto, unfolding(crate::specs::Question::question_at))]
-pub(crate) fn read_question(alloc: Global, message: &[u8], place: usize) -> Result<(Question, usize), WireFault>
+pub(crate) fn read_question(
+    alloc: Global,
+    message: &[u8],
+    place: usize,
+) -> Result<(Question, usize), WireFault>
     ensures gives { Gives (λ read. read) result (question_at message.now place) }
     ensures within { IfOk result (λ read. read.1 ≤ length message.now) }
 {

@@ -25,7 +25,11 @@ pub struct Rr {
 const IN: u16 = 1;
 
 /// The record at a place, where it is kept, and the place behind it.
-fn read_record(alloc: Global, message: &[u8], place: usize) -> Result<(Option<Rr>, usize), WireFault>
+fn read_record(
+    alloc: Global,
+    message: &[u8],
+    place: usize,
+) -> Result<(Option<Rr>, usize), WireFault>
     ensures { Gives (λ read. (option_to_list read.0, read.1)) result (record_at message.now place) }
 {
     let (owner, fields) = read_name(alloc, message, Run::to_end(message, place))?;
@@ -46,7 +50,12 @@ fn read_record(alloc: Global, message: &[u8], place: usize) -> Result<(Option<Rr
 
 /// The kept ones of so many records from a place on, and the place behind them.
 #[tactic(auto, unfolding(crate::specs::Record::section_at))]
-pub(crate) fn read_section(alloc: Global, message: &[u8], records: u16, place: usize) -> Result<(Sequence<Rr>, usize), WireFault>
+pub(crate) fn read_section(
+    alloc: Global,
+    message: &[u8],
+    records: u16,
+    place: usize,
+) -> Result<(Sequence<Rr>, usize), WireFault>
     ensures { Gives (λ read. read) result (section_at message.now records place) }
 {
     let mut kept = Sequence::new(alloc);

@@ -1,6 +1,5 @@
-use Rattle.std.proofs.Common.{◌≡◌, ℕ, ◌-◌, ◌++◌, Ok, Err, sym, ap, ◌∙◌, inl, inr}
+use Rattle.std.proofs.Common.{◌≡◌, ◌++◌, Ok, sym, ap, ◌∙◌, inl, inr}
 use Rattle.std.proofs.lemmas.Result.{err_from_is_err_and}
-use Rattle.rrc_wire.specs.Reading.{times}
 use Rattle.rrc_wire.specs.Name.{name_at}
 use Rattle.rrc_wire.specs.Data.{name_in_data}
 use Rattle.rrc_wire.proofs.Pieces.{times-more, times-Err}
@@ -11,10 +10,10 @@ returns-in_err-name c =
     let message = c.args.message.now in let fault = c.in_err-name.field-0.0 in
     let exit = err_from_is_err_and c.from_residual.result c.from_residual.ensures.1 in
     rw (exit.1, exit.2) (elim (c.in_err-name.ensures.gives) [
-        | inl refused ↦ inl refused
-        | inr first ↦ inr (sym c.loop.invariant ∙ times-Err (name_in_data message c.args.end) c.args.names c.loop.counter c.loop.before.items c.loop.next fault c.loop-test.true
+      | inl refused ↦ inl refused
+      | inr first ↦ inr (sym c.loop.invariant ∙ times-Err (name_in_data message c.args.end) c.args.names c.loop.counter c.loop.before.items c.loop.next fault c.loop-test.true
           (ap (name_at message) (sym c.in_data.ensures) ∙ first))
-      ])
+    ])
 
 pub loop-preserved : goal.loop-preserved
 loop-preserved c =

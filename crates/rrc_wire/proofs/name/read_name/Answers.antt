@@ -1,14 +1,12 @@
-use Rattle.std.proofs.Common.{◌≡◌, ℕ, ◌+◌, ◌≤◌, [], ◌∷◌, ◌++◌, length, None, Ok, Err, refl, sym, ap, subst, ◌∙◌, arith, inl, inr}
-use Rattle.std.specs.Prelude.{slice_range, unwrap_or}
+use Rattle.std.proofs.Common.{◌≡◌, ◌+◌, [], ◌∷◌, ◌++◌, length, None, Ok, refl, sym, ap, subst, ◌∙◌, arith, inl, inr}
+use Rattle.std.specs.Prelude.{slice_range}
 use Rattle.std.proofs.lemmas.Result.{err_from_is_err_and}
 use Rattle.rrc_name.specs.Wire.{IsWireForm}
 use Rattle.rrc_name.proofs.Spelling.{AreLabels, name_of_labels}
 use Rattle.rrc_wire.specs.declared.item.Item.TheVariants.{End, Label, Pointer}
-use Rattle.rrc_wire.specs.Reading.{Gives}
-use Rattle.rrc_wire.specs.Item.{item_at, to_end}
-use Rattle.rrc_wire.specs.Name.{name_at}
+use Rattle.rrc_wire.specs.Item.{item_at}
 use Rattle.rrc_wire.proofs.Items.{item_at-Label, item_at-Pointer}
-use Rattle.rrc_wire.proofs.NameLoop.{Goes, StandsIn, no_labels, goes-begin, goes-Err, goes-End, goes-Label, goes-Pointer, labels-more, behind-within}
+use Rattle.rrc_wire.proofs.NameLoop.{Goes, no_labels, goes-begin, goes-Err, goes-End, goes-Label, goes-Pointer, labels-more, behind-within}
 use Rattle.rrc_wire.proofs.name.read_name.Goals as goal
 
 pub loop-wire-init : goal.loop-wire-init
@@ -26,10 +24,10 @@ returns-in_err-item_at-clause-gives c =
     let size : length loop.wire.items ≡ c.len.result = omega (arith, c.len.ensures, loop.wire.ok) in
     let exit = err_from_is_err_and c.from_residual-in_err-item_at.result c.from_residual-in_err-item_at.ensures.1 in
     rw (exit.1, exit.2) (elim (c.in_err-item_at.ensures) [
-        | inl refused ↦ inl refused
-        | inr first ↦ inr (goes-Err c.args.message.now c.args.first loop.run loop.wire.items loop.behind loop.place fault loop.invariant.labels.room loop.invariant.goes
+      | inl refused ↦ inl refused
+      | inr first ↦ inr (goes-Err c.args.message.now c.args.first loop.run loop.wire.items loop.behind loop.place fault loop.invariant.labels.room loop.invariant.goes
           (ap (λ n. item_at c.args.message.now loop.run n loop.place) size ∙ first))
-      ])
+    ])
 
 pub invariant_of-name : goal.invariant_of-name
 invariant_of-name c =

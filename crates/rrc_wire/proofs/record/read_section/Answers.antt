@@ -1,8 +1,7 @@
-use Rattle.std.proofs.Common.{◌≡◌, ℕ, ◌-◌, [], ◌∷◌, ◌++◌, Ok, Err, sym, ap, ◌∙◌, inl, inr}
+use Rattle.std.proofs.Common.{◌≡◌, ◌++◌, sym, ap, ◌∙◌, inl, inr}
 use Rattle.std.specs.Option.{option_to_list}
 use Rattle.std.proofs.lemmas.Result.{err_from_is_err_and}
 use Rattle.std.proofs.lemmas.List.{append-nil}
-use Rattle.rrc_wire.specs.Reading.{times}
 use Rattle.rrc_wire.specs.Record.{record_at, section_at}
 use Rattle.rrc_wire.proofs.Pieces.{times-more, times-Err}
 use Rattle.rrc_wire.proofs.record.read_section.Goals as goal
@@ -14,9 +13,9 @@ returns-in_err-rr c =
     let message = c.args.message.now in let fault = c.in_err-rr.field-0.0 in
     let exit = err_from_is_err_and c.from_residual.result c.from_residual.ensures.1 in
     rw (exit.1, exit.2) (elim (c.in_err-rr.ensures) [
-        | inl refused ↦ inl refused
-        | inr first ↦ inr (sym c.loop.invariant ∙ times-Err (record_at message) c.args.records c.loop.counter c.loop.kept c.loop.next fault c.loop-test.true first)
-      ])
+      | inl refused ↦ inl refused
+      | inr first ↦ inr (sym c.loop.invariant ∙ times-Err (record_at message) c.args.records c.loop.counter c.loop.kept c.loop.next fault c.loop-test.true first)
+    ])
 
 pub loop-preserved : goal.loop-preserved
 unfolding section_at
