@@ -1,0 +1,9 @@
+pub mod Items
+pub mod NameLoop
+pub mod Pieces
+pub mod Steps
+pub mod NameGrammar
+pub mod RecordGrammar
+pub mod MessageGrammar
+pub mod NoMemory
+pub mod Laws

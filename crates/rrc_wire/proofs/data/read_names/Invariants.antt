@@ -1,0 +1,9 @@
+-- what is left to read, behind what was read, is all that was to read
+use Rattle.std.proofs.Common.{◌≡◌, ◌-◌}
+use Rattle.rrc_wire.specs.Reading.{times}
+use Rattle.rrc_wire.specs.Data.{name_in_data}
+use Rattle.rrc_wire.proofs.data.read_names.Given as goal
+
+abbrev pub invariant-loop : goal.invariant-loop
+invariant-loop l =
+    times (name_in_data l.message l.end) (l.names - l.counter) l.before.items l.next ≡ times (name_in_data l.message l.end) l.names l.fn.before.items l.place

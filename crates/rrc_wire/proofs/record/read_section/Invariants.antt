@@ -1,0 +1,8 @@
+-- what is left to read, behind what was read, is all that was to read
+use Rattle.std.proofs.Common.{◌≡◌, ◌-◌}
+use Rattle.rrc_wire.specs.Reading.{times}
+use Rattle.rrc_wire.specs.Record.{record_at, section_at}
+use Rattle.rrc_wire.proofs.record.read_section.Given as goal
+
+abbrev pub invariant-loop : goal.invariant-loop
+invariant-loop l = times (record_at l.message) (l.records - l.counter) l.kept l.next ≡ section_at l.message l.records l.place

@@ -1,0 +1,35 @@
+-- The items of a name, in the order of their faults (RFC 1035 4.1.4).
+use Rattle.std.specs.Prelude.{ℕ, ◌+◌, ◌%◌, ◌^◌, ◌==◌, nat_lt, nat_le, List, slice_index, length, if◌then◌else◌, Result, Ok, Err}
+use Rattle.rrc_wire.specs.declared.fault.WireFault.{WireFault}
+use Rattle.rrc_wire.specs.declared.fault.WireFault.TheVariants.{Short, BadData, ReservedLabel, BadPointer, NameTooLong}
+use Rattle.rrc_wire.specs.declared.item.Item.{Item}
+use Rattle.rrc_wire.specs.declared.item.Item.TheVariants.{End, Label, Pointer}
+use Rattle.rrc_wire.specs.declared.item.Run.{Run}
+use Rattle.rrc_wire.specs.Reading.{word_at}
+
+-- the run that begins at a place and may read up to the message's end
+abbrev pub to_end : List ℕ → ℕ → Run
+to_end message start = record { start = start; end = length message; past = Short }
+
+-- the run that begins in the data of a record, which end at `end`
+abbrev pub in_data : ℕ → ℕ → Run
+in_data start end = record { start = start; end = end; past = BadData }
+
+-- where a pointer leads: the low 14 bits count from the message's first octet
+abbrev pub target_at : List ℕ → ℕ → ℕ
+target_at message place = word_at message place % 2 ^ 14
+
+-- the item at a place, of a name that has so many octets before it
+abbrev pub item_at : List ℕ → Run → ℕ → ℕ → Result Item WireFault
+item_at message run size place =
+    let octet = slice_index message place in
+    if nat_le run.end place then Err run.past
+    else if octet == 0 then Ok End
+    else if nat_lt octet 64 then
+    (if nat_lt 255 (size + octet + 2) then Err NameTooLong
+    else if nat_lt run.end (place + 1 + octet) then Err run.past
+    else Ok (Label octet))
+    else if nat_lt octet 192 then Err ReservedLabel
+    else if nat_lt run.end (place + 2) then Err run.past
+    else if nat_lt (target_at message place) run.start then Ok (Pointer (target_at message place))
+    else Err BadPointer

@@ -1,0 +1,11 @@
+pub mod Reading
+pub mod Layout
+pub mod Header
+pub mod Item
+pub mod Name
+pub mod Question
+pub mod Data
+pub mod Record
+pub mod Message
+pub mod Grammar
+pub mod Law

@@ -1,0 +1,47 @@
+use std::alloc::{AllocError, AllocFailed};
+use thiserror::Error;
+
+/// Why octets are not a response, in the order of reading: the first fault is answered.
+#[derive(Clone, Copy, Debug, PartialEq, Eq, Hash, Error)]
+pub enum WireFault {
+    #[error("the message ends too soon")]
+    Short = 1,
+    #[error("a length octet has reserved bits")]
+    ReservedLabel = 2,
+    #[error("a pointer does not lead to a lower place")]
+    BadPointer = 3,
+    #[error("a name has more than 255 octets")]
+    NameTooLong = 4,
+    #[error("the data of a record do not fill their layout")]
+    BadData = 5,
+    #[error("the message is no response")]
+    NotResponse = 6,
+    #[error("the message has not one question")]
+    NotOneQuestion = 7,
+    #[error("the message has more than 65535 octets")]
+    TooLong = 8,
+    #[error("memory was refused")]
+    Memory = 9,
+}
+
+impl From<AllocError> for WireFault {
+    ghost use Rattle.std.specs.Prelude.{◌≡◌};
+    ghost use Rattle.rrc_wire.specs.declared.fault.WireFault.TheVariants.{Memory};
+
+    ghost from_gives = { λ _ fault. fault ≡ Memory };
+
+    fn from(_refused: AllocError) -> WireFault {
+        WireFault::Memory
+    }
+}
+
+impl<T: Drop> From<AllocFailed<T>> for WireFault {
+    ghost use Rattle.std.specs.Prelude.{◌≡◌};
+    ghost use Rattle.rrc_wire.specs.declared.fault.WireFault.TheVariants.{Memory};
+
+    ghost from_gives = { λ _ fault. fault ≡ Memory };
+
+    fn from(_refused: AllocFailed<T>) -> WireFault {
+        WireFault::Memory
+    }
+}

@@ -1,0 +1,22 @@
+//! The message reader: a response of the DNS read whole and exactly, or its first fault.
+#![tactic(auto)]
+
+mod data;
+mod fault;
+mod field;
+mod header;
+mod item;
+mod layout;
+mod message;
+mod name;
+mod question;
+mod record;
+
+pub use fault::WireFault;
+pub use layout::is_kept;
+pub use message::{Message, one_message_or_fault, read_message};
+pub use question::Question;
+pub use record::Rr;
+
+#[cfg(test)]
+mod tests;

@@ -1,0 +1,48 @@
+ghost use Rattle.std.specs.Prelude.{◌≡◌, ◌≤◌, length, IfOk};
+ghost use Rattle.rrc_wire.specs.Reading.{Gives};
+ghost use Rattle.rrc_wire.specs.Name.{name_at};
+
+use crate::fault::WireFault;
+use crate::item::{Item, Run, item_at};
+use rrc_name::{Name, Octets};
+use std::alloc::Global;
+
+/// Names of at most this many octets are read with one request for memory.
+const USUAL_SIZE: usize = 64;
+
+/// The name whose first run is given, with the pointers in it followed, and the place behind it.
+pub(crate) fn read_name(
+    alloc: Global,
+    message: &[u8],
+    first: Run,
+) -> Result<(Name, usize), WireFault>
+    requires { first.end ≤ length message.now }
+    ensures gives { Gives (λ read. read) result (name_at message.now first) }
+    ensures within { IfOk result (λ read. read.1 ≤ first.end) }
+{
+    let mut wire = Vec::with_capacity(alloc, USUAL_SIZE)?;
+    let mut run = first;
+    let mut place = first.start;
+    let mut behind = None;
+    loop {
+        match item_at(message, run, wire.len(), place)? {
+            Item::End => {
+                wire.push(0)?;
+                let name = Name {
+                    wire: Octets::from_vec(wire),
+                };
+                return Ok((name, behind.unwrap_or(place + 1)));
+            }
+            Item::Label(size) => {
+                let next = place + 1 + size;
+                wire.extend_from_slice(&message[place..next])?;
+                place = next;
+            }
+            Item::Pointer(target) => {
+                behind = Some(behind.unwrap_or(place + 2));
+                run = Run::to_end(message, target);
+                place = target;
+            }
+        }
+    }
+}

@@ -1,0 +1,38 @@
+ghost use Rattle.std.specs.Prelude.{◌≤◌, length, IfOk};
+ghost use Rattle.rrc_wire.specs.Reading.{Gives};
+ghost use Rattle.rrc_wire.specs.Question.{question_at};
+
+use crate::fault::WireFault;
+use crate::field::{within, word_at};
+use crate::item::Run;
+use crate::name::read_name;
+use rrc_name::Name;
+use std::alloc::Global;
+
+/// What a message answers (RFC 1035 section 4.1.2).
+#[derive(Debug, Drop, PartialEq, Eq)]
+pub struct Question {
+    pub name: Name,
+    pub qtype: u16,
+    pub qclass: u16,
+}
+
+/// The question at a place, and the place behind it.
+#[tactic(auto, unfolding(crate::specs::Question::question_at))]
+pub(crate) fn read_question(
+    alloc: Global,
+    message: &[u8],
+    place: usize,
+) -> Result<(Question, usize), WireFault>
+    ensures gives { Gives (λ read. read) result (question_at message.now place) }
+    ensures within { IfOk result (λ read. read.1 ≤ length message.now) }
+{
+    let (name, fields) = read_name(alloc, message, Run::to_end(message, place))?;
+    let next = within(message, fields, 4)?;
+    let question = Question {
+        name,
+        qtype: word_at(message, fields),
+        qclass: word_at(message, fields + 2),
+    };
+    Ok((question, next))
+}

@@ -1,0 +1,399 @@
+// The messages that this repository's documents and tests know by name, and the faults of octets that are no message.
+
+use crate::{Message, Rr, WireFault, is_kept, read_message};
+use rrc_name::{Octets, Sequence};
+use std::alloc::{AllocError, Global};
+use std::process::Abort;
+use std::test::Fail;
+
+/// Each message by its name: its octets in hexadecimal, where Q is the question `a.example.` of type A and class IN, and S the SOA
+/// record of `example.`; and what it reads as. A name is shown with a dot for each length octet.
+const NAMED: &str = "
+one_address: 1234 8400 0001 0001 0000 0000 Q c00c000100010000003c0004c0000201 = 1234 aa rcode 0, .a.example. 1 1, an .a.example. 1 60 c0000201
+two_addresses: 1234 8400 0001 0002 0000 0000 Q c00c000100010000003c0004c0000201 c00c000100010000001e0004c0000202 = 1234 aa rcode 0, .a.example. 1 1, an .a.example. 1 60 c0000201, an .a.example. 1 30 c0000202
+two_addresses_from_elsewhere: 1234 8000 0001 0002 0000 0000 Q c00c000100010000003c0004c0000201 c00c000100010000001e0004c0000202 = 1234 rcode 0, .a.example. 1 1, an .a.example. 1 60 c0000201, an .a.example. 1 30 c0000202
+nxdomain: 1234 8403 0001 0000 0001 0000 Q S = 1234 aa rcode 3, .a.example. 1 1, ns .example. 6 3600 Z
+nxdomain_from_elsewhere: 1234 8003 0001 0000 0001 0000 Q S = 1234 rcode 3, .a.example. 1 1, ns .example. 6 3600 Z
+nodata: 1234 8400 0001 0000 0001 0000 Q S = 1234 aa rcode 0, .a.example. 1 1, ns .example. 6 3600 Z
+alias_to_nxdomain: 1234 8403 0001 0001 0001 0000 Q c00c000500010000003c00040162c00e S = 1234 aa rcode 3, .a.example. 1 1, an .a.example. 5 60 0162076578616d706c6500, ns .example. 6 3600 Z
+alias_to_itself: 1234 8403 0001 0001 0001 0000 Q c00c000500010000003c0002c00c S = 1234 aa rcode 3, .a.example. 1 1, an .a.example. 5 60 0161076578616d706c6500, ns .example. 6 3600 Z
+ttl_of_all_ones: 1234 8400 0001 0001 0000 0000 Q c00c00010001ffffffff0004c0000201 = 1234 aa rcode 0, .a.example. 1 1, an .a.example. 1 4294967295 c0000201
+truncated: 1234 8600 0001 0001 0000 0000 Q c00c000100010000003c0004c0000201 = 1234 aa tc rcode 0, .a.example. 1 1, an .a.example. 1 60 c0000201
+server_failure: 1234 8182 0001 0000 0000 0000 Q = 1234 rd ra rcode 2, .a.example. 1 1
+referral: 1234 8000 0001 0000 0001 0001 Q c00e0002000100000e100005026e73c00e c027000100010000003c0004c0000209 = 1234 rcode 0, .a.example. 1 1, ns .example. 2 3600 026e73076578616d706c6500, ar .ns.example. 1 60 c0000209
+chaos_text: 1234 8400 0001 0001 0000 0000 0161076578616d706c650000100003 c00c001000030000003c00020141 = 1234 aa rcode 0, .a.example. 16 3
+";
+
+/// The parts that stand for letters in the lines of the tests, Z being the data of S with their names expanded.
+const QUESTION: &str = "0161076578616d706c650000010001";
+
+const SOA: &str = "c00e0006000100000e100018c00ec00e0000000100000e100000025800093a800000012c";
+
+const SOA_DATA: &str =
+    "076578616d706c6500076578616d706c65000000000100000e100000025800093a800000012c";
+
+/// Messages with a fault, and some that only look so.
+const OTHERS: &str = "
+a query: 1234 0400 0001 0001 0000 0000 Q = NotResponse
+two questions: 1234 8400 0002 0000 0000 0000 Q Q = NotOneQuestion
+no question: 1234 8400 0000 0000 0000 0000 Q = NotOneQuestion
+a query that is cut: 1234 0400 0002 0000 0000 00 = Short
+records that are missing: 1234 8400 0001 ffff 0000 0000 Q c00c000100010000003c0004c0000201 = Short
+a second section that is missing: 1234 8400 0001 0001 0001 0000 Q c00c000100010000003c0004c0000201 = Short
+a third section that is missing: 1234 8400 0001 0001 0000 0001 Q c00c000100010000003c0004c0000201 = Short
+octets behind: 1234 8400 0001 0000 0000 0000 Q c00c = 1234 aa rcode 0, .a.example. 1 1
+an opcode, and Z: 1234 fff5 0001 0000 0000 0000 Q = 1234 aa tc rd ra opcode 15 rcode 5, .a.example. 1 1
+a pointer to itself: 1234 8400 0001 0000 0000 0000 c00c00010001 = BadPointer
+a pointer forward: 1234 8400 0001 0000 0000 0000 c00e00010001 = BadPointer
+a pointer to its run: 1234 8400 0001 0000 0000 0000 0161c00c00010001 = BadPointer
+a pointer into the header: 0000 8400 0001 0000 0000 0000 c00000010001 = 0 aa rcode 0, . 1 1
+reserved bits: 1234 8400 0001 0000 0000 0000 400000010001 = ReservedLabel
+other reserved bits: 1234 8400 0001 0000 0000 0000 bf0000010001 = ReservedLabel
+half a pointer: 1234 8400 0001 0000 0000 0000 c0 = Short
+a label that is cut: 1234 8400 0001 0000 0000 0000 0261 = Short
+RDLENGTH one too long: 1234 8400 0001 0001 0000 0000 Q c00c000100010000003c0005c0000201 = Short
+RDLENGTH one too short: 1234 8400 0001 0001 0000 0000 Q c00c000100010000003c0003c0000201 = 1234 aa rcode 0, .a.example. 1 1, an .a.example. 1 60 c00002
+data with a label that is cut: 1234 8400 0001 0001 0000 0000 Q c00c000200010000003c00020261 = BadData
+data with no end of a name: 1234 8400 0001 0001 0000 0000 Q c00c000200010000003c00020161 = BadData
+data with half a pointer: 1234 8400 0001 0001 0000 0000 Q c00c000200010000003c0001c00c = BadData
+data behind a pointer cut by the end of the message: 1234 8400 0001 0001 0000 0000 Q c00c000200013f00003c0002c021 = Short
+data with a pointer to themselves: 1234 8400 0001 0001 0000 0000 Q c00c000200010000003c0002c027 = BadPointer
+data with reserved bits: 1234 8400 0001 0001 0000 0000 Q c00c000200010000003c00024000 = ReservedLabel
+a second name that points into the first: 1234 8400 0001 0001 0000 0000 Q c00c000e00010000003c00060161c00ec027 = 1234 aa rcode 0, .a.example. 1 1, an .a.example. 14 60 0161076578616d706c65000161076578616d706c6500
+OPT: 1234 8400 0001 0000 0000 0002 Q 0000291000000000000000 c00c000100010000003c0004c0000201 = 1234 aa rcode 0, .a.example. 1 1, ar .a.example. 1 60 c0000201
+RRSIG: 1234 8400 0001 0000 0000 0002 Q c00c002e00010000003c00024040 c00c000100010000003c0004c0000201 = 1234 aa rcode 0, .a.example. 1 1, ar .a.example. 1 60 c0000201
+class 3: 1234 8400 0001 0000 0000 0002 Q c00c000200030000003c000140 c00c000100010000003c0004c0000201 = 1234 aa rcode 0, .a.example. 1 1, ar .a.example. 1 60 c0000201
+the owner of a record read over: 1234 8400 0001 0001 0000 0000 Q c01b002e00010000003c0000 = BadPointer
+the data of a record read over: 1234 8400 0001 0001 0000 0000 Q c00c002e00010000003c0001 = Short
+";
+
+/// The value of a hexadecimal digit.
+fn digit_of(letter: u8) -> Option<u8> {
+    match letter {
+        b'0'..=b'9' => Some(letter - b'0'),
+        b'a'..=b'f' => Some(letter - b'a' + 10),
+        _ => None,
+    }
+}
+
+/// Puts the octets of a text in hexadecimal behind others. What is no digit is passed over.
+fn push_octets(octets: &mut Vec<u8>, text: &str) -> Result<(), AllocError> {
+    let mut high = None;
+    for &letter in text.as_bytes() {
+        if let Some(digit) = digit_of(letter) {
+            high = match high {
+                None => Some(digit),
+                Some(high_digit) => {
+                    octets.push(high_digit << 4 | digit)?;
+                    None
+                }
+            };
+        }
+    }
+    Ok(())
+}
+
+/// The octets of a line's words.
+fn octets_of(alloc: Global, words: &str) -> Result<Vec<u8>, AllocError> {
+    let mut octets = Vec::new(alloc);
+    for word in words.split(' ') {
+        let text = match word {
+            "Q" => QUESTION,
+            "S" => SOA,
+            _ => word,
+        };
+        push_octets(&mut octets, text)?;
+    }
+    Ok(octets)
+}
+
+/// Shows octets of a wire form, with a dot for each that is no letter.
+fn push_name(text: &mut String, wire: &Octets) -> Result<(), AllocError> {
+    for &octet in wire.as_slice() {
+        text.push(if octet.is_ascii_graphic() {
+            char::from(octet)
+        } else {
+            '.'
+        })?;
+    }
+    Ok(())
+}
+
+fn push_records(
+    text: &mut String,
+    section: &str,
+    records: &Sequence<Rr>,
+) -> Result<(), AllocError> {
+    for rr in records.iter() {
+        write!(text, ", {section} ")?;
+        push_name(text, &rr.owner.wire)?;
+        write!(text, " {} {} ", rr.rtype, rr.ttl)?;
+        for octet in rr.rdata.as_slice() {
+            write!(text, "{octet:02x}")?;
+        }
+    }
+    Ok(())
+}
+
+fn push_header(text: &mut String, message: &Message) -> Result<(), AllocError> {
+    write!(text, "{:x}", message.id)?;
+    for (is_set, flag) in [
+        (message.aa, " aa"),
+        (message.tc, " tc"),
+        (message.rd, " rd"),
+        (message.ra, " ra"),
+    ] {
+        text.push_str(if is_set { flag } else { "" })?;
+    }
+    if message.opcode != 0 {
+        write!(text, " opcode {}", message.opcode)?;
+    }
+    write!(text, " rcode {}", message.rcode)
+}
+
+/// What octets read as, in words.
+fn shown(alloc: Global, octets: &[u8]) -> Result<String, AllocError> {
+    let message = match read_message(alloc, octets) {
+        Ok(message) => message,
+        Err(fault) => return format!(in alloc; "{fault:?}"),
+    };
+    let mut text = String::new(alloc);
+    push_header(&mut text, &message)?;
+    write!(text, ", ")?;
+    push_name(&mut text, &message.question.name.wire)?;
+    write!(
+        text,
+        " {} {}",
+        message.question.qtype, message.question.qclass
+    )?;
+    push_records(&mut text, "an", &message.answer)?;
+    push_records(&mut text, "ns", &message.authority)?;
+    push_records(&mut text, "ar", &message.additional)?;
+    Ok(text)
+}
+
+/// Asserts that the octets of a line read as it says.
+fn line_holds(rt: &impl Abort, alloc: Global, line: &str) -> Result<(), Fail> {
+    let (_name, rest) = line.split_once(": ").ok_or("a line with no name")?;
+    let (octets, wanted) = rest.split_once(" = ").ok_or("a line with no answer")?;
+    let octets = octets_of(alloc, octets)?;
+    let wanted = wanted.replace(alloc, "Z", SOA_DATA)?;
+    let found = shown(alloc, octets.as_slice())?;
+    assert_eq!(rt; found.as_str(), wanted.as_str(), "{line}");
+    Ok(())
+}
+
+#[test]
+fn messages_read_as_told(rt: HostRuntime) -> Result<(), Fail> {
+    for line in NAMED.trim().lines() {
+        line_holds(&rt, rt.alloc(), line)?;
+    }
+    for line in OTHERS.trim().lines() {
+        line_holds(&rt, rt.alloc(), line)?;
+    }
+    Ok(())
+}
+
+/// Asserts that each proper beginning of a line's octets is Short.
+fn beginnings_are_short(rt: &impl Abort, alloc: Global, line: &str) -> Result<(), Fail> {
+    let (_name, rest) = line.split_once(": ").ok_or("a line with no name")?;
+    let (octets, _wanted) = rest.split_once(" = ").ok_or("a line with no answer")?;
+    let octets = octets_of(alloc, octets)?;
+    for end in 0..octets.len() {
+        assert_eq!(rt;
+            read_message(alloc, &octets[..end]),
+            Err(WireFault::Short),
+            "{line}"
+        );
+    }
+    Ok(())
+}
+
+#[test]
+fn named_messages_cut_short(rt: HostRuntime) -> Result<(), Fail> {
+    for line in NAMED.trim().lines() {
+        beginnings_are_short(&rt, rt.alloc(), line)?;
+    }
+    Ok(())
+}
+
+#[test]
+fn messages_of_65535_octets(rt: HostRuntime) -> Result<(), Fail> {
+    let alloc = rt.alloc();
+    let mut message = octets_of(
+        alloc,
+        "1234 8400 0001 0001 0000 0000 Q c00c000100010000003c0004c0000201",
+    )?;
+    message.resize(65535, 0)?;
+    assert!(rt; read_message(alloc, message.as_slice()).is_ok());
+    message.push(0)?;
+    assert_eq!(rt;
+        read_message(alloc, message.as_slice()),
+        Err(WireFault::TooLong)
+    );
+    Ok(())
+}
+
+fn push_label(message: &mut Vec<u8>, size: u8) -> Result<(), AllocError> {
+    message.push(size)?;
+    for _ in 0..size {
+        message.push(b'x')?;
+    }
+    Ok(())
+}
+
+/// A message whose one answer has an owner of four labels: two of 63 octets stand in the question, and before them 63 octets and
+/// so many octets.
+fn long_owner(alloc: Global, size: u8) -> Result<Vec<u8>, AllocError> {
+    let mut message = octets_of(alloc, "1234 8400 0001 0001 0000 0000")?;
+    push_label(&mut message, 63)?;
+    push_label(&mut message, 63)?;
+    push_octets(&mut message, "0000010001")?;
+    push_label(&mut message, 63)?;
+    push_label(&mut message, size)?;
+    push_octets(&mut message, "c00c000100010000003c0004c0000201")?;
+    Ok(message)
+}
+
+#[test]
+fn names_of_255_octets(rt: HostRuntime) -> Result<(), Fail> {
+    let alloc = rt.alloc();
+    let message = read_message(alloc, long_owner(alloc, 61)?.as_slice())?;
+    assert_eq!(rt; message.answer.len(), 1);
+    for rr in message.answer.iter() {
+        assert_eq!(rt; rr.owner.wire.len(), 255);
+    }
+    assert_eq!(rt;
+        read_message(alloc, long_owner(alloc, 62)?.as_slice()),
+        Err(WireFault::NameTooLong)
+    );
+    Ok(())
+}
+
+/// A message with a chain of 7,999 pointers, each to the one before it, and an owner that points to the last.
+fn chain(alloc: Global) -> Result<Vec<u8>, AllocError> {
+    let mut message = octets_of(
+        alloc,
+        "1234 8400 0001 0002 0000 0000 0000010001 00001000010000003c3e80 0000",
+    )?;
+    for i in 1..8000u16 {
+        message.extend_from_slice(&(0xc000 + 26 + 2 * i).to_be_bytes())?;
+    }
+    push_octets(&mut message, "fe9a000100010000003c0004c0000201")?;
+    Ok(message)
+}
+
+#[test]
+fn chain_of_pointers(rt: HostRuntime) -> Result<(), Fail> {
+    let alloc = rt.alloc();
+    let message = read_message(alloc, chain(alloc)?.as_slice())?;
+    assert_eq!(rt; message.answer.len(), 2);
+    for rr in message.answer.iter() {
+        assert_eq!(rt; rr.owner.wire.as_slice(), [0].as_slice());
+    }
+    Ok(())
+}
+
+/// Types, and how many fixed octets, names and fixed octets their data have.
+const LAYOUTS: [(u16, usize, u8, usize); 16] = [
+    (2, 0, 1, 0),
+    (3, 0, 1, 0),
+    (4, 0, 1, 0),
+    (5, 0, 1, 0),
+    (6, 0, 2, 20),
+    (7, 0, 1, 0),
+    (8, 0, 1, 0),
+    (9, 0, 1, 0),
+    (12, 0, 1, 0),
+    (14, 0, 2, 0),
+    (15, 2, 1, 0),
+    (17, 0, 2, 0),
+    (18, 2, 1, 0),
+    (21, 2, 1, 0),
+    (26, 2, 2, 0),
+    (33, 6, 1, 0),
+];
+
+/// Data of fixed octets, names and fixed octets, each name in these octets.
+fn data_of(
+    alloc: Global,
+    before: usize,
+    names: u8,
+    name: &str,
+    behind: usize,
+) -> Result<Vec<u8>, AllocError> {
+    let mut data = vec![in alloc; 7u8; before]?;
+    for _ in 0..names {
+        push_octets(&mut data, name)?;
+    }
+    for _ in 0..behind {
+        data.push(9)?;
+    }
+    Ok(data)
+}
+
+/// What is read of a record of a type behind the question, with a length and data: the data with their names expanded.
+fn read_data(alloc: Global, rtype: u16, rdlength: u16, data: &[u8]) -> Result<Octets, WireFault> {
+    let mut message = octets_of(alloc, "1234 8400 0001 0001 0000 0000 Q c00c")?;
+    message.extend_from_slice(&rtype.to_be_bytes())?;
+    push_octets(&mut message, "0001 0000003c")?;
+    message.extend_from_slice(&rdlength.to_be_bytes())?;
+    message.extend_from_slice(data)?;
+    let message = read_message(alloc, message.as_slice())?;
+    match message.answer.as_slice() {
+        [rr] => Ok(rr.rdata.clone()?),
+        _ => Err(WireFault::BadData),
+    }
+}
+
+fn layout_holds(
+    rt: &impl Abort,
+    alloc: Global,
+    rtype: u16,
+    before: usize,
+    names: u8,
+    behind: usize,
+) -> Result<(), Fail> {
+    let mut data = data_of(alloc, before, names, "0162c00e", behind)?;
+    let expanded = data_of(alloc, before, names, "0162076578616d706c6500", behind)?;
+    let size = data.len().min(1000) as u16;
+    let read = read_data(alloc, rtype, size, data.as_slice())?;
+    assert_eq!(rt; read.as_slice(), expanded.as_slice(), "type {rtype}");
+    for end in 0..size {
+        assert_eq!(rt;
+            read_data(alloc, rtype, end, data.as_slice()),
+            Err(WireFault::BadData),
+            "type {rtype}"
+        );
+    }
+    data.push(0)?;
+    assert_eq!(rt;
+        read_data(alloc, rtype, size + 1, data.as_slice()),
+        Err(WireFault::BadData),
+        "type {rtype}"
+    );
+    assert_eq!(rt;
+        read_data(alloc, rtype, size + 2, data.as_slice()),
+        Err(WireFault::Short),
+        "type {rtype}"
+    );
+    Ok(())
+}
+
+#[test]
+fn layouts(rt: HostRuntime) -> Result<(), Fail> {
+    for (rtype, before, names, behind) in LAYOUTS {
+        layout_holds(&rt, rt.alloc(), rtype, before, names, behind)?;
+    }
+    Ok(())
+}
+
+#[test]
+fn kept_types(rt: HostRuntime) {
+    for rtype in [0, 24, 30, 35, 41, 46, 128, 200, 255] {
+        assert!(rt; !is_kept(rtype), "{rtype}");
+    }
+    for rtype in [1, 2, 5, 6, 16, 28, 33, 43, 48, 127, 256, 65535] {
+        assert!(rt; is_kept(rtype), "{rtype}");
+    }
+}
