@@ -1,13 +1,9 @@
-// A library with one function.
+//! A part of the cache, lent to one thread: each call appends one event to its history and answers what stands in it.
 #![tactic(auto)]
 
-ghost use Rattle.std.specs.Prelude.{◌≡◌};
-ghost use Rattle.rrc_cache.specs.Echo.{echo_of};
+mod judge;
+mod part;
+mod refusal;
 
-// The `ensures` clause is the contract: what `echo` returns is `echo_of` of its argument, a definition
-// in `specs/Echo.antt`, which a caller's clause can cite too.
-pub fn echo(x: usize) -> usize
-    ensures { result ≡ echo_of x }
-{
-    x
-}
+pub use part::Part;
+pub use refusal::Refusal;

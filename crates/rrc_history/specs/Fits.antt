@@ -2,7 +2,7 @@
 use Rattle.std.specs.Prelude.{ℕ, ◌^◌, List, [], ◌∷◌, Bool, true, false, ◌&&◌, nat_eq, nat_lt}
 use Rattle.std.specs.Cmp.Lexicographic.{pointwise}
 use Rattle.rrc_name.specs.declared.slot.Slot.{Slot}
-use Rattle.rrc_name.specs.declared.slot.Slot.TheVariants.{Set, Nx, Failed}
+use Rattle.rrc_name.specs.declared.slot.Slot.TheVariants.{Set}
 use Rattle.rrc_name.specs.Key.{KeyOf}
 use Rattle.rrc_name.specs.Wire.{folded}
 use Rattle.rrc_history.specs.declared.body.Body.{Body}

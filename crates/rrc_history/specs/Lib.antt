@@ -1,3 +1,5 @@
 pub mod Fits
 pub mod Asked
 pub mod Limits
+pub mod Kept
+pub mod KeptLaws

@@ -24,7 +24,10 @@ impl Rules {
         ensures within { IsSome result ↔ AreWithin capacity chapter stale }
         ensures value { IfSome result (λ rules. Are rules capacity chapter stale) }
     {
-        if !(1..=65_536).contains(&capacity) || !(1..=1_048_576).contains(&chapter) || stale > 604_800 {
+        if !(1..=65_536).contains(&capacity)
+            || !(1..=1_048_576).contains(&chapter)
+            || stale > 604_800
+        {
             return None;
         }
         Some(Rules {

@@ -1,12 +1,13 @@
 -- Whole labels in wire form make a name.
-use Rattle.std.proofs.Common.{◌≡◌, ℕ, zero, suc, ◌<◌, ◌≤◌, List, [], ◌∷◌, ◌++◌, length, map, refl, sym, ap, subst, ◌∙◌, arith, append_assoc, length-append, false, ◌==◌}
+use Rattle.std.proofs.Common.{◌≡◌, ℕ, zero, suc, ◌-◌, ◌<◌, ◌≤◌, List, [], ◌∷◌, ◌++◌, length, map, refl, sym, ap, subst, ◌∙◌, arith, append_assoc, length-append, get_or, take, drop, false, ◌==◌}
 use Rattle.std.specs.List.{AllByRecursion}
 use Rattle.std.proofs.lemmas.Bool.Decides.{nat_tests}
+use Rattle.std.proofs.lemmas.Grind.{common_steps}
 use Rattle.std.proofs.lemmas.List.{append-nil, length-map, map-append}
 use Rattle.std.proofs.Math.Seq.{take-append_seam, drop-append_seam}
 use Rattle.std.specs.Char.{to_ascii_lowercase}
 use Rattle.std.proofs.lemmas.Str.Ascii.{lowercase-lowercase}
-use Rattle.rrc_name.specs.Wire.{wire_of, labels_within, labels_of, IsLabel, IsWireForm, folded}
+use Rattle.rrc_name.specs.Wire.{wire_of, labels_within, labels_of, IsLabel, IsWireForm, BeginsWith, folded}
 
 -- some labels in wire form, without the octet that ends a name
 abbrev pub front_of : List (List ℕ) → List ℕ
@@ -81,3 +82,59 @@ pub folded-folded : (octets : List ℕ) → folded (folded octets) ≡ folded oc
 folded-folded [] = refl
 folded-folded (octet ∷ octets) =
     let one = lowercase-lowercase octet in let rest = folded-folded octets in cc
+
+-- where a name begins with a label, the name behind it has the other labels
+pub begins_with_label : (label : List ℕ) (labels : List (List ℕ)) → AllByRecursion IsLabel (label ∷ labels) → length (wire_of (label ∷ labels)) ≤ 255
+    → BeginsWith (wire_of (label ∷ labels)) label (wire_of labels)
+begins_with_label label labels all short =
+    let behind : length (wire_of labels) ≤ 255 = omega (arith, length-append label (wire_of labels)) in
+    let whole : labels_of (wire_of (label ∷ labels)) ≡ label ∷ labels = labels_within-wire_of (label ∷ labels) (length (wire_of (label ∷ labels))) all (omega arith) in
+    let others : labels_of (wire_of labels) ≡ labels = labels_within-wire_of labels (length (wire_of labels)) all.1 (omega arith) in
+    record {
+      octets = refl;
+      labels = whole ∙ ap (λ rest. label ∷ rest) (sym others);
+      is_label = all.0;
+      is_name = wire_form_of labels all.1 behind;
+    }
+
+-- a name is the root, or begins with a label
+pub data FirstOf (name : List ℕ) : Type 0 where
+  root_first : name ≡ 0 ∷ [] → labels_of name ≡ [] → FirstOf name
+  label_first : (label behind : List ℕ) → BeginsWith name label behind → FirstOf name
+
+pub first_of_labels : (labels : List (List ℕ)) → AllByRecursion IsLabel labels → length (wire_of labels) ≤ 255 → FirstOf (wire_of labels)
+first_of_labels [] all short = root_first refl (labels_within-wire_of [] 1 tt (omega arith))
+first_of_labels (label ∷ labels) all short = label_first label (wire_of labels) (begins_with_label label labels all short)
+
+pub first_of_name : (name : List ℕ) → IsWireForm name → FirstOf name
+first_of_name name is = subst FirstOf is.whole (first_of_labels (labels_of name) is.labels (omega (arith, ap length is.whole, is.short)))
+
+-- what the first octet of a name says of the others
+pub record Parted (name : List ℕ) : Type 0 where
+  pub some : 0 < length name
+  pub root : get_or name 0 0 ≡ 0 → labels_of name ≡ []
+  pub fits : get_or name 0 0 ≤ length (drop 1 name)
+  pub label : (get_or name 0 0 ≡ 0 → ⊥) → BeginsWith name (take (get_or name 0 0) (drop 1 name)) (drop (get_or name 0 0) (drop 1 name))
+
+parted_label : (label behind : List ℕ) → BeginsWith (length label ∷ (label ++ behind)) label behind → Parted (length label ∷ (label ++ behind))
+parted_label label behind begins =
+    record {
+      some = omega arith;
+      root = λ none. absurd (omega (arith, begins.is_label.some));
+      fits = omega (arith, length-append label behind);
+      label = λ _. rw (take-append_seam, drop-append_seam) begins;
+    }
+
+pub parted_first : (name : List ℕ) → FirstOf name → Parted name
+parted_first name (root_first octets none) =
+    subst Parted (sym octets) (record { some = omega arith; root = λ _. subst (λ n. labels_of n ≡ []) octets none; fits = omega arith; label = λ some. absurd (some refl) })
+parted_first name (label_first label behind begins) =
+    subst Parted (sym begins.octets) (parted_label label behind (subst (λ n. BeginsWith n label behind) begins.octets begins))
+
+pub parted : (name : List ℕ) → IsWireForm name → Parted name
+parted name is = parted_first name (first_of_name name is)
+
+-- the octets behind the first, as a slice has them
+pub behind_first : (name : List ℕ) → take (length name - 1) (drop 1 name) ≡ drop 1 name
+behind_first [] = refl
+behind_first (size ∷ octets) = grind (arith, common_steps)

@@ -1,5 +1,6 @@
 -- The text of a name (RFC 1035 5.1): labels with a dot between them, and escapes for octets that have no letter.
-use Rattle.std.specs.Prelude.{ℕ, ◌+◌, ◌-◌, ◌*◌, List, [], ◌∷◌, ◌++◌, length, if◌then◌else◌, ◌==◌, nat_lt, nat_le, bytes_eq, Result, Ok, Err}
+use Rattle.std.specs.Prelude.{ℕ, ◌+◌, ◌-◌, ◌*◌, ◌/◌, ◌%◌, List, [], ◌∷◌, ◌++◌, length, if◌then◌else◌, ◌==◌, ◌||◌, nat_lt, nat_le, bytes_eq, Result, Ok, Err}
+use Rattle.std.specs.List.{flat_map}
 use Rattle.std.specs.Char.{is_ascii_graphic, is_ascii_digit}
 use Rattle.rrc_name.specs.declared.text.Escape.{Escape}
 use Rattle.rrc_name.specs.declared.text.Escape.TheVariants.{Unescaped, Begun, OneDigit, TwoDigits}
@@ -7,6 +8,7 @@ use Rattle.rrc_name.specs.declared.text.Spelled.{Spelled}
 use Rattle.rrc_name.specs.declared.text.Spelled.TheVariants.{Part, Octet, Dot, NoSpelling}
 use Rattle.rrc_name.specs.declared.fault.NameFault.{NameFault}
 use Rattle.rrc_name.specs.declared.fault.NameFault.TheVariants.{EmptyLabel, LabelTooLong, NameTooLong, BadEscape}
+use Rattle.rrc_name.specs.Wire.{labels_of}
 
 -- what follows an answer, or its fault
 abbrev pub and_then : Result (List ℕ) NameFault → (List ℕ → Result (List ℕ) NameFault) → Result (List ℕ) NameFault
@@ -56,3 +58,29 @@ name_from before label escape (octet ∷ text) =
 -- a text is a dot, the root, or labels with dots between them
 abbrev pub name_in : List ℕ → Result (List ℕ) NameFault
 name_in text = if bytes_eq text (46 ∷ []) then Ok (0 ∷ []) else name_from [] [] Unescaped text
+
+-- an octet as three decimal digits
+abbrev pub decimal_of : ℕ → List ℕ
+decimal_of octet = (48 + octet / 100) ∷ (48 + octet / 10 % 10) ∷ (48 + octet % 10) ∷ []
+
+-- how a text spells an octet of a label: a dot and a backslash behind a backslash, another graphic octet as it is, and any
+-- other by its decimal digits
+abbrev pub spelling_of : ℕ → List ℕ
+spelling_of octet =
+    if octet == 46 || octet == 92 then 92 ∷ octet ∷ []
+    else if is_ascii_graphic octet then octet ∷ []
+    else 92 ∷ decimal_of octet
+
+-- the labels, each with a dot behind it
+abbrev pub dotted : List (List ℕ) → List ℕ
+dotted [] = []
+dotted (label ∷ labels) = flat_map spelling_of label ++ (46 ∷ dotted labels)
+
+-- the text of the name with these labels; the root, which has none, is a dot
+abbrev pub text_of_labels : List (List ℕ) → List ℕ
+text_of_labels [] = 46 ∷ []
+text_of_labels (label ∷ labels) = dotted (label ∷ labels)
+
+-- the text of a name, which ends with a dot
+abbrev pub text_of : List ℕ → List ℕ
+text_of name = text_of_labels (labels_of name)

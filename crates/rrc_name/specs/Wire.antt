@@ -31,6 +31,13 @@ pub record IsWireForm (octets : List ℕ) : Type 0 where
   pub labels : AllByRecursion IsLabel (labels_of octets)
   pub short : length octets ≤ 255
 
+-- a name begins with a label, and the name behind it has the other labels
+pub record BeginsWith (name label behind : List ℕ) : Type 0 where
+  pub octets : name ≡ length label ∷ (label ++ behind)
+  pub labels : labels_of name ≡ label ∷ labels_of behind
+  pub is_label : IsLabel label
+  pub is_name : IsWireForm behind
+
 -- the letters A to Z as a to z, every other octet as it is (RFC 4343 3); a length octet is below 'A', so it stays
 abbrev pub folded : List ℕ → List ℕ
 folded octets = map to_ascii_lowercase octets

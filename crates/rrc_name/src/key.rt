@@ -1,4 +1,5 @@
-ghost use Rattle.std.specs.Prelude.{◌≡◌};
+ghost use Rattle.std.specs.Prelude.{◌≡◌, IfOk};
+ghost use Rattle.rrc_name.specs.Wire.{folded, IsWireForm};
 ghost use Rattle.rrc_name.specs.Key.{key_eq, slot_eq};
 
 use crate::name::Name;
@@ -23,6 +24,37 @@ impl Model for Key {
     ghost invariant = { λ k. IsFolded k.name };
 
     ghost inverse = { λ k. record { name = k.name; slot = k.slot } };
+}
+
+impl Key {
+    ghost use Rattle.rrc_name.specs.Key.{IsFolded};
+
+    /// The key of a name, in whatever case it is written, and a slot.
+    pub fn of(name: &Name, slot: Slot) -> Result<Key, AllocError>
+        ensures { IfOk result (λ key. key ≡ record { name = folded name.now; slot = slot }) }
+    {
+        Ok(Key {
+            name: name.folded()?,
+            slot,
+        })
+    }
+
+    /// The key's name, which is folded.
+    pub fn name(&self) -> &Name
+        ensures value { result.now ≡ self.now.name }
+        ensures folded { IsFolded self.now.name }
+        ensures name { IsWireForm self.now.name }
+    {
+        let _ = self.name.len();
+        &self.name
+    }
+
+    /// Whether this is the key of a folded name and a slot. It takes no memory.
+    pub fn is(&self, name: &Name, slot: Slot) -> bool
+        ensures { result ≡ key_eq (record { name = name.now; slot = slot }) self.now }
+    {
+        *name == self.name && slot == self.slot
+    }
 }
 
 impl Clone for Key {

@@ -3,10 +3,14 @@
 
 mod fault;
 mod key;
+mod label;
 mod name;
 mod octets;
+mod printed;
 mod sequence;
 mod slot;
+#[cfg(test)]
+mod tests;
 mod text;
 
 pub use fault::NameFault;

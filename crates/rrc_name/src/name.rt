@@ -1,11 +1,11 @@
-ghost use Rattle.std.specs.Prelude.{◌≡◌, ◌⊎◌, ◌↔◌, [], ◌∷◌, IsTrue, IfOk, IfErr};
+ghost use Rattle.std.specs.Prelude.{◌≡◌, ◌⊎◌, ◌↔◌, [], ◌∷◌, length, string_bytes, IsTrue, IfOk, IfErr};
 ghost use Rattle.rrc_name.specs.Wire.{folded, IsWireForm, IsSameName};
 ghost use Rattle.rrc_name.specs.Key.{IsFolded};
-ghost use Rattle.rrc_name.specs.Text.{name_in};
+ghost use Rattle.rrc_name.specs.Text.{name_in, text_of};
 
 use crate::fault::NameFault;
 use crate::octets::Octets;
-use crate::text;
+use crate::{printed, text};
 use std::alloc::{AllocError, Global};
 use std::marker::Model;
 
@@ -54,6 +54,22 @@ impl Name {
         Ok(Name {
             wire: Octets::from_vec(text::wire_in(alloc, text)?),
         })
+    }
+
+    /// The text of the name, which ends with a dot: `\.` for a dot within a label, `\\` for a backslash, `\DDD` for an octet
+    /// that is no graphic one, by its decimal number; `.` alone for the root. `from_text` reads the name again from it.
+    pub fn to_text(&self) -> Result<String, AllocError>
+        ensures { IfOk result (λ text. string_bytes text ≡ text_of self.now) }
+    {
+        printed::text_in(self.wire.alloc(), self.wire.as_slice())
+    }
+
+    /// The octets of the wire form, at most 255.
+    pub fn len(&self) -> usize
+        ensures octets { result ≡ length self.now }
+        ensures name { IsWireForm self.now }
+    {
+        self.wire.len()
     }
 
     /// The name with its letters A to Z as a to z.

@@ -67,6 +67,11 @@ impl Octets {
         self.octets.is_empty()
     }
 
+    /// The allocator that holds the octets.
+    pub fn alloc(&self) -> Global {
+        *self.octets.allocator()
+    }
+
     pub fn into_vec(self) -> Vec<u8>
         ensures { result.items ≡ self }
     {

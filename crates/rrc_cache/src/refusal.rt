@@ -1,0 +1,37 @@
+use std::alloc::{AllocError, AllocFailed};
+use thiserror::Error;
+
+/// Why a part did not take a call. It is then as it was.
+#[derive(Clone, Copy, Debug, PartialEq, Eq, Hash, Error)]
+pub enum Refusal {
+    #[error("the chapter has as many events as it may")]
+    HistoryFull = 1,
+    #[error("the moment is above 2^40 seconds")]
+    MomentTooLarge = 2,
+    #[error("memory was refused")]
+    Memory = 3,
+    #[error("the part holds as many keys as it may")]
+    Full = 4,
+}
+
+impl From<AllocError> for Refusal {
+    ghost use Rattle.std.specs.Prelude.{◌≡◌};
+    ghost use Rattle.rrc_cache.specs.declared.refusal.Refusal.TheVariants.{Memory};
+
+    ghost from_gives = { λ _ refusal. refusal ≡ Memory };
+
+    fn from(_refused: AllocError) -> Refusal {
+        Refusal::Memory
+    }
+}
+
+impl<T: Drop> From<AllocFailed<T>> for Refusal {
+    ghost use Rattle.std.specs.Prelude.{◌≡◌};
+    ghost use Rattle.rrc_cache.specs.declared.refusal.Refusal.TheVariants.{Memory};
+
+    ghost from_gives = { λ _ refusal. refusal ≡ Memory };
+
+    fn from(_refused: AllocFailed<T>) -> Refusal {
+        Refusal::Memory
+    }
+}
