@@ -6,3 +6,5 @@ pub mod Words
 pub mod Items
 pub mod Lines
 pub mod Life
+pub mod Replay
+pub mod Answers

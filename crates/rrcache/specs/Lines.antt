@@ -1,5 +1,5 @@
 -- The lines of a trace.
-use Rattle.std.specs.Prelude.{ℕ, List, Option, Some, None, if◌then◌else◌}
+use Rattle.std.specs.Prelude.{ℕ, ◌-◌, List, length, take, slice_index, Option, Some, None, unwrap_or, ◌==◌, nat_le, if◌then◌else◌}
 use Rattle.rrc_name.specs.Wire.{folded}
 use Rattle.rrcache.specs.declared.engine.line.Line.{Line}
 use Rattle.rrcache.specs.declared.engine.line.Line.TheVariants as lines
@@ -41,3 +41,25 @@ abbrev pub line_of : List ℕ → Option Line
 line_of octets = do
   form ← said_at form_of octets
   elim form.0 [ forms.Put ↦ put_of form.1 | forms.Ask ↦ ask_of form.1 ]
+
+-- the octets before the last one, where that is this one
+abbrev pub before_last : List ℕ → ℕ → Option (List ℕ)
+before_last octets last =
+    if length octets == 0 then None
+    else if slice_index octets (length octets - 1) == last then Some (take (length octets - 1) octets)
+    else None
+
+abbrev pub without_cr : List ℕ → List ℕ
+without_cr octets = unwrap_or (before_last octets 13) octets
+
+-- at most 140,000 octets
+abbrev pub bounded : List ℕ → Option (List ℕ)
+bounded octets = if nat_le (length octets) 140000 then Some octets else None
+
+-- a line ends with an LF, before which a CR is dropped, or with the trace
+abbrev pub line_of_piece : List ℕ → Option Line
+line_of_piece piece =
+    elim (before_last piece 10) [
+      | Some octets ↦ bounded octets >>= λ octets. line_of (without_cr octets)
+      | None ↦ bounded piece >>= line_of
+    ]

@@ -1,5 +1,6 @@
+ghost use Rattle.std.specs.Prelude.{◌≡◌, option_map};
 ghost use Rattle.rrcache.specs.Gives.{Gives};
-ghost use Rattle.rrcache.specs.Lines.{put_of, ask_of, line_of};
+ghost use Rattle.rrcache.specs.Lines.{put_of, ask_of, line_of, before_last, without_cr, bounded, line_of_piece};
 
 use super::field::has_field;
 use super::item::items_at;
@@ -10,6 +11,9 @@ use super::word::{Form, form_at, mode_at, purpose_at};
 use rrc_history::{Ask, Trust};
 use rrc_name::{Name, Octets, Sequence};
 use std::alloc::Global;
+
+/// The most octets of a line, its LF not counted.
+pub(crate) const MOST_OCTETS: usize = 140_000;
 
 /// An RRset that a resolver puts into its cache, at a moment in seconds.
 #[derive(Debug, Drop)]
@@ -86,5 +90,49 @@ fn line_in(alloc: Global, octets: &[u8]) -> Result<Line, LineFault>
     match form {
         Form::Put => put_in(alloc, rest),
         Form::Ask => ask_in(alloc, rest),
+    }
+}
+
+/// The octets before the last one, where that is this one.
+fn before_last(octets: &[u8], last: u8) -> Option<&[u8]>
+    ensures { option_map (λ front. front.now) result ≡ before_last octets.now last }
+{
+    if octets.is_empty() {
+        return None;
+    }
+    let end = octets.len() - 1;
+    if octets[end] == last {
+        Some(&octets[..end])
+    } else {
+        None
+    }
+}
+
+fn without_cr(octets: &[u8]) -> &[u8]
+    ensures { result.now ≡ without_cr octets.now }
+{
+    match before_last(octets, b'\r') {
+        Some(front) => front,
+        None => octets,
+    }
+}
+
+fn bounded(octets: &[u8]) -> Result<&[u8], LineFault>
+    ensures { Gives (λ octets. octets.now) result (bounded octets.now) }
+{
+    if octets.len() <= MOST_OCTETS {
+        Ok(octets)
+    } else {
+        Err(LineFault::NotOne)
+    }
+}
+
+/// The line of a piece of a trace, which ends with its LF or with the trace. A CR before an LF is dropped.
+pub(crate) fn line_of_piece(alloc: Global, piece: &[u8]) -> Result<Line, LineFault>
+    ensures { Gives (λ line. line) result (line_of_piece piece.now) }
+{
+    match before_last(piece, b'\n') {
+        Some(octets) => line_in(alloc, without_cr(bounded(octets)?)),
+        None => line_in(alloc, bounded(piece)?),
     }
 }
