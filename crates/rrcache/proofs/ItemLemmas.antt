@@ -34,7 +34,7 @@ uncut [] h = refl
 uncut (octet ∷ octets) h =
     let rest : length octets ≤ position_or_len is_comma octets → slice_split is_comma octets ≡ octets ∷ [] = uncut octets in
     elim (is_comma octet) as (λ is. length (octet ∷ octets) ≤ cond (not is) (1 + position_or_len is_comma octets) 0
-        → cond is ([] ∷ slice_split is_comma octets) (onto_first octet (slice_split is_comma octets)) ≡ (octet ∷ octets) ∷ []) [
+    → cond is ([] ∷ slice_split is_comma octets) (onto_first octet (slice_split is_comma octets)) ≡ (octet ∷ octets) ∷ []) [
       | true ↦ λ far. absurd (omega arith)
       | false ↦ λ far. ap (onto_first octet) (rest (omega arith))
     ] h

@@ -8,3 +8,6 @@ pub mod Lines
 pub mod Life
 pub mod Replay
 pub mod Answers
+pub mod Report
+pub mod Writing
+pub mod Run
