@@ -19,3 +19,6 @@ pub use reading::{Trace, read_trace};
 pub use replay::{Answer, replay};
 pub use report::report_text;
 pub use run::run;
+
+#[cfg(test)]
+mod tests;
