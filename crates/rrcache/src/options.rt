@@ -35,3 +35,6 @@ pub(crate) fn rules_in(matches: &ArgMatches<'_>) -> Option<Rules> {
     let chapter = matches.get_one::<u64>("chapter")?;
     Rules::new(capacity, chapter, STALE_LIMIT)
 }
+
+#[cfg(test)]
+mod tests;
