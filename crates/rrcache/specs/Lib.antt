@@ -1,0 +1,13 @@
+pub mod Gives
+pub mod Fields
+pub mod Numbers
+pub mod Names
+pub mod Words
+pub mod Items
+pub mod Lines
+pub mod Life
+pub mod Replay
+pub mod Answers
+pub mod Report
+pub mod Writing
+pub mod Run

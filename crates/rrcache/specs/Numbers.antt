@@ -1,0 +1,45 @@
+-- The numbers of a line of a trace: decimal digits, with zeros in front or none, and no sign.
+use Rattle.std.specs.Prelude.{ℕ, ◌+◌, ◌-◌, ◌*◌, ◌^◌, List, [], ◌∷◌, Option, Some, None, option_and_then, ◌==◌, ◌||◌, nat_le, if◌then◌else◌}
+use Rattle.std.specs.Char.{is_ascii_digit}
+use Rattle.rrc_history.specs.declared.body.Trust.{Trust}
+use Rattle.rrc_history.specs.declared.body.Trust.TheVariants.{Additional, NonAuthoritativeAnswer, Authority, AuthoritativeAnswer}
+
+-- the number that digits spell behind those of a number
+abbrev pub number_behind : ℕ → List ℕ → Option ℕ
+number_behind number [] = Some number
+number_behind number (digit ∷ digits) = if is_ascii_digit digit then number_behind (10 * number + (digit - 48)) digits else None
+
+-- the number that one digit or more spell
+abbrev pub number_of : List ℕ → Option ℕ
+number_of [] = None
+number_of (digit ∷ digits) = number_behind 0 (digit ∷ digits)
+
+-- a number where it is not too large
+abbrev pub at_most : ℕ → Option ℕ → Option ℕ
+at_most most None = None
+at_most most (Some number) = if nat_le number most then Some number else None
+
+abbrev pub moment_of : List ℕ → Option ℕ
+moment_of field = at_most (2 ^ 40) (number_of field)
+
+abbrev pub ttl_of : List ℕ → Option ℕ
+ttl_of field = at_most (2 ^ 32 - 1) (number_of field)
+
+-- the types whose data are opaque octets: A, TXT and AAAA (RFC 1035 3.2.2, RFC 3596 2.1)
+abbrev pub kept_type : ℕ → Option ℕ
+kept_type rtype = if rtype == 1 || rtype == 16 || rtype == 28 then Some rtype else None
+
+abbrev pub rtype_of : List ℕ → Option ℕ
+rtype_of field = option_and_then kept_type (at_most (2 ^ 16 - 1) (number_of field))
+
+-- the ranks of trust, from low to high (RFC 2181 5.4.1)
+abbrev pub rank : ℕ → Option Trust
+rank number =
+    if number == 1 then Some Additional
+    else if number == 2 then Some NonAuthoritativeAnswer
+    else if number == 3 then Some Authority
+    else if number == 4 then Some AuthoritativeAnswer
+    else None
+
+abbrev pub trust_of : List ℕ → Option Trust
+trust_of field = option_and_then rank (at_most 4 (number_of field))

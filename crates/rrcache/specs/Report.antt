@@ -1,0 +1,57 @@
+-- The text of a report: one line for each line of the trace.
+use Rattle.std.specs.Prelude.{ℕ, ◌+◌, List, [], ◌∷◌, ◌++◌, Option, Some, None, codes}
+use Rattle.std.specs.Fmt.{decimal}
+use Rattle.hex.specs.Hex.{encode_lower}
+use Rattle.rrc_name.specs.Text.{text_of}
+use Rattle.rrc_history.specs.declared.event.Outcome.{Outcome}
+use Rattle.rrc_history.specs.declared.event.Outcome.TheVariants.{Kept, Cleared, LessTrusted}
+use Rattle.rrc_history.specs.declared.event.RrSet.{RrSet}
+use Rattle.rrc_history.specs.declared.event.Reply.{Reply}
+use Rattle.rrc_history.specs.declared.event.Reply.TheVariants.{Fresh, Miss}
+use Rattle.rrcache.specs.declared.engine.replay.Answer.{Answer}
+use Rattle.rrcache.specs.declared.engine.replay.Answer.TheVariants as answers
+
+abbrev pub outcome_text : Outcome → List ℕ
+outcome_text Kept = codes "kept"
+outcome_text Cleared = codes "cleared"
+outcome_text LessTrusted = codes "less"
+
+-- octets in hexadecimal, or a dash for none
+abbrev pub item_text : List ℕ → List ℕ
+item_text [] = codes "-"
+item_text (octet ∷ octets) = encode_lower (octet ∷ octets)
+
+-- more items, each behind a comma
+abbrev pub more_items_text : List (List ℕ) → List ℕ
+more_items_text [] = []
+more_items_text (item ∷ items) = 44 ∷ (item_text item ++ more_items_text items)
+
+-- items, with a comma between two
+abbrev pub items_text : List (List ℕ) → List ℕ
+items_text [] = []
+items_text (item ∷ items) = item_text item ++ more_items_text items
+
+-- what a set has left to live, its owner and its data
+abbrev pub fresh_text : RrSet → ℕ → List ℕ
+fresh_text set left = codes "fresh " ++ (decimal left ++ (32 ∷ (text_of set.owner ++ (32 ∷ items_text set.items))))
+
+abbrev pub reply_text : Reply → List ℕ
+reply_text (Fresh set left) = fresh_text set left
+reply_text (Miss None) = codes "miss"
+reply_text (Miss (Some moment)) = codes "miss " ++ decimal moment
+
+abbrev pub answer_text : Answer → List ℕ
+answer_text (answers.Put outcome) = codes "put " ++ outcome_text outcome
+answer_text (answers.Ask reply) = codes "ask " ++ reply_text reply
+
+-- the number of a line, and what it got
+abbrev pub line_text : ℕ → Answer → List ℕ
+line_text number answer = decimal number ++ (32 ∷ (answer_text answer ++ (10 ∷ [])))
+
+-- the lines of answers, the first of which has this number
+abbrev pub lines_text : ℕ → List Answer → List ℕ
+lines_text number [] = []
+lines_text number (answer ∷ answers) = line_text number answer ++ lines_text (number + 1) answers
+
+abbrev pub report_text : List Answer → List ℕ
+report_text answers = lines_text 0 answers

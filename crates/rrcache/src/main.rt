@@ -1,0 +1,62 @@
+//! Replays a trace of cache operations from standard input, and writes its report to standard output.
+#![tactic(auto)]
+
+pub mod engine;
+mod options;
+
+use clap::error::ErrorKind;
+use engine::ReplayFault;
+use std::io::BufReader;
+use std::process::ExitCode;
+use std::{env, io};
+
+/// How the program ends: the status of a fault, which is told, or of the arguments, which are.
+const FAULT: u8 = 1;
+
+const WRONG_ARGUMENTS: u8 = 2;
+
+fn told(rt: &impl Eprint, fault: ReplayFault) -> ExitCode {
+    let _ = eprintln!(rt; "rrcache: {fault}");
+    ExitCode::from(FAULT)
+}
+
+fn words(rt: &HostRuntime) -> io::Result<Vec<String>> {
+    let mut words = Vec::new(rt.alloc());
+    for word in env::args(rt)? {
+        words.push(word)?;
+    }
+    Ok(words)
+}
+
+fn replayed(rt: &HostRuntime, words: &[String]) -> Result<ExitCode, ReplayFault> {
+    let alloc = rt.alloc();
+    let matches = match options::command(alloc)?.try_get_matches_from(words) {
+        Ok(matches) => matches,
+        Err(error) if error.kind() == ErrorKind::OutOfMemory => return Err(ReplayFault::Memory),
+        Err(error) => {
+            let _ = error.print(rt);
+            return Ok(ExitCode::from(if error.use_stderr() {
+                WRONG_ARGUMENTS
+            } else {
+                0
+            }));
+        }
+    };
+    let Some(rules) = options::rules_in(&matches) else {
+        return Ok(ExitCode::from(WRONG_ARGUMENTS));
+    };
+    let mut reader = BufReader::new(alloc, rt.reader()).map_err(|_| ReplayFault::Memory)?;
+    let mut writer = io::writer(rt);
+    engine::run(alloc, &mut reader, &mut writer, &rules)?;
+    Ok(ExitCode::SUCCESS)
+}
+
+fn main(rt: HostRuntime) -> ExitCode {
+    let Ok(words) = words(&rt) else {
+        return told(&rt, ReplayFault::Memory);
+    };
+    match replayed(&rt, words.as_slice()) {
+        Ok(code) => code,
+        Err(fault) => told(&rt, fault),
+    }
+}

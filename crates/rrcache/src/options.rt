@@ -1,0 +1,40 @@
+use clap::{Arg, ArgAction, ArgMatches, Command, value_parser};
+use rrc_history::Rules;
+use std::alloc::{AllocError, Global};
+
+/// For how many seconds past its time to live a set may answer.
+const STALE_LIMIT: u64 = 86_400;
+
+/// The command line of the program.
+pub(crate) fn command<'a>(alloc: Global) -> Result<Command<'a>, AllocError> {
+    let capacity = Arg::new(alloc, "capacity")
+        .long("capacity")
+        .value_name("N")
+        .help("How many keys a part of the cache may hold")
+        .action(ArgAction::Set)
+        .default_value("1024")
+        .value_parser(value_parser!(u64).range(1..=65_536));
+    let chapter = Arg::new(alloc, "chapter")
+        .long("chapter")
+        .value_name("N")
+        .help("How many events a chapter of a part's history may have")
+        .action(ArgAction::Set)
+        .default_value("4096")
+        .value_parser(value_parser!(u64).range(1..=1_048_576));
+    Command::new(alloc, "rrcache")
+        .about(
+            "Replays a trace of cache operations from standard input, and writes its report to standard output",
+        )
+        .arg(capacity)?
+        .arg(chapter)
+}
+
+/// The rules that the arguments give.
+pub(crate) fn rules_in(matches: &ArgMatches<'_>) -> Option<Rules> {
+    let capacity = matches.get_one::<u64>("capacity")?;
+    let chapter = matches.get_one::<u64>("chapter")?;
+    Rules::new(capacity, chapter, STALE_LIMIT)
+}
+
+#[cfg(test)]
+mod tests;
