@@ -1,26 +1,25 @@
 use crate::part::Part;
 use crate::refusal::Refusal;
-use rrc_history::{
-    Ask, Body, Event, Mode, Offer, Outcome, Purpose, Reply, RrSet, Rules, Tag, Trust,
-};
-use rrc_name::{Key, Name, Octets, Sequence, Slot};
+use rrc_history::{Ask, Body, Event, Mode, Offer, Outcome, Purpose, Reply, Rules, Tag, Trust};
+use rrc_name::{Key, Name, NameFault, Octets, Sequence, Slot};
 use std::alloc::{AllocError, Global};
 use std::test::Fail;
 
-const ANSWER: Purpose = Purpose::Answer;
-
-const AA_ANSWER: Trust = Trust::AuthoritativeAnswer;
+const AA: Trust = Trust::AuthoritativeAnswer;
 
 const GLUE: Trust = Trust::Additional;
 
 /// A part for as many keys, in a chapter for as many events.
 fn part(alloc: Global, capacity: u64, chapter: u64) -> Result<Part, Fail> {
-    let rules = Rules::new(capacity, chapter, 86_400).ok_or("no rules")?;
-    Ok(Part::new(alloc, rules)?)
+    match Rules::new(capacity, chapter, 86_400) {
+        Some(rules) => Ok(Part::new(alloc, rules)?),
+        None => Err("no rules")?,
+    }
 }
 
-fn tag(line: u64) -> Tag {
-    Tag { line, place: 0 }
+fn key(alloc: Global, name: &str) -> Result<Key, NameFault> {
+    let name = Name::from_text(alloc, name)?;
+    Ok(Key::of(&name, Slot::Set(1))?)
 }
 
 /// The one address 192.0.2.`host`.
@@ -30,32 +29,38 @@ fn address(alloc: Global, host: u8) -> Result<Sequence<Octets>, AllocError> {
     Ok(items)
 }
 
-/// The offer of the address 192.0.2.`host` of a name.
-fn offer(
-    alloc: Global,
-    moment: u64,
-    owner: &str,
-    trust: Trust,
-    ttl: u32,
-    host: u8,
-) -> Result<Offer, Fail> {
-    let owner = Name::from_text(alloc, owner)?;
-    let key = Key::of(&owner, Slot::Set(1))?;
-    let items = address(alloc, host)?;
-    let body = Body::Positive {
-        owner,
-        items,
+fn body(alloc: Global, owner: &str, trust: Trust, ttl: u32, host: u8) -> Result<Body, NameFault> {
+    Ok(Body::Positive {
+        owner: Name::from_text(alloc, owner)?,
+        items: address(alloc, host)?,
         trust,
         ttl,
-    };
-    Ok(Offer::new(key, body, moment)?)
+    })
 }
 
-/// The question for the addresses of a name.
-fn ask(alloc: Global, moment: u64, name: &str, purpose: Purpose, mode: Mode) -> Result<Ask, Fail> {
-    let key = Key::of(&Name::from_text(alloc, name)?, Slot::Set(1))?;
+/// A set to be put: at a moment, under a name, of a rank, for some seconds, the address 192.0.2.`host`.
+type Set<'a> = (u64, &'a str, Trust, u32, u8);
+
+/// Offers a set as line `line` of a trace.
+fn put(
+    alloc: Global,
+    part: &mut Part,
+    line: u64,
+    set: Set<'_>,
+) -> Result<Result<Outcome, Refusal>, Fail> {
+    let (moment, owner, trust, ttl, host) = set;
+    let body = body(alloc, owner, trust, ttl, host)?;
+    let offer = Offer::new(key(alloc, owner)?, body, moment)?;
+    Ok(part.offer(Tag { line, place: 0 }, offer))
+}
+
+/// A question for addresses: at a moment, of a name, for a purpose, in a mode.
+type Question<'a> = (u64, &'a str, Purpose, Mode);
+
+fn question(alloc: Global, question: Question<'_>) -> Result<Ask, NameFault> {
+    let (moment, name, purpose, mode) = question;
     Ok(Ask {
-        name: key.name().clone()?,
+        name: key(alloc, name)?.name().clone()?,
         rtype: 1,
         moment,
         purpose,
@@ -63,28 +68,48 @@ fn ask(alloc: Global, moment: u64, name: &str, purpose: Purpose, mode: Mode) -> 
     })
 }
 
-fn fresh(alloc: Global, left: u32, owner: &str, host: u8) -> Result<Reply, Fail> {
-    let owner = Name::from_text(alloc, owner)?;
-    let items = address(alloc, host)?;
-    Ok(Reply::Fresh {
-        set: RrSet { owner, items },
-        left,
-    })
+/// The time left and the last octet of the one address, or nothing for a miss.
+fn seen(reply: &Reply) -> Option<(u32, u8)> {
+    match reply {
+        Reply::Fresh { set, left } => {
+            let address = set.items.as_slice().first()?;
+            Some((*left, *address.as_slice().last()?))
+        }
+        Reply::Miss { .. } => None,
+    }
 }
 
-const MISS: Reply = Reply::Miss { retry_from: None };
+/// What a question gets as line `line` of a trace.
+fn ask(
+    alloc: Global,
+    part: &mut Part,
+    line: u64,
+    asked: Question<'_>,
+) -> Result<Result<Option<(u32, u8)>, Refusal>, Fail> {
+    let asked = question(alloc, asked)?;
+    match part.ask(Tag { line, place: 0 }, &asked) {
+        Ok(reply) => Ok(Ok(seen(&reply))),
+        Err(refusal) => Ok(Err(refusal)),
+    }
+}
+
+const KEPT: Result<Outcome, Refusal> = Ok(Outcome::Kept);
+
+const MISS: Result<Option<(u32, u8)>, Refusal> = Ok(None);
 
 #[test]
 fn put_then_ask_is_fresh(rt: HostRuntime) -> Result<(), Fail> {
     let alloc = rt.alloc();
     let mut part = part(alloc, 1024, 4096)?;
-    let put = offer(alloc, 100, "a.example.", AA_ANSWER, 60, 1)?;
-    let asked = ask(alloc, 159, "a.example.", ANSWER, Mode::NoStale)?;
-    assert_eq!(rt; part.offer(tag(0), put)?, Outcome::Kept);
-    assert_eq!(rt;
-        part.ask(tag(1), &asked)?,
-        fresh(alloc, 1, "a.example.", 1)?
-    );
+    let put = put(alloc, &mut part, 0, (100, "a.example.", AA, 60, 1))?;
+    assert_eq!(rt; put, KEPT);
+    let ask = ask(
+        alloc,
+        &mut part,
+        1,
+        (159, "a.example.", Purpose::Answer, Mode::NoStale),
+    )?;
+    assert_eq!(rt; ask, Ok(Some((1, 1))));
     Ok(())
 }
 
@@ -92,19 +117,26 @@ fn put_then_ask_is_fresh(rt: HostRuntime) -> Result<(), Fail> {
 fn glue_does_not_displace(rt: HostRuntime) -> Result<(), Fail> {
     let alloc = rt.alloc();
     let mut part = part(alloc, 1024, 4096)?;
-    let authority = offer(alloc, 100, "a.example.", AA_ANSWER, 60, 1)?;
-    let too_early = offer(alloc, 120, "a.example.", GLUE, 60, 2)?;
-    let glue = offer(alloc, 160, "a.example.", GLUE, 60, 2)?;
-    let for_answer = ask(alloc, 161, "a.example.", ANSWER, Mode::NoStale)?;
-    let for_any = ask(alloc, 161, "a.example.", Purpose::Any, Mode::NoStale)?;
-    assert_eq!(rt; part.offer(tag(0), authority)?, Outcome::Kept);
-    assert_eq!(rt; part.offer(tag(1), too_early)?, Outcome::LessTrusted);
-    assert_eq!(rt; part.offer(tag(2), glue)?, Outcome::Kept);
-    assert_eq!(rt; part.ask(tag(3), &for_answer)?, MISS);
-    assert_eq!(rt;
-        part.ask(tag(4), &for_any)?,
-        fresh(alloc, 59, "a.example.", 2)?
-    );
+    let first = put(alloc, &mut part, 0, (100, "a.example.", AA, 60, 1))?;
+    assert_eq!(rt; first, KEPT);
+    let early = put(alloc, &mut part, 1, (120, "a.example.", GLUE, 60, 2))?;
+    assert_eq!(rt; early, Ok(Outcome::LessTrusted));
+    let late = put(alloc, &mut part, 2, (160, "a.example.", GLUE, 60, 2))?;
+    assert_eq!(rt; late, KEPT);
+    let ask_answer = ask(
+        alloc,
+        &mut part,
+        3,
+        (161, "a.example.", Purpose::Answer, Mode::NoStale),
+    )?;
+    assert_eq!(rt; ask_answer, MISS);
+    let ask_any = ask(
+        alloc,
+        &mut part,
+        4,
+        (161, "a.example.", Purpose::Any, Mode::NoStale),
+    )?;
+    assert_eq!(rt; ask_any, Ok(Some((59, 2))));
     Ok(())
 }
 
@@ -112,17 +144,29 @@ fn glue_does_not_displace(rt: HostRuntime) -> Result<(), Fail> {
 fn glue_is_for_purpose_any_alone(rt: HostRuntime) -> Result<(), Fail> {
     let alloc = rt.alloc();
     let mut part = part(alloc, 1024, 4096)?;
-    let glue = offer(alloc, 10, "a.example.", GLUE, 60, 1)?;
-    let for_answer = ask(alloc, 20, "a.example.", ANSWER, Mode::NoStale)?;
-    let for_any = ask(alloc, 20, "a.example.", Purpose::Any, Mode::NoStale)?;
-    let later = ask(alloc, 80, "a.example.", ANSWER, Mode::Now)?;
-    assert_eq!(rt; part.offer(tag(0), glue)?, Outcome::Kept);
-    assert_eq!(rt; part.ask(tag(1), &for_answer)?, MISS);
-    assert_eq!(rt;
-        part.ask(tag(2), &for_any)?,
-        fresh(alloc, 50, "a.example.", 1)?
-    );
-    assert_eq!(rt; part.ask(tag(3), &later)?, MISS);
+    let glue = put(alloc, &mut part, 0, (10, "a.example.", GLUE, 60, 1))?;
+    assert_eq!(rt; glue, KEPT);
+    let ask_answer = ask(
+        alloc,
+        &mut part,
+        1,
+        (20, "a.example.", Purpose::Answer, Mode::NoStale),
+    )?;
+    assert_eq!(rt; ask_answer, MISS);
+    let ask_any = ask(
+        alloc,
+        &mut part,
+        2,
+        (20, "a.example.", Purpose::Any, Mode::NoStale),
+    )?;
+    assert_eq!(rt; ask_any, Ok(Some((50, 1))));
+    let late = ask(
+        alloc,
+        &mut part,
+        3,
+        (80, "a.example.", Purpose::Answer, Mode::Now),
+    )?;
+    assert_eq!(rt; late, MISS);
     Ok(())
 }
 
@@ -130,79 +174,73 @@ fn glue_is_for_purpose_any_alone(rt: HostRuntime) -> Result<(), Fail> {
 fn an_earlier_moment_has_age_0(rt: HostRuntime) -> Result<(), Fail> {
     let alloc = rt.alloc();
     let mut part = part(alloc, 1024, 4096)?;
-    let put = offer(alloc, 200, "a.example.", AA_ANSWER, 60, 1)?;
-    let before = ask(alloc, 150, "a.example.", ANSWER, Mode::NoStale)?;
-    assert_eq!(rt; part.offer(tag(0), put)?, Outcome::Kept);
-    assert_eq!(rt;
-        part.ask(tag(1), &before)?,
-        fresh(alloc, 60, "a.example.", 1)?
-    );
+    let put = put(alloc, &mut part, 0, (200, "a.example.", AA, 60, 1))?;
+    assert_eq!(rt; put, KEPT);
+    let ask = ask(
+        alloc,
+        &mut part,
+        1,
+        (150, "a.example.", Purpose::Answer, Mode::NoStale),
+    )?;
+    assert_eq!(rt; ask, Ok(Some((60, 1))));
     Ok(())
 }
 
 #[test]
-fn keeps_the_spelling_received(rt: HostRuntime) -> Result<(), Fail> {
+fn finds_a_name_in_any_case(rt: HostRuntime) -> Result<(), Fail> {
     let alloc = rt.alloc();
     let mut part = part(alloc, 1024, 4096)?;
-    let put = offer(alloc, 100, "A.eXample.", AA_ANSWER, 60, 1)?;
-    let other = offer(alloc, 100, "b.example.", AA_ANSWER, 60, 2)?;
-    let asked = ask(alloc, 100, "a.EXAMPLE.", ANSWER, Mode::NoStale)?;
-    assert_eq!(rt; part.offer(tag(0), put)?, Outcome::Kept);
-    assert_eq!(rt; part.offer(tag(1), other)?, Outcome::Kept);
-    assert_eq!(rt;
-        part.ask(tag(2), &asked)?,
-        fresh(alloc, 60, "A.eXample.", 1)?
-    );
+    let upper = put(alloc, &mut part, 0, (100, "A.eXample.", AA, 60, 1))?;
+    assert_eq!(rt; upper, KEPT);
+    let other = put(alloc, &mut part, 1, (100, "b.example.", AA, 60, 2))?;
+    assert_eq!(rt; other, KEPT);
+    let ask = ask(
+        alloc,
+        &mut part,
+        2,
+        (100, "a.EXAMPLE.", Purpose::Answer, Mode::NoStale),
+    )?;
+    assert_eq!(rt; ask, Ok(Some((60, 1))));
     Ok(())
 }
 
-/// Whether the part is in its first chapter, and that holds one event: the kept offer of line 0 for this key.
-fn holds_one_offer(part: &Part, key: &Key) -> bool {
+/// Whether the part is in the chapter it began with, and has taken nothing but the offer of line 0.
+fn has_one_offer(part: &Part) -> bool {
     let opening = part.snapshot();
-    let Some(
-        Event::Offered {
-            tag,
-            offer,
-            outcome,
-            evicted,
-        },
-    ) = part.events().first()
-    else {
+    if opening.first != 0 || !opening.entries.is_empty() || part.events().len() != 1 {
         return false;
-    };
-    opening.first == 0
-        && opening.entries.is_empty()
-        && part.events().len() == 1
-        && tag.line == 0
-        && offer.key == *key
-        && *outcome == Outcome::Kept
-        && evicted.is_none()
+    }
+    match part.events().first() {
+        Some(Event::Offered { tag, outcome, .. }) => tag.line == 0 && *outcome == Outcome::Kept,
+        _ => false,
+    }
 }
 
 #[test]
 fn a_full_chapter_takes_nothing(rt: HostRuntime) -> Result<(), Fail> {
     let alloc = rt.alloc();
     let mut part = part(alloc, 1024, 1)?;
-    let first = offer(alloc, 100, "a.example.", AA_ANSWER, 60, 1)?;
-    let key = first.key.clone()?;
-    let second = offer(alloc, 101, "a.example.", AA_ANSWER, 60, 2)?;
-    let too_late = offer(alloc, (1 << 40) + 1, "a.example.", AA_ANSWER, 60, 3)?;
-    let asked = ask(alloc, 159, "a.example.", ANSWER, Mode::NoStale)?;
     assert!(rt; part.has_room());
-    assert_eq!(rt; part.offer(tag(0), first)?, Outcome::Kept);
+    let first = put(alloc, &mut part, 0, (100, "a.example.", AA, 60, 1))?;
+    assert_eq!(rt; first, KEPT);
     assert!(rt; !part.has_room());
-    assert!(rt; holds_one_offer(&part, &key));
-    assert_eq!(rt;
-        part.offer(tag(1), second).err(),
-        Some(Refusal::HistoryFull)
-    );
-    assert_eq!(rt;
-        part.offer(tag(2), too_late).err(),
-        Some(Refusal::HistoryFull)
-    );
-    assert_eq!(rt; part.ask(tag(3), &asked).err(), Some(Refusal::HistoryFull));
-    assert!(rt; holds_one_offer(&part, &key));
-    assert!(rt; !part.has_room());
+    let second = put(alloc, &mut part, 1, (101, "a.example.", AA, 60, 2))?;
+    assert_eq!(rt; second, Err(Refusal::HistoryFull));
+    let too_late = put(
+        alloc,
+        &mut part,
+        2,
+        ((1 << 40) + 1, "a.example.", AA, 60, 3),
+    )?;
+    assert_eq!(rt; too_late, Err(Refusal::HistoryFull));
+    let ask = ask(
+        alloc,
+        &mut part,
+        3,
+        (159, "a.example.", Purpose::Answer, Mode::NoStale),
+    )?;
+    assert_eq!(rt; ask, Err(Refusal::HistoryFull));
+    assert!(rt; has_one_offer(&part) && !part.has_room());
     Ok(())
 }
 
@@ -210,19 +248,25 @@ fn a_full_chapter_takes_nothing(rt: HostRuntime) -> Result<(), Fail> {
 fn a_full_part_takes_no_new_key(rt: HostRuntime) -> Result<(), Fail> {
     let alloc = rt.alloc();
     let mut part = part(alloc, 1, 4096)?;
-    let first = offer(alloc, 10, "a.example.", AA_ANSWER, 60, 1)?;
-    let key = first.key.clone()?;
-    let new_key = offer(alloc, 11, "b.example.", AA_ANSWER, 60, 2)?;
-    let asked = ask(alloc, 12, "a.example.", ANSWER, Mode::NoStale)?;
-    let asked_new = ask(alloc, 12, "b.example.", ANSWER, Mode::NoStale)?;
-    assert_eq!(rt; part.offer(tag(0), first)?, Outcome::Kept);
-    assert_eq!(rt; part.offer(tag(1), new_key).err(), Some(Refusal::Full));
-    assert!(rt; holds_one_offer(&part, &key));
-    assert_eq!(rt;
-        part.ask(tag(2), &asked)?,
-        fresh(alloc, 58, "a.example.", 1)?
-    );
-    assert_eq!(rt; part.ask(tag(3), &asked_new)?, MISS);
+    let first = put(alloc, &mut part, 0, (10, "a.example.", AA, 60, 1))?;
+    assert_eq!(rt; first, KEPT);
+    let new_key = put(alloc, &mut part, 1, (11, "b.example.", AA, 60, 2))?;
+    assert_eq!(rt; new_key, Err(Refusal::Full));
+    assert!(rt; has_one_offer(&part));
+    let held = ask(
+        alloc,
+        &mut part,
+        2,
+        (12, "a.example.", Purpose::Answer, Mode::NoStale),
+    )?;
+    assert_eq!(rt; held, Ok(Some((58, 1))));
+    let refused = ask(
+        alloc,
+        &mut part,
+        3,
+        (12, "b.example.", Purpose::Answer, Mode::NoStale),
+    )?;
+    assert_eq!(rt; refused, MISS);
     Ok(())
 }
 
@@ -230,18 +274,19 @@ fn a_full_part_takes_no_new_key(rt: HostRuntime) -> Result<(), Fail> {
 fn a_full_part_takes_the_key_it_holds(rt: HostRuntime) -> Result<(), Fail> {
     let alloc = rt.alloc();
     let mut part = part(alloc, 1, 4096)?;
-    let first = offer(alloc, 10, "a.example.", AA_ANSWER, 60, 1)?;
-    let again = offer(alloc, 11, "a.example.", AA_ANSWER, 60, 2)?;
-    let clearing = offer(alloc, 12, "b.example.", AA_ANSWER, 0, 3)?;
-    let asked = ask(alloc, 12, "a.example.", ANSWER, Mode::NoStale)?;
-    assert_eq!(rt; part.offer(tag(0), first)?, Outcome::Kept);
-    assert_eq!(rt; part.offer(tag(1), again)?, Outcome::Kept);
-    assert_eq!(rt; part.offer(tag(2), clearing)?, Outcome::Cleared);
-    assert_eq!(rt;
-        part.ask(tag(3), &asked)?,
-        fresh(alloc, 59, "a.example.", 2)?
-    );
-    assert_eq!(rt; part.events().len(), 4);
+    let first = put(alloc, &mut part, 0, (10, "a.example.", AA, 60, 1))?;
+    assert_eq!(rt; first, KEPT);
+    let again = put(alloc, &mut part, 1, (11, "a.example.", AA, 60, 2))?;
+    assert_eq!(rt; again, KEPT);
+    let clearing_none = put(alloc, &mut part, 2, (12, "b.example.", AA, 0, 3))?;
+    assert_eq!(rt; clearing_none, Ok(Outcome::Cleared));
+    let ask_again = ask(
+        alloc,
+        &mut part,
+        3,
+        (12, "a.example.", Purpose::Answer, Mode::NoStale),
+    )?;
+    assert_eq!(rt; ask_again, Ok(Some((59, 2))));
     Ok(())
 }
 
@@ -249,14 +294,19 @@ fn a_full_part_takes_the_key_it_holds(rt: HostRuntime) -> Result<(), Fail> {
 fn a_cleared_key_makes_room(rt: HostRuntime) -> Result<(), Fail> {
     let alloc = rt.alloc();
     let mut part = part(alloc, 1, 4096)?;
-    let first = offer(alloc, 10, "a.example.", AA_ANSWER, 60, 1)?;
-    let clearing = offer(alloc, 11, "a.example.", AA_ANSWER, 0, 1)?;
-    let new_key = offer(alloc, 12, "b.example.", AA_ANSWER, 60, 2)?;
-    let asked = ask(alloc, 12, "a.example.", ANSWER, Mode::NoStale)?;
-    assert_eq!(rt; part.offer(tag(0), first)?, Outcome::Kept);
-    assert_eq!(rt; part.offer(tag(1), clearing)?, Outcome::Cleared);
-    assert_eq!(rt; part.ask(tag(2), &asked)?, MISS);
-    assert_eq!(rt; part.offer(tag(3), new_key)?, Outcome::Kept);
+    let first = put(alloc, &mut part, 0, (10, "a.example.", AA, 60, 1))?;
+    assert_eq!(rt; first, KEPT);
+    let clearing = put(alloc, &mut part, 1, (11, "a.example.", AA, 0, 1))?;
+    assert_eq!(rt; clearing, Ok(Outcome::Cleared));
+    let cleared = ask(
+        alloc,
+        &mut part,
+        2,
+        (11, "a.example.", Purpose::Answer, Mode::NoStale),
+    )?;
+    assert_eq!(rt; cleared, MISS);
+    let new_key = put(alloc, &mut part, 3, (12, "b.example.", AA, 60, 2))?;
+    assert_eq!(rt; new_key, KEPT);
     Ok(())
 }
 
@@ -264,24 +314,30 @@ fn a_cleared_key_makes_room(rt: HostRuntime) -> Result<(), Fail> {
 fn moments_end_at_2_to_the_40(rt: HostRuntime) -> Result<(), Fail> {
     let alloc = rt.alloc();
     let mut part = part(alloc, 1024, 4096)?;
-    let last = offer(alloc, 1 << 40, "a.example.", AA_ANSWER, 60, 1)?;
-    let too_late = offer(alloc, (1 << 40) + 1, "b.example.", AA_ANSWER, 60, 2)?;
-    let asked = ask(alloc, 1 << 40, "a.example.", ANSWER, Mode::NoStale)?;
-    let asked_too_late = ask(alloc, (1 << 40) + 1, "a.example.", ANSWER, Mode::NoStale)?;
-    assert_eq!(rt; part.offer(tag(0), last)?, Outcome::Kept);
-    assert_eq!(rt;
-        part.offer(tag(1), too_late).err(),
-        Some(Refusal::MomentTooLarge)
-    );
-    assert_eq!(rt;
-        part.ask(tag(2), &asked_too_late).err(),
-        Some(Refusal::MomentTooLarge)
-    );
-    assert_eq!(rt;
-        part.ask(tag(3), &asked)?,
-        fresh(alloc, 60, "a.example.", 1)?
-    );
-    assert_eq!(rt; part.events().len(), 2);
+    let last = put(alloc, &mut part, 0, (1 << 40, "a.example.", AA, 60, 1))?;
+    assert_eq!(rt; last, KEPT);
+    let too_late = put(
+        alloc,
+        &mut part,
+        1,
+        ((1 << 40) + 1, "b.example.", AA, 60, 2),
+    )?;
+    assert_eq!(rt; too_late, Err(Refusal::MomentTooLarge));
+    let asked_late = ask(
+        alloc,
+        &mut part,
+        2,
+        ((1 << 40) + 1, "a.example.", Purpose::Any, Mode::Now),
+    )?;
+    assert_eq!(rt; asked_late, Err(Refusal::MomentTooLarge));
+    assert!(rt; has_one_offer(&part));
+    let asked_last = ask(
+        alloc,
+        &mut part,
+        3,
+        (1 << 40, "a.example.", Purpose::Any, Mode::Now),
+    )?;
+    assert_eq!(rt; asked_last, Ok(Some((60, 1))));
     Ok(())
 }
 
