@@ -4,6 +4,8 @@
 mod judge;
 mod part;
 mod refusal;
+#[cfg(test)]
+mod tests;
 
 pub use part::Part;
 pub use refusal::Refusal;

@@ -16,7 +16,7 @@ pub enum Trust {
 }
 
 /// What a key may hold.
-#[derive(Debug, Drop)]
+#[derive(Debug, Drop, PartialEq, Eq)]
 pub enum Body {
     /// The data of an RRset, one at least, under the spelling of its owner as received; for `ttl` seconds.
     Positive {

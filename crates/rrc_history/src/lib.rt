@@ -7,6 +7,8 @@ mod event;
 mod offer;
 mod rules;
 mod snapshot;
+#[cfg(test)]
+mod tests;
 
 pub use ask::{Ask, Mode, Purpose};
 pub use body::{Body, Trust};
