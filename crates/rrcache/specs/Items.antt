@@ -1,5 +1,5 @@
 -- The data of a put: hexadecimal digits, with a comma between two items.
-use Rattle.std.specs.Prelude.{ℕ, List, Bool, option_map, [], ◌∷◌, ◌++◌, length, take, drop, position, ◌+◌, Option, Some, None, Result, Ok, Err, ◌==◌, nat_le, nat_eq, bytes_eq, if◌then◌else◌}
+use Rattle.std.specs.Prelude.{ℕ, List, Bool, option_map, [], ◌∷◌, ◌++◌, length, take, drop, position, ◌+◌, Option, Some, None, Ok, Err, ◌==◌, nat_le, nat_eq, bytes_eq, if◌then◌else◌}
 use Rattle.std.specs.List.{slice_split, list_any}
 use Rattle.std.specs.Cmp.Lexicographic.{pointwise}
 use Rattle.hex.specs.Hex.{decode_of}

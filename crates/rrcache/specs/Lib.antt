@@ -11,3 +11,5 @@ pub mod Answers
 pub mod Report
 pub mod Writing
 pub mod Run
+pub mod Trace
+pub mod Reading

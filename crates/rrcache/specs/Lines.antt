@@ -56,10 +56,11 @@ without_cr octets = unwrap_or (before_last octets 13) octets
 abbrev pub bounded : List ℕ → Option (List ℕ)
 bounded octets = if nat_le (length octets) 140000 then Some octets else None
 
--- a line ends with an LF, before which a CR is dropped, or with the trace
+-- the line of a piece, by the octets before its LF where it has one: before an LF a CR is dropped
+abbrev pub line_ended : List ℕ → Option (List ℕ) → Option Line
+line_ended piece (Some octets) = bounded octets >>= λ octets. line_of (without_cr octets)
+line_ended piece None = bounded piece >>= line_of
+
+-- a piece of a trace ends with its LF or with the trace
 abbrev pub line_of_piece : List ℕ → Option Line
-line_of_piece piece =
-    elim (before_last piece 10) [
-      | Some octets ↦ bounded octets >>= λ octets. line_of (without_cr octets)
-      | None ↦ bounded piece >>= line_of
-    ]
+line_of_piece piece = line_ended piece (before_last piece 10)

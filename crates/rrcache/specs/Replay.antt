@@ -1,11 +1,9 @@
 -- A line of a trace makes one call on a part.
-use Rattle.std.specs.Prelude.{ℕ, None}
+use Rattle.std.specs.Prelude.{ℕ}
 use Rattle.rrc_name.specs.Wire.{folded}
 use Rattle.rrc_name.specs.declared.slot.Slot.TheVariants.{Set}
 use Rattle.rrc_history.specs.Fits.{OfferOf}
 use Rattle.rrc_history.specs.declared.body.Body.TheVariants.{Positive}
-use Rattle.rrc_history.specs.declared.event.Event.{Event}
-use Rattle.rrc_history.specs.declared.event.Event.TheVariants.{Offered, Asked}
 use Rattle.rrc_cache.specs.declared.refusal.Refusal.{Refusal}
 use Rattle.rrc_cache.specs.declared.refusal.Refusal.TheVariants as refusals
 use Rattle.rrcache.specs.declared.engine.fault.ReplayFault.{ReplayFault}

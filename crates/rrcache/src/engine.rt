@@ -10,15 +10,17 @@ mod reading;
 mod replay;
 mod report;
 mod run;
+mod trace;
 mod word;
 mod writing;
 
 pub use fault::ReplayFault;
 pub use line::{Line, Put};
-pub use reading::{Trace, read_trace};
+pub use reading::read_trace;
 pub use replay::{Answer, replay};
 pub use report::report_text;
 pub use run::run;
+pub use trace::Trace;
 
 #[cfg(test)]
 mod tests;

@@ -5,7 +5,7 @@ ghost use Rattle.rrcache.specs.Answers.{Appends};
 use super::fault::ReplayFault;
 use super::life::life;
 use super::line::{Line, Put};
-use super::reading::Trace;
+use super::trace::Trace;
 use rrc_cache::{Part, Refusal};
 use rrc_history::{Body, Offer, Outcome, Reply, Rules, Tag};
 use rrc_name::{Key, Sequence, Slot};

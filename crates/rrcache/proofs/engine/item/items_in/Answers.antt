@@ -1,4 +1,4 @@
-use Rattle.std.proofs.Common.{◌≡◌, rules, arith, sym}
+use Rattle.std.proofs.Common.{arith, sym}
 use Rattle.std.proofs.lemmas.Result.{err_from_is_err_and}
 use Rattle.rrcache.proofs.ItemLemmas.{IsRead-more, bad_piece, bad_last_piece, last_piece, too_many_pieces}
 use Rattle.rrcache.proofs.engine.item.items_in.Goals as goal

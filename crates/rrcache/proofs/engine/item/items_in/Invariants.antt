@@ -1,7 +1,4 @@
 -- the pieces that are left say, behind the items so far, what all of them say
-use Rattle.std.proofs.Common.{◌≡◌, ◌+◌, length, []}
-use Rattle.std.specs.List.{slice_split}
-use Rattle.rrcache.specs.Items.{is_comma, items_behind}
 use Rattle.rrcache.proofs.ItemLemmas.{IsRead}
 use Rattle.rrcache.proofs.engine.item.items_in.Given as goal
 

@@ -1,4 +1,4 @@
-use Rattle.std.proofs.Common.{◌≡◌, ◌+◌, ◌-◌, ◌*◌, ◌<◌, length, get_or, true, rules, arith, sym, ◌∙◌}
+use Rattle.std.proofs.Common.{◌≡◌, get_or, true, rules, arith, sym, ◌∙◌}
 use Rattle.std.specs.Char.{is_ascii_digit}
 use Rattle.rrcache.proofs.NumberLemmas.{number_behind_passes}
 use Rattle.rrcache.proofs.engine.number.number_in.Goals as goal

@@ -1,5 +1,5 @@
 -- the first so many octets went out, one at least in each turn
-use Rattle.std.proofs.Common.{◌≡◌, take, ◌≤◌, length}
+use Rattle.std.proofs.Common.{take, ◌≤◌, length}
 use Rattle.std.specs.Io.KnownBytes.{Appends}
 use Rattle.rrcache.proofs.engine.writing.write_whole.Given as goal
 
