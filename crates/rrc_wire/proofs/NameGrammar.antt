@@ -12,6 +12,7 @@ use Rattle.rrc_wire.specs.Item.{item_at, to_end}
 use Rattle.rrc_wire.specs.Name.{name_from, name_at}
 use Rattle.rrc_wire.specs.Grammar.{NameAt, root, label, pointer, StandsAt}
 use Rattle.rrc_wire.proofs.Items.{LabelStands, PointerStands, item_at-End, item_at-Label, item_at-Pointer, slice_range-label, length-slice_range}
+use Rattle.rrc_wire.proofs.Steps.{ok_is}
 use Rattle.rrc_wire.proofs.NameLoop.{name_from-End, name_from-Label, name_from-Pointer}
 
 -- behind the labels before it, the rest of a name was found at a place
@@ -27,33 +28,22 @@ abbrev Finds : ℕ → Type 0
 Finds items = (message : List ℕ) (run : Run) (before : List ℕ) (behind : Option ℕ) (place : ℕ) (name : List ℕ) (next : ℕ) → run.end ≤ length message → length before ≤ 254
     → name_from items message run before behind place ≡ Ok (name, next) → Found message run before behind place name next
 
--- where two answers are one
-abbrev done : {A : Type 0} → A → Result A WireFault
-done x = Ok x
-
-pub ok_is : {A : Type 0} (x y : A) → done x ≡ done y → x ≡ y
-ok_is x y e = cc
-
-pair-0 : (a b : List ℕ × ℕ) → a ≡ b → a.0 ≡ b.0
-pair-0 a b e = ap (λ (p : List ℕ × ℕ). p.0) e
-
-pair-1 : (a b : List ℕ × ℕ) → a ≡ b → a.1 ≡ b.1
-pair-1 a b e = ap (λ (p : List ℕ × ℕ). p.1) e
-
 after_item : (items : ℕ) → Finds items → (message : List ℕ) (run : Run) (before : List ℕ) (behind : Option ℕ) (place : ℕ) (name : List ℕ) (next : ℕ) → run.end ≤ length message → length before ≤ 254
     → (item : Result Item WireFault) → item_at message run (length before) place ≡ item
     → name_from (suc items) message run before behind place ≡ Ok (name, next) → Found message run before behind place name next
 after_item items rest message run before behind place name next within room (Err fault) is h = absurd (cc (rw (is, name_from) at h))
 after_item items rest message run before behind place name next within room (Ok End) is h =
     let stands = item_at-End message run (length before) place is in
-    let read : (before ++ 0 ∷ [], unwrap_or behind (place + 1)) ≡ (name, next) = ok_is (before ++ 0 ∷ [], unwrap_or behind (place + 1)) (name, next) (rw (is, name_from) at h) in
-    let octets : before ++ 0 ∷ [] ≡ name = pair-0 (before ++ 0 ∷ [], unwrap_or behind (place + 1)) (name, next) read in
+    let made : List ℕ × ℕ = (before ++ 0 ∷ [], unwrap_or behind (place + 1)) in
+    let wanted : List ℕ × ℕ = (name, next) in
+    let read : made ≡ wanted = ok_is made wanted (rw (is, name_from) at h) in
+    let octets : before ++ 0 ∷ [] ≡ name = ap (λ (p : List ℕ × ℕ). p.0) read in
     record {
       labels = [];
       follows = place + 1;
       labels_stand = root stands.within stands.zero_octet refl;
       octets = octets;
-      next_is = sym (pair-1 (before ++ 0 ∷ [], unwrap_or behind (place + 1)) (name, next) read);
+      next_is = sym (ap (λ (p : List ℕ × ℕ). p.1) read);
       short = omega (arith, ap length octets, length-append before (0 ∷ []));
     }
 after_item items rest message run before behind place name next within room (Ok (Label octets)) is h =

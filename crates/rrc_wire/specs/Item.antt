@@ -19,17 +19,26 @@ in_data start end = record { start = start; end = end; past = BadData }
 abbrev pub target_at : List ℕ → ℕ → ℕ
 target_at message place = word_at message place % 2 ^ 14
 
+-- a label of so many octets, in a name that has `size` octets before it; one more octet ends the name
+abbrev pub label_at : Run → ℕ → ℕ → ℕ → Result Item WireFault
+label_at run size place octets =
+    if nat_lt 255 (size + octets + 2) then Err NameTooLong
+    else if nat_lt run.end (place + 1 + octets) then Err run.past
+    else Ok (Label octets)
+
+-- a pointer leads to a place lower than the one where its run began
+abbrev pub pointer_at : List ℕ → Run → ℕ → Result Item WireFault
+pointer_at message run place =
+    if nat_lt run.end (place + 2) then Err run.past
+    else if nat_lt (target_at message place) run.start then Ok (Pointer (target_at message place))
+    else Err BadPointer
+
 -- the item at a place, of a name that has so many octets before it
 abbrev pub item_at : List ℕ → Run → ℕ → ℕ → Result Item WireFault
 item_at message run size place =
     let octet = slice_index message place in
     if nat_le run.end place then Err run.past
     else if octet == 0 then Ok End
-    else if nat_lt octet 64 then
-    (if nat_lt 255 (size + octet + 2) then Err NameTooLong
-    else if nat_lt run.end (place + 1 + octet) then Err run.past
-    else Ok (Label octet))
+    else if nat_lt octet 64 then label_at run size place octet
     else if nat_lt octet 192 then Err ReservedLabel
-    else if nat_lt run.end (place + 2) then Err run.past
-    else if nat_lt (target_at message place) run.start then Ok (Pointer (target_at message place))
-    else Err BadPointer
+    else pointer_at message run place

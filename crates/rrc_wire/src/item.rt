@@ -1,6 +1,6 @@
-ghost use Rattle.std.specs.Prelude.{◌≡◌, ◌≤◌, length};
+ghost use Rattle.std.specs.Prelude.{◌≡◌, ◌<◌, ◌≤◌, length};
 ghost use Rattle.rrc_wire.specs.Reading.{Gives};
-ghost use Rattle.rrc_wire.specs.Item.{item_at, to_end, in_data};
+ghost use Rattle.rrc_wire.specs.Item.{item_at, label_at, pointer_at, to_end, in_data};
 
 use crate::fault::WireFault;
 use crate::field::word_at;
@@ -48,6 +48,38 @@ impl Run {
     }
 }
 
+/// A label of so many octets, in a name that has `size` octets before it.
+fn label_at(run: Run, size: usize, place: usize, octets: usize) -> Result<Item, WireFault>
+    requires size { size ≤ 255 }
+    requires label { octets < 64 }
+    requires place { place < run.end }
+    ensures { Gives (λ item. item) result (label_at run size place octets) }
+{
+    if size + octets + 2 > 255 {
+        return Err(WireFault::NameTooLong);
+    }
+    if octets >= run.end - place {
+        return Err(run.past);
+    }
+    Ok(Item::Label(octets))
+}
+
+/// The pointer whose first octet stands at a place.
+fn pointer_at(message: &[u8], run: Run, place: usize) -> Result<Item, WireFault>
+    requires within { run.end ≤ length message.now }
+    requires place { place < run.end }
+    ensures { Gives (λ item. item) result (pointer_at message.now run place) }
+{
+    if run.end - place < 2 {
+        return Err(run.past);
+    }
+    let target = usize::from(word_at(message, place) & 0x3fff);
+    if target >= run.start {
+        return Err(WireFault::BadPointer);
+    }
+    Ok(Item::Pointer(target))
+}
+
 /// The item at a place, of a name that has `size` octets before it.
 pub(crate) fn item_at(
     message: &[u8],
@@ -62,27 +94,10 @@ pub(crate) fn item_at(
     if place >= run.end {
         return Err(run.past);
     }
-    let octet = usize::from(message[place]);
-    if octet == 0 {
-        Ok(Item::End)
-    } else if octet < 64 {
-        if size + octet + 2 > 255 {
-            return Err(WireFault::NameTooLong);
-        }
-        if octet >= run.end - place {
-            return Err(run.past);
-        }
-        Ok(Item::Label(octet))
-    } else if octet < 192 {
-        Err(WireFault::ReservedLabel)
-    } else {
-        if run.end - place < 2 {
-            return Err(run.past);
-        }
-        let target = usize::from(word_at(message, place) & 0x3fff);
-        if target >= run.start {
-            return Err(WireFault::BadPointer);
-        }
-        Ok(Item::Pointer(target))
+    match message[place] {
+        0 => Ok(Item::End),
+        octet @ 1..64 => label_at(run, size, place, usize::from(octet)),
+        64..192 => Err(WireFault::ReservedLabel),
+        192.. => pointer_at(message, run, place),
     }
 }

@@ -1,5 +1,7 @@
 // The messages that this repository's documents and tests know by name, and the faults of octets that are no message.
 
+ghost use Rattle.std.specs.Prelude.{◌≤◌};
+
 use crate::{Message, Rr, WireFault, is_kept, read_message};
 use rrc_name::{Octets, Sequence};
 use std::alloc::{AllocError, Global};
@@ -294,8 +296,10 @@ fn chain_of_pointers(rt: HostRuntime) -> Result<(), Fail> {
     Ok(())
 }
 
-/// Types, and how many fixed octets, names and fixed octets their data have.
-const LAYOUTS: [(u16, usize, u8, usize); 16] = [
+/// A type, and how many fixed octets, names and fixed octets its data have.
+type Row = (u16, usize, u8, usize);
+
+const LAYOUTS: [Row; 16] = [
     (2, 0, 1, 0),
     (3, 0, 1, 0),
     (4, 0, 1, 0),
@@ -314,29 +318,30 @@ const LAYOUTS: [(u16, usize, u8, usize); 16] = [
     (33, 6, 1, 0),
 ];
 
-/// Data of fixed octets, names and fixed octets, each name in these octets.
-fn data_of(
-    alloc: Global,
-    before: usize,
-    names: u8,
-    name: &str,
-    behind: usize,
-) -> Result<Vec<u8>, AllocError> {
-    let mut data = vec![in alloc; 7u8; before]?;
-    for _ in 0..names {
+/// Data of a layout, each name in these octets.
+fn data_of(alloc: Global, row: Row, name: &str) -> Result<Vec<u8>, AllocError> {
+    let mut data = vec![in alloc; 7u8; row.1]?;
+    for _ in 0..row.2 {
         push_octets(&mut data, name)?;
     }
-    for _ in 0..behind {
+    for _ in 0..row.3 {
         data.push(9)?;
     }
     Ok(data)
+}
+
+/// How many octets there are, of which these tests have few.
+fn size_of(data: &Vec<u8>) -> u16
+    ensures { result ≤ 1000 }
+{
+    data.len().min(1000) as u16
 }
 
 /// What is read of a record of a type behind the question, with a length and data: the data with their names expanded.
 fn read_data(alloc: Global, rtype: u16, rdlength: u16, data: &[u8]) -> Result<Octets, WireFault> {
     let mut message = octets_of(alloc, "1234 8400 0001 0001 0000 0000 Q c00c")?;
     message.extend_from_slice(&rtype.to_be_bytes())?;
-    push_octets(&mut message, "0001 0000003c")?;
+    push_octets(&mut message, "0001 3f00003c")?;
     message.extend_from_slice(&rdlength.to_be_bytes())?;
     message.extend_from_slice(data)?;
     let message = read_message(alloc, message.as_slice())?;
@@ -346,44 +351,56 @@ fn read_data(alloc: Global, rtype: u16, rdlength: u16, data: &[u8]) -> Result<Oc
     }
 }
 
-fn layout_holds(
-    rt: &impl Abort,
-    alloc: Global,
-    rtype: u16,
-    before: usize,
-    names: u8,
-    behind: usize,
-) -> Result<(), Fail> {
-    let mut data = data_of(alloc, before, names, "0162c00e", behind)?;
-    let expanded = data_of(alloc, before, names, "0162076578616d706c6500", behind)?;
-    let size = data.len().min(1000) as u16;
-    let read = read_data(alloc, rtype, size, data.as_slice())?;
-    assert_eq!(rt; read.as_slice(), expanded.as_slice(), "type {rtype}");
-    for end in 0..size {
-        assert_eq!(rt;
-            read_data(alloc, rtype, end, data.as_slice()),
-            Err(WireFault::BadData),
-            "type {rtype}"
-        );
+/// Asserts that data whose names end in pointers are read with the names expanded.
+fn expands(rt: &impl Abort, alloc: Global, row: Row) -> Result<(), Fail> {
+    let data = data_of(alloc, row, "0162c00e")?;
+    let expanded = data_of(alloc, row, "0162076578616d706c6500")?;
+    let read = read_data(alloc, row.0, size_of(&data), data.as_slice())?;
+    assert_eq!(rt; read.as_slice(), expanded.as_slice(), "type {}", row.0);
+    Ok(())
+}
+
+/// Asserts that each smaller length cuts a fixed field or a name of the data.
+fn is_bad_when_cut(rt: &impl Abort, alloc: Global, row: Row) -> Result<(), Fail> {
+    let data = data_of(alloc, row, "0162c00e")?;
+    for size in 0..size_of(&data) {
+        let read = read_data(alloc, row.0, size, data.as_slice());
+        assert_eq!(rt; read, Err(WireFault::BadData), "type {}", row.0);
     }
+    Ok(())
+}
+
+/// Asserts that an octet left over is BadData, and one that the message has not is Short.
+fn is_filled_exactly(rt: &impl Abort, alloc: Global, row: Row) -> Result<(), Fail> {
+    let mut data = data_of(alloc, row, "0162c00e")?;
     data.push(0)?;
+    let size = size_of(&data);
     assert_eq!(rt;
-        read_data(alloc, rtype, size + 1, data.as_slice()),
-        Err(WireFault::BadData),
-        "type {rtype}"
+        read_data(alloc, row.0, size, data.as_slice()),
+        Err(WireFault::BadData)
     );
     assert_eq!(rt;
-        read_data(alloc, rtype, size + 2, data.as_slice()),
-        Err(WireFault::Short),
-        "type {rtype}"
+        read_data(alloc, row.0, size + 1, data.as_slice()),
+        Err(WireFault::Short)
     );
+    Ok(())
+}
+
+/// Asserts that a name is Short where it points to the TTL, whose first octet begins a label that the message's end cuts.
+fn is_short_behind_a_pointer(rt: &impl Abort, alloc: Global, row: Row) -> Result<(), Fail> {
+    let data = data_of(alloc, row, "c021")?;
+    let read = read_data(alloc, row.0, size_of(&data), data.as_slice());
+    assert_eq!(rt; read, Err(WireFault::Short), "type {}", row.0);
     Ok(())
 }
 
 #[test]
 fn layouts(rt: HostRuntime) -> Result<(), Fail> {
-    for (rtype, before, names, behind) in LAYOUTS {
-        layout_holds(&rt, rt.alloc(), rtype, before, names, behind)?;
+    for row in LAYOUTS {
+        expands(&rt, rt.alloc(), row)?;
+        is_bad_when_cut(&rt, rt.alloc(), row)?;
+        is_filled_exactly(&rt, rt.alloc(), row)?;
+        is_short_behind_a_pointer(&rt, rt.alloc(), row)?;
     }
     Ok(())
 }
