@@ -35,13 +35,6 @@ impl<T> Sequence<T> {
         Sequence { values }
     }
 
-    /// Makes room for one more value, so that the next `push_reserved` takes no memory.
-    pub fn reserve_one(&mut self) -> Result<(), AllocError>
-        ensures same { self.new ≡ self.old }
-    {
-        self.values.reserve(1)
-    }
-
     /// Puts a value behind the others. An `Err` leaves them as they were.
     pub fn push(&mut self, value: T) -> Result<(), AllocFailed<T>>
         ensures ok { OnOk result (self.new ≡ self.old ++ value ∷ []) }
