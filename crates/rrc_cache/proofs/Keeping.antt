@@ -1,27 +1,122 @@
--- What an offer leaves under its own key and under the others.
-use Rattle.std.proofs.Common.{◌≡◌, refl, ap, ◌∙◌}
-use Rattle.rrc_name.specs.Key.{key_eq}
-use Rattle.rrc_name.specs.KeyLaws.{key_eq-laws}
-use Rattle.rrc_history.specs.Fits.{OfferOf}
-use Rattle.rrc_history.specs.Kept.{entry_at, others, ttl_of}
-use Rattle.rrc_history.specs.KeptLaws.{find-push, find-push_apart, entry_at-others, entry_at-others_other}
+-- What a part keeps is what its history says, through every event.
+use Rattle.std.proofs.Common.{◌≡◌, ℕ, ◌+◌, ◌≤◌, List, [], ◌∷◌, ◌++◌, length, reverse, Option, None, refl, sym, ap, subst, ◌∙◌, arith}
+use Rattle.rrc_history.specs.declared.rules.Rules.{Rules}
+use Rattle.rrc_history.specs.declared.event.Event.{Event}
 use Rattle.rrc_history.specs.declared.snapshot.Entry.{Entry}
+use Rattle.rrc_history.specs.Past.{held, entry_at, number_after, AreContents}
+use Rattle.std.specs.List.{AllByRecursion}
+use Rattle.std.proofs.lemmas.List.{length-reverse, length-append}
+use Rattle.rrc_name.specs.Key.{KeyOf}
+use Rattle.rrc_history.specs.declared.event.Event.TheVariants.{Offered}
 use Rattle.rrc_history.specs.declared.event.Outcome.{Outcome}
 use Rattle.rrc_history.specs.declared.event.Outcome.TheVariants.{Kept, Cleared, LessTrusted}
-use Rattle.rrc_cache.specs.Part.{PartOf, next_number, entry_of, kept_after, Leaves, LeavesOthers}
+use Rattle.rrc_history.specs.declared.event.Tag.{Tag}
+use Rattle.rrc_history.specs.Fits.{OfferOf}
+use Rattle.rrc_history.specs.Lives.{LAST_MOMENT, IsTimely}
+use Rattle.rrc_history.specs.Judged.{verdict}
+use Rattle.rrc_history.specs.Right.{IsRight, IsLegal, evicted_by}
+use Rattle.rrc_history.specs.OfferLaws.{goes, kept_after, offer_contents, length-kept_after}
+use Rattle.rrc_cache.specs.Part.{PartOf, past_of, next_number, HasRoom, IsOpen, IsSound, Keeps, Adds}
+use Rattle.rrc_history.specs.LawsHold.{laws_hold}
+use Rattle.rrc_cache.specs.Taken.{IsTaken}
+use Rattle.rrc_cache.proofs.Timely.{timely_staying}
+use Rattle.rrc_cache.proofs.Turned.{reverse-push}
 
-pub leaves_key : (old new : PartOf) (offer : OfferOf) (outcome : Outcome) → new.kept ≡ kept_after outcome old.kept offer (next_number old)
-    → (outcome ≡ Cleared → ttl_of offer.body ≡ 0) → Leaves old new offer outcome
-leaves_key old new offer Kept is dead =
-    ap (entry_at offer.key) is
-    ∙ find-push (λ (entry : Entry). key_eq offer.key entry.key) (others offer.key old.kept) (entry_of offer (next_number old)) (entry_at-others offer.key old.kept) (key_eq-laws.refl offer.key)
-leaves_key old new offer Cleared is dead = (dead refl, ap (entry_at offer.key) is ∙ entry_at-others offer.key old.kept)
-leaves_key old new offer LessTrusted is dead = ap (entry_at offer.key) is
+-- a part with nothing in it
+pub empty_keeps : (rules : Rules) → Keeps (record { snapshot = record { rules = rules; first = 0; entries = [] }; events = [] }) []
+unfolding held
+empty_keeps rules = record {
+  sound = record { legal = tt; few = omega arith; numbered = omega arith };
+  contents = record { agree = λ key. refl; falling = tt };
+  room = omega arith;
+  timely = tt;
+}
 
-pub leaves_others : (old new : PartOf) (offer : OfferOf) (outcome : Outcome) → new.kept ≡ kept_after outcome old.kept offer (next_number old) → LeavesOthers old new offer.key
-leaves_others old new offer Kept is other apart =
-    ap (entry_at other) is
-    ∙ (find-push_apart (λ (entry : Entry). key_eq other entry.key) (others offer.key old.kept) (entry_of offer (next_number old)) apart
-    ∙ entry_at-others_other other offer.key old.kept apart)
-leaves_others old new offer Cleared is other apart = ap (entry_at other) is ∙ entry_at-others_other other offer.key old.kept apart
-leaves_others old new offer LessTrusted is other apart = ap (entry_at other) is
+pub past-more : (part : PartOf) (event : Event) → past_of (record { snapshot = part.snapshot; events = part.events ++ event ∷ [] }) ≡ event ∷ past_of part
+past-more part event = reverse-push part.events event
+
+pub number-of : (part : PartOf) → number_after part.snapshot (past_of part) ≡ next_number part
+number-of part = ap (λ n. part.snapshot.first + n) (length-reverse part.events)
+
+-- one more right event
+pub adds_keeps : (part : PartOf) (event : Event) (entries : List Entry) → IsSound part → HasRoom part → IsRight part.snapshot (past_of part) event
+    → AreContents part.snapshot (event ∷ past_of part) (reverse entries) → length entries ≤ part.snapshot.rules.capacity → AllByRecursion IsTimely (reverse entries)
+    → Keeps (record { snapshot = part.snapshot; events = part.events ++ event ∷ [] }) entries
+adds_keeps part event entries sound room right contents few timely =
+    let past = sym (past-more part event) in
+    let more : length (part.events ++ event ∷ []) ≡ length part.events + 1 = length-append part.events (event ∷ []) in
+    record {
+      sound = record {
+        legal = let P : List Event → Type 0 = IsLegal part.snapshot in subst P past (right, sound.legal);
+        few = omega (arith, room.chapter);
+        numbered = omega (arith, room.number);
+      };
+      contents = let P : List Event → Type 0 = λ p. AreContents part.snapshot p (reverse entries) in subst P past contents;
+      room = few;
+      timely = timely;
+    }
+
+-- how many there are is the same from either end
+pub fits_reversed : (capacity : ℕ) (entries kept : List Entry) → reverse entries ≡ kept → length kept ≤ capacity → length entries ≤ capacity
+fits_reversed capacity entries kept is le = omega (arith, sym (length-reverse entries) ∙ ap length is)
+
+pub timely_kept_after : (outcome : Outcome) (offer : OfferOf) (number : ℕ) (evicted : Option KeyOf) (entries : List Entry) → offer.moment ≤ LAST_MOMENT
+    → AllByRecursion IsTimely entries → AllByRecursion IsTimely (kept_after outcome offer number evicted entries)
+timely_kept_after Kept offer number evicted entries in_time all = (in_time, timely_staying (goes offer.key evicted) entries all)
+timely_kept_after Cleared offer number evicted entries in_time all = timely_staying (goes offer.key None) entries all
+timely_kept_after LessTrusted offer number evicted entries in_time all = all
+
+pub offer_is_right : (part : PartOf) (entries : List Entry) (tag : Tag) (offer : OfferOf) (outcome : Outcome) (evicted : Option KeyOf) (kept : List Entry)
+    → Keeps part entries → IsOpen part offer.moment → IsTaken part.snapshot.rules.capacity (next_number part) offer (reverse entries) outcome evicted kept
+    → IsRight part.snapshot (past_of part) (Offered tag offer outcome evicted)
+offer_is_right part entries tag offer outcome evicted kept keeps open' taken =
+    let same = keeps.contents.agree offer.key in
+    record {
+      numbered = omega (arith, number-of part, open'.room.number);
+      right = record {
+        timely = open'.moment;
+        judged = taken.judged ∙ ap (λ h. verdict h offer) same;
+        entries = reverse entries;
+        contents = keeps.contents;
+        evicts = taken.evicts ∙ ap (λ h. evicted_by part.snapshot.rules.capacity (reverse entries) h outcome) same;
+      };
+    }
+
+pub offer_keeps : (part : PartOf) (entries : List Entry) (tag : Tag) (offer : OfferOf) (outcome : Outcome) (evicted : Option KeyOf) (kept : List Entry)
+    → Keeps part entries → IsOpen part offer.moment → IsTaken part.snapshot.rules.capacity (next_number part) offer (reverse entries) outcome evicted (reverse kept)
+    → Keeps (record { snapshot = part.snapshot; events = part.events ++ Offered tag offer outcome evicted ∷ [] }) kept
+offer_keeps part entries tag offer outcome evicted kept keeps open' taken =
+    let event : Event = Offered tag offer outcome evicted in
+    let after = offer_contents part.snapshot (past_of part) tag offer outcome evicted (reverse entries) keeps.contents in
+    let left : List Entry = kept_after outcome offer (next_number part) evicted (reverse entries) in
+    let contents : AreContents part.snapshot (event ∷ past_of part) left =
+    let P : ℕ → Type 0 = λ n. AreContents part.snapshot (event ∷ past_of part) (kept_after outcome offer n evicted (reverse entries)) in subst P (number-of part) after in
+    let few : length (kept_after outcome offer (next_number part) (evicted_by part.snapshot.rules.capacity (reverse entries) (entry_at offer.key (reverse entries)) outcome) (reverse entries)) ≤ part.snapshot.rules.capacity =
+    length-kept_after part.snapshot.rules.capacity (entry_at offer.key (reverse entries)) outcome offer (next_number part) (reverse entries)
+    part.snapshot.rules.some_capacity (omega (arith, length-reverse entries, keeps.room)) refl in
+    let few' : length left ≤ part.snapshot.rules.capacity =
+    let P : Option KeyOf → Type 0 = λ e. length (kept_after outcome offer (next_number part) e (reverse entries)) ≤ part.snapshot.rules.capacity in subst P (sym taken.evicts) few in
+    adds_keeps part event kept keeps.sound open'.room (offer_is_right part entries tag offer outcome evicted (reverse kept) keeps open' taken)
+    (let P : List Entry → Type 0 = AreContents part.snapshot (event ∷ past_of part) in subst P (sym taken.left) contents)
+    (fits_reversed part.snapshot.rules.capacity kept left taken.left few')
+    (let P : List Entry → Type 0 = AllByRecursion IsTimely in subst P (sym taken.left) (timely_kept_after outcome offer (next_number part) evicted (reverse entries) open'.moment keeps.timely))
+
+-- what an event that was written says, and what the part keeps after it
+pub record IsDone (part new : PartOf) (event : Event) (kept : List Entry) : Type 0 where
+  pub adds : Adds part new event
+  pub keeps : Keeps new kept
+
+pub done_with : (part : PartOf) (event : Event) (kept : List Entry) → IsRight part.snapshot (past_of part) event
+    → Keeps (record { snapshot = part.snapshot; events = part.events ++ event ∷ [] }) kept
+    → IsDone part (record { snapshot = part.snapshot; events = part.events ++ event ∷ [] }) event kept
+done_with part event kept right keeps = record {
+  adds = record { snapshot = refl; written = refl; right = right; laws = laws_hold part.snapshot (past_of part) event right };
+  keeps = keeps;
+}
+
+pub offer_done : (part : PartOf) (entries : List Entry) (tag : Tag) (offer : OfferOf) (outcome : Outcome) (evicted : Option KeyOf) (kept : List Entry)
+    → Keeps part entries → IsOpen part offer.moment → IsTaken part.snapshot.rules.capacity (next_number part) offer (reverse entries) outcome evicted (reverse kept)
+    → IsDone part (record { snapshot = part.snapshot; events = part.events ++ Offered tag offer outcome evicted ∷ [] }) (Offered tag offer outcome evicted) kept
+offer_done part entries tag offer outcome evicted kept keeps open' taken =
+    done_with part (Offered tag offer outcome evicted) kept (offer_is_right part entries tag offer outcome evicted (reverse kept) keeps open' taken)
+    (offer_keeps part entries tag offer outcome evicted kept keeps open' taken)

@@ -1,82 +1,263 @@
-ghost use Rattle.std.specs.Prelude.{◌≡◌, IfOk, IsTrue, IsSome, nat_lt};
-ghost use Rattle.std.specs.Option.{option_copied};
-ghost use Rattle.rrc_history.specs.Kept.{entry_at, key_of, is_unexpired, ttl_of, reply_of, may_serve};
+ghost use Rattle.std.specs.Prelude.{◌≡◌, ◌+◌, ◌<◌, ◌≤◌, ◌^◌, IfSome};
+ghost use Rattle.std.specs.Option.{option_copied, option_map};
+ghost use Rattle.rrc_history.specs.Lives.{ttl_of, rank, rank_of, is_unexpired, is_dead, IsTimely};
+ghost use Rattle.rrc_history.specs.Judged.{outranks, verdict, later_governs, governing, is_before, recent_failure, retry_from, may_be_stale, may_serve, reply_of_living_set, reply_of_living_soa, reply_of_entry, reply_by, answering};
+ghost use Rattle.rrc_cache.specs.Found.{found_in};
+ghost use Rattle.rrc_cache.specs.Reply.{reply_in};
 
-use rrc_history::{Ask, Body, Entry, Offer, Outcome, Purpose, Reply, RrSet, Trust};
-use rrc_name::{Key, Slot};
-use std::alloc::AllocError;
+use crate::found::Found;
+use crate::reply::{ReplyRef, SetRef, SoaRef};
+use rrc_history::{Ask, Body, Entry, Mode, Offer, Outcome, Purpose, Trust};
+use rrc_name::Slot;
 
-/// The entry of a key.
-pub(crate) fn held<'a>(entries: &'a [Entry], key: &Key) -> Option<&'a Entry>
-    ensures { option_copied result ≡ entry_at key.now entries.now }
+/// The seconds that a stale answer is given (RFC 8767 section 4).
+const STALE_TTL: u32 = 30;
+
+fn rank(trust: Trust) -> u8
+    ensures { result ≡ rank trust }
 {
-    entries.iter().find(|entry| *key == entry.key)
-}
-
-/// The entry that an ask is about.
-pub(crate) fn asked<'a>(entries: &'a [Entry], ask: &Ask) -> Option<&'a Entry>
-    ensures { option_copied result ≡ entry_at (key_of ask.now) entries.now }
-{
-    let slot = Slot::Set(ask.rtype);
-    entries.iter().find(|entry| ask.name == entry.key.name && slot == entry.key.slot)
-}
-
-/// What becomes of an offer where its key holds this entry. An unexpired body that is trusted more stays (RFC 2181 section
-/// 5.4.1).
-pub(crate) fn verdict(held: Option<&Entry>, offer: &Offer) -> Outcome
-    ensures kept { result ≡ Outcome.Kept → IsTrue (nat_lt 0 (ttl_of offer.now.body)) }
-    ensures cleared { result ≡ Outcome.Cleared → ttl_of offer.now.body ≡ 0 }
-    ensures less { result ≡ Outcome.LessTrusted → IsSome held.entry }
-{
-    let Body::Positive { trust, ttl, .. } = &offer.body;
-    if let Some(entry) = held {
-        let Body::Positive { trust: before, .. } = &entry.body;
-        if is_unexpired(entry, offer.moment) && *before > *trust {
-            return Outcome::LessTrusted;
-        }
+    match trust {
+        Trust::Additional => 1,
+        Trust::NonAuthoritativeAnswer => 2,
+        Trust::Authority => 3,
+        Trust::AuthoritativeAnswer => 4,
     }
-    if *ttl == 0 {
-        Outcome::Cleared
-    } else {
-        Outcome::Kept
+}
+
+fn rank_of(body: &Body) -> u8
+    ensures { result ≡ rank_of body.now }
+{
+    match body {
+        Body::Positive { trust, .. } | Body::Negative { trust, .. } => rank(*trust),
+        Body::Failure { .. } => 0,
+    }
+}
+
+fn ttl_of(body: &Body) -> u32
+    ensures { result ≡ ttl_of body.now }
+{
+    match body {
+        Body::Positive { ttl, .. } | Body::Negative { ttl, .. } | Body::Failure { ttl } => *ttl,
     }
 }
 
 fn is_unexpired(entry: &Entry, moment: u64) -> bool
     ensures { result ≡ is_unexpired entry.now moment }
 {
-    let Body::Positive { ttl, .. } = &entry.body;
-    moment.saturating_sub(entry.moment) < u64::from(*ttl)
+    moment.saturating_sub(entry.moment) < u64::from(ttl_of(&entry.body))
 }
 
-fn may_serve(purpose: Purpose, trust: Trust) -> bool
-    ensures { result ≡ may_serve purpose trust }
+/// Whether an entry can answer no more.
+pub(crate) fn is_dead(entry: &Entry, stale: u64, moment: u64) -> bool
+    requires { stale ≤ 604800 }
+    ensures { result ≡ is_dead stale entry.now moment }
 {
-    !matches!((purpose, trust), (Purpose::Answer, Trust::Additional))
-}
-
-/// The answer from an entry.
-pub(crate) fn reply(held: Option<&Entry>, ask: &Ask) -> Result<Reply, AllocError>
-    ensures { IfOk result (λ reply. reply ≡ reply_of (option_copied held.entry) ask.now) }
-{
-    let Some(entry) = held else {
-        return Ok(Reply::Miss { retry_from: None });
+    let span = match &entry.body {
+        Body::Positive { ttl, .. } => u64::from(*ttl) + stale,
+        Body::Negative { ttl, .. } | Body::Failure { ttl } => u64::from(*ttl),
     };
-    let Body::Positive {
-        owner,
-        items,
-        trust,
-        ttl,
-    } = &entry.body;
-    let age = ask.moment.saturating_sub(entry.moment);
-    if !may_serve(ask.purpose, *trust) || age >= u64::from(*ttl) {
-        return Ok(Reply::Miss { retry_from: None });
+    span <= moment.saturating_sub(entry.moment)
+}
+
+fn outranks(entry: &Entry, moment: u64, body: &Body) -> bool
+    ensures { result ≡ outranks entry.now moment body.now }
+{
+    is_unexpired(entry, moment) && rank_of(body) < rank_of(&entry.body)
+}
+
+/// What becomes of an offer where its key holds this: unexpired data of higher rank stay (RFC 2181 section 5.4.1), a ttl of 0
+/// clears, and that asking failed is always kept.
+pub(crate) fn verdict(held: Option<&Entry>, offer: &Offer) -> Outcome
+    ensures { result ≡ verdict (option_copied held.entry) offer.now }
+{
+    if let Body::Failure { .. } = offer.body {
+        return Outcome::Kept;
     }
-    Ok(Reply::Fresh {
-        set: RrSet {
-            owner: owner.clone()?,
-            items: items.clone()?,
-        },
-        left: *ttl - age as u32,
-    })
+    match held {
+        Some(entry) if outranks(entry, offer.moment, &offer.body) => Outcome::LessTrusted,
+        _ if ttl_of(&offer.body) == 0 => Outcome::Cleared,
+        _ => Outcome::Kept,
+    }
+}
+
+fn later_governs<'a>(later: &'a Entry, earlier: &'a Entry, moment: u64) -> &'a Entry
+    ensures { result.now ≡ later_governs later.now earlier.now moment }
+{
+    if outranks(earlier, moment, &later.body) {
+        earlier
+    } else {
+        later
+    }
+}
+
+/// Of two entries for a name and a type the later one, unless the earlier is unexpired and trusted more (RFC 2181 section
+/// 5.4.1, RFC 2308 section 5).
+fn governing<'a>(set: Option<&'a Entry>, nx: Option<&'a Entry>, moment: u64) -> Option<&'a Entry>
+    ensures { option_copied result ≡ governing (option_copied set.entry) (option_copied nx.entry) moment }
+{
+    match (set, nx) {
+        (None, nx) => nx,
+        (set, None) => set,
+        (Some(set), Some(nx)) => Some(if set.number < nx.number {
+            later_governs(nx, set, moment)
+        } else {
+            later_governs(set, nx, moment)
+        }),
+    }
+}
+
+fn is_before(other: Option<&Entry>, entry: &Entry) -> bool
+    ensures { result ≡ is_before (option_copied other.entry) entry.now }
+{
+    match other {
+        None => true,
+        Some(other) => other.number < entry.number,
+    }
+}
+
+/// A failure that still lives, where nothing was learnt since (RFC 8767 section 5).
+fn recent_failure<'a>(found: Found<'a>, moment: u64) -> Option<&'a Entry>
+    ensures { option_copied result ≡ recent_failure (found_in found.entry) moment }
+{
+    let failure = found.failed?;
+    let is_recent = is_unexpired(failure, moment)
+        && is_before(found.set, failure)
+        && is_before(found.nx, failure);
+    if is_recent { Some(failure) } else { None }
+}
+
+fn may_be_stale(mode: Mode, failure: Option<&Entry>) -> bool
+    ensures { result ≡ may_be_stale mode (option_copied failure.entry) }
+{
+    match mode {
+        Mode::NoStale => false,
+        Mode::Now => true,
+        Mode::Failed => failure.is_some(),
+    }
+}
+
+fn may_serve(purpose: Purpose, body: &Body) -> bool
+    ensures { result ≡ may_serve purpose body.now }
+{
+    match purpose {
+        Purpose::Any => true,
+        Purpose::Answer => rank_of(body) > 1,
+    }
+}
+
+/// From when on asking may be tried again.
+fn retry_from(failure: Option<&Entry>) -> Option<u64>
+    requires { IfSome (option_copied failure) IsTimely }
+    ensures { result ≡ retry_from (option_copied failure.entry) }
+{
+    match failure {
+        None => None,
+        Some(failure) => Some(failure.moment + u64::from(ttl_of(&failure.body))),
+    }
+}
+
+/// The answer of a set: fresh while it lives, then stale where that will do, within the limit (RFC 8767 section 5).
+fn reply_of_set<'a>(
+    set: SetRef<'a>,
+    ttl: u32,
+    age: u64,
+    stale: u64,
+    may_be_stale: bool,
+) -> Option<ReplyRef<'a>>
+    requires { stale ≤ 604800 }
+    ensures { option_map reply_in result ≡ reply_of_living_set stale (record { owner = set.entry.owner.now; items = set.entry.items.now }) ttl age may_be_stale }
+{
+    if age < u64::from(ttl) {
+        Some(ReplyRef::Fresh {
+            set,
+            left: ttl - age as u32,
+        })
+    } else if may_be_stale && age < u64::from(ttl) + stale {
+        Some(ReplyRef::Stale {
+            set,
+            left: STALE_TTL,
+        })
+    } else {
+        None
+    }
+}
+
+/// The answer of a negative entry, which is never stale (RFC 2308 section 5).
+fn reply_of_soa<'a>(slot: Slot, soa: SoaRef<'a>, ttl: u32, age: u64) -> Option<ReplyRef<'a>>
+    ensures { option_map reply_in result ≡ reply_of_living_soa slot (record { owner = soa.entry.owner.now; octets = soa.entry.octets.now }) ttl age }
+{
+    if age >= u64::from(ttl) {
+        return None;
+    }
+    let left = ttl - age as u32;
+    match slot {
+        Slot::Set(_) => Some(ReplyRef::NoData { soa, left }),
+        Slot::Nx => Some(ReplyRef::NxDomain { soa, left }),
+        Slot::Failed(_) => None,
+    }
+}
+
+/// The answer of an entry, if it has one.
+fn reply_of_entry<'a>(
+    entry: &'a Entry,
+    ask: &Ask,
+    stale: u64,
+    failure: Option<&Entry>,
+) -> Option<ReplyRef<'a>>
+    requires { stale ≤ 604800 }
+    ensures { option_map reply_in result ≡ reply_of_entry stale entry.now ask.now (option_copied failure.entry) }
+{
+    let age = ask.moment.saturating_sub(entry.moment);
+    match &entry.body {
+        Body::Positive {
+            owner,
+            items,
+            ttl,
+            ..
+        } => reply_of_set(
+            SetRef { owner, items },
+            *ttl,
+            age,
+            stale,
+            may_be_stale(ask.mode, failure),
+        ),
+        Body::Negative {
+            soa_owner,
+            soa,
+            ttl,
+            ..
+        } => reply_of_soa(
+            entry.key.slot,
+            SoaRef {
+                owner: soa_owner,
+                octets: soa,
+            },
+            *ttl,
+            age,
+        ),
+        Body::Failure { .. } => None,
+    }
+}
+
+/// What an ask is answered where its keys hold this, and the entry that answers.
+pub(crate) fn judge<'a>(
+    found: Found<'a>,
+    ask: &Ask,
+    stale: u64,
+) -> (ReplyRef<'a>, Option<&'a Entry>)
+    requires stale { stale ≤ 604800 }
+    requires timely { IfSome (option_copied found.failed) IsTimely }
+    ensures reply { reply_in result.0 ≡ reply_by stale (found_in found.entry) ask.now }
+    ensures answering { option_copied result.1 ≡ answering (found_in found.entry) ask.now (reply_in result.0) }
+{
+    let failure = recent_failure(found, ask.moment);
+    if let Some(entry) = governing(found.set, found.nx, ask.moment) {
+        if may_serve(ask.purpose, &entry.body) {
+            if let Some(reply) = reply_of_entry(entry, ask, stale, failure) {
+                return (reply, Some(entry));
+            }
+        }
+    }
+    let retry_from = retry_from(failure);
+    (ReplyRef::Miss { retry_from }, None)
 }

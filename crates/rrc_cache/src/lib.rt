@@ -1,11 +1,17 @@
 //! A part of the cache, lent to one thread: each call appends one event to its history and answers what stands in it.
 #![tactic(auto)]
 
+mod answer;
+mod entries;
+mod found;
 mod judge;
 mod part;
 mod refusal;
+mod reply;
+mod sweep;
 #[cfg(test)]
 mod tests;
 
-pub use part::Part;
+pub use part::{LAST_MOMENT, Part};
 pub use refusal::Refusal;
+pub use reply::{ReplyRef, SetRef, SoaRef};

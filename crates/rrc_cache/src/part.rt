@@ -1,12 +1,11 @@
-ghost use Rattle.std.specs.Prelude.{◌≡◌, ◌<◌, ◌≤◌, ◌↔◌, ◌++◌, ◌∷◌, [], None, length, IsTrue, IfOk, IfErr, OnOk, OnErr, Err, vec_len, vec_capacity};
-ghost use Rattle.rrc_history.specs.Kept.{others};
-ghost use Rattle.rrc_cache.specs.Part.{kept_after, is_crowded, IsOfMoments};
+ghost use Rattle.std.specs.Prelude.{◌≡◌, ◌<◌, ◌≤◌, ◌↔◌, ◌++◌, ◌∷◌, [], None, length, IsTrue, IfOk, IfErr, OnOk, OnErr, Err};
 
-use crate::judge;
 use crate::refusal::Refusal;
+use crate::reply::ReplyRef;
+use crate::{answer, entries, found, judge, sweep};
 use rrc_history::{Ask, Entry, Event, Offer, Outcome, Reply, Rules, Snapshot, Tag};
-use rrc_name::{Key, Sequence};
-use std::alloc::{AllocError, Global};
+use rrc_name::Sequence;
+use std::alloc::Global;
 use std::marker::Model;
 
 /// The last moment that a call may have, in seconds.
@@ -15,31 +14,34 @@ pub const LAST_MOMENT: u64 = 1 << 40;
 /// The number that no event has any more.
 const SPENT: u64 = 1 << 62;
 
-/// A part of the cache. Contracts see the chapter of its history that is open, and what it keeps.
+/// A part of the cache. Contracts see the chapter of its history that is open: the snapshot that it began with, and the
+/// events since.
 #[derive(Debug, Drop)]
 pub struct Part {
     snapshot: Snapshot,
     events: Vec<Event>,
+    /// What is kept, the key touched last at the end.
     entries: Vec<Entry>,
 }
 
 impl Model for Part {
-    ghost use Rattle.rrc_cache.specs.Part.{PartOf, IsSound};
+    ghost use Rattle.rrc_cache.specs.Part.{PartOf, Keeps};
 
     ghost Value = { PartOf };
 
-    ghost view = { λ p. record { snapshot = p.snapshot; events = p.events.items; kept = p.entries.items } };
+    ghost view = { λ p. record { snapshot = p.snapshot; events = p.events.items } };
 
-    ghost invariant = { λ p. IsSound (record { snapshot = p.snapshot; events = p.events.items; kept = p.entries.items }) };
+    ghost invariant = { λ p. Keeps (record { snapshot = p.snapshot; events = p.events.items }) p.entries.items };
 }
 
 impl Part {
-    ghost use Rattle.rrc_cache.specs.Part.{held, next_number, HasRoom, IsDue, IsFullWhereCrowded, Leaves, LeavesOthers, IsOpen};
-    ghost use Rattle.rrc_history.specs.Kept.{key_of, reply_of};
+    ghost use Rattle.rrc_cache.specs.Part.{past_of, next_number, HasRoom, IsDue, IsOfMoments, IsSound, WritesOffer, WritesAsk, WritesSweep};
+    ghost use Rattle.rrc_cache.specs.Reply.{reply_in};
+    ghost use Rattle.rrc_history.specs.Past.{reply_to};
 
     /// An empty part in the first chapter of its history.
     pub fn new(alloc: Global, rules: Rules) -> Result<Part, Refusal>
-        ensures empty { IfOk result (λ part. (part.events ≡ []) × (part.kept ≡ [])) }
+        ensures empty { IfOk result (λ part. part.events ≡ []) }
         ensures snapshot { IfOk result (λ part. part.snapshot ≡ record { rules = rules; first = 0; entries = [] }) }
         ensures memory { OnErr result (result ≡ Err Refusal.Memory) }
     {
@@ -54,16 +56,18 @@ impl Part {
         })
     }
 
-    /// The events of the chapter that is open, oldest first.
+    /// The events of the chapter that is open, the oldest first.
     pub fn events(&self) -> &[Event]
-        ensures { result.now ≡ self.now.events }
+        ensures value { result.now ≡ self.now.events }
+        ensures sound { IsSound self.now }
     {
         self.events.as_slice()
     }
 
     /// What the part held when the chapter began.
     pub fn snapshot(&self) -> &Snapshot
-        ensures { result.now ≡ self.now.snapshot }
+        ensures value { result.now ≡ self.now.snapshot }
+        ensures sound { IsSound self.now }
     {
         &self.snapshot
     }
@@ -75,61 +79,87 @@ impl Part {
         (self.events.len() as u64) < self.snapshot.rules.chapter && self.next_number() < SPENT
     }
 
+    /// What an ask would be answered, at any moment. It takes no memory and touches nothing.
+    pub fn would_answer(&self, ask: &Ask) -> ReplyRef<'_>
+        ensures { reply_in result ≡ reply_to self.now.snapshot (past_of self.now) ask.now }
+    {
+        judge::judge(
+            found::look_up(self.entries.as_slice(), ask),
+            ask,
+            self.snapshot.rules.stale,
+        )
+        .0
+    }
+
     /// Keeps the body of an offer under its key, or says why not, and appends one event that tells it.
     ///
-    /// `HistoryFull` comes first, then `MomentTooLarge` (above 2^40 seconds), then `Full` (the key is new, the ttl is not 0, and
-    /// the part holds as many keys as it may), then `Memory`. A part that refuses is as it was.
+    /// `HistoryFull` comes first, then `MomentTooLarge` (above 2^40 seconds), then `Memory`. A part that refuses is as it was.
     pub fn offer(&mut self, tag: Tag, offer: Offer) -> Result<Outcome, Refusal>
-        ensures event { IfOk result (λ outcome. self.new.events ≡ self.old.events ++ Event.Offered tag offer outcome None ∷ []) }
-        ensures key { IfOk result (Leaves self.old self.new offer) }
-        ensures others { OnOk result (LeavesOthers self.old self.new offer.key) }
-        ensures snapshot { self.new.snapshot ≡ self.old.snapshot }
+        ensures ok { IfOk result (WritesOffer self.old self.new tag offer) }
         ensures err { OnErr result (self.new ≡ self.old) }
         ensures due { IsDue self.old offer.moment result }
-        ensures full { IsFullWhereCrowded self.old offer result }
     {
         self.admit(offer.moment)?;
-        let outcome = judge::verdict(judge::held(self.entries.as_slice(), &offer.key), &offer);
-        if is_crowded(
-            self.entries.as_slice(),
-            &offer,
-            outcome,
-            self.snapshot.rules.capacity,
-        ) {
-            return Err(Refusal::Full);
-        }
         let number = self.next_number();
         self.events.reserve(1)?;
-        keep(&mut self.entries, &offer, outcome, number)?;
+        let (outcome, evicted) = entries::take(
+            &mut self.entries,
+            &offer,
+            number,
+            self.snapshot.rules.capacity,
+        )?;
         self.events.push_reserved(Event::Offered {
             tag,
             offer,
             outcome,
-            evicted: None,
+            evicted,
         });
         Ok(outcome)
     }
 
-    /// Answers a question from what is kept, and appends one event that tells it. The refusals are those of `offer`, without
-    /// `Full`.
+    /// Answers a question from what is kept, and appends one event that tells it. The refusals are those of `offer`.
     pub fn ask(&mut self, tag: Tag, ask: &Ask) -> Result<Reply, Refusal>
-        ensures event { IfOk result (λ reply. self.new.events ≡ self.old.events ++ Event.Asked tag ask.now reply ∷ []) }
-        ensures reply { IfOk result (λ reply. reply ≡ reply_of (held self.old (key_of ask.now)) ask.now) }
-        ensures kept { self.new.kept ≡ self.old.kept }
-        ensures snapshot { self.new.snapshot ≡ self.old.snapshot }
+        ensures ok { IfOk result (WritesAsk self.old self.new tag ask.now) }
         ensures err { OnErr result (self.new ≡ self.old) }
         ensures due { IsDue self.old ask.now.moment result }
     {
         self.admit(ask.moment)?;
-        let reply = judge::reply(judge::asked(self.entries.as_slice(), ask), ask)?;
-        self.events.reserve(1)?;
+        let (reply, key) = answer::answer(self.entries.as_slice(), ask, self.snapshot.rules.stale)?;
         let event = Event::Asked {
             tag,
             ask: ask.clone()?,
             reply: reply.clone()?,
         };
+        self.events.reserve(1)?;
+        answer::touch(&mut self.entries, key);
         self.events.push_reserved(event);
         Ok(reply)
+    }
+
+    /// Removes the dead keys, and appends one event that lists them in the order of keys. It answers how many there were.
+    /// The refusals are those of `offer`.
+    pub fn sweep(&mut self, tag: Tag, moment: u64) -> Result<usize, Refusal>
+        ensures ok { IfOk result (WritesSweep self.old self.new tag moment) }
+        ensures err { OnErr result (self.new ≡ self.old) }
+        ensures due { IsDue self.old moment result }
+    {
+        self.admit(moment)?;
+        let stale = self.snapshot.rules.stale;
+        let gone = sweep::dead_keys(
+            *self.entries.allocator(),
+            self.entries.as_slice(),
+            stale,
+            moment,
+        )?;
+        self.events.reserve(1)?;
+        sweep::remove_dead(&mut self.entries, stale, moment);
+        let removed = gone.len();
+        self.events.push_reserved(Event::Swept {
+            tag,
+            moment,
+            gone: Sequence::from_vec(gone),
+        });
+        Ok(removed)
     }
 
     /// The number of the next event.
@@ -151,61 +181,5 @@ impl Part {
             return Err(Refusal::MomentTooLarge);
         }
         Ok(())
-    }
-}
-
-/// Whether an offer brings a new key into a full part.
-fn is_crowded(entries: &[Entry], offer: &Offer, outcome: Outcome, capacity: u64) -> bool
-    ensures { result ≡ is_crowded capacity entries.now offer.now outcome }
-{
-    match outcome {
-        Outcome::Kept => {
-            judge::held(entries, &offer.key).is_none() && entries.len() as u64 >= capacity
-        }
-        _ => false,
-    }
-}
-
-/// Changes the entry of an offer's key as the outcome says. An `Err` leaves all as it was.
-fn keep(
-    entries: &mut Vec<Entry>,
-    offer: &Offer,
-    outcome: Outcome,
-    number: u64,
-) -> Result<(), Refusal>
-    ensures ok { OnOk result (entries.new.items ≡ kept_after outcome entries.old.items offer.now number) }
-    ensures err { IfErr result (λ refusal. (refusal ≡ Refusal.Memory) × (entries.new.items ≡ entries.old.items)) }
-{
-    match outcome {
-        Outcome::Kept => {
-            let entry = Entry {
-                key: offer.key.clone()?,
-                body: offer.body.clone()?,
-                moment: offer.moment,
-                number,
-            };
-            entries.reserve(1)?;
-            remove(entries, &offer.key);
-            entries.push_reserved(entry);
-        }
-        Outcome::Cleared => remove(entries, &offer.key),
-        Outcome::LessTrusted => {}
-    }
-    Ok(())
-}
-
-/// Removes the entries of a key.
-fn remove(entries: &mut Vec<Entry>, key: &Key)
-    ensures entries { entries.new.items ≡ others key.now entries.old.items }
-    ensures room { vec_capacity entries.old ≤ vec_capacity entries.new }
-    ensures fewer { vec_len entries.new ≤ vec_len entries.old }
-{
-    let mut next = 0;
-    while next < entries.len() {
-        if *key == entries[next].key {
-            drop(entries.remove(next));
-        } else {
-            next += 1;
-        }
     }
 }

@@ -10,8 +10,6 @@ pub enum Refusal {
     MomentTooLarge = 2,
     #[error("memory was refused")]
     Memory = 3,
-    #[error("the part holds as many keys as it may")]
-    Full = 4,
 }
 
 impl From<AllocError> for Refusal {

@@ -25,6 +25,18 @@ pub enum Body {
         trust: Trust,
         ttl: u32,
     },
+    /// That the name or the type does not exist, with the SOA record that says so, its data expanded (RFC 2308 section 5);
+    /// for `ttl` seconds.
+    Negative {
+        soa_owner: Name,
+        soa: Octets,
+        trust: Trust,
+        ttl: u32,
+    },
+    /// That asking failed (RFC 8767 section 5); for `ttl` seconds.
+    Failure {
+        ttl: u32,
+    },
 }
 
 impl Clone for Body {
@@ -45,6 +57,18 @@ impl Clone for Body {
                 trust: *trust,
                 ttl: *ttl,
             }),
+            Body::Negative {
+                soa_owner,
+                soa,
+                trust,
+                ttl,
+            } => Ok(Body::Negative {
+                soa_owner: soa_owner.clone()?,
+                soa: soa.clone()?,
+                trust: *trust,
+                ttl: *ttl,
+            }),
+            Body::Failure { ttl } => Ok(Body::Failure { ttl: *ttl }),
         }
     }
 }

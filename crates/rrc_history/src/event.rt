@@ -21,11 +21,24 @@ pub struct RrSet {
     pub items: Sequence<Octets>,
 }
 
+/// The SOA record that tells that a name or a type does not exist, its data expanded.
+#[derive(Debug, Drop, PartialEq, Eq)]
+pub struct Soa {
+    pub owner: Name,
+    pub octets: Octets,
+}
+
 /// What a cache answers.
 #[derive(Debug, Drop, PartialEq, Eq)]
 pub enum Reply {
     /// The set, which has `left` seconds to live.
     Fresh { set: RrSet, left: u32 },
+    /// The set, though its time is over, for `left` seconds (RFC 8767 section 5).
+    Stale { set: RrSet, left: u32 },
+    /// The name has no set of the type (RFC 2308 section 2.2), for `left` seconds.
+    NoData { soa: Soa, left: u32 },
+    /// The name does not exist (RFC 2308 section 2.1), for `left` seconds.
+    NxDomain { soa: Soa, left: u32 },
     /// Nothing that will do. Where asking has lately failed, from when on it may be tried again.
     Miss { retry_from: Option<u64> },
 }
@@ -51,6 +64,12 @@ pub enum Event {
         ask: Ask,
         reply: Reply,
     },
+    /// The dead keys were removed, in the order of keys.
+    Swept {
+        tag: Tag,
+        moment: u64,
+        gone: Sequence<Key>,
+    },
 }
 
 impl Clone for RrSet {
@@ -66,6 +85,19 @@ impl Clone for RrSet {
     }
 }
 
+impl Clone for Soa {
+    ghost use Rattle.std.specs.Prelude.{◌≡◌};
+
+    ghost is_clone = { λ a b. b ≡ a };
+
+    fn clone(&self) -> Result<Soa, AllocError> {
+        Ok(Soa {
+            owner: self.owner.clone()?,
+            octets: self.octets.clone()?,
+        })
+    }
+}
+
 impl Clone for Reply {
     ghost use Rattle.std.specs.Prelude.{◌≡◌};
 
@@ -75,6 +107,18 @@ impl Clone for Reply {
         match self {
             Reply::Fresh { set, left } => Ok(Reply::Fresh {
                 set: set.clone()?,
+                left: *left,
+            }),
+            Reply::Stale { set, left } => Ok(Reply::Stale {
+                set: set.clone()?,
+                left: *left,
+            }),
+            Reply::NoData { soa, left } => Ok(Reply::NoData {
+                soa: soa.clone()?,
+                left: *left,
+            }),
+            Reply::NxDomain { soa, left } => Ok(Reply::NxDomain {
+                soa: soa.clone()?,
                 left: *left,
             }),
             Reply::Miss { retry_from } => Ok(Reply::Miss {

@@ -12,7 +12,7 @@ mod tests;
 
 pub use ask::{Ask, Mode, Purpose};
 pub use body::{Body, Trust};
-pub use event::{Event, Outcome, Reply, RrSet, Tag};
+pub use event::{Event, Outcome, Reply, RrSet, Soa, Tag};
 pub use offer::{Offer, OfferFault};
 pub use rrc_name as name;
 pub use rules::Rules;

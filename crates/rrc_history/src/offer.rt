@@ -1,10 +1,11 @@
 ghost use Rattle.std.specs.Prelude.{◌≡◌, true, false, IfOk, IfErr, OnOk, OnErr};
-ghost use Rattle.rrc_history.specs.Fits.{fits};
+ghost use Rattle.rrc_history.specs.Fits.{fits, is_set, is_failed, is_lifetime};
 
 use crate::body::Body;
 use rrc_name::{Key, Slot};
 use std::alloc::AllocError;
 use std::marker::Model;
+use thiserror::Error;
 
 /// A body that a cache is to keep under a key, at a moment in seconds. The body fits the key.
 #[derive(Debug, Drop)]
@@ -28,32 +29,50 @@ impl Model for Offer {
 }
 
 /// Why a body was not taken.
-#[derive(Debug, Drop)]
+#[derive(Debug, Drop, Error)]
 pub enum OfferFault {
     /// The body does not fit the key. Both are handed back.
+    #[error("the body does not fit the key")]
     WrongBody { key: Key, body: Body },
 }
 
 fn is_fit(key: &Key, body: &Body) -> bool
     ensures { result ≡ fits key.now body.now }
 {
-    match (key.slot, body) {
-        (
-            Slot::Set(_),
-            Body::Positive {
-                owner,
-                items,
-                trust: _,
-                ttl,
-            },
-        ) => owner.same(&key.name) && !items.is_empty() && *ttl < 1 << 31,
-        _ => false,
+    match body {
+        Body::Positive {
+            owner,
+            items,
+            ttl,
+            ..
+        } => is_set(key.slot) && owner.same(&key.name) && !items.is_empty() && is_lifetime(*ttl),
+        Body::Negative { ttl, .. } => !is_failed(key.slot) && is_lifetime(*ttl),
+        Body::Failure { ttl } => is_failed(key.slot) && is_lifetime(*ttl),
     }
+}
+
+fn is_set(slot: Slot) -> bool
+    ensures { result ≡ is_set slot }
+{
+    matches!(slot, Slot::Set(_))
+}
+
+fn is_failed(slot: Slot) -> bool
+    ensures { result ≡ is_failed slot }
+{
+    matches!(slot, Slot::Failed(_))
+}
+
+fn is_lifetime(ttl: u32) -> bool
+    ensures { result ≡ is_lifetime ttl }
+{
+    ttl < 1 << 31
 }
 
 impl Offer {
     /// An offer, where the body fits the key: a positive one a `Slot::Set` of its owner's folded name, with one item at
-    /// least and a ttl of at most 2^31 - 1 seconds (RFC 2181 section 8). It takes no memory.
+    /// least, a negative one a `Slot::Set` or `Slot::Nx`, a failure a `Slot::Failed`; each with a ttl of at most 2^31 - 1
+    /// seconds (RFC 2181 section 8). It takes no memory.
     pub fn new(key: Key, body: Body, moment: u64) -> Result<Offer, OfferFault>
         ensures ok { IfOk result (λ offer. offer ≡ record { key = key; body = body; moment = moment }) }
         ensures fits { OnOk result (fits key body ≡ true) }

@@ -1,5 +1,5 @@
 use crate::name::{Key, Name, NameFault, Octets, Sequence, Slot};
-use crate::{Ask, Body, Mode, Offer, OfferFault, Purpose, Reply, RrSet, Rules, Trust};
+use crate::{Ask, Body, Mode, Offer, OfferFault, Purpose, Reply, RrSet, Rules, Soa, Trust};
 use std::alloc::{AllocError, Global};
 use std::test::Fail;
 
@@ -22,10 +22,19 @@ fn body(alloc: Global, owner: &str, some: bool, ttl: u32) -> Result<Body, NameFa
     })
 }
 
+/// That a name does not exist, as the SOA record of `example.` says.
+fn negative(alloc: Global, ttl: u32) -> Result<Body, NameFault> {
+    Ok(Body::Negative {
+        soa_owner: Name::from_text(alloc, "example.")?,
+        soa: Octets::from_slice(alloc, &[0, 0, 0, 0, 1])?,
+        trust: Trust::AuthoritativeAnswer,
+        ttl,
+    })
+}
+
 /// Whether an offer is taken for `a.example.`. Either way its key and its body come back as they were.
-fn is_taken(alloc: Global, slot: Slot, owner: &str, some: bool, ttl: u32) -> Result<bool, Fail> {
+fn is_taken(alloc: Global, slot: Slot, body: Body) -> Result<bool, Fail> {
     let key = Key::of(&Name::from_text(alloc, "a.example.")?, slot)?;
-    let body = body(alloc, owner, some, ttl)?;
     let (taken, got_key, got_body) = match Offer::new(key.clone()?, body.clone()?, 100) {
         Ok(offer) => (true, offer.key, offer.body),
         Err(OfferFault::WrongBody { key, body }) => (false, key, body),
@@ -36,28 +45,59 @@ fn is_taken(alloc: Global, slot: Slot, owner: &str, some: bool, ttl: u32) -> Res
     Ok(taken)
 }
 
+/// Whether a set of the owner's, with a datum or none, is taken for the addresses of `a.example.`.
+fn is_set_taken(alloc: Global, owner: &str, some: bool, ttl: u32) -> Result<bool, Fail> {
+    is_taken(alloc, Slot::Set(1), body(alloc, owner, some, ttl)?)
+}
+
 #[test]
-fn takes_a_body_that_fits_its_key(rt: HostRuntime) -> Result<(), Fail> {
+fn takes_a_set_that_fits_its_key(rt: HostRuntime) -> Result<(), Fail> {
     let alloc = rt.alloc();
-    let set = Slot::Set(1);
-    assert!(rt; is_taken(alloc, set, "a.example.", true, 60)?);
-    assert!(rt; is_taken(alloc, set, "A.eXample.", true, 60)?);
-    assert!(rt; is_taken(alloc, set, "a.example.", true, 0)?);
-    assert!(rt; is_taken(alloc, set, "a.example.", true, 2_147_483_647)?);
+    assert!(rt; is_set_taken(alloc, "a.example.", true, 60)?);
+    assert!(rt; is_set_taken(alloc, "A.eXample.", true, 60)?);
+    assert!(rt; is_set_taken(alloc, "a.example.", true, 0)?);
+    assert!(rt; is_set_taken(alloc, "a.example.", true, 2_147_483_647)?);
     Ok(())
 }
 
 #[test]
-fn hands_back_a_body_that_does_not_fit(rt: HostRuntime) -> Result<(), Fail> {
+fn hands_back_a_set_that_does_not_fit(rt: HostRuntime) -> Result<(), Fail> {
     let alloc = rt.alloc();
-    let set = Slot::Set(1);
-    assert!(rt; !is_taken(alloc, Slot::Nx, "a.example.", true, 60)?);
-    assert!(rt; !is_taken(alloc, Slot::Failed(1), "a.example.", true, 60)?);
-    assert!(rt; !is_taken(alloc, set, "b.example.", true, 60)?);
-    assert!(rt; !is_taken(alloc, set, "example.", true, 60)?);
-    assert!(rt; !is_taken(alloc, set, "a.example.", false, 60)?);
-    assert!(rt; !is_taken(alloc, set, "a.example.", true, 2_147_483_648)?);
-    assert!(rt; !is_taken(alloc, set, "a.example.", true, 4_294_967_295)?);
+    assert!(rt; !is_set_taken(alloc, "b.example.", true, 60)?);
+    assert!(rt; !is_set_taken(alloc, "example.", true, 60)?);
+    assert!(rt; !is_set_taken(alloc, "a.example.", false, 60)?);
+    assert!(rt; !is_set_taken(alloc, "a.example.", true, 2_147_483_648)?);
+    assert!(rt; !is_set_taken(alloc, "a.example.", true, 4_294_967_295)?);
+    Ok(())
+}
+
+#[test]
+fn a_set_fits_the_slot_of_a_type_alone(rt: HostRuntime) -> Result<(), Fail> {
+    let alloc = rt.alloc();
+    let set = body(alloc, "a.example.", true, 60)?;
+    assert!(rt; is_taken(alloc, Slot::Set(28), set.clone()?)?);
+    assert!(rt; !is_taken(alloc, Slot::Nx, set.clone()?)?);
+    assert!(rt; !is_taken(alloc, Slot::Failed(1), set)?);
+    Ok(())
+}
+
+#[test]
+fn a_negative_answer_fits_a_type_or_a_name(rt: HostRuntime) -> Result<(), Fail> {
+    let alloc = rt.alloc();
+    assert!(rt; is_taken(alloc, Slot::Set(1), negative(alloc, 300)?)?);
+    assert!(rt; is_taken(alloc, Slot::Nx, negative(alloc, 2_147_483_647)?)?);
+    assert!(rt; !is_taken(alloc, Slot::Failed(1), negative(alloc, 300)?)?);
+    assert!(rt; !is_taken(alloc, Slot::Nx, negative(alloc, 2_147_483_648)?)?);
+    Ok(())
+}
+
+#[test]
+fn a_failure_fits_the_slot_of_failures_alone(rt: HostRuntime) -> Result<(), Fail> {
+    let alloc = rt.alloc();
+    assert!(rt; is_taken(alloc, Slot::Failed(1), Body::Failure { ttl: 30 })?);
+    assert!(rt; !is_taken(alloc, Slot::Set(1), Body::Failure { ttl: 30 })?);
+    assert!(rt; !is_taken(alloc, Slot::Nx, Body::Failure { ttl: 30 })?);
+    assert!(rt; !is_taken(alloc, Slot::Failed(1), Body::Failure { ttl: 2_147_483_648 })?);
     Ok(())
 }
 
@@ -123,20 +163,64 @@ fn clones_an_ask(rt: HostRuntime) -> Result<(), Fail> {
     Ok(())
 }
 
+/// The address 192.0.2.1 of `a.example.`, under the spelling `A.example.`.
+fn set(alloc: Global) -> Result<RrSet, NameFault> {
+    Ok(RrSet {
+        owner: Name::from_text(alloc, "A.example.")?,
+        items: addresses(alloc, true)?,
+    })
+}
+
+fn soa(alloc: Global) -> Result<Soa, NameFault> {
+    Ok(Soa {
+        owner: Name::from_text(alloc, "Example.")?,
+        octets: Octets::from_slice(alloc, &[0, 0, 0, 0, 1])?,
+    })
+}
+
 #[test]
-fn clones_replies(rt: HostRuntime) -> Result<(), Fail> {
-    let alloc = rt.alloc();
+fn clones_replies_of_a_set(rt: HostRuntime) -> Result<(), Fail> {
     let fresh = Reply::Fresh {
-        set: RrSet {
-            owner: Name::from_text(alloc, "A.example.")?,
-            items: addresses(alloc, true)?,
-        },
+        set: set(rt.alloc())?,
         left: 60,
     };
     assert_eq!(rt; fresh.clone()?, fresh);
-    let miss = Reply::Miss { retry_from: None };
+    let stale = Reply::Stale {
+        set: set(rt.alloc())?,
+        left: 30,
+    };
+    assert_eq!(rt; stale.clone()?, stale);
+    assert!(rt; fresh != stale);
+    Ok(())
+}
+
+#[test]
+fn clones_negative_replies_and_misses(rt: HostRuntime) -> Result<(), Fail> {
+    let no_data = Reply::NoData {
+        soa: soa(rt.alloc())?,
+        left: 1,
+    };
+    assert_eq!(rt; no_data.clone()?, no_data);
+    let nx_domain = Reply::NxDomain {
+        soa: soa(rt.alloc())?,
+        left: 1,
+    };
+    assert_eq!(rt; nx_domain.clone()?, nx_domain);
+    assert!(rt; no_data != nx_domain);
+    let miss = Reply::Miss {
+        retry_from: Some(330),
+    };
     assert_eq!(rt; miss.clone()?, miss);
-    assert!(rt; fresh != miss);
+    Ok(())
+}
+
+#[test]
+fn clones_negative_answers_and_failures(rt: HostRuntime) -> Result<(), Fail> {
+    let negative = negative(rt.alloc(), 300)?;
+    assert!(rt; negative.clone()? == negative);
+    let failure = Body::Failure { ttl: 30 };
+    assert!(rt; failure.clone()? == failure);
+    assert!(rt; negative != failure);
     Ok(())
 }
 

@@ -112,7 +112,6 @@ stops faults.Read (Some all) (Some octets) (Some rest) lines number piece few re
 stops faults.Write (Some all) (Some octets) (Some rest) lines number piece few read cut said = absurd said
 stops faults.Memory (Some all) (Some octets) (Some rest) lines number piece few read cut said = tt
 stops (faults.Spent bad) (Some all) (Some octets) (Some rest) lines number piece few read cut said = absurd said
-stops (faults.PartFull bad) (Some all) (Some octets) (Some rest) lines number piece few read cut said = absurd said
 
 pub fails : (fault : ReplayFault) (all : Option (List ℕ)) → IsOfReading fault → ReadsTrace all (Err fault)
 fails fault None of_reading = tt
@@ -122,7 +121,6 @@ fails faults.Read (Some all) of_reading = tt
 fails faults.Write (Some all) of_reading = absurd of_reading
 fails faults.Memory (Some all) of_reading = tt
 fails (faults.Spent bad) (Some all) of_reading = absurd of_reading
-fails (faults.PartFull bad) (Some all) of_reading = absurd of_reading
 
 pub ends : (all now : Option (List ℕ)) (lines : List Line) (number : ℕ) (trace : Trace) → IsReadTo all now lines number → IsAtEnd now → trace.lines ≡ lines
     → ReadsTrace all (Ok trace)

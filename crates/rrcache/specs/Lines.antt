@@ -36,11 +36,30 @@ ask_of octets = do
   mode ← said_at mode_of purpose.1
   ended mode.1 (lines.Ask (record { name = folded name.0; rtype = rtype.0; moment = moment.0; purpose = purpose.0; mode = mode.0 }))
 
+-- the fields of a failure: its moment, name and type
+unfoldable pub fail_of : List ℕ → Option Line
+fail_of octets = do
+  moment ← said_at moment_of octets
+  name ← said_at name_of moment.1
+  rtype ← said_at rtype_of name.1
+  ended rtype.1 (lines.Fail (record { moment = moment.0; name = name.0; rtype = rtype.0 }))
+
+-- the field of a sweep: its moment
+unfoldable pub sweep_of : List ℕ → Option Line
+sweep_of octets = do
+  moment ← said_at moment_of octets
+  ended moment.1 (lines.Sweep moment.0)
+
 -- the fields of a line, the first of which says its form
 abbrev pub line_of : List ℕ → Option Line
 line_of octets = do
   form ← said_at form_of octets
-  elim form.0 [ forms.Put ↦ put_of form.1 | forms.Ask ↦ ask_of form.1 ]
+  elim form.0 [
+    | forms.Put ↦ put_of form.1
+    | forms.Ask ↦ ask_of form.1
+    | forms.Fail ↦ fail_of form.1
+    | forms.Sweep ↦ sweep_of form.1
+  ]
 
 -- the octets before the last one, where that is this one
 abbrev pub before_last : List ℕ → ℕ → Option (List ℕ)

@@ -2,7 +2,7 @@
 use Rattle.std.specs.Prelude.{◌≡◌, ◌≢◌, ◌<◌, ℕ, List, [], ◌∷◌, ◌++◌, length, ⊤, Option, Some, None, Result, Ok, Err}
 use Rattle.std.specs.List.{AllByRecursion}
 use Rattle.rrcache.specs.declared.engine.fault.ReplayFault.{ReplayFault}
-use Rattle.rrcache.specs.declared.engine.fault.ReplayFault.TheVariants.{BadLine, TooManyLines, Read, Write, Memory, Spent, PartFull}
+use Rattle.rrcache.specs.declared.engine.fault.ReplayFault.TheVariants.{BadLine, TooManyLines, Read, Write, Memory, Spent}
 use Rattle.rrcache.specs.declared.engine.reading.Ending.{Ending}
 use Rattle.rrcache.specs.declared.engine.reading.Ending.TheVariants.{Lf, Last, Endless}
 use Rattle.rrcache.specs.declared.engine.line.Line.{Line}
@@ -33,7 +33,6 @@ IsOfReading Read = Unit {0}
 IsOfReading Write = ⊥
 IsOfReading Memory = Unit {0}
 IsOfReading (Spent number) = ⊥
-IsOfReading (PartFull number) = ⊥
 
 -- what was answered is what the text says, unless a read failed or memory was refused
 abbrev pub Reads : Result Trace ReplayFault → Result (List Line) ReplayFault → Type 0
@@ -44,7 +43,6 @@ Reads (Err Read) said = Unit {0}
 Reads (Err Write) said = ⊥
 Reads (Err Memory) said = Unit {0}
 Reads (Err (Spent number)) said = ⊥
-Reads (Err (PartFull number)) said = ⊥
 
 -- the same of a trace whose octets are known
 abbrev pub ReadsTrace : Option (List ℕ) → Result Trace ReplayFault → Type 0
@@ -60,4 +58,3 @@ GivesLine number (Err Read) said = ⊥
 GivesLine number (Err Write) said = ⊥
 GivesLine number (Err Memory) said = Unit {0}
 GivesLine number (Err (Spent bad)) said = ⊥
-GivesLine number (Err (PartFull bad)) said = ⊥

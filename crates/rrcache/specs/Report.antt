@@ -1,5 +1,5 @@
 -- The text of a report: one line for each line of the trace.
-use Rattle.std.specs.Prelude.{ℕ, ◌+◌, List, [], ◌∷◌, ◌++◌, Some, None, codes}
+use Rattle.std.specs.Prelude.{ℕ, ◌+◌, List, [], ◌∷◌, ◌++◌, Option, Some, None, codes}
 use Rattle.std.specs.Fmt.{decimal}
 use Rattle.hex.specs.Hex.{encode_lower}
 use Rattle.rrc_name.specs.Text.{text_of}
@@ -7,7 +7,12 @@ use Rattle.rrc_history.specs.declared.event.Outcome.{Outcome}
 use Rattle.rrc_history.specs.declared.event.Outcome.TheVariants.{Kept, Cleared, LessTrusted}
 use Rattle.rrc_history.specs.declared.event.RrSet.{RrSet}
 use Rattle.rrc_history.specs.declared.event.Reply.{Reply}
-use Rattle.rrc_history.specs.declared.event.Reply.TheVariants.{Fresh, Miss}
+use Rattle.rrc_history.specs.declared.event.Reply.TheVariants.{Fresh, Stale, NoData, NxDomain, Miss}
+use Rattle.rrc_history.specs.declared.event.Soa.{Soa}
+use Rattle.rrc_name.specs.Key.{KeyOf}
+use Rattle.rrc_name.specs.declared.slot.Slot.{Slot}
+use Rattle.rrc_name.specs.declared.slot.Slot.TheVariants.{Set, Nx, Failed}
+use Rattle.rrcache.specs.declared.engine.replay.Told.{Told}
 use Rattle.rrcache.specs.declared.engine.replay.Answer.{Answer}
 use Rattle.rrcache.specs.declared.engine.replay.Answer.TheVariants as answers
 
@@ -15,6 +20,24 @@ abbrev pub outcome_text : Outcome → List ℕ
 outcome_text Kept = codes "kept"
 outcome_text Cleared = codes "cleared"
 outcome_text LessTrusted = codes "less"
+
+-- the slot of a key
+abbrev pub slot_text : Slot → List ℕ
+slot_text (Set rtype) = decimal rtype
+slot_text Nx = codes "nx"
+slot_text (Failed rtype) = codes "failed" ++ decimal rtype
+
+-- a key: its name and its slot
+abbrev pub key_text : KeyOf → List ℕ
+key_text key = text_of key.name ++ (47 ∷ slot_text key.slot)
+
+-- what became of an offer, and the key that it evicted
+abbrev pub told_of : Outcome → Option KeyOf → List ℕ
+told_of outcome None = outcome_text outcome
+told_of outcome (Some key) = outcome_text outcome ++ (codes "-out:" ++ key_text key)
+
+abbrev pub told_text : Told → List ℕ
+told_text told = told_of told.outcome told.evicted
 
 -- octets in hexadecimal, or a dash for none
 abbrev pub item_text : List ℕ → List ℕ
@@ -32,17 +55,26 @@ items_text [] = []
 items_text (item ∷ items) = item_text item ++ more_items_text items
 
 -- what a set has left to live, its owner and its data
-abbrev pub fresh_text : RrSet → ℕ → List ℕ
-fresh_text set left = codes "fresh " ++ (decimal left ++ (32 ∷ (text_of set.owner ++ (32 ∷ items_text set.items))))
+abbrev pub set_text : RrSet → ℕ → List ℕ
+set_text set left = decimal left ++ (32 ∷ (text_of set.owner ++ (32 ∷ items_text set.items)))
+
+-- what a negative answer has left to live, and the owner and the data of its SOA record
+abbrev pub soa_text : Soa → ℕ → List ℕ
+soa_text soa left = decimal left ++ (32 ∷ (text_of soa.owner ++ (32 ∷ item_text soa.octets)))
 
 abbrev pub reply_text : Reply → List ℕ
-reply_text (Fresh set left) = fresh_text set left
+reply_text (Fresh set left) = codes "fresh " ++ set_text set left
+reply_text (Stale set left) = codes "stale " ++ set_text set left
+reply_text (NoData soa left) = codes "nodata " ++ soa_text soa left
+reply_text (NxDomain soa left) = codes "nxdomain " ++ soa_text soa left
 reply_text (Miss None) = codes "miss"
 reply_text (Miss (Some moment)) = codes "miss " ++ decimal moment
 
 abbrev pub answer_text : Answer → List ℕ
-answer_text (answers.Put outcome) = codes "put " ++ outcome_text outcome
+answer_text (answers.Put told) = codes "put " ++ told_text told
 answer_text (answers.Ask reply) = codes "ask " ++ reply_text reply
+answer_text (answers.Fail told) = codes "fail " ++ told_text told
+answer_text (answers.Swept removed) = codes "sweep " ++ decimal removed
 
 -- the number of a line, and what it got
 abbrev pub line_text : ℕ → Answer → List ℕ

@@ -10,7 +10,11 @@ use Rattle.rrc_history.specs.declared.ask.Mode.TheVariants as modes
 -- what a line is, by its first word
 abbrev pub form_of : List ℕ → Option Form
 form_of word =
-    if bytes_eq word (codes "put") then Some forms.Put else if bytes_eq word (codes "ask") then Some forms.Ask else None
+    if bytes_eq word (codes "put") then Some forms.Put
+    else if bytes_eq word (codes "ask") then Some forms.Ask
+    else if bytes_eq word (codes "fail") then Some forms.Fail
+    else if bytes_eq word (codes "sweep") then Some forms.Sweep
+    else None
 
 -- what an answer is for
 abbrev pub purpose_of : List ℕ → Option Purpose

@@ -15,9 +15,9 @@ mod word;
 mod writing;
 
 pub use fault::ReplayFault;
-pub use line::{Line, Put};
+pub use line::{Failed, Line, Put};
 pub use reading::read_trace;
-pub use replay::{Answer, replay};
+pub use replay::{Answer, Told, replay};
 pub use report::report_text;
 pub use run::run;
 pub use trace::Trace;

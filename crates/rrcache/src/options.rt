@@ -2,9 +2,6 @@ use clap::{Arg, ArgAction, ArgMatches, Command, value_parser};
 use rrc_history::Rules;
 use std::alloc::{AllocError, Global};
 
-/// For how many seconds past its time to live a set may answer.
-const STALE_LIMIT: u64 = 86_400;
-
 /// The command line of the program.
 pub(crate) fn command<'a>(alloc: Global) -> Result<Command<'a>, AllocError> {
     let capacity = Arg::new(alloc, "capacity")
@@ -21,19 +18,28 @@ pub(crate) fn command<'a>(alloc: Global) -> Result<Command<'a>, AllocError> {
         .action(ArgAction::Set)
         .default_value("4096")
         .value_parser(value_parser!(u64).range(1..=1_048_576));
+    let stale = Arg::new(alloc, "stale")
+        .long("stale")
+        .value_name("N")
+        .help("For how many seconds past its time to live a set may answer")
+        .action(ArgAction::Set)
+        .default_value("86400")
+        .value_parser(value_parser!(u64).range(0..=604_800));
     Command::new(alloc, "rrcache")
         .about(
             "Replays a trace of cache operations from standard input, and writes its report to standard output",
         )
         .arg(capacity)?
-        .arg(chapter)
+        .arg(chapter)?
+        .arg(stale)
 }
 
 /// The rules that the arguments give.
 pub(crate) fn rules_in(matches: &ArgMatches<'_>) -> Option<Rules> {
     let capacity = matches.get_one::<u64>("capacity")?;
     let chapter = matches.get_one::<u64>("chapter")?;
-    Rules::new(capacity, chapter, STALE_LIMIT)
+    let stale = matches.get_one::<u64>("stale")?;
+    Rules::new(capacity, chapter, stale)
 }
 
 #[cfg(test)]

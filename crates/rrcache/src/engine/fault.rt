@@ -16,8 +16,6 @@ pub enum ReplayFault {
     Memory,
     #[error("line {0} met a part whose numbers are spent")]
     Spent(u64),
-    #[error("line {0} met a full part")]
-    PartFull(u64),
 }
 
 impl From<AllocError> for ReplayFault {

@@ -1,6 +1,6 @@
 ghost use Rattle.std.specs.Prelude.{◌≡◌, option_map};
 ghost use Rattle.rrcache.specs.Gives.{Gives};
-ghost use Rattle.rrcache.specs.Lines.{put_of, ask_of, line_of, before_last, without_cr, bounded, line_of_piece};
+ghost use Rattle.rrcache.specs.Lines.{put_of, ask_of, fail_of, sweep_of, line_of, before_last, without_cr, bounded, line_of_piece};
 
 use super::field::has_field;
 use super::item::items_at;
@@ -29,11 +29,23 @@ pub struct Put {
     pub items: Sequence<Octets>,
 }
 
+/// A question that a resolver could not get answered, at a moment in seconds.
+#[derive(Debug, Drop)]
+pub struct Failed {
+    pub moment: u64,
+    /// The name, in the spelling of the line.
+    pub name: Name,
+    pub rtype: u16,
+}
+
 /// A line of a trace.
 #[derive(Debug, Drop)]
 pub enum Line {
     Put(Put),
     Ask(Ask),
+    Fail(Failed),
+    /// A sweep of what is dead at this moment, in seconds.
+    Sweep(u64),
 }
 
 /// The line whose first word was `put`.
@@ -82,6 +94,36 @@ fn ask_in(alloc: Global, octets: &[u8]) -> Result<Line, LineFault>
     }))
 }
 
+/// The line whose first word was `fail`.
+#[tactic(auto, unfolding(crate::specs::Lines::fail_of))]
+fn fail_in(alloc: Global, octets: &[u8]) -> Result<Line, LineFault>
+    ensures { Gives (λ line. line) result (fail_of octets.now) }
+{
+    let (moment, rest) = moment_at(octets)?;
+    let (name, rest) = name_at(alloc, rest)?;
+    let (rtype, rest) = rtype_at(rest)?;
+    if has_field(rest) {
+        return Err(LineFault::NotOne);
+    }
+    Ok(Line::Fail(Failed {
+        moment,
+        name,
+        rtype,
+    }))
+}
+
+/// The line whose first word was `sweep`.
+#[tactic(auto, unfolding(crate::specs::Lines::sweep_of))]
+fn sweep_in(octets: &[u8]) -> Result<Line, LineFault>
+    ensures { Gives (λ line. line) result (sweep_of octets.now) }
+{
+    let (moment, rest) = moment_at(octets)?;
+    if has_field(rest) {
+        return Err(LineFault::NotOne);
+    }
+    Ok(Line::Sweep(moment))
+}
+
 /// The line that octets without its end spell.
 fn line_in(alloc: Global, octets: &[u8]) -> Result<Line, LineFault>
     ensures { Gives (λ line. line) result (line_of octets.now) }
@@ -90,6 +132,8 @@ fn line_in(alloc: Global, octets: &[u8]) -> Result<Line, LineFault>
     match form {
         Form::Put => put_in(alloc, rest),
         Form::Ask => ask_in(alloc, rest),
+        Form::Fail => fail_in(alloc, rest),
+        Form::Sweep => sweep_in(rest),
     }
 }
 

@@ -1,22 +1,34 @@
-ghost use Rattle.std.specs.Prelude.{◌≡◌, ◌++◌, ◌∷◌, [], IfOk, OnErr};
-ghost use Rattle.rrcache.specs.Replay.{fault_at, offer_of};
-ghost use Rattle.rrcache.specs.Answers.{Appends};
+ghost use Rattle.std.specs.Prelude.{◌≡◌, IfOk};
+ghost use Rattle.rrcache.specs.Replay.{fault_at, offer_of, failure_of, evicted_last};
 
 use super::fault::ReplayFault;
 use super::life::life;
-use super::line::{Line, Put};
+use super::line::{Failed, Line, Put};
 use super::trace::Trace;
 use rrc_cache::{Part, Refusal};
-use rrc_history::{Body, Offer, Outcome, Reply, Rules, Tag};
+use rrc_history::{Body, Event, Offer, Outcome, Reply, Rules, Tag};
 use rrc_name::{Key, Sequence, Slot};
-use std::alloc::Global;
+use std::alloc::{AllocError, Global};
+
+/// What became of an offer, and the key that it evicted.
+#[derive(Debug, Drop)]
+pub struct Told {
+    pub outcome: Outcome,
+    pub evicted: Option<Key>,
+}
 
 /// What a line of a trace got.
 #[derive(Debug, Drop)]
 pub enum Answer {
-    Put(Outcome),
+    Put(Told),
     Ask(Reply),
+    Fail(Told),
+    /// How many keys a sweep removed.
+    Swept(usize),
 }
+
+/// For how many seconds a failure is remembered (RFC 8767 section 5).
+const RECHECK: u32 = 30;
 
 /// The fault of a line whose call was refused. A moment that is too large stands in no line.
 fn fault_at(number: u64, refusal: Refusal) -> ReplayFault
@@ -26,7 +38,6 @@ fn fault_at(number: u64, refusal: Refusal) -> ReplayFault
         Refusal::HistoryFull => ReplayFault::Spent(number),
         Refusal::MomentTooLarge => ReplayFault::BadLine(number),
         Refusal::Memory => ReplayFault::Memory,
-        Refusal::Full => ReplayFault::PartFull(number),
     }
 }
 
@@ -47,22 +58,59 @@ fn offer_at(number: u64, put: Put) -> Result<Offer, ReplayFault>
     }
 }
 
-/// Makes a line's call, and answers what it got. A part that refuses is as it was.
-fn answer_at(part: &mut Part, number: u64, line: Line) -> Result<Answer, ReplayFault>
-    ensures event { IfOk result (Appends part.old.events part.new.events number line) }
-    ensures err { OnErr result (part.new ≡ part.old) }
+/// The offer of a failure.
+fn failure_at(number: u64, failed: Failed) -> Result<Offer, ReplayFault>
+    ensures { IfOk result (λ offer. offer ≡ failure_of failed) }
 {
+    let key = Key::of(&failed.name, Slot::Failed(failed.rtype))?;
+    match Offer::new(key, Body::Failure { ttl: RECHECK }, failed.moment) {
+        Ok(offer) => Ok(offer),
+        Err(_) => Err(ReplayFault::BadLine(number)),
+    }
+}
+
+/// The key that the last event evicted, which no call answers.
+fn evicted_last(events: &[Event]) -> Result<Option<Key>, AllocError>
+    ensures { IfOk result (λ key. key ≡ evicted_last events.now) }
+{
+    match events.last() {
+        Some(
+            Event::Offered {
+                evicted: Some(key),
+                ..
+            },
+        ) => Ok(Some(key.clone()?)),
+        _ => Ok(None),
+    }
+}
+
+/// Makes the call of an offer, and tells what became of it.
+fn tell(part: &mut Part, tag: Tag, offer: Offer) -> Result<Told, ReplayFault> {
+    let outcome = match part.offer(tag, offer) {
+        Ok(outcome) => outcome,
+        Err(refusal) => return Err(fault_at(tag.line, refusal)),
+    };
+    Ok(Told {
+        outcome,
+        evicted: evicted_last(part.events())?,
+    })
+}
+
+/// Makes a line's call, and answers what it got.
+fn answer_at(part: &mut Part, number: u64, line: Line) -> Result<Answer, ReplayFault> {
     let tag = Tag {
         line: number,
         place: 0,
     };
     match line {
-        Line::Put(put) => match part.offer(tag, offer_at(number, put)?) {
-            Ok(outcome) => Ok(Answer::Put(outcome)),
-            Err(refusal) => Err(fault_at(number, refusal)),
-        },
+        Line::Put(put) => Ok(Answer::Put(tell(part, tag, offer_at(number, put)?)?)),
+        Line::Fail(failed) => Ok(Answer::Fail(tell(part, tag, failure_at(number, failed)?)?)),
         Line::Ask(ask) => match part.ask(tag, &ask) {
             Ok(reply) => Ok(Answer::Ask(reply)),
+            Err(refusal) => Err(fault_at(number, refusal)),
+        },
+        Line::Sweep(moment) => match part.sweep(tag, moment) {
+            Ok(removed) => Ok(Answer::Swept(removed)),
             Err(refusal) => Err(fault_at(number, refusal)),
         },
     }
@@ -70,7 +118,7 @@ fn answer_at(part: &mut Part, number: u64, line: Line) -> Result<Answer, ReplayF
 
 /// What the lines of a trace get from an empty part with these rules, in order.
 ///
-/// `Spent(n)` where the part's chapter is full at line n; `PartFull(n)` where line n brings a new key into a full part.
+/// `Spent(n)` where the part's chapter is full at line n.
 pub fn replay(alloc: Global, trace: Trace, rules: &Rules) -> Result<Sequence<Answer>, ReplayFault> {
     let mut part = match Part::new(alloc, *rules) {
         Ok(part) => part,

@@ -12,12 +12,22 @@ fn usual() -> Option<Rules> {
     Rules::new(1024, 4096, 86_400)
 }
 
+fn report_under(rt: &HostRuntime, trace: &str, rules: &Rules) -> Result<String, Fail> {
+    let mut written = Vec::new(rt.alloc());
+    run(rt.alloc(), &mut trace.as_bytes(), &mut written, rules)?;
+    Ok(String::from_utf8(written)?)
+}
+
 /// The report of a trace, under the rules that the program has by default.
 fn report(rt: &HostRuntime, trace: &str) -> Result<String, Fail> {
     let rules = usual().ok_or("the rules are in range")?;
-    let mut written = Vec::new(rt.alloc());
-    run(rt.alloc(), &mut trace.as_bytes(), &mut written, &rules)?;
-    Ok(String::from_utf8(written)?)
+    report_under(rt, trace, &rules)
+}
+
+/// The report of a trace, where a part holds two keys.
+fn report_of_two_keys(rt: &HostRuntime, trace: &str) -> Result<String, Fail> {
+    let rules = Rules::new(2, 4096, 86_400).ok_or("the rules are in range")?;
+    report_under(rt, trace, &rules)
 }
 
 /// The fault of a trace, where nothing was written.
@@ -127,7 +137,12 @@ fn lines_that_are_none(rt: HostRuntime) -> Result<(), Fail> {
         "ask 1 a\0 1 any none\n",
         "ask 1 \u{e9} 1 any none\n",
         // Words and numbers.
-        "sweep 1\n",
+        "sweep\n",
+        "sweep 1 2\n",
+        "sweep 1099511627777\n",
+        "fail 1 a\n",
+        "fail 1 a 1 60\n",
+        "response 1 . -\n",
         "PUT 1 a 1 4 60 00\n",
         "ask 1 a 1 Any none\n",
         "ask 1 a 1 any stale\n",
@@ -269,13 +284,69 @@ fn full_chapter_before_chapters(rt: HostRuntime) -> Result<(), Fail> {
 }
 
 #[test]
-fn full_part_before_eviction_and_sweeps(rt: HostRuntime) -> Result<(), Fail> {
-    let rules = Rules::new(1, 4096, 86_400).ok_or("the rules are in range")?;
-    let trace = b"put 10 a.example. 1 4 60 c0000201\nput 11 b.example. 1 4 60 c0000202\n";
-    assert_eq!(rt; fault(&rt, trace, &rules), Some(ReplayFault::PartFull(1)));
-    // A bad line further on comes first, since the whole trace is read before anything is replayed.
-    let trace = b"put 10 a.example. 1 4 60 c0000201\nput 11 b.example. 1 4 60 c0000202\nput\n";
-    assert_eq!(rt; fault(&rt, trace, &rules), Some(ReplayFault::BadLine(2)));
+fn expired_set_is_stale_within_limit(rt: HostRuntime) -> Result<(), Fail> {
+    let trace =
+        "put 100 a.example. 1 4 60 c0000201\nask 160 a.example. 1 answer none\nask 160 a.example. 1 answer now\nask 86559 a.example. 1 answer now\nask 86560 a.example. 1 answer now\n";
+    let wanted =
+        "0 put kept\n1 ask miss\n2 ask stale 30 a.example. c0000201\n3 ask stale 30 a.example. c0000201\n4 ask miss\n";
+    assert_eq!(rt; report(&rt, trace)?.as_str(), wanted);
+    Ok(())
+}
+
+#[test]
+fn stale_after_a_recent_failure(rt: HostRuntime) -> Result<(), Fail> {
+    let trace =
+        "put 200 a.example. 1 4 60 c0000201\nask 270 a.example. 1 answer failed\nfail 300 a.example. 1\nask 329 a.example. 1 answer failed\nask 329 a.example. 1 answer none\nask 330 a.example. 1 answer failed\n";
+    let wanted =
+        "0 put kept\n1 ask miss\n2 fail kept\n3 ask stale 30 a.example. c0000201\n4 ask miss 330\n5 ask miss\n";
+    assert_eq!(rt; report(&rt, trace)?.as_str(), wanted);
+    Ok(())
+}
+
+#[test]
+fn failure_before_the_set_is_not_recent(rt: HostRuntime) -> Result<(), Fail> {
+    let trace =
+        "fail 300 a.example. 1\nput 310 a.example. 1 4 5 c0000202\nask 320 a.example. 1 answer failed\n";
+    let wanted = "0 fail kept\n1 put kept\n2 ask miss\n";
+    assert_eq!(rt; report(&rt, trace)?.as_str(), wanted);
+    Ok(())
+}
+
+#[test]
+fn sweep_removes_the_dead(rt: HostRuntime) -> Result<(), Fail> {
+    let trace =
+        "put 10 Z.a.example. 1 4 1 c0000201\nput 10 example. 1 4 1 c0000202\nput 10 a.example. 1 4 1 c0000203\nsweep 86410\nsweep 86411\n";
+    let wanted = "0 put kept\n1 put kept\n2 put kept\n3 sweep 0\n4 sweep 3\n";
+    assert_eq!(rt; report(&rt, trace)?.as_str(), wanted);
+    Ok(())
+}
+
+#[test]
+fn the_least_recently_touched_key_goes(rt: HostRuntime) -> Result<(), Fail> {
+    let trace =
+        "put 10 a.example. 1 4 60 c0000201\nput 11 b.example. 1 4 60 c0000202\nask 12 a.example. 1 answer none\nput 13 c.example. 1 4 60 c0000203\nask 14 b.example. 1 answer now\n";
+    let wanted =
+        "0 put kept\n1 put kept\n2 ask fresh 58 a.example. c0000201\n3 put kept-out:b.example./1\n4 ask miss\n";
+    assert_eq!(rt; report_of_two_keys(&rt, trace)?.as_str(), wanted);
+    Ok(())
+}
+
+#[test]
+fn a_stale_answer_touches(rt: HostRuntime) -> Result<(), Fail> {
+    let trace =
+        "put 10 a.example. 1 4 60 c0000201\nput 11 b.example. 1 4 60 c0000202\nask 80 a.example. 1 answer now\nput 81 c.example. 1 4 60 c0000203\n";
+    let wanted =
+        "0 put kept\n1 put kept\n2 ask stale 30 a.example. c0000201\n3 put kept-out:b.example./1\n";
+    assert_eq!(rt; report_of_two_keys(&rt, trace)?.as_str(), wanted);
+    Ok(())
+}
+
+#[test]
+fn a_miss_touches_nothing(rt: HostRuntime) -> Result<(), Fail> {
+    let trace =
+        "put 10 a.example. 1 4 60 c0000201\nput 11 b.example. 1 4 60 c0000202\nask 80 a.example. 1 answer none\nput 81 c.example. 1 4 60 c0000203\n";
+    let wanted = "0 put kept\n1 put kept\n2 ask miss\n3 put kept-out:a.example./1\n";
+    assert_eq!(rt; report_of_two_keys(&rt, trace)?.as_str(), wanted);
     Ok(())
 }
 
@@ -380,7 +451,6 @@ fn texts_of_faults(rt: HostRuntime) -> Result<(), Fail> {
             ReplayFault::Spent(3),
             "line 3 met a part whose numbers are spent",
         ),
-        (ReplayFault::PartFull(3), "line 3 met a full part"),
     ];
     for (fault, text) in texts {
         assert_eq!(rt; format!(in rt.alloc(); "{fault}")?.as_str(), text);

@@ -11,6 +11,8 @@ use rrc_history::{Mode, Purpose};
 pub(crate) enum Form {
     Put,
     Ask,
+    Fail,
+    Sweep,
 }
 
 /// The form of a line, and the octets behind its word.
@@ -22,6 +24,10 @@ pub(crate) fn form_at(octets: &[u8]) -> Result<(Form, &[u8]), LineFault>
         Ok((Form::Put, rest))
     } else if field == b"ask".as_slice() {
         Ok((Form::Ask, rest))
+    } else if field == b"fail".as_slice() {
+        Ok((Form::Fail, rest))
+    } else if field == b"sweep".as_slice() {
+        Ok((Form::Sweep, rest))
     } else {
         Err(LineFault::NotOne)
     }

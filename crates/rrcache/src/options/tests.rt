@@ -30,7 +30,7 @@ fn arguments_refused(rt: HostRuntime) -> Result<(), Fail> {
         ["rrcache", "--capacity", "many"],
         ["rrcache", "--chapter", "0"],
         ["rrcache", "--chapter", "1048577"],
-        ["rrcache", "--stale", "1"],
+        ["rrcache", "--stale", "604801"],
         ["rrcache", "--parts", "1"],
         ["rrcache", "--workers", "1"],
     ];

@@ -1,13 +1,36 @@
-use Rattle.rrc_cache.specs.Part.{PartOf}
-use Rattle.rrc_cache.proofs.Keeping.{leaves_key, leaves_others}
+use Rattle.std.proofs.Common.{◌≡◌, ℕ, sym, ap, ◌∙◌, subst, ◌++◌, ◌∷◌, [], List, reverse}
+use Rattle.rrc_history.specs.declared.event.Event.{Event}
+use Rattle.rrc_history.specs.declared.event.Event.TheVariants.{Offered}
+use Rattle.rrc_cache.specs.Part.{PartOf, next_number, IsOpen}
+use Rattle.rrc_cache.specs.Taken.{IsTaken}
+use Rattle.rrc_cache.proofs.Keeping.{IsDone, offer_done}
 use Rattle.rrc_cache.proofs.part.Part.offer.Goals as goal
 
-pub returns-clause-key : goal.returns-clause-key
-returns-clause-key c =
-    let new : PartOf = record { snapshot = c.self.inside.snapshot; events = c.push_reserved.new.self.items; kept = c.keep.new.entries.items } in
-    leaves_key c.args.self.now new c.args.offer c.verdict-outcome.result (rw (← c.next_number-number.ensures, ← c.self.view_is) c.in_ok-keep.ensures.ok) c.verdict-outcome.ensures.cleared
+-- the part as it was, and as it is
+abbrev before : goal.After-push_reserved → PartOf
+before c = record { snapshot = c.self.inside.snapshot; events = c.self.inside.events.items }
 
-pub returns-clause-others : goal.returns-clause-others
-returns-clause-others c =
-    let new : PartOf = record { snapshot = c.self.inside.snapshot; events = c.push_reserved.new.self.items; kept = c.keep.new.entries.items } in
-    leaves_others c.args.self.now new c.args.offer c.verdict-outcome.result (rw (← c.next_number-number.ensures, ← c.self.view_is) c.in_ok-keep.ensures.ok)
+abbrev after : goal.After-push_reserved → PartOf
+after c = record { snapshot = c.self.inside.snapshot; events = c.push_reserved.new.self.items }
+
+abbrev event : goal.After-push_reserved → Event
+event c = Offered c.args.tag c.args.offer c.in_ok-outcome.outcome c.in_ok-outcome.evicted
+
+done : (c : goal.After-push_reserved) → IsDone (before c) (after c) (event c) c.take.new.entries.items
+done c =
+    let open' : IsOpen (before c) c.args.offer.moment = rw (c.self.view_is, ← c.offer.view_is) (c.in_ok-admit.ensures.due) in
+    let number : c.next_number-number.result ≡ next_number (before c) = c.next_number-number.ensures ∙ ap next_number (sym c.self.view_is) in
+    let T : ℕ → Type 0 =
+    λ n. IsTaken c.self.inside.snapshot.rules.capacity n c.args.offer (reverse c.self.inside.entries.items) c.in_ok-outcome.outcome c.in_ok-outcome.evicted (reverse c.take.new.entries.items) in
+    let taken : T (next_number (before c)) = subst T number (c.in_ok-outcome.ensures.ok) in
+    let written : c.push_reserved.new.self.items ≡ c.self.inside.events.items ++ event c ∷ [] =
+    c.push_reserved.ensures.items ∙ ap (λ events. events ++ event c ∷ []) c.reserve.ensures.items in
+    let P : List Event → Type 0 = λ events. IsDone (before c) (record { snapshot = c.self.inside.snapshot; events = events }) (event c) c.take.new.entries.items in
+    subst P (sym written)
+    (offer_done (before c) c.self.inside.entries.items c.args.tag c.args.offer c.in_ok-outcome.outcome c.in_ok-outcome.evicted c.take.new.entries.items c.self.invariant open' taken)
+
+pub invariant_of-self-2 : goal.invariant_of-self-2
+invariant_of-self-2 c = (done c).keeps
+
+pub returns-clause-ok : goal.returns-clause-ok
+returns-clause-ok c = (c.in_ok-outcome.evicted, rw (← c.self.view_is) ((done c).adds))

@@ -1,0 +1,37 @@
+use Rattle.std.proofs.Common.{rules, refl, ◌≡◌, sym, ◌∙◌, subst, ◌++◌, ◌∷◌, [], List, length}
+use Rattle.rrc_history.specs.declared.event.Event.{Event}
+use Rattle.rrc_history.specs.declared.event.Event.TheVariants.{Swept}
+use Rattle.rrc_cache.specs.Part.{PartOf, IsOpen}
+use Rattle.rrc_cache.specs.Taken.{AreDeadKeys}
+use Rattle.rrc_cache.proofs.Keeping.{IsDone}
+use Rattle.rrc_cache.proofs.Sweeping.{sweep_done}
+use Rattle.rrc_cache.proofs.part.Part.sweep.Goals as goal
+
+-- the part as it was, and as it is
+abbrev before : goal.After-push_reserved → PartOf
+before c = record { snapshot = c.self.inside.snapshot; events = c.self.inside.events.items }
+
+abbrev after : goal.After-push_reserved → PartOf
+after c = record { snapshot = c.self.inside.snapshot; events = c.push_reserved.new.self.items }
+
+abbrev event : goal.After-push_reserved → Event
+event c = Swept c.args.tag c.args.moment c.in_ok-gone.gone.items
+
+done : (c : goal.After-push_reserved) → IsDone (before c) (after c) (event c) c.remove_dead.new.entries.items
+done c =
+    let open' : IsOpen (before c) c.args.moment = rw c.self.view_is (c.in_ok-admit.ensures.due) in
+    let dead : AreDeadKeys c.self.inside.snapshot.rules.stale c.args.moment c.self.inside.entries.items c.in_ok-gone.gone.items =
+    rw (← c.as_slice.ensures.value) (c.in_ok-gone.ensures) in
+    let written : c.push_reserved.new.self.items ≡ c.self.inside.events.items ++ event c ∷ [] =
+    c.push_reserved.ensures.items ∙ rw (c.reserve.ensures.items, c.from_vec.ensures) refl in
+    let P : List Event → Type 0 = λ events. IsDone (before c) (record { snapshot = c.self.inside.snapshot; events = events }) (event c) c.remove_dead.new.entries.items in
+    subst P (sym written)
+    (sweep_done (before c) c.self.inside.entries.items c.args.tag c.args.moment c.in_ok-gone.gone.items c.remove_dead.new.entries.items c.self.invariant open' dead c.remove_dead.ensures)
+
+pub invariant_of-self-2 : goal.invariant_of-self-2
+invariant_of-self-2 c = (done c).keeps
+
+pub returns-clause-ok : goal.returns-clause-ok
+returns-clause-ok c =
+    let many : length c.in_ok-gone.gone.items ≡ c.len-removed.result = search rules in
+    (c.in_ok-gone.gone.items, many, rw (← c.self.view_is) ((done c).adds))

@@ -1,0 +1,31 @@
+-- What the calls of a part do to its entries, the newest first.
+use Rattle.std.specs.Prelude.{◌≡◌, ℕ, List, Option}
+use Rattle.std.specs.List.Sorted.{IsStrictlySortedBy}
+use Rattle.rrc_name.specs.Key.{KeyOf, key_order}
+use Rattle.rrc_history.specs.declared.event.Outcome.{Outcome}
+use Rattle.rrc_history.specs.declared.snapshot.Entry.{Entry}
+use Rattle.rrc_history.specs.Fits.{OfferOf}
+use Rattle.rrc_history.specs.Asked.{AskOf}
+use Rattle.rrc_history.specs.declared.event.Reply.{Reply}
+use Rattle.rrc_history.specs.AskLaws.{found_among}
+use Rattle.rrc_history.specs.Judged.{verdict, reply_by, answering, key_in}
+use Rattle.rrc_history.specs.Past.{entry_at, is_among}
+use Rattle.rrc_history.specs.Right.{evicted_by}
+use Rattle.rrc_history.specs.OfferLaws.{kept_after}
+use Rattle.rrc_history.specs.SweepLaws.{keys_of_dead}
+
+-- an offer was judged by what its key held, and left what its outcome says
+pub record IsTaken (capacity number : ℕ) (offer : OfferOf) (before : List Entry) (outcome : Outcome) (evicted : Option KeyOf) (after : List Entry) : Type 0 where
+  pub judged : outcome ≡ verdict (entry_at offer.key before) offer
+  pub evicts : evicted ≡ evicted_by capacity before (entry_at offer.key before) outcome
+  pub left : after ≡ kept_after outcome offer number evicted before
+
+-- an ask was answered by what its keys held, from the entry of a key
+pub record IsAnswered (stale : ℕ) (ask : AskOf) (entries : List Entry) (reply : Reply) (key : Option KeyOf) : Type 0 where
+  pub answered : reply ≡ reply_by stale (found_among entries ask) ask
+  pub from : key ≡ key_in (answering (found_among entries ask) ask reply)
+
+-- the keys of the dead entries, in the order of keys
+pub record AreDeadKeys (stale moment : ℕ) (entries : List Entry) (keys : List KeyOf) : Type 0 where
+  pub sorted : IsStrictlySortedBy key_order keys
+  pub dead : (key : KeyOf) → is_among key keys ≡ is_among key (keys_of_dead stale moment entries)
