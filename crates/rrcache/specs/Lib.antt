@@ -7,6 +7,7 @@ pub mod Items
 pub mod Lines
 pub mod Life
 pub mod Replay
+pub mod Answers
 pub mod Report
 pub mod Writing
 pub mod Run

@@ -1,4 +1,5 @@
-ghost use Rattle.std.specs.Prelude.{◌≡◌, IfOk};
+ghost use Rattle.std.specs.Prelude.{◌≡◌, ◌++◌, ◌∷◌, [], IfOk};
+ghost use Rattle.rrcache.specs.Answers.{Appends, told_as};
 ghost use Rattle.rrcache.specs.Replay.{fault_at, offer_of, failure_of, evicted_last};
 
 use super::fault::ReplayFault;
@@ -85,7 +86,9 @@ fn evicted_last(events: &[Event]) -> Result<Option<Key>, AllocError>
 }
 
 /// Makes the call of an offer, and tells what became of it.
-fn tell(part: &mut Part, tag: Tag, offer: Offer) -> Result<Told, ReplayFault> {
+fn tell(part: &mut Part, tag: Tag, offer: Offer) -> Result<Told, ReplayFault>
+    ensures event { IfOk result (λ told. part.new.events ≡ part.old.events ++ told_as tag offer told ∷ []) }
+{
     let outcome = match part.offer(tag, offer) {
         Ok(outcome) => outcome,
         Err(refusal) => return Err(fault_at(tag.line, refusal)),
@@ -96,8 +99,10 @@ fn tell(part: &mut Part, tag: Tag, offer: Offer) -> Result<Told, ReplayFault> {
     })
 }
 
-/// Makes a line's call, and answers what it got.
-fn answer_at(part: &mut Part, number: u64, line: Line) -> Result<Answer, ReplayFault> {
+/// Makes a line's call, and answers what it got, as the event tells it.
+fn answer_at(part: &mut Part, number: u64, line: Line) -> Result<Answer, ReplayFault>
+    ensures event { IfOk result (Appends part.old.events part.new.events number line) }
+{
     let tag = Tag {
         line: number,
         place: 0,
