@@ -13,6 +13,7 @@ pub mod TrustHolds
 pub mod LifeHolds
 pub mod DataHolds
 pub mod LawsHold
+pub mod WholeLaws
 pub mod Apart
 pub mod AskLaws
 pub mod SweepLaws

@@ -2,4 +2,7 @@ pub mod NumberLemmas
 pub mod ItemLemmas
 pub mod NameLemmas
 pub mod WritingLemmas
+pub mod TraceLemmas
+pub mod LawfulLemmas
 pub mod ReadingLemmas
+pub mod ReplayLemmas

@@ -1,18 +1,22 @@
 -- A trace is read piece by piece.
-use Rattle.std.proofs.Common.{◌≡◌, ◌≢◌, ℕ, suc, ◌+◌, ◌-◌, ◌<◌, List, [], ◌∷◌, ◌++◌, length, take, get_or, Option, Some, None, Result, Ok, Err, true, false, refl, sym, ap, subst, ◌∙◌, arith, append_assoc, length-append, length-take, nat_le, ◌==◌, Bool, cond, slice_index, zero}
+use Rattle.std.proofs.Common.{◌≡◌, ◌≢◌, ℕ, suc, ◌+◌, ◌-◌, ◌<◌, ◌≤◌, List, [], ◌∷◌, ◌++◌, length, take, get_or, Option, Some, None, Result, Ok, Err, true, false, refl, sym, ap, subst, ◌∙◌, arith, append_assoc, length-append, length-take, nat_le, ◌==◌, Bool, cond, slice_index, zero}
 use Rattle.std.specs.Prelude.{⊤}
-use Rattle.std.specs.Io.KnownBytes.{IsAtEnd}
+use Rattle.std.specs.List.{All}
+use Rattle.std.specs.Io.KnownBytes.{IsAtEnd, Consumes}
 use Rattle.std.proofs.lemmas.Bool.Decides.{nat_tests}
 use Rattle.std.proofs.lemmas.List.{append-nil}
+use Rattle.std.proofs.lemmas.List.Elements.{All-nil, All-push}
 use Rattle.rrcache.specs.declared.engine.line.Line.{Line}
 use Rattle.rrcache.specs.declared.engine.fault.ReplayFault.{ReplayFault}
 use Rattle.rrcache.specs.declared.engine.fault.ReplayFault.TheVariants.{BadLine, TooManyLines}
 use Rattle.rrcache.specs.Lines.{before_last, line_ended, line_of_piece}
-use Rattle.rrcache.specs.Trace.{with_octet, pieces_of, with_line, lines_from, trace_of}
+use Rattle.rrcache.specs.Trace.{with_octet, pieces_of, MOST_LINES}
+use Rattle.rrcache.proofs.TraceLemmas.{with_line, lines_from, trace_of, trace_of-says, trace_of-bad, trace_of-many}
 use Rattle.rrcache.specs.declared.engine.reading.Ending.TheVariants.{Lf, Last, Endless}
-use Rattle.rrcache.specs.declared.engine.trace.Trace.{Trace}
+use Rattle.rrcache.specs.Lawful.{IsLawful, AreLawful}
+use Rattle.rrcache.proofs.LawfulLemmas.{says_lawful}
 use Rattle.rrcache.specs.declared.engine.fault.ReplayFault.TheVariants as faults
-use Rattle.rrcache.specs.Reading.{IsUnended, ReadsPiece, IsOfReading, GivesLine, ReadsTrace}
+use Rattle.rrcache.specs.Reading.{IsUnended, ReadsPiece, IsOfReading, GivesLine, IsTraceFrom, IsFaultOfTrace}
 
 abbrev pub lines_behind : List Line → Result (List Line) ReplayFault → Result (List Line) ReplayFault
 lines_behind front (Ok lines) = Ok (front ++ lines)
@@ -50,6 +54,19 @@ one_piece : (front : List Line) (number : ℕ) (piece : List ℕ) (pieces : List
 one_piece front number piece pieces line few is =
     let more : nat_le 1000000 number ≡ false = grind (arith, nat_tests) in
     rw (more, is) (with_line-behind front line (lines_from (number + 1) pieces))
+
+-- more pieces than a trace may have lines
+too_many : (front : List Line) (number octet : ℕ) (octets : List ℕ) → MOST_LINES ≤ number → lines_behind front (lines_from number (pieces_of (octet ∷ octets))) ≡ Err TooManyLines
+too_many front number octet octets many = by (octet == 10) refl (pieces_of octets) refl
+  where
+    over : nat_le MOST_LINES number ≡ true
+    over = grind (arith, nat_tests, many)
+
+    by : (lf : Bool) → (octet == 10) ≡ lf → (pieces : List (List ℕ)) → pieces_of octets ≡ pieces
+        → lines_behind front (lines_from number (pieces_of (octet ∷ octets))) ≡ Err TooManyLines
+    by true is pieces are = rw (is, over) refl
+    by false is [] are = rw (is, are, over) refl
+    by false is (piece ∷ pieces) are = rw (is, are, over) refl
 
 bad_piece : (front : List Line) (number : ℕ) (piece : List ℕ) (pieces : List (List ℕ)) → number < 1000000 → line_of_piece piece ≡ None
     → lines_behind front (lines_from number (piece ∷ pieces)) ≡ Err (BadLine number)
@@ -100,34 +117,49 @@ stopped : (all octets : List ℕ) (lines : List Line) (number : ℕ) (piece : Li
 stopped all octets lines number piece pieces few read cut is =
     sym read ∙ ap (λ ps. lines_behind lines (lines_from number ps)) cut ∙ bad_piece lines number piece pieces few is
 
-pub stops : (fault : ReplayFault) (all old new : Option (List ℕ)) (lines : List Line) (number : ℕ) (piece : List ℕ) → number < 1000000
-    → IsReadTo all old lines number → ReadsCut old new piece → GivesLine number (Err fault) (line_of_piece piece) → ReadsTrace all (Err fault)
-stops fault None old new lines number piece few read cut said = tt
-stops fault (Some all) None new lines number piece few read cut said = absurd read
-stops fault (Some all) (Some octets) None lines number piece few read cut said = absurd cut
+pub stops : (fault : ReplayFault) (all old new : Option (List ℕ)) (lines : List Line) (number : ℕ) (piece : List ℕ) → number < MOST_LINES
+    → IsReadTo all old lines number → ReadsCut old new piece → GivesLine number (Err fault) (line_of_piece piece) → IsFaultOfTrace all fault
+stops (faults.BadLine bad) None old new lines number piece few read cut said = tt
+stops (faults.BadLine bad) (Some all) None new lines number piece few read cut said = absurd read
+stops (faults.BadLine bad) (Some all) (Some octets) None lines number piece few read cut said = absurd cut
 stops (faults.BadLine bad) (Some all) (Some octets) (Some rest) lines number piece few read cut said =
-    stopped all octets lines number piece (pieces_of rest) few read cut said.1 ∙ ap (λ (n : ℕ). err_at n) (sym said.0)
-stops faults.TooManyLines (Some all) (Some octets) (Some rest) lines number piece few read cut said = absurd said
-stops faults.Read (Some all) (Some octets) (Some rest) lines number piece few read cut said = tt
-stops faults.Write (Some all) (Some octets) (Some rest) lines number piece few read cut said = absurd said
-stops faults.Memory (Some all) (Some octets) (Some rest) lines number piece few read cut said = tt
-stops (faults.Spent bad) (Some all) (Some octets) (Some rest) lines number piece few read cut said = absurd said
+    trace_of-bad all bad (stopped all octets lines number piece (pieces_of rest) few read cut said.1 ∙ ap (λ (n : ℕ). err_at n) (sym said.0))
+stops faults.TooManyLines all old new lines number piece few read cut said = absurd said
+stops faults.Read all old new lines number piece few read cut said = tt
+stops faults.Write all old new lines number piece few read cut said = absurd said
+stops faults.Memory all old new lines number piece few read cut said = tt
+stops (faults.Spent bad) all old new lines number piece few read cut said = absurd said
 
-pub fails : (fault : ReplayFault) (all : Option (List ℕ)) → IsOfReading fault → ReadsTrace all (Err fault)
-fails fault None of_reading = tt
-fails (faults.BadLine bad) (Some all) of_reading = absurd of_reading
-fails faults.TooManyLines (Some all) of_reading = absurd of_reading
-fails faults.Read (Some all) of_reading = tt
-fails faults.Write (Some all) of_reading = absurd of_reading
-fails faults.Memory (Some all) of_reading = tt
-fails (faults.Spent bad) (Some all) of_reading = absurd of_reading
+pub fails : (fault : ReplayFault) (all : Option (List ℕ)) → IsOfReading fault → IsFaultOfTrace all fault
+fails (faults.BadLine bad) all of_reading = absurd of_reading
+fails faults.TooManyLines all of_reading = absurd of_reading
+fails faults.Read all of_reading = tt
+fails faults.Write all of_reading = absurd of_reading
+fails faults.Memory all of_reading = tt
+fails (faults.Spent bad) all of_reading = absurd of_reading
 
-pub ends : (all now : Option (List ℕ)) (lines : List Line) (number : ℕ) (trace : Trace) → IsReadTo all now lines number → IsAtEnd now → trace.lines ≡ lines
-    → ReadsTrace all (Ok trace)
-ends None now lines number trace read end is = tt
-ends (Some all) None lines number trace read end is = absurd read
-ends (Some all) (Some rest) lines number trace read end is =
-    sym read ∙ ap (λ r. lines_behind lines (lines_from number (pieces_of r))) end ∙ ap wrapped (append-nil lines ∙ sym is)
+-- nothing is left to read
+pub ends : (all now : Option (List ℕ)) (lines : List Line) (number : ℕ) → IsReadTo all now lines number → IsAtEnd now → number ≤ MOST_LINES → IsTraceFrom all lines
+ends None now lines number read end few = tt
+ends (Some all) None lines number read end few = absurd read
+ends (Some all) (Some rest) lines number read end few =
+    trace_of-says all lines (sym read ∙ ap (λ r. lines_behind lines (lines_from number (pieces_of r))) end ∙ ap wrapped (append-nil lines))
+
+-- an octet is left behind the last line that a trace may have
+pub goes_on : (all old new : Option (List ℕ)) (octet : ℕ) (lines : List Line) (number : ℕ) → MOST_LINES ≤ number → IsReadTo all old lines number
+    → Consumes old new (octet ∷ []) → IsFaultOfTrace all faults.TooManyLines
+goes_on None old new octet lines number many read took = tt
+goes_on (Some all) None new octet lines number many read took = absurd read
+goes_on (Some all) (Some octets) None octet lines number many read took = absurd took
+goes_on (Some all) (Some octets) (Some rest) octet lines number many read took =
+    trace_of-many all (sym read ∙ ap (λ o. lines_behind lines (lines_from number (pieces_of o))) took ∙ too_many lines number octet rest many)
+
+-- no octet is left
+pub no_octet : (all old new : Option (List ℕ)) (lines : List Line) (number : ℕ) → IsReadTo all old lines number → Consumes old new [] → IsReadTo all new lines number
+no_octet None old new lines number read took = tt
+no_octet (Some all) None new lines number read took = absurd read
+no_octet (Some all) (Some octets) None lines number read took = absurd took
+no_octet (Some all) (Some octets) (Some rest) lines number read took = ap (λ o. lines_behind lines (lines_from number (pieces_of o))) (sym took) ∙ read
 
 -- an octet of an unended piece
 unended-at : (piece : List ℕ) (place : ℕ) → IsUnended piece → place < length piece → get_or piece place 0 ≢ 10
@@ -197,14 +229,14 @@ endless_in all octets lines number piece (first ∷ pieces) few read unended lon
     stopped all octets lines number (piece ++ first) pieces few read cut (too_long piece first unended long)
 
 pub endless : (all old new : Option (List ℕ)) (lines : List Line) (number : ℕ) (piece : List ℕ) → number < 1000000
-    → IsReadTo all old lines number → ReadsPiece old new piece Endless → ReadsTrace all (Err (BadLine number))
+    → IsReadTo all old lines number → ReadsPiece old new piece Endless → IsFaultOfTrace all (BadLine number)
 endless None old new lines number piece few read was = tt
 endless (Some all) None new lines number piece few read was = absurd read
 endless (Some all) (Some octets) None lines number piece few read was = absurd was
 endless (Some all) (Some octets) (Some rest) lines number [] few read was = absurd (omega (arith, was.1.1))
 endless (Some all) (Some octets) (Some rest) lines number (octet ∷ piece) few read was =
-    endless_in all octets lines number (octet ∷ piece) (pieces_of rest) few read was.1.0 was.1.1
-    (ap pieces_of was.0 ∙ pieces_of-onto octet piece rest was.1.0)
+    trace_of-bad all number (endless_in all octets lines number (octet ∷ piece) (pieces_of rest) few read was.1.0 was.1.1
+    (ap pieces_of was.0 ∙ pieces_of-onto octet piece rest was.1.0))
 
 -- nothing more was read
 pub nothing : (all old new : Option (List ℕ)) (lines : List Line) (number : ℕ) → IsReadTo all old lines number → ReadsPiece old new [] Last
@@ -214,14 +246,26 @@ nothing (Some all) None new lines number read was = absurd read
 nothing (Some all) (Some octets) None lines number read was = absurd was
 nothing (Some all) (Some octets) (Some rest) lines number read was = ap (λ o. lines_behind lines (lines_from number (pieces_of o))) (sym was.0) ∙ read
 
--- the trace ends with this piece
-pub ends_last : (all old new : Option (List ℕ)) (before lines : List Line) (number later : ℕ) (piece : List ℕ) (trace : Trace)
-    → IsReadTo all old before number → ReadsPiece old new piece Last → IsReadTo all new lines later → trace.lines ≡ lines → ReadsTrace all (Ok trace)
-ends_last None old new before lines number later piece trace read was now is = tt
-ends_last (Some all) None new before lines number later piece trace read was now is = absurd read
-ends_last (Some all) (Some octets) None before lines number later piece trace read was now is = absurd was
-ends_last (Some all) (Some octets) (Some rest) before lines number later piece trace read was now is =
-    ends (Some all) (Some rest) lines later trace now was.1.1 is
+-- the lines so far are lawful, as many as their number says, and what is left to read says the others
+pub record IsReadSoFar (all now : Option (List ℕ)) (lines : List Line) (number : ℕ) : Type 0 where
+  pub read : IsReadTo all now lines number
+  pub lawful : All IsLawful lines
+  pub count : length lines ≡ number
+
+pub so_far_none : (all : Option (List ℕ)) → IsReadSoFar all all [] 0
+so_far_none all = record { read = IsReadTo-none all; lawful = All-nil IsLawful; count = refl }
+
+pub so_far_more : (all old new : Option (List ℕ)) (lines : List Line) (number : ℕ) (piece : List ℕ) (line : Line) → number < MOST_LINES
+    → IsReadSoFar all old lines number → ReadsCut old new piece → line_of_piece piece ≡ Some line → IsReadSoFar all new (lines ++ line ∷ []) (number + 1)
+so_far_more all old new lines number piece line few far cut is = record {
+  read = IsReadTo-more all old new lines number piece line few far.read cut is;
+  lawful = All-push IsLawful lines line far.lawful (says_lawful piece line is);
+  count = length-append lines (line ∷ []) ∙ ap (λ n. n + 1) far.count;
+}
+
+-- lines so far are a trace's where no more are than may be
+pub are_lawful : (all now : Option (List ℕ)) (lines : List Line) (number : ℕ) → IsReadSoFar all now lines number → number ≤ MOST_LINES → AreLawful lines
+are_lawful all now lines number far few = record { few = omega (arith, far.count, few); each = far.lawful }
 
 pub some_octets : (piece : List ℕ) → (length piece == 0) ≡ false → piece ≢ []
 some_octets [] h = λ e. absurd cc

@@ -7,9 +7,10 @@ pub mod Items
 pub mod Lines
 pub mod Life
 pub mod Replay
+pub mod Trace
+pub mod Lawful
 pub mod Answers
 pub mod Report
 pub mod Writing
 pub mod Run
-pub mod Trace
 pub mod Reading

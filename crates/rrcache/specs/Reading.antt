@@ -1,13 +1,13 @@
 -- Reading a trace, octet by octet.
-use Rattle.std.specs.Prelude.{◌≡◌, ◌≢◌, ◌<◌, ℕ, List, [], ◌∷◌, ◌++◌, length, ⊤, Option, Some, None, Result, Ok, Err}
+use Rattle.std.specs.Prelude.{◌≡◌, ◌≢◌, ◌<◌, ℕ, List, [], ◌∷◌, ◌++◌, length, ⊤, Option, Some, None, IfSome, Result, Ok, Err}
+use Rattle.std.specs.Io.KnownBytes.{IsAtEnd}
 use Rattle.std.specs.List.{AllByRecursion}
 use Rattle.rrcache.specs.declared.engine.fault.ReplayFault.{ReplayFault}
 use Rattle.rrcache.specs.declared.engine.fault.ReplayFault.TheVariants.{BadLine, TooManyLines, Read, Write, Memory, Spent}
 use Rattle.rrcache.specs.declared.engine.reading.Ending.{Ending}
 use Rattle.rrcache.specs.declared.engine.reading.Ending.TheVariants.{Lf, Last, Endless}
 use Rattle.rrcache.specs.declared.engine.line.Line.{Line}
-use Rattle.rrcache.specs.declared.engine.trace.Trace.{Trace}
-use Rattle.rrcache.specs.Trace.{trace_of}
+use Rattle.rrcache.specs.Trace.{TraceOf, IsFirstFault}
 
 -- no octet ends a line
 abbrev pub IsUnended : List ℕ → Type 0
@@ -25,6 +25,12 @@ ReadsPiece None new piece ending = ⊤
 ReadsPiece (Some octets) None piece ending = ⊥
 ReadsPiece (Some octets) (Some rest) piece ending = (octets ≡ piece ++ rest) × IsEndOf ending piece rest
 
+-- behind a piece that ends with the trace nothing is left
+abbrev pub LeavesNothing : Option (List ℕ) → Ending → Type 0
+LeavesNothing rest Lf = Unit {0}
+LeavesNothing rest Last = IsAtEnd rest
+LeavesNothing rest Endless = Unit {0}
+
 -- a fault of a reader or of memory, and not of a text
 abbrev pub IsOfReading : ReplayFault → Type 0
 IsOfReading (BadLine number) = ⊥
@@ -34,20 +40,18 @@ IsOfReading Write = ⊥
 IsOfReading Memory = Unit {0}
 IsOfReading (Spent number) = ⊥
 
--- what was answered is what the text says, unless a read failed or memory was refused
-abbrev pub Reads : Result Trace ReplayFault → Result (List Line) ReplayFault → Type 0
-Reads (Ok trace) said = said ≡ Ok trace.lines
-Reads (Err (BadLine number)) said = said ≡ Err (BadLine number)
-Reads (Err TooManyLines) said = said ≡ Err TooManyLines
-Reads (Err Read) said = Unit {0}
-Reads (Err Write) said = ⊥
-Reads (Err Memory) said = Unit {0}
-Reads (Err (Spent number)) said = ⊥
+-- the lines are those of the octets that a reader gives, where these are known
+abbrev pub IsTraceFrom : Option (List ℕ) → List Line → Type 0
+IsTraceFrom read lines = IfSome read (λ octets. TraceOf octets lines)
 
--- the same of a trace whose octets are known
-abbrev pub ReadsTrace : Option (List ℕ) → Result Trace ReplayFault → Type 0
-ReadsTrace None answer = ⊤
-ReadsTrace (Some octets) answer = Reads answer (trace_of octets)
+-- a fault of the text is its first one, where its octets are known; no other faults come but those of a read and of memory
+abbrev pub IsFaultOfTrace : Option (List ℕ) → ReplayFault → Type 0
+IsFaultOfTrace read (BadLine number) = IfSome read (λ octets. IsFirstFault octets (BadLine number))
+IsFaultOfTrace read TooManyLines = IfSome read (λ octets. IsFirstFault octets TooManyLines)
+IsFaultOfTrace read Read = Unit {0}
+IsFaultOfTrace read Write = ⊥
+IsFaultOfTrace read Memory = Unit {0}
+IsFaultOfTrace read (Spent number) = ⊥
 
 -- the line is what its piece says, unless memory was refused
 abbrev pub GivesLine : ℕ → Result Line ReplayFault → Option Line → Type 0

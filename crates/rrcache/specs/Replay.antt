@@ -1,5 +1,5 @@
 -- A line of a trace makes one call on a part.
-use Rattle.std.specs.Prelude.{ℕ, ◌-◌, List, length, slice_get, Option, Some, None}
+use Rattle.std.specs.Prelude.{◌≡◌, ℕ, ◌-◌, List, length, slice_get, Option, Some, None}
 use Rattle.rrc_name.specs.Key.{KeyOf}
 use Rattle.rrc_history.specs.declared.event.Event.{Event}
 use Rattle.rrc_history.specs.declared.event.Event.TheVariants.{Offered, Asked, Swept}
@@ -15,11 +15,11 @@ use Rattle.rrcache.specs.declared.engine.line.Put.{Put}
 use Rattle.rrcache.specs.declared.engine.line.Failed.{Failed}
 use Rattle.rrcache.specs.Life.{life_of}
 
--- the fault of a line whose call a part refused
-abbrev pub fault_at : ℕ → Refusal → ReplayFault
-fault_at number refusals.HistoryFull = faults.Spent number
-fault_at number refusals.MomentTooLarge = faults.BadLine number
-fault_at number refusals.Memory = faults.Memory
+-- the fault of a line whose call a part refused; no line's moment is too large
+abbrev pub IsFaultOf : ℕ → Refusal → ReplayFault → Type 0
+IsFaultOf number refusals.HistoryFull fault = fault ≡ faults.Spent number
+IsFaultOf number refusals.MomentTooLarge fault = ⊥
+IsFaultOf number refusals.Memory fault = fault ≡ faults.Memory
 
 -- the offer of a put: the data live for the life of the ttl written
 abbrev pub offer_of : Put → OfferOf

@@ -1,8 +1,9 @@
 -- A trace: its lines, cut apart, and what they say.
-use Rattle.std.specs.Prelude.{ℕ, ◌+◌, List, [], ◌∷◌, Some, None, Result, Ok, Err, ◌==◌, nat_le, if◌then◌else◌}
+use Rattle.std.specs.Prelude.{◌≡◌, ◌<◌, ◌≤◌, ℕ, List, [], ◌∷◌, length, map, take, position, Bool, Option, Some, None, ◌==◌, if◌then◌else◌}
+use Rattle.std.specs.Option.{is_none}
 use Rattle.rrcache.specs.declared.engine.line.Line.{Line}
 use Rattle.rrcache.specs.declared.engine.fault.ReplayFault.{ReplayFault}
-use Rattle.rrcache.specs.declared.engine.fault.ReplayFault.TheVariants.{BadLine, TooManyLines}
+use Rattle.rrcache.specs.declared.engine.fault.ReplayFault.TheVariants.{BadLine, TooManyLines, Read, Write, Memory, Spent}
 use Rattle.rrcache.specs.Lines.{line_of_piece}
 
 -- pieces, with one more octet in front of the first
@@ -10,22 +11,32 @@ abbrev pub with_octet : ℕ → List (List ℕ) → List (List ℕ)
 with_octet octet [] = (octet ∷ []) ∷ []
 with_octet octet (piece ∷ pieces) = (octet ∷ piece) ∷ pieces
 
--- a trace, cut behind each LF
+-- a text, cut behind each LF
 abbrev pub pieces_of : List ℕ → List (List ℕ)
 pieces_of [] = []
 pieces_of (octet ∷ octets) = if octet == 10 then (octet ∷ []) ∷ pieces_of octets else with_octet octet (pieces_of octets)
 
-abbrev pub with_line : Line → Result (List Line) ReplayFault → Result (List Line) ReplayFault
-with_line line (Ok lines) = Ok (line ∷ lines)
-with_line line (Err fault) = Err fault
+-- a trace has a million lines at most
+abbrev pub MOST_LINES : ℕ
+MOST_LINES = 1000000
 
--- the lines of pieces, the first of which has this number, or their first fault; a million lines at most
-abbrev pub lines_from : ℕ → List (List ℕ) → Result (List Line) ReplayFault
-lines_from number [] = Ok []
-lines_from number (piece ∷ pieces) =
-    if nat_le 1000000 number then Err TooManyLines
-    else elim (line_of_piece piece) [ Some line ↦ with_line line (lines_from (number + 1) pieces) | None ↦ Err (BadLine number) ]
+-- the text is a trace of these lines: each of its pieces says one
+pub record TraceOf (octets : List ℕ) (lines : List Line) : Type 0 where
+  pub said : map line_of_piece (pieces_of octets) ≡ map Some lines
+  pub few : length lines ≤ MOST_LINES
 
--- the lines of a trace, or its first fault
-abbrev pub trace_of : List ℕ → Result (List Line) ReplayFault
-trace_of octets = lines_from 0 (pieces_of octets)
+abbrev pub says_nothing : List ℕ → Bool
+says_nothing piece = is_none (line_of_piece piece)
+
+-- the first bad line: of the pieces that may be lines, the first that says nothing
+abbrev pub first_bad : List ℕ → Option ℕ
+first_bad octets = position says_nothing (take MOST_LINES (pieces_of octets))
+
+-- the first fault of a text: a bad line, or else more lines than a trace may have
+abbrev pub IsFirstFault : List ℕ → ReplayFault → Type 0
+IsFirstFault octets (BadLine number) = first_bad octets ≡ Some number
+IsFirstFault octets TooManyLines = (first_bad octets ≡ None) × (MOST_LINES < length (pieces_of octets))
+IsFirstFault octets Read = ⊥
+IsFirstFault octets Write = ⊥
+IsFirstFault octets Memory = ⊥
+IsFirstFault octets (Spent number) = ⊥

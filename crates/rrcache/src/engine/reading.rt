@@ -1,7 +1,7 @@
 ghost use Rattle.std.specs.Prelude.{◌≡◌, Err, IfOk, IfErr, IfSome, IfNone, OnOk, OnErr, option_to_list};
 ghost use Rattle.std.specs.Io.KnownBytes.{Consumes, IsAtEnd};
 ghost use Rattle.rrcache.specs.Lines.{line_of_piece};
-ghost use Rattle.rrcache.specs.Reading.{ReadsPiece, IsOfReading, GivesLine, ReadsTrace};
+ghost use Rattle.rrcache.specs.Reading.{ReadsPiece, LeavesNothing, IsOfReading, GivesLine, IsTraceFrom, IsFaultOfTrace};
 
 use super::fault::ReplayFault;
 use super::line::{Line, MOST_OCTETS, line_of_piece};
@@ -42,6 +42,7 @@ pub(crate) enum Ending {
 /// Reads the next piece into a buffer: with its LF, or to the end, or one octet more than a line may have.
 fn piece_from<R: Read>(reader: &mut R, piece: &mut Vec<u8>) -> Result<Ending, ReplayFault>
     ensures ok { IfOk result (ReadsPiece (R.remaining reader.old) (R.remaining reader.new) piece.new.items) }
+    ensures last { IfOk result (LeavesNothing (R.remaining reader.new)) }
     ensures err { IfErr result IsOfReading }
 {
     piece.clear();
@@ -75,7 +76,9 @@ fn line_at(alloc: Global, number: u64, piece: &[u8]) -> Result<Line, ReplayFault
 /// `BadLine(n)` where line n, from 0 on, is none; `TooManyLines` where an octet follows the millionth line, and the lines
 /// before it are lines; `Read` where a read failed before a fault of the text was met. The first fault is answered.
 pub fn read_trace<R: Read>(alloc: Global, reader: &mut R) -> Result<Trace, ReplayFault>
-    ensures { ReadsTrace (R.remaining reader.old) result }
+    ensures ok { IfOk result (IsTraceFrom (R.remaining reader.old)) }
+    ensures whole { OnOk result (IsAtEnd (R.remaining reader.new)) }
+    ensures err { IfErr result (IsFaultOfTrace (R.remaining reader.old)) }
 {
     let mut lines = Sequence::new(alloc);
     let mut piece = Vec::new(alloc);

@@ -1,6 +1,9 @@
-ghost use Rattle.std.specs.Prelude.{◌≡◌, ◌++◌, ◌∷◌, [], IfOk};
-ghost use Rattle.rrcache.specs.Answers.{Appends, told_as};
-ghost use Rattle.rrcache.specs.Replay.{fault_at, offer_of, failure_of, evicted_last};
+ghost use Rattle.std.specs.Prelude.{◌≡◌, ◌≢◌, ◌≤◌, true, IfOk, IfErr};
+ghost use Rattle.rrc_history.specs.Fits.{has_items};
+ghost use Rattle.rrc_history.specs.Lives.{LAST_MOMENT};
+ghost use Rattle.rrcache.specs.Answers.{AreAnswers, IsRefusal, Answers, Tells, IsRefusedAt};
+ghost use Rattle.rrcache.specs.Lawful.{IsLawful};
+ghost use Rattle.rrcache.specs.Replay.{IsFaultOf, offer_of, failure_of, evicted_last};
 
 use super::fault::ReplayFault;
 use super::life::life;
@@ -31,42 +34,44 @@ pub enum Answer {
 /// For how many seconds a failure is remembered (RFC 8767 section 5).
 const RECHECK: u32 = 30;
 
-/// The fault of a line whose call was refused. A moment that is too large stands in no line.
+/// The fault of a line whose call was refused. No line has a moment that is too large.
 fn fault_at(number: u64, refusal: Refusal) -> ReplayFault
-    ensures { result ≡ fault_at number refusal }
+    requires { refusal ≢ Refusal.MomentTooLarge }
+    ensures { IsFaultOf number refusal result }
 {
     match refusal {
         Refusal::HistoryFull => ReplayFault::Spent(number),
-        Refusal::MomentTooLarge => ReplayFault::BadLine(number),
+        Refusal::MomentTooLarge => unreachable!(),
         Refusal::Memory => ReplayFault::Memory,
     }
 }
 
-/// The offer of a put, whose ttl is the life of the one written. A put of no data stands in no line.
-fn offer_at(number: u64, put: Put) -> Result<Offer, ReplayFault>
-    ensures { IfOk result (λ offer. offer ≡ offer_of put) }
+/// The offer of a put, whose ttl is the life of the one written.
+fn offer_at(put: &Put) -> Result<Offer, AllocError>
+    requires { has_items put.now.items ≡ true }
+    ensures { IfOk result (λ offer. offer ≡ offer_of put.now) }
 {
     let key = Key::of(&put.name, Slot::Set(put.rtype))?;
     let body = Body::Positive {
-        owner: put.name,
-        items: put.items,
+        owner: put.name.clone()?,
+        items: put.items.clone()?,
         trust: put.trust,
         ttl: life(put.ttl),
     };
     match Offer::new(key, body, put.moment) {
         Ok(offer) => Ok(offer),
-        Err(_) => Err(ReplayFault::BadLine(number)),
+        Err(_) => unreachable!(),
     }
 }
 
 /// The offer of a failure.
-fn failure_at(number: u64, failed: Failed) -> Result<Offer, ReplayFault>
-    ensures { IfOk result (λ offer. offer ≡ failure_of failed) }
+fn failure_at(failed: &Failed) -> Result<Offer, AllocError>
+    ensures { IfOk result (λ offer. offer ≡ failure_of failed.now) }
 {
     let key = Key::of(&failed.name, Slot::Failed(failed.rtype))?;
     match Offer::new(key, Body::Failure { ttl: RECHECK }, failed.moment) {
         Ok(offer) => Ok(offer),
-        Err(_) => Err(ReplayFault::BadLine(number)),
+        Err(_) => unreachable!(),
     }
 }
 
@@ -87,7 +92,9 @@ fn evicted_last(events: &[Event]) -> Result<Option<Key>, AllocError>
 
 /// Makes the call of an offer, and tells what became of it.
 fn tell(part: &mut Part, tag: Tag, offer: Offer) -> Result<Told, ReplayFault>
-    ensures event { IfOk result (λ told. part.new.events ≡ part.old.events ++ told_as tag offer told ∷ []) }
+    requires { offer.moment ≤ LAST_MOMENT }
+    ensures ok { IfOk result (Tells part.old part.new tag offer) }
+    ensures err { IfErr result (IsRefusedAt part.old tag.line) }
 {
     let outcome = match part.offer(tag, offer) {
         Ok(outcome) => outcome,
@@ -100,40 +107,43 @@ fn tell(part: &mut Part, tag: Tag, offer: Offer) -> Result<Told, ReplayFault>
 }
 
 /// Makes a line's call, and answers what it got, as the event tells it.
-fn answer_at(part: &mut Part, number: u64, line: Line) -> Result<Answer, ReplayFault>
-    ensures event { IfOk result (Appends part.old.events part.new.events number line) }
+fn answer_at(part: &mut Part, number: u64, line: &Line) -> Result<Answer, ReplayFault>
+    requires { IsLawful line.now }
+    ensures ok { IfOk result (Answers part.old part.new number line.now) }
+    ensures err { IfErr result (IsRefusedAt part.old number) }
 {
     let tag = Tag {
         line: number,
         place: 0,
     };
     match line {
-        Line::Put(put) => Ok(Answer::Put(tell(part, tag, offer_at(number, put)?)?)),
-        Line::Fail(failed) => Ok(Answer::Fail(tell(part, tag, failure_at(number, failed)?)?)),
-        Line::Ask(ask) => match part.ask(tag, &ask) {
+        Line::Put(put) => Ok(Answer::Put(tell(part, tag, offer_at(put)?)?)),
+        Line::Fail(failed) => Ok(Answer::Fail(tell(part, tag, failure_at(failed)?)?)),
+        Line::Ask(ask) => match part.ask(tag, ask) {
             Ok(reply) => Ok(Answer::Ask(reply)),
             Err(refusal) => Err(fault_at(number, refusal)),
         },
-        Line::Sweep(moment) => match part.sweep(tag, moment) {
+        Line::Sweep(moment) => match part.sweep(tag, *moment) {
             Ok(removed) => Ok(Answer::Swept(removed)),
             Err(refusal) => Err(fault_at(number, refusal)),
         },
     }
 }
 
-/// What the lines of a trace get from an empty part with these rules, in order.
+/// What the cache of one thread with these rules answers the lines of a trace, in order. Each line makes one call on a part that
+/// is empty at first; the history of these calls is legal, and keeps the laws of trust and of life.
 ///
-/// `Spent(n)` where the part's chapter is full at line n.
-pub fn replay(alloc: Global, trace: Trace, rules: &Rules) -> Result<Sequence<Answer>, ReplayFault> {
-    let mut part = match Part::new(alloc, *rules) {
-        Ok(part) => part,
-        Err(refusal) => return Err(fault_at(0, refusal)),
+/// `Spent(n)` where line n is the first that finds the part's chapter full, `Memory` where memory was refused.
+pub fn replay(alloc: Global, trace: &Trace, rules: &Rules) -> Result<Sequence<Answer>, ReplayFault>
+    ensures ok { IfOk result (AreAnswers rules.now trace.now) }
+    ensures err { IfErr result (IsRefusal rules.now trace.now) }
+{
+    let Ok(mut part) = Part::new(alloc, *rules) else {
+        return Err(ReplayFault::Memory);
     };
     let mut answers = Sequence::new(alloc);
-    let mut number = 0u64;
-    for line in trace.lines.into_vec() {
-        answers.push(answer_at(&mut part, number, line)?)?;
-        number = number.saturating_add(1);
+    for (number, line) in trace.lines.as_slice().iter().enumerate() {
+        answers.push(answer_at(&mut part, number as u64, line)?)?;
     }
     Ok(answers)
 }

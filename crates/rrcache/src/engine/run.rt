@@ -1,5 +1,6 @@
-ghost use Rattle.std.specs.Prelude.{IfErr};
-ghost use Rattle.rrcache.specs.Run.{LeavesWriter};
+ghost use Rattle.std.specs.Prelude.{IfErr, OnOk};
+ghost use Rattle.std.specs.Io.KnownBytes.{IsAtEnd};
+ghost use Rattle.rrcache.specs.Run.{Reports, IsFirstFaultOf, LeavesWriter};
 
 use super::fault::ReplayFault;
 use super::reading::read_trace;
@@ -10,20 +11,23 @@ use rrc_history::Rules;
 use std::alloc::Global;
 use std::io::{Read, Write};
 
-/// Reads a whole trace, replays it on one part with these rules, and writes the report.
+/// Reads a whole trace, has the cache of one thread answer it by these rules, and writes the report.
 ///
-/// The faults are those of `read_trace` and `replay`, after which nothing is written, and `Write`, after which a beginning of
-/// the report is.
+/// What was read is a trace, and what was written is the text of what that cache answers it, and nothing else. The faults are
+/// those of `read_trace` and `replay`, after which nothing is written, and `Write`, after which a beginning of the report is.
 pub fn run<R: Read, W: Write>(
     alloc: Global,
     reader: &mut R,
     writer: &mut W,
     rules: &Rules,
 ) -> Result<(), ReplayFault>
-    ensures unwritten { IfErr result (LeavesWriter (W.contents writer.old) (W.contents writer.new)) }
+    ensures ok { OnOk result (Reports rules.now (R.remaining reader.old) (W.contents writer.old) (W.contents writer.new)) }
+    ensures whole { OnOk result (IsAtEnd (R.remaining reader.new)) }
+    ensures fault { IfErr result (IsFirstFaultOf rules.now (R.remaining reader.old)) }
+    ensures writer { IfErr result (LeavesWriter rules.now (R.remaining reader.old) (W.contents writer.old) (W.contents writer.new)) }
 {
     let trace = read_trace(alloc, reader)?;
-    let answers = replay(alloc, trace, rules)?;
+    let answers = replay(alloc, &trace, rules)?;
     let text = report_text(alloc, answers.as_slice())?;
     write_whole(writer, text.as_str().as_bytes())
 }

@@ -8,6 +8,12 @@ use std::test::Fail;
 
 const HEAD: &str = "put 1 a.example. 1 4 60 ";
 
+/// Three sets, a sweep that removes none and one that removes all; and the report.
+const SWEEPS: &str =
+    "put 10 Z.a.example. 1 4 1 c0000201\nput 10 example. 1 4 1 c0000202\nput 10 a.example. 1 4 1 c0000203\nsweep 86410\nsweep 86411\n";
+
+const SWEEPS_REPORT: &str = "0 put kept\n1 put kept\n2 put kept\n3 sweep 0\n4 sweep 3\n";
+
 fn usual() -> Option<Rules> {
     Rules::new(1024, 4096, 86_400)
 }
@@ -314,10 +320,7 @@ fn failure_before_the_set_is_not_recent(rt: HostRuntime) -> Result<(), Fail> {
 
 #[test]
 fn sweep_removes_the_dead(rt: HostRuntime) -> Result<(), Fail> {
-    let trace =
-        "put 10 Z.a.example. 1 4 1 c0000201\nput 10 example. 1 4 1 c0000202\nput 10 a.example. 1 4 1 c0000203\nsweep 86410\nsweep 86411\n";
-    let wanted = "0 put kept\n1 put kept\n2 put kept\n3 sweep 0\n4 sweep 3\n";
-    assert_eq!(rt; report(&rt, trace)?.as_str(), wanted);
+    assert_eq!(rt; report(&rt, SWEEPS)?.as_str(), SWEEPS_REPORT);
     Ok(())
 }
 
@@ -374,21 +377,23 @@ fn readers_that_never_end(rt: HostRuntime) -> Result<(), Fail> {
 #[test]
 fn octets_one_by_one(rt: HostRuntime) -> Result<(), Fail> {
     let rules = usual().ok_or("the rules are in range")?;
-    let trace = "put 100 a.example. 1 4 60 c0000201\nask 159 a.example. 1 answer none\n";
-    let mut reader = BufReader::new(rt.alloc(), OneByOne(trace.as_bytes()))?;
+    let mut reader = OneByOne(SWEEPS.as_bytes());
     let mut written = Vec::new(rt.alloc());
     run(rt.alloc(), &mut reader, &mut written, &rules)?;
-    assert_eq!(rt; written.as_slice(), report(&rt, trace)?.as_bytes());
+    assert_eq!(rt; written.as_slice(), SWEEPS_REPORT.as_bytes());
+    let mut reader = BufReader::new(rt.alloc(), OneByOne(SWEEPS.as_bytes()))?;
+    let mut written = Vec::new(rt.alloc());
+    run(rt.alloc(), &mut reader, &mut written, &rules)?;
+    assert_eq!(rt; written.as_slice(), SWEEPS_REPORT.as_bytes());
     Ok(())
 }
 
 #[test]
 fn readers_that_fail(rt: HostRuntime) -> Result<(), Fail> {
     let rules = usual().ok_or("the rules are in range")?;
-    let trace = b"ask 1 . 1 any none\nask 2 . 1 any none\n";
-    for place in 0..=trace.len() {
+    for place in 0..=SWEEPS.len() {
         let mut reader = FailsBehind {
-            octets: trace,
+            octets: SWEEPS.as_bytes(),
             place,
         };
         let mut written = Vec::new(rt.alloc());
@@ -409,28 +414,32 @@ fn readers_that_fail(rt: HostRuntime) -> Result<(), Fail> {
 }
 
 #[test]
-fn writers_that_fail(rt: HostRuntime) -> Result<(), Fail> {
+fn writers_that_take_no_more(rt: HostRuntime) -> Result<(), Fail> {
     let rules = usual().ok_or("the rules are in range")?;
-    let trace = b"put 100 a.example. 1 4 60 c0000201\nask 159 a.example. 1 answer none\n";
-    let text = b"0 put kept\n1 ask fresh 1 a.example. c0000201\n";
+    let text = SWEEPS_REPORT.as_bytes();
     for room in 0..text.len() {
         let mut writer = Full {
             taken: Vec::new(rt.alloc()),
             room,
         };
-        assert_eq!(rt;
-            run(rt.alloc(), &mut trace.as_slice(), &mut writer, &rules),
-            Err(ReplayFault::Write)
-        );
+        let ended = run(rt.alloc(), &mut SWEEPS.as_bytes(), &mut writer, &rules);
+        assert_eq!(rt; ended, Err(ReplayFault::Write), "at {room}");
         assert_eq!(rt; writer.taken.as_slice(), &text[..room]);
+    }
+    Ok(())
+}
+
+#[test]
+fn writers_that_fail(rt: HostRuntime) -> Result<(), Fail> {
+    let rules = usual().ok_or("the rules are in range")?;
+    let text = SWEEPS_REPORT.as_bytes();
+    for room in 0..text.len() {
         let mut writer = Broken {
             taken: Vec::new(rt.alloc()),
             room,
         };
-        assert_eq!(rt;
-            run(rt.alloc(), &mut trace.as_slice(), &mut writer, &rules),
-            Err(ReplayFault::Write)
-        );
+        let ended = run(rt.alloc(), &mut SWEEPS.as_bytes(), &mut writer, &rules);
+        assert_eq!(rt; ended, Err(ReplayFault::Write), "at {room}");
         assert_eq!(rt; writer.taken.as_slice(), &text[..room]);
     }
     Ok(())
