@@ -3,6 +3,7 @@ pub mod ItemLemmas
 pub mod NameLemmas
 pub mod WritingLemmas
 pub mod TraceLemmas
+pub mod TraceLaw
 pub mod LawfulLemmas
 pub mod ReadingLemmas
 pub mod ReplayLemmas

@@ -121,7 +121,7 @@ position-at : {X : Type 0} (p : X → Bool) (xs : List X) (place : ℕ) → posi
 position-at p xs place is within =
     let inside : nat_lt (position_or_len p xs) (length xs) ≡ true = grind (arith, nat_tests, is, within) in rw inside (ap Some is)
 
-position-none : {X : Type 0} (p : X → Bool) (xs : List X) → position_or_len p xs ≡ length xs → position p xs ≡ None
+pub position-none : {X : Type 0} (p : X → Bool) (xs : List X) → position_or_len p xs ≡ length xs → position p xs ≡ None
 position-none p xs is =
     let outside : nat_lt (position_or_len p xs) (length xs) ≡ false = grind (arith, nat_tests, is) in rw outside refl
 

@@ -1,5 +1,5 @@
 -- A trace: its lines, cut apart, and what they say.
-use Rattle.std.specs.Prelude.{◌≡◌, ◌<◌, ◌≤◌, ℕ, List, [], ◌∷◌, length, map, take, position, Bool, Option, Some, None, ◌==◌, if◌then◌else◌}
+use Rattle.std.specs.Prelude.{◌≡◌, ◌<◌, ◌≤◌, ◌⊎◌, ℕ, List, [], ◌∷◌, length, map, take, position, Bool, Option, Some, None, ◌==◌, if◌then◌else◌}
 use Rattle.std.specs.Option.{is_none}
 use Rattle.rrcache.specs.declared.engine.line.Line.{Line}
 use Rattle.rrcache.specs.declared.engine.fault.ReplayFault.{ReplayFault}
@@ -40,3 +40,13 @@ IsFirstFault octets Read = ⊥
 IsFirstFault octets Write = ⊥
 IsFirstFault octets Memory = ⊥
 IsFirstFault octets (Spent number) = ⊥
+
+-- every text is the text of one list of lines, or it has one first fault, and never both
+pub record HasTraceOrFault (octets : List ℕ) : Type 0 where
+  pub either : ((lines : List Line) × TraceOf octets lines) ⊎ ((fault : ReplayFault) × IsFirstFault octets fault)
+  pub one_trace : (lines others : List Line) → TraceOf octets lines → TraceOf octets others → lines ≡ others
+  pub one_fault : (fault other : ReplayFault) → IsFirstFault octets fault → IsFirstFault octets other → fault ≡ other
+  pub not_both : (lines : List Line) (fault : ReplayFault) → TraceOf octets lines → IsFirstFault octets fault → ⊥
+
+abbrev pub OneTraceOrFault : Type 0
+OneTraceOrFault = (octets : List ℕ) → HasTraceOrFault octets

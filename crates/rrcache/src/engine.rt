@@ -16,7 +16,7 @@ mod writing;
 
 pub use fault::ReplayFault;
 pub use line::{Failed, Line, Put};
-pub use reading::read_trace;
+pub use reading::{one_trace_or_fault, read_trace};
 pub use replay::{Answer, Told, replay};
 pub use report::report_text;
 pub use run::run;

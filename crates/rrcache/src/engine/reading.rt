@@ -1,6 +1,7 @@
 ghost use Rattle.std.specs.Prelude.{◌≡◌, Err, IfOk, IfErr, IfSome, IfNone, OnOk, OnErr, option_to_list};
 ghost use Rattle.std.specs.Io.KnownBytes.{Consumes, IsAtEnd};
 ghost use Rattle.rrcache.specs.Lines.{line_of_piece};
+ghost use Rattle.rrcache.specs.Trace.{OneTraceOrFault};
 ghost use Rattle.rrcache.specs.Reading.{ReadsPiece, LeavesNothing, IsOfReading, GivesLine, IsTraceFrom, IsFaultOfTrace};
 
 use super::fault::ReplayFault;
@@ -101,3 +102,9 @@ pub fn read_trace<R: Read>(alloc: Global, reader: &mut R) -> Result<Trace, Repla
         None => Ok(Trace { lines }),
     }
 }
+
+/// Every text is the text of one list of lines, or it has one first fault, and never both. The function does nothing; its
+/// contract is the law.
+pub fn one_trace_or_fault()
+    ensures { OneTraceOrFault }
+{}
