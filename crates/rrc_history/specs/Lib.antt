@@ -14,6 +14,7 @@ pub mod LifeHolds
 pub mod DataHolds
 pub mod LawsHold
 pub mod WholeLaws
+pub mod OneHistory
 pub mod Apart
 pub mod AskLaws
 pub mod SweepLaws

@@ -14,7 +14,7 @@ mod tests;
 pub use ask::{Ask, Mode, Purpose};
 pub use body::{Body, Trust};
 pub use event::{Event, Outcome, Reply, RrSet, Soa, Tag};
-pub use laws::legal_histories_keep_the_laws;
+pub use laws::{calls_determine_the_history, legal_histories_keep_the_laws};
 pub use offer::{Offer, OfferFault};
 pub use rrc_name as name;
 pub use rules::Rules;

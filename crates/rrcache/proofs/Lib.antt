@@ -7,3 +7,4 @@ pub mod TraceLaw
 pub mod LawfulLemmas
 pub mod ReadingLemmas
 pub mod ReplayLemmas
+pub mod AnswersLaw

@@ -89,3 +89,8 @@ IsRefusedAt part number Read = ⊥
 IsRefusedAt part number Write = ⊥
 IsRefusedAt part number Memory = Unit {0}
 IsRefusedAt part number (Spent line) = (line ≡ number) × IsSpent part
+
+-- the cache of one thread has one list of answers to a trace
+abbrev pub OneListOfAnswers : Type 0
+OneListOfAnswers =
+    (rules : Rules) (lines : List Line) (answers others : List Answer) → AreAnswers rules lines answers → AreAnswers rules lines others → answers ≡ others

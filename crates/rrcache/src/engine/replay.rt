@@ -1,7 +1,7 @@
 ghost use Rattle.std.specs.Prelude.{◌≡◌, ◌≢◌, ◌≤◌, true, IfOk, IfErr};
 ghost use Rattle.rrc_history.specs.Fits.{has_items};
 ghost use Rattle.rrc_history.specs.Lives.{LAST_MOMENT};
-ghost use Rattle.rrcache.specs.Answers.{AreAnswers, IsRefusal, Answers, Tells, IsRefusedAt};
+ghost use Rattle.rrcache.specs.Answers.{AreAnswers, IsRefusal, Answers, Tells, IsRefusedAt, OneListOfAnswers};
 ghost use Rattle.rrcache.specs.Lawful.{IsLawful};
 ghost use Rattle.rrcache.specs.Replay.{IsFaultOf, offer_of, failure_of, evicted_last};
 
@@ -147,3 +147,9 @@ pub fn replay(alloc: Global, trace: &Trace, rules: &Rules) -> Result<Sequence<An
     }
     Ok(answers)
 }
+
+/// The cache of one thread has one list of answers to a trace: so a report is determined by the trace and the rules. The
+/// function does nothing; its contract is the law.
+pub fn one_list_of_answers()
+    ensures { OneListOfAnswers }
+{}

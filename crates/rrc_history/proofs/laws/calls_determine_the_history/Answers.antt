@@ -1,0 +1,5 @@
+use Rattle.rrc_history.specs.OneHistory.{calls_determine}
+use Rattle.rrc_history.proofs.laws.calls_determine_the_history.Goals as goal
+
+pub returns : goal.returns
+returns c = calls_determine
