@@ -6,7 +6,6 @@ use Rattle.std.proofs.lemmas.Grind.{common_steps}
 use Rattle.std.proofs.lemmas.List.{append-nil, length-map, map-append}
 use Rattle.std.proofs.Math.Seq.{take-append_seam, drop-append_seam}
 use Rattle.std.specs.Char.{to_ascii_lowercase}
-use Rattle.std.proofs.lemmas.Str.Ascii.{lowercase-lowercase}
 use Rattle.rrc_name.specs.Wire.{wire_of, labels_within, labels_of, IsLabel, IsWireForm, BeginsWith, folded}
 
 -- some labels in wire form, without the octet that ends a name
@@ -77,11 +76,6 @@ folded-IsWireForm name is =
     let same : folded name ≡ wire_of (map folded labels) = ap folded (sym is.whole) ∙ folded-wire_of labels is.labels in
     let short : length (wire_of (map folded labels)) ≤ 255 = omega (arith, ap length same, length-map name to_ascii_lowercase, is.short) in
     subst IsWireForm (sym same) (wire_form_of (map folded labels) (folded-labels labels is.labels) short)
-
-pub folded-folded : (octets : List ℕ) → folded (folded octets) ≡ folded octets
-folded-folded [] = refl
-folded-folded (octet ∷ octets) =
-    let one = lowercase-lowercase octet in let rest = folded-folded octets in cc
 
 -- where a name begins with a label, the name behind it has the other labels
 pub begins_with_label : (label : List ℕ) (labels : List (List ℕ)) → AllByRecursion IsLabel (label ∷ labels) → length (wire_of (label ∷ labels)) ≤ 255

@@ -3,17 +3,9 @@ use Rattle.std.proofs.Common.{◌≡◌, ℕ, suc, List, [], ◌∷◌, true, re
 use Rattle.std.specs.List.{list_all}
 use Rattle.std.specs.Str.{IsAscii}
 use Rattle.std.proofs.lemmas.Bool.Decides.{nat_tests}
-use Rattle.std.proofs.lemmas.Str.Ascii.{lowercase-lowercase}
-use Rattle.rrc_name.specs.Wire.{folded}
 
 pub all_ascii : (octets : List ℕ) → IsAscii octets → list_all (λ octet. nat_lt octet 128) octets ≡ true
 all_ascii [] h = refl
 all_ascii (octet ∷ octets) h =
     let first : nat_lt octet 128 ≡ true = grind (arith, nat_tests, h 0) in
     rw first (all_ascii octets (λ place. h (suc place)))
-
--- a folded name has nothing left to fold
-pub folded-folded : (octets : List ℕ) → folded (folded octets) ≡ folded octets
-folded-folded [] = refl
-folded-folded (octet ∷ octets) =
-    let one = lowercase-lowercase octet in let rest = folded-folded octets in cc

@@ -1,6 +1,7 @@
 -- The numbers of a line of a trace: decimal digits, with zeros in front or none, and no sign.
 use Rattle.std.specs.Prelude.{ℕ, ◌+◌, ◌-◌, ◌*◌, ◌^◌, List, [], ◌∷◌, Option, Some, None, option_and_then, ◌==◌, ◌||◌, nat_le, if◌then◌else◌}
 use Rattle.std.specs.Char.{is_ascii_digit}
+use Rattle.rrc_history.specs.Lives.{LAST_MOMENT}
 use Rattle.rrc_history.specs.declared.body.Trust.{Trust}
 use Rattle.rrc_history.specs.declared.body.Trust.TheVariants.{Additional, NonAuthoritativeAnswer, Authority, AuthoritativeAnswer}
 
@@ -20,7 +21,7 @@ at_most most None = None
 at_most most (Some number) = if nat_le number most then Some number else None
 
 abbrev pub moment_of : List ℕ → Option ℕ
-moment_of field = at_most (2 ^ 40) (number_of field)
+moment_of field = at_most LAST_MOMENT (number_of field)
 
 abbrev pub ttl_of : List ℕ → Option ℕ
 ttl_of field = at_most (2 ^ 32 - 1) (number_of field)

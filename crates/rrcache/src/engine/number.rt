@@ -5,10 +5,8 @@ ghost use Rattle.rrcache.specs.Numbers.{number_of, at_most, moment_of, ttl_of, r
 
 use super::field::field_at;
 use super::line_fault::LineFault;
+use rrc_cache::LAST_MOMENT;
 use rrc_history::Trust;
-
-/// The last moment that a line may have, in seconds.
-const LAST_MOMENT: u64 = 1 << 40;
 
 /// The number that decimal digits spell, where it is at most `most`. Zeros may stand in front.
 fn number_in(digits: &[u8], most: u64) -> Result<u64, LineFault>

@@ -1,6 +1,6 @@
 use Rattle.std.proofs.Common.{subst, sym}
+use Rattle.rrc_name.specs.Folding.{folded-folded}
 use Rattle.rrc_name.specs.Key.{IsFolded}
-use Rattle.rrcache.proofs.NameLemmas.{folded-folded}
 use Rattle.rrcache.proofs.engine.line.ask_in.Goals as goal
 
 pub invariant_of-result : goal.invariant_of-result
