@@ -125,7 +125,7 @@ answered_more rules old new lines answers line answer has more =
 -- what a part has answered is what the cache of one thread answers
 pub are_answers : (rules : Rules) (part : PartOf) (lines : List Line) (answers : List Answer) → HasAnswered rules part lines answers → AreAnswers rules lines answers
 are_answers rules part lines answers has =
-    record { events = part.events; calls = has.calls; legal = has.legal; laws = legal_keeps_laws (empty_under rules) (reverse part.events) has.legal }
+    record { events = part.events; calls = has.calls; few = has.few; legal = has.legal; laws = legal_keeps_laws (empty_under rules) (reverse part.events) has.legal }
 
 -- a part that is spent has as many events as a chapter may
 spent_full : (rules : Rules) (part : PartOf) (lines : List Line) (answers : List Answer) → HasAnswered rules part lines answers → IsSpent part → length part.events ≡ rules.chapter

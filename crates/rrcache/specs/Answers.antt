@@ -1,5 +1,5 @@
 -- What the lines of a trace get from the cache of one thread.
-use Rattle.std.specs.Prelude.{◌≡◌, ℕ, ◌+◌, ◌<◌, List, [], ◌∷◌, length, reverse, take}
+use Rattle.std.specs.Prelude.{◌≡◌, ℕ, ◌+◌, ◌<◌, ◌≤◌, List, [], ◌∷◌, length, reverse, take}
 use Rattle.rrc_history.specs.declared.event.Event.{Event}
 use Rattle.rrc_history.specs.declared.event.Event.TheVariants.{Offered, Asked, Swept}
 use Rattle.rrc_history.specs.declared.event.Tag.{Tag}
@@ -46,10 +46,12 @@ AreEventsOf number lines answers events = ⊥
 abbrev pub empty_under : Rules → Snapshot
 empty_under rules = record { rules = rules; first = 0; entries = [] }
 
--- what the cache of one thread answers the lines of a trace: their calls make a history that is legal, and so keeps the laws
+-- what the cache of one thread answers the lines of a trace: their calls make a history of one chapter that is legal, and so keeps
+-- the laws
 pub record AreAnswers (rules : Rules) (lines : List Line) (answers : List Answer) : Type 0 where
   pub events : List Event
   pub calls : AreEventsOf 0 lines answers events
+  pub few : length events ≤ rules.chapter
   pub legal : IsLegal (empty_under rules) (reverse events)
   pub laws : AllKeepLaws (empty_under rules) (reverse events)
 

@@ -21,11 +21,13 @@ fn told(rt: &impl Eprint, fault: ReplayFault) -> ExitCode {
 }
 
 fn words(rt: &HostRuntime) -> io::Result<Vec<String>> {
-    let mut words = Vec::new(rt.alloc());
-    for word in env::args(rt)? {
-        words.push(word)?;
-    }
-    Ok(words)
+    Ok(env::args(rt)?.collect(rt.alloc())?)
+}
+
+/// How the program ends where an argument is no text.
+fn no_text(rt: &impl Eprint) -> ExitCode {
+    let _ = eprintln!(rt; "error: an argument is not UTF-8 text");
+    ExitCode::from(WRONG_ARGUMENTS)
 }
 
 fn replayed(rt: &HostRuntime, words: &[String]) -> Result<ExitCode, ReplayFault> {
@@ -52,8 +54,12 @@ fn replayed(rt: &HostRuntime, words: &[String]) -> Result<ExitCode, ReplayFault>
 }
 
 fn main(rt: HostRuntime) -> ExitCode {
-    let Ok(words) = words(&rt) else {
-        return told(&rt, ReplayFault::Memory);
+    let words = match words(&rt) {
+        Ok(words) => words,
+        Err(error) if error.kind() == io::ErrorKind::OutOfMemory => {
+            return told(&rt, ReplayFault::Memory);
+        }
+        Err(_) => return no_text(&rt),
     };
     match replayed(&rt, words.as_slice()) {
         Ok(code) => code,
