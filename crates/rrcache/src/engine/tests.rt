@@ -1,7 +1,7 @@
 mod fakes;
 
 use super::*;
-use fakes::{Broken, Endless, FailsBehind, Full, OneByOne};
+use fakes::{Broken, Endless, FailsBehind, Full, OneByOne, Unflushed};
 use rrc_history::Rules;
 use std::io::BufReader;
 use std::test::Fail;
@@ -442,6 +442,18 @@ fn writers_that_fail(rt: HostRuntime) -> Result<(), Fail> {
         assert_eq!(rt; ended, Err(ReplayFault::Write), "at {room}");
         assert_eq!(rt; writer.taken.as_slice(), &text[..room]);
     }
+    Ok(())
+}
+
+#[test]
+fn a_flush_that_fails(rt: HostRuntime) -> Result<(), Fail> {
+    let rules = usual().ok_or("the rules are in range")?;
+    let mut writer = Unflushed {
+        taken: Vec::new(rt.alloc()),
+    };
+    let ended = run(rt.alloc(), &mut SWEEPS.as_bytes(), &mut writer, &rules);
+    assert_eq!(rt; ended, Err(ReplayFault::Write));
+    assert_eq!(rt; writer.taken.as_slice(), SWEEPS_REPORT.as_bytes());
     Ok(())
 }
 

@@ -111,3 +111,20 @@ impl Write for Broken {
         Ok(())
     }
 }
+
+/// Takes all that it is given, and fails where it is flushed.
+#[derive(Drop)]
+pub(super) struct Unflushed {
+    pub(super) taken: Vec<u8>,
+}
+
+impl Write for Unflushed {
+    fn write(&mut self, buf: &[u8]) -> io::Result<usize> {
+        self.taken.extend_from_slice(buf)?;
+        Ok(buf.len())
+    }
+
+    fn flush(&mut self) -> io::Result<()> {
+        Err(io::Error::from(ErrorKind::Interrupted))
+    }
+}
