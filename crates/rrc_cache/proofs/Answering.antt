@@ -4,7 +4,7 @@ use Rattle.std.specs.Prelude.{IfSome}
 use Rattle.std.specs.List.{AllByRecursion}
 use Rattle.std.proofs.lemmas.List.{length-reverse}
 use Rattle.rrc_name.specs.Key.{KeyOf, key_eq}
-use Rattle.rrc_name.specs.KeyLaws.{key_eq-laws}
+use Rattle.rrc_name.specs.lemmas.KeyLaws.{key_eq-laws}
 use Rattle.rrc_history.specs.declared.event.Event.{Event}
 use Rattle.rrc_history.specs.declared.event.Event.TheVariants.{Asked}
 use Rattle.rrc_history.specs.declared.event.Reply.{Reply}

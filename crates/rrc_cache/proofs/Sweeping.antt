@@ -7,7 +7,7 @@ use Rattle.std.proofs.lemmas.List.Kept.{Contains-dedup, Contains-from_dedup}
 use Rattle.std.proofs.lemmas.List.Sorted.{IsPermutation-reverse, IsPermutation-map, list_any-IsPermutation}
 use Rattle.std.proofs.lemmas.Map.Views.{Contains-from_any, list_any-from_Contains}
 use Rattle.rrc_name.specs.Key.{KeyOf, key_eq}
-use Rattle.rrc_name.specs.KeyLaws.{key_eq-laws, key_eq-same}
+use Rattle.rrc_name.specs.lemmas.KeyLaws.{key_eq-laws, key_eq-same}
 use Rattle.rrc_history.specs.declared.event.Event.{Event}
 use Rattle.rrc_history.specs.declared.event.Event.TheVariants.{Swept}
 use Rattle.rrc_history.specs.declared.event.Tag.{Tag}
