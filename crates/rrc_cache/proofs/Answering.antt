@@ -4,7 +4,7 @@ use Rattle.std.specs.Prelude.{IfSome}
 use Rattle.std.specs.List.{AllByRecursion}
 use Rattle.std.proofs.lemmas.List.{length-reverse}
 use Rattle.rrc_name.specs.Key.{KeyOf, key_eq}
-use Rattle.rrc_name.specs.KeyLaws.{key_eq-laws}
+use Rattle.rrc_name.specs.lemmas.KeyLaws.{key_eq-laws}
 use Rattle.rrc_history.specs.declared.event.Event.{Event}
 use Rattle.rrc_history.specs.declared.event.Event.TheVariants.{Asked}
 use Rattle.rrc_history.specs.declared.event.Reply.{Reply}
@@ -15,9 +15,9 @@ use Rattle.rrc_history.specs.Lives.{IsTimely}
 use Rattle.rrc_history.specs.Judged.{reply_by}
 use Rattle.rrc_history.specs.Past.{entry_at, AreContents}
 use Rattle.rrc_history.specs.Right.{IsRight}
-use Rattle.rrc_history.specs.OfferLaws.{goes, length-staying_found}
-use Rattle.rrc_history.specs.Apart.{promoted, in_front}
-use Rattle.rrc_history.specs.AskLaws.{answered_from, found-contents, ask_contents}
+use Rattle.rrc_history.specs.Entries.{goes, promoted, in_front, answered_from}
+use Rattle.rrc_history.specs.lemmas.OfferLaws.{length-staying_found}
+use Rattle.rrc_history.specs.lemmas.AskLaws.{found-contents, ask_contents}
 use Rattle.rrc_cache.specs.Part.{PartOf, past_of, IsOpen, Keeps}
 use Rattle.rrc_cache.specs.Taken.{IsAnswered}
 use Rattle.rrc_cache.proofs.Timely.{timely_found, timely_staying}

@@ -15,9 +15,10 @@ use Rattle.rrc_history.specs.Fits.{OfferOf}
 use Rattle.rrc_history.specs.Lives.{LAST_MOMENT, IsTimely}
 use Rattle.rrc_history.specs.Judged.{verdict}
 use Rattle.rrc_history.specs.Right.{IsRight, IsLegal, evicted_by}
-use Rattle.rrc_history.specs.OfferLaws.{goes, kept_after, offer_contents, length-kept_after}
+use Rattle.rrc_history.specs.Entries.{goes, kept_after}
+use Rattle.rrc_history.specs.lemmas.OfferLaws.{offer_contents, length-kept_after}
 use Rattle.rrc_cache.specs.Part.{PartOf, past_of, next_number, HasRoom, IsOpen, IsSound, Keeps, Adds}
-use Rattle.rrc_history.specs.LawsHold.{laws_hold}
+use Rattle.rrc_history.specs.lemmas.LawsHold.{laws_hold}
 use Rattle.rrc_cache.specs.Taken.{IsTaken}
 use Rattle.rrc_cache.proofs.Timely.{timely_staying}
 use Rattle.rrc_cache.proofs.Turned.{reverse-push}

@@ -5,9 +5,10 @@ use Rattle.std.proofs.lemmas.List.{reverse-append, take-append-drop}
 use Rattle.std.proofs.lemmas.Bool.Decides.{nat_tests}
 use Rattle.std.proofs.Math.Seq.{drop-cons}
 use Rattle.rrc_name.specs.Key.{KeyOf, key_eq}
-use Rattle.rrc_name.specs.KeyLaws.{key_eq-same}
+use Rattle.rrc_name.specs.lemmas.KeyLaws.{key_eq-same}
 use Rattle.rrc_history.specs.declared.snapshot.Entry.{Entry}
-use Rattle.rrc_history.specs.Apart.{AreApart, promoted, promoted-middle}
+use Rattle.rrc_history.specs.Entries.{AreApart, promoted}
+use Rattle.rrc_history.specs.lemmas.Apart.{promoted-middle}
 use Rattle.rrc_cache.proofs.Turned.{reverse-push, reverse-cons}
 
 -- a list about one of its places

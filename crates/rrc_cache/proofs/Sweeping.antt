@@ -7,7 +7,7 @@ use Rattle.std.proofs.lemmas.List.Kept.{Contains-dedup, Contains-from_dedup}
 use Rattle.std.proofs.lemmas.List.Sorted.{IsPermutation-reverse, IsPermutation-map, list_any-IsPermutation}
 use Rattle.std.proofs.lemmas.Map.Views.{Contains-from_any, list_any-from_Contains}
 use Rattle.rrc_name.specs.Key.{KeyOf, key_eq}
-use Rattle.rrc_name.specs.KeyLaws.{key_eq-laws, key_eq-same}
+use Rattle.rrc_name.specs.lemmas.KeyLaws.{key_eq-laws, key_eq-same}
 use Rattle.rrc_history.specs.declared.event.Event.{Event}
 use Rattle.rrc_history.specs.declared.event.Event.TheVariants.{Swept}
 use Rattle.rrc_history.specs.declared.event.Tag.{Tag}
@@ -15,10 +15,10 @@ use Rattle.rrc_history.specs.declared.snapshot.Entry.{Entry}
 use Rattle.rrc_history.specs.Lives.{IsTimely, is_dead}
 use Rattle.rrc_history.specs.Past.{entry_at, is_among, number_after, AreContents}
 use Rattle.rrc_history.specs.Right.{IsRight, is_swept}
-use Rattle.rrc_history.specs.EntryLaws.{staying}
-use Rattle.rrc_history.specs.OfferLaws.{length-staying_le}
-use Rattle.rrc_history.specs.Apart.{AreApart, falls_apart}
-use Rattle.rrc_history.specs.SweepLaws.{living, keys_of_dead, keys_of_dead-found, living-staying, sweep_contents}
+use Rattle.rrc_history.specs.Entries.{staying, AreApart, living, keys_of_dead}
+use Rattle.rrc_history.specs.lemmas.OfferLaws.{length-staying_le}
+use Rattle.rrc_history.specs.lemmas.Apart.{falls_apart}
+use Rattle.rrc_history.specs.lemmas.SweepLaws.{keys_of_dead-found, living-staying, sweep_contents}
 use Rattle.rrc_cache.specs.Part.{PartOf, past_of, IsOpen, Keeps}
 use Rattle.rrc_cache.specs.Taken.{AreDeadKeys}
 use Rattle.rrc_cache.proofs.Timely.{timely_staying}

@@ -5,7 +5,7 @@ use Rattle.std.specs.List.{AllByRecursion}
 use Rattle.rrc_name.specs.Key.{KeyOf}
 use Rattle.rrc_history.specs.declared.snapshot.Entry.{Entry}
 use Rattle.rrc_history.specs.Lives.{IsTimely}
-use Rattle.rrc_history.specs.EntryLaws.{staying}
+use Rattle.rrc_history.specs.Entries.{staying}
 
 pub timely_found : (test : Entry → Bool) (entries : List Entry) → AllByRecursion IsTimely entries → IfSome (find test entries) IsTimely
 timely_found test [] all = tt

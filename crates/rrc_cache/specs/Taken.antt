@@ -7,12 +7,10 @@ use Rattle.rrc_history.specs.declared.snapshot.Entry.{Entry}
 use Rattle.rrc_history.specs.Fits.{OfferOf}
 use Rattle.rrc_history.specs.Asked.{AskOf}
 use Rattle.rrc_history.specs.declared.event.Reply.{Reply}
-use Rattle.rrc_history.specs.AskLaws.{found_among}
+use Rattle.rrc_history.specs.Entries.{found_among, kept_after, keys_of_dead}
 use Rattle.rrc_history.specs.Judged.{verdict, reply_by, answering, key_in}
 use Rattle.rrc_history.specs.Past.{entry_at, is_among}
 use Rattle.rrc_history.specs.Right.{evicted_by}
-use Rattle.rrc_history.specs.OfferLaws.{kept_after}
-use Rattle.rrc_history.specs.SweepLaws.{keys_of_dead}
 
 -- an offer was judged by what its key held, and left what its outcome says
 pub record IsTaken (capacity number : ℕ) (offer : OfferOf) (before : List Entry) (outcome : Outcome) (evicted : Option KeyOf) (after : List Entry) : Type 0 where

@@ -1,7 +1,6 @@
 ghost use Rattle.std.specs.Prelude.{◌≡◌, ◌≤◌, reverse, IfOk};
 ghost use Rattle.std.specs.List.{AllByRecursion};
-ghost use Rattle.rrc_history.specs.Apart.{AreApart};
-ghost use Rattle.rrc_history.specs.AskLaws.{answered_from};
+ghost use Rattle.rrc_history.specs.Entries.{AreApart, answered_from};
 ghost use Rattle.rrc_history.specs.Lives.{IsTimely};
 ghost use Rattle.rrc_cache.specs.Taken.{IsAnswered};
 

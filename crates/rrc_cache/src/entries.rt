@@ -1,12 +1,10 @@
 ghost use Rattle.std.specs.Prelude.{◌≡◌, ◌≤◌, ◌<◌, ◌++◌, ◌∷◌, [], reverse, length, IfOk, IfErr, OnOk, OnErr, IsTrue, vec_len, vec_capacity, position};
 ghost use Rattle.std.specs.Option.{option_copied};
 ghost use Rattle.rrc_history.specs.Past.{entry_of};
-ghost use Rattle.rrc_history.specs.EntryLaws.{staying};
+ghost use Rattle.rrc_history.specs.Entries.{staying, AreApart, promoted, goes, kept_after};
 ghost use Rattle.rrc_history.specs.Right.{evicted_by};
 ghost use Rattle.rrc_history.specs.Past.{victim};
-ghost use Rattle.rrc_history.specs.Apart.{AreApart, promoted};
 ghost use Rattle.rrc_name.specs.Key.{key_eq};
-ghost use Rattle.rrc_history.specs.OfferLaws.{goes, kept_after};
 ghost use Rattle.rrc_cache.specs.Taken.{IsTaken};
 
 use crate::refusal::Refusal;

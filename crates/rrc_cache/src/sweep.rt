@@ -2,7 +2,7 @@ ghost use Rattle.std.specs.Prelude.{◌≡◌, ◌≤◌, IfOk};
 ghost use Rattle.std.specs.List.Sorted.{IsStrictlySortedBy};
 ghost use Rattle.rrc_name.specs.Key.{KeyOf, key_order};
 ghost use Rattle.rrc_history.specs.Past.{is_among};
-ghost use Rattle.rrc_history.specs.SweepLaws.{living, keys_of_dead};
+ghost use Rattle.rrc_history.specs.Entries.{living, keys_of_dead};
 ghost use Rattle.rrc_cache.specs.Taken.{AreDeadKeys};
 
 use crate::judge;

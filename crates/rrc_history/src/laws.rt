@@ -1,5 +1,4 @@
-ghost use Rattle.rrc_history.specs.OneHistory.{CallsDetermineHistory};
-ghost use Rattle.rrc_history.specs.WholeLaws.{LegalKeepsLaws};
+ghost use Rattle.rrc_history.specs.WholeLaws.{CallsDetermineHistory, LegalKeepsLaws};
 
 /// Every legal history keeps the laws of trust and of life, event by event: no unexpired data give way to less trusted ones, and
 /// no answer outlives its time and the stale limit. The function does nothing; its contract is the law.

@@ -1,6 +1,5 @@
 pub mod Wire
-pub mod Folding
 pub mod Order
 pub mod Text
 pub mod Key
-pub mod KeyLaws
+pub mod lemmas

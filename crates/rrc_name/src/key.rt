@@ -73,7 +73,7 @@ impl Clone for Key {
 
 impl PartialEq for Key {
     ghost use Rattle.rrc_name.specs.Key.{key_eq};
-    ghost use Rattle.rrc_name.specs.KeyLaws.{key_eq-laws};
+    ghost use Rattle.rrc_name.specs.lemmas.KeyLaws.{key_eq-laws};
     ghost use Rattle.std.specs.Cmp.{partial_equiv_from_equiv};
 
     ghost eq = { key_eq };
@@ -86,14 +86,14 @@ impl PartialEq for Key {
 }
 
 impl Eq for Key {
-    ghost use Rattle.rrc_name.specs.KeyLaws.{key_eq-laws};
+    ghost use Rattle.rrc_name.specs.lemmas.KeyLaws.{key_eq-laws};
 
     ghost laws = { key_eq-laws };
 }
 
 impl Hash for Key {
     ghost use Rattle.rrc_name.specs.Key.{key_hash};
-    ghost use Rattle.rrc_name.specs.KeyLaws.{key_hash-alike};
+    ghost use Rattle.rrc_name.specs.lemmas.KeyLaws.{key_hash-alike};
 
     ghost hash_input = { key_hash };
 
@@ -107,7 +107,7 @@ impl Hash for Key {
 
 impl Ord for Key {
     ghost use Rattle.rrc_name.specs.Key.{key_order};
-    ghost use Rattle.rrc_name.specs.KeyLaws.{key_order-total, key_order-ties};
+    ghost use Rattle.rrc_name.specs.lemmas.KeyLaws.{key_order-total, key_order-ties};
     ghost use Rattle.std.specs.Prelude.{refl};
 
     ghost cmp = { key_order };
@@ -127,7 +127,7 @@ impl Ord for Key {
 
 impl PartialOrd for Key {
     ghost use Rattle.rrc_name.specs.Key.{key_order};
-    ghost use Rattle.rrc_name.specs.KeyLaws.{key_order-total, key_order-ties};
+    ghost use Rattle.rrc_name.specs.lemmas.KeyLaws.{key_order-total, key_order-ties};
     ghost use Rattle.std.specs.Ordering.{as_partial_cmp};
     ghost use Rattle.std.specs.Cmp.{partial_order_from_agreeing_total};
     ghost use Rattle.std.specs.Prelude.{refl};

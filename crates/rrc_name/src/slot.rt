@@ -39,7 +39,7 @@ impl Slot {
 
 impl PartialEq for Slot {
     ghost use Rattle.rrc_name.specs.Key.{slot_eq};
-    ghost use Rattle.rrc_name.specs.KeyLaws.{slot_eq-laws};
+    ghost use Rattle.rrc_name.specs.lemmas.KeyLaws.{slot_eq-laws};
     ghost use Rattle.std.specs.Cmp.{partial_equiv_from_equiv};
 
     ghost eq = { slot_eq };
@@ -56,14 +56,14 @@ impl PartialEq for Slot {
 }
 
 impl Eq for Slot {
-    ghost use Rattle.rrc_name.specs.KeyLaws.{slot_eq-laws};
+    ghost use Rattle.rrc_name.specs.lemmas.KeyLaws.{slot_eq-laws};
 
     ghost laws = { slot_eq-laws };
 }
 
 impl Hash for Slot {
     ghost use Rattle.rrc_name.specs.Key.{slot_hash};
-    ghost use Rattle.rrc_name.specs.KeyLaws.{slot_hash-alike};
+    ghost use Rattle.rrc_name.specs.lemmas.KeyLaws.{slot_hash-alike};
 
     ghost hash_input = { slot_hash };
 
@@ -77,7 +77,7 @@ impl Hash for Slot {
 
 impl Ord for Slot {
     ghost use Rattle.rrc_name.specs.Key.{slot_order};
-    ghost use Rattle.rrc_name.specs.KeyLaws.{slot_order-total, slot_order-ties};
+    ghost use Rattle.rrc_name.specs.lemmas.KeyLaws.{slot_order-total, slot_order-ties};
     ghost use Rattle.std.specs.Prelude.{refl};
 
     ghost cmp = { slot_order };
@@ -98,7 +98,7 @@ impl Ord for Slot {
 
 impl PartialOrd for Slot {
     ghost use Rattle.rrc_name.specs.Key.{slot_order};
-    ghost use Rattle.rrc_name.specs.KeyLaws.{slot_order-total, slot_order-ties};
+    ghost use Rattle.rrc_name.specs.lemmas.KeyLaws.{slot_order-total, slot_order-ties};
     ghost use Rattle.std.specs.Ordering.{as_partial_cmp};
     ghost use Rattle.std.specs.Cmp.{partial_order_from_agreeing_total};
     ghost use Rattle.std.specs.Prelude.{refl};

@@ -10,7 +10,8 @@ use Rattle.rrc_history.specs.declared.event.Reply.{Reply}
 use Rattle.rrc_history.specs.declared.event.Tag.{Tag}
 use Rattle.rrc_history.specs.Asked.{AskOf}
 use Rattle.rrc_history.specs.Fits.{OfferOf}
-use Rattle.rrc_history.specs.OneHistory.{IsSameCall, AreSameCalls, calls_determine}
+use Rattle.rrc_history.specs.WholeLaws.{IsSameCall, AreSameCalls}
+use Rattle.rrc_history.specs.lemmas.OneHistory.{calls_determine}
 use Rattle.rrcache.specs.declared.engine.line.Failed.{Failed}
 use Rattle.rrcache.specs.declared.engine.line.Put.{Put}
 use Rattle.rrcache.specs.declared.engine.line.Line.{Line}

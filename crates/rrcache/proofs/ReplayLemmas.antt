@@ -13,7 +13,7 @@ use Rattle.rrc_history.specs.declared.rules.Rules.{Rules}
 use Rattle.rrc_history.specs.Fits.{OfferOf, has_items, is_lifetime, fits}
 use Rattle.rrc_history.specs.Lives.{LAST_MOMENT}
 use Rattle.rrc_history.specs.Right.{IsRight, IsLegal}
-use Rattle.rrc_history.specs.WholeLaws.{legal_keeps_laws}
+use Rattle.rrc_history.specs.lemmas.LawsHold.{legal_keeps_laws}
 use Rattle.rrc_cache.specs.Part.{PartOf, HasRoom, IsDue, IsSpent, Adds, past_of}
 use Rattle.rrc_cache.specs.declared.refusal.Refusal.{Refusal}
 use Rattle.rrc_cache.specs.declared.refusal.Refusal.TheVariants as refusals

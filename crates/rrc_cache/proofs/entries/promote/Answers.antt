@@ -3,7 +3,7 @@ use Rattle.std.specs.Prelude.{position}
 use Rattle.std.proofs.lemmas.List.Quantifiers.{position-Some}
 use Rattle.rrc_name.specs.Key.{key_eq}
 use Rattle.rrc_history.specs.declared.snapshot.Entry.{Entry}
-use Rattle.rrc_history.specs.Apart.{in_front}
+use Rattle.rrc_history.specs.Entries.{in_front}
 use Rattle.rrc_cache.proofs.Promoting.{promoted_at, find-reverse, find-from_position}
 use Rattle.rrc_cache.proofs.entries.promote.Goals as goal
 

@@ -1,7 +1,6 @@
 -- before `next` no entry is left that goes, and behind it those are left that stood there
 use Rattle.std.proofs.Common.{◌≡◌, ◌++◌, ◌-◌, ◌≤◌, take, drop, vec_len, vec_capacity}
-use Rattle.rrc_history.specs.EntryLaws.{staying}
-use Rattle.rrc_history.specs.OfferLaws.{goes}
+use Rattle.rrc_history.specs.Entries.{staying, goes}
 use Rattle.rrc_cache.proofs.entries.remove.Given as goal
 
 abbrev pub invariant-loop-next : goal.invariant-loop-next

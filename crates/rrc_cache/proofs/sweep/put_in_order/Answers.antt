@@ -3,7 +3,7 @@ use Rattle.std.proofs.lemmas.List.Filters.{dedup_is}
 use Rattle.std.proofs.lemmas.List.Kept.{IsStrictlySortedBy-dedup}
 use Rattle.std.proofs.lemmas.List.Sorted.{list_any-IsPermutation}
 use Rattle.rrc_name.specs.Key.{key_eq}
-use Rattle.rrc_name.specs.KeyLaws.{key_order-total, key_order-ties}
+use Rattle.rrc_name.specs.lemmas.KeyLaws.{key_order-total, key_order-ties}
 use Rattle.rrc_cache.proofs.Sweeping.{among-dedup}
 use Rattle.rrc_cache.proofs.sweep.put_in_order.Goals as goal
 

@@ -1,4 +1,4 @@
-use Rattle.rrc_history.specs.OneHistory.{calls_determine}
+use Rattle.rrc_history.specs.lemmas.OneHistory.{calls_determine}
 use Rattle.rrc_history.proofs.laws.calls_determine_the_history.Goals as goal
 
 pub returns : goal.returns

@@ -1,4 +1,4 @@
-use Rattle.rrc_history.specs.WholeLaws.{legal_keeps_laws}
+use Rattle.rrc_history.specs.lemmas.LawsHold.{legal_keeps_laws}
 use Rattle.rrc_history.proofs.laws.legal_histories_keep_the_laws.Goals as goal
 
 pub returns : goal.returns

@@ -1,7 +1,7 @@
 use Rattle.std.proofs.Common.{refl, ◌≡◌, sym, ◌∙◌, subst, ◌++◌, ◌∷◌, [], List, reverse}
 use Rattle.rrc_history.specs.declared.event.Event.{Event}
 use Rattle.rrc_history.specs.declared.event.Event.TheVariants.{Asked}
-use Rattle.rrc_history.specs.Apart.{falls_apart}
+use Rattle.rrc_history.specs.lemmas.Apart.{falls_apart}
 use Rattle.rrc_history.specs.Past.{number_after}
 use Rattle.rrc_cache.specs.Part.{PartOf, past_of, IsOpen}
 use Rattle.rrc_cache.specs.Taken.{IsAnswered}

@@ -1,6 +1,6 @@
 use Rattle.std.proofs.Common.{◌∙◌, ap, sym}
 use Rattle.rrc_name.specs.Wire.{folded}
-use Rattle.rrc_name.specs.Folding.{folded-folded}
+use Rattle.rrc_name.specs.lemmas.Folding.{folded-folded}
 use Rattle.rrc_name.proofs.key.Key.of.Goals as goal
 
 pub invariant_of-result : goal.invariant_of-result

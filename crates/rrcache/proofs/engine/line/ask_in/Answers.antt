@@ -1,5 +1,5 @@
 use Rattle.std.proofs.Common.{subst, sym}
-use Rattle.rrc_name.specs.Folding.{folded-folded}
+use Rattle.rrc_name.specs.lemmas.Folding.{folded-folded}
 use Rattle.rrc_name.specs.Key.{IsFolded}
 use Rattle.rrcache.proofs.engine.line.ask_in.Goals as goal
 

@@ -23,7 +23,7 @@ use Rattle.rrc_history.specs.Fits.{OfferOf}
 use Rattle.rrc_history.specs.Lives.{ttl_of, age, is_unexpired}
 use Rattle.rrc_history.specs.Judged.{reply_of_body, reply_of_entry, reply_of_living_set, reply_of_living_soa, negative_reply, may_be_stale, may_serve, STALE_TTL}
 use Rattle.rrc_history.specs.Past.{held, held_after_offer, is_among, is_evicted, entry_at, entry_of, number_after}
-use Rattle.rrc_history.specs.EntryLaws.{entry_at-key}
+use Rattle.rrc_history.specs.lemmas.EntryLaws.{entry_at-key}
 use Rattle.rrc_history.specs.Laws.{IsStored, IsSet, IsWithinLife, IsWithinLimit, IsInTime, IsTrustedFor}
 
 -- ---- stored

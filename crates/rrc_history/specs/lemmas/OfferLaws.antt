@@ -3,7 +3,7 @@ use Rattle.std.specs.Prelude.{◌≡◌, ℕ, ◌<◌, ◌≤◌, List, [], ◌�
 use Rattle.std.proofs.Common.{refl, sym, ap, subst, ◌∙◌, arith}
 use Rattle.std.proofs.lemmas.Bool.Decides.{nat_tests}
 use Rattle.rrc_name.specs.Key.{KeyOf, key_eq}
-use Rattle.rrc_name.specs.KeyLaws.{key_eq-laws, key_eq-same}
+use Rattle.rrc_name.specs.lemmas.KeyLaws.{key_eq-laws, key_eq-same}
 use Rattle.rrc_history.specs.declared.event.Event.{Event}
 use Rattle.rrc_history.specs.declared.event.Event.TheVariants.{Offered}
 use Rattle.rrc_history.specs.declared.event.Outcome.{Outcome}
@@ -14,18 +14,8 @@ use Rattle.rrc_history.specs.declared.snapshot.Snapshot.{Snapshot}
 use Rattle.rrc_history.specs.Fits.{OfferOf}
 use Rattle.rrc_history.specs.Past.{entry_at, held, is_evicted, number_after, entry_of, AreContents, last_key}
 use Rattle.rrc_history.specs.Right.{evicted_by}
-use Rattle.rrc_history.specs.EntryLaws.{staying}
-use Rattle.rrc_history.specs.ContentsLaws.{contents_staying, contents_touched, contents_same}
-
--- a key goes where another takes its place, or where it is evicted
-abbrev pub goes : KeyOf → Option KeyOf → KeyOf → Bool
-goes key evicted other = key_eq key other || is_evicted other evicted
-
--- what an offer leaves of the entries
-abbrev pub kept_after : Outcome → OfferOf → ℕ → Option KeyOf → List Entry → List Entry
-kept_after Kept offer number evicted entries = entry_of offer number ∷ staying (goes offer.key evicted) entries
-kept_after Cleared offer number evicted entries = staying (goes offer.key None) entries
-kept_after LessTrusted offer number evicted entries = entries
+use Rattle.rrc_history.specs.Entries.{staying, goes, kept_after}
+use Rattle.rrc_history.specs.lemmas.ContentsLaws.{contents_staying, contents_touched, contents_same}
 
 -- a key that doesn't go is not the offered one
 pub stays_apart : (key : KeyOf) (evicted : Option KeyOf) (other : KeyOf) → goes key evicted other ≡ false → key_eq other key ≡ false

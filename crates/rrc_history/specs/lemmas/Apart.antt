@@ -1,25 +1,14 @@
 -- Entries of which no two have the same key.
-use Rattle.std.specs.Prelude.{◌≡◌, ℕ, ◌≤◌, List, [], ◌∷◌, ◌++◌, Bool, true, false, not, ◌||◌, Option, Some, None}
-use Rattle.std.specs.List.{AllByRecursion}
+use Rattle.std.specs.Prelude.{◌≡◌, ℕ, ◌≤◌, List, [], ◌∷◌, ◌++◌, Bool, true, false, not, ◌||◌, Some, None}
 use Rattle.std.proofs.Common.{refl, ap, ◌∙◌, arith}
 use Rattle.std.proofs.lemmas.List.Elements.{filter-append}
 use Rattle.rrc_name.specs.Key.{KeyOf, key_eq}
-use Rattle.rrc_name.specs.KeyLaws.{key_eq-laws, key_eq-same}
+use Rattle.rrc_name.specs.lemmas.KeyLaws.{key_eq-laws, key_eq-same}
 use Rattle.rrc_history.specs.declared.event.Event.{Event}
 use Rattle.rrc_history.specs.declared.snapshot.Entry.{Entry}
 use Rattle.rrc_history.specs.declared.snapshot.Snapshot.{Snapshot}
 use Rattle.rrc_history.specs.Past.{entry_at, touch, FallsBelow}
-use Rattle.rrc_history.specs.EntryLaws.{staying}
-use Rattle.rrc_history.specs.OfferLaws.{goes}
-
--- none of the entries has the key
-abbrev pub LacksKey : KeyOf → List Entry → Type 0
-LacksKey key entries = AllByRecursion (λ entry. key_eq key entry.key ≡ false) entries
-
--- no two entries have the same key
-abbrev pub AreApart : List Entry → Type 0
-AreApart [] = Unit {0}
-AreApart (entry ∷ entries) = LacksKey entry.key entries × AreApart entries
+use Rattle.rrc_history.specs.Entries.{LacksKey, AreApart, staying, goes, in_front, promoted}
 
 falls_lacks : (snapshot : Snapshot) (past : List Event) (key : KeyOf) (entries : List Entry) (number : ℕ) → FallsBelow snapshot past number entries
     → number ≤ touch snapshot past key → LacksKey key entries
@@ -75,14 +64,6 @@ entry_at-middle before entry behind apart = by before (apart_before before entry
     by : (es : List Entry) → LacksKey entry.key es → entry_at entry.key (es ++ entry ∷ behind) ≡ Some entry
     by [] all = let same = key_eq-laws.refl entry.key in rw same refl
     by (e ∷ es) all = let not_here = all.0 in rw not_here (by es all.1)
-
--- the entries with that of a key in front
-abbrev pub in_front : KeyOf → Option Entry → List Entry → List Entry
-in_front key None entries = entries
-in_front key (Some entry) entries = entry ∷ staying (goes key None) entries
-
-abbrev pub promoted : KeyOf → List Entry → List Entry
-promoted key entries = in_front key (entry_at key entries) entries
 
 -- an entry among others comes to the front
 pub promoted-middle : (before : List Entry) (entry : Entry) (behind : List Entry) → AreApart (before ++ entry ∷ behind)

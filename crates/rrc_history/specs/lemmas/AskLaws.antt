@@ -2,7 +2,7 @@
 use Rattle.std.specs.Prelude.{◌≡◌, List, ◌∷◌, Bool, true, false, ◌||◌, if◌then◌else◌, Option, Some, None}
 use Rattle.std.proofs.Common.{refl, sym, ap, subst, ◌∙◌, inl, inr}
 use Rattle.rrc_name.specs.Key.{KeyOf, key_eq}
-use Rattle.rrc_name.specs.KeyLaws.{key_eq-laws, key_eq-same}
+use Rattle.rrc_name.specs.lemmas.KeyLaws.{key_eq-laws, key_eq-same}
 use Rattle.rrc_name.specs.declared.slot.Slot.TheVariants.{Set, Nx, Failed}
 use Rattle.rrc_history.specs.declared.event.Event.{Event}
 use Rattle.rrc_history.specs.declared.event.Event.TheVariants.{Asked}
@@ -11,26 +11,13 @@ use Rattle.rrc_history.specs.declared.event.Tag.{Tag}
 use Rattle.rrc_history.specs.declared.snapshot.Entry.{Entry}
 use Rattle.rrc_history.specs.declared.snapshot.Snapshot.{Snapshot}
 use Rattle.rrc_history.specs.Asked.{AskOf}
-use Rattle.rrc_history.specs.Judged.{Found, answering, is_miss, key_in}
+use Rattle.rrc_history.specs.Judged.{answering, is_miss, key_in}
 use Rattle.rrc_history.specs.Past.{entry_at, held, found, key_at, is_evicted, AreContents}
-use Rattle.rrc_history.specs.EntryLaws.{staying, entry_at-key}
-use Rattle.rrc_history.specs.OfferLaws.{goes, stays_apart}
-use Rattle.rrc_history.specs.TrustHolds.{governing-is_held}
-use Rattle.rrc_history.specs.ContentsLaws.{contents_same, contents_touched}
-use Rattle.rrc_history.specs.Apart.{promoted, in_front}
-
--- what the keys of an ask hold among entries
-abbrev pub found_among : List Entry → AskOf → Found
-found_among entries ask = record {
-  set = entry_at (key_at ask (Set ask.rtype)) entries;
-  nx = entry_at (key_at ask Nx) entries;
-  failed = entry_at (key_at ask (Failed ask.rtype)) entries;
-}
-
--- what an answer leaves of the entries: the one that gave it comes to the front
-abbrev pub answered_from : Option KeyOf → List Entry → List Entry
-answered_from None entries = entries
-answered_from (Some key) entries = promoted key entries
+use Rattle.rrc_history.specs.Entries.{staying, goes, found_among, in_front, promoted, answered_from}
+use Rattle.rrc_history.specs.lemmas.EntryLaws.{entry_at-key}
+use Rattle.rrc_history.specs.lemmas.OfferLaws.{stays_apart}
+use Rattle.rrc_history.specs.lemmas.TrustHolds.{governing-is_held}
+use Rattle.rrc_history.specs.lemmas.ContentsLaws.{contents_same, contents_touched}
 
 pub found-contents : (snapshot : Snapshot) (past : List Event) (ask : AskOf) (entries : List Entry) → AreContents snapshot past entries → found_among entries ask ≡ found snapshot past ask
 found-contents snapshot past ask entries are =

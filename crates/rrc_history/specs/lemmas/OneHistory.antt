@@ -7,7 +7,7 @@ use Rattle.std.specs.List.{AllByRecursion}
 use Rattle.std.specs.List.Sorted.{IsStrictlySortedBy}
 use Rattle.std.proofs.Common.{refl, sym, ap, subst, ◌∙◌, arith}
 use Rattle.rrc_name.specs.Key.{KeyOf, key_eq, key_order}
-use Rattle.rrc_name.specs.KeyLaws.{key_eq-laws, key_eq-same, key_order-ties, key_order-total}
+use Rattle.rrc_name.specs.lemmas.KeyLaws.{key_eq-laws, key_eq-same, key_order-ties, key_order-total}
 use Rattle.rrc_history.specs.declared.event.Event.{Event}
 use Rattle.rrc_history.specs.declared.event.Event.TheVariants.{Offered, Asked, Swept}
 use Rattle.rrc_history.specs.declared.event.Outcome.{Outcome}
@@ -15,25 +15,8 @@ use Rattle.rrc_history.specs.declared.snapshot.Entry.{Entry}
 use Rattle.rrc_history.specs.declared.snapshot.Snapshot.{Snapshot}
 use Rattle.rrc_history.specs.Fits.{OfferOf}
 use Rattle.rrc_history.specs.Past.{held, touch, entry_at, is_among, FallsBelow, AreContents, number_after}
-use Rattle.rrc_history.specs.Right.{evicted_by, IsRightThen, IsRightOffer, IsRightAsk, IsRightSweep, IsLegal}
-
--- ---- the definitions
-
--- the same call, whatever became of it
-abbrev pub IsSameCall : Event → Event → Type 0
-IsSameCall (Offered tag offer outcome evicted) (Offered other_tag other other_outcome other_evicted) = (tag ≡ other_tag) × (offer ≡ other)
-IsSameCall (Asked tag ask reply) (Asked other_tag other other_reply) = (tag ≡ other_tag) × (ask ≡ other)
-IsSameCall (Swept tag moment gone) (Swept other_tag other other_gone) = (tag ≡ other_tag) × (moment ≡ other)
-IsSameCall event other = ⊥
-
-abbrev pub AreSameCalls : List Event → List Event → Type 0
-AreSameCalls [] [] = Unit {0}
-AreSameCalls (event ∷ past) (other ∷ others) = IsSameCall event other × AreSameCalls past others
-AreSameCalls past others = ⊥
-
--- two legal histories of the same calls are one
-abbrev pub CallsDetermineHistory : Type 0
-CallsDetermineHistory = (snapshot : Snapshot) (past others : List Event) → IsLegal snapshot past → IsLegal snapshot others → AreSameCalls past others → past ≡ others
+use Rattle.rrc_history.specs.Right.{evicted_by, IsRightThen, IsRightOffer, IsRightAsk, IsRightSweep}
+use Rattle.rrc_history.specs.WholeLaws.{IsSameCall, CallsDetermineHistory}
 
 -- ---- contents
 

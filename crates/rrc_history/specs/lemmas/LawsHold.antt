@@ -1,5 +1,5 @@
--- The laws hold of every event that is right.
-use Rattle.std.specs.Prelude.{◌≡◌, ℕ, ◌⊎◌, List, Bool, true, false, Option, Some, None}
+-- The laws hold of every event that is right, and of every legal history.
+use Rattle.std.specs.Prelude.{◌≡◌, ℕ, ◌⊎◌, List, [], ◌∷◌, Bool, true, false, Option, Some, None}
 use Rattle.std.proofs.Common.{refl, sym, ap, ◌∙◌, inl, inr}
 use Rattle.rrc_name.specs.declared.slot.Slot.TheVariants.{Set, Nx}
 use Rattle.rrc_history.specs.declared.event.Event.{Event}
@@ -13,9 +13,10 @@ use Rattle.rrc_history.specs.Judged.{governing, recent_failure, retry_from, repl
 use Rattle.rrc_history.specs.Past.{held, found, key_at}
 use Rattle.rrc_history.specs.Right.{IsRight, IsRightThen, IsRightAsk}
 use Rattle.rrc_history.specs.Laws.{IsFor, IsStored, AnswersRightly, AnswersFromEntry, KeepsOrder, KeepsLaws}
-use Rattle.rrc_history.specs.TrustHolds.{replaces_no_more_trusted, governing-is_held, governing-most_trusted, stops_holding}
-use Rattle.rrc_history.specs.LifeHolds.{held-is_stored, reply_of_entry-in_time, may_serve-is_trusted}
-use Rattle.rrc_history.specs.DataHolds.{reply_of_entry-has_data}
+use Rattle.rrc_history.specs.WholeLaws.{LegalKeepsLaws}
+use Rattle.rrc_history.specs.lemmas.TrustHolds.{replaces_no_more_trusted, governing-is_held, governing-most_trusted, stops_holding}
+use Rattle.rrc_history.specs.lemmas.LifeHolds.{held-is_stored, reply_of_entry-in_time, may_serve-is_trusted}
+use Rattle.rrc_history.specs.lemmas.DataHolds.{reply_of_entry-has_data}
 
 -- the entry governs, may serve and gives the reply
 record IsGivenBy (stale : ℕ) (governs failure : Option Entry) (ask : AskOf) (reply : Reply) (entry : Entry) : Type 0 where
@@ -85,3 +86,8 @@ keeps_order snapshot past (Swept tag moment gone) right = tt
 -- the laws hold of every event that is right
 pub laws_hold : (snapshot : Snapshot) (past : List Event) (event : Event) → IsRight snapshot past event → KeepsLaws snapshot past event
 laws_hold snapshot past event is = record { order = keeps_order snapshot past event is.right; stops = stops_holding snapshot past event }
+
+-- a legal history keeps the laws
+pub legal_keeps_laws : LegalKeepsLaws
+legal_keeps_laws snapshot [] legal = tt
+legal_keeps_laws snapshot (event ∷ past) legal = (laws_hold snapshot past event legal.0, legal_keeps_laws snapshot past legal.1)

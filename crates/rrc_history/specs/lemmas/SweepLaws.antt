@@ -1,8 +1,8 @@
 -- What a sweep leaves of the contents.
-use Rattle.std.specs.Prelude.{◌≡◌, ℕ, List, [], ◌∷◌, ◌++◌, Bool, true, false, not, cond, filter, map}
+use Rattle.std.specs.Prelude.{◌≡◌, ℕ, List, [], ◌∷◌, ◌++◌, Bool, true, false, not, cond, filter}
 use Rattle.std.proofs.Common.{refl, sym, ap, subst, ◌∙◌, append_assoc}
 use Rattle.rrc_name.specs.Key.{KeyOf, key_eq}
-use Rattle.rrc_name.specs.KeyLaws.{key_eq-same}
+use Rattle.rrc_name.specs.lemmas.KeyLaws.{key_eq-same}
 use Rattle.rrc_history.specs.declared.event.Event.{Event}
 use Rattle.rrc_history.specs.declared.event.Event.TheVariants.{Swept}
 use Rattle.rrc_history.specs.declared.event.Tag.{Tag}
@@ -11,17 +11,9 @@ use Rattle.rrc_history.specs.declared.snapshot.Snapshot.{Snapshot}
 use Rattle.rrc_history.specs.Lives.{is_dead}
 use Rattle.rrc_history.specs.Past.{held, entry_at, is_among, AreContents}
 use Rattle.rrc_history.specs.Right.{is_swept}
-use Rattle.rrc_history.specs.EntryLaws.{staying}
-use Rattle.rrc_history.specs.ContentsLaws.{contents_staying}
-use Rattle.rrc_history.specs.Apart.{LacksKey, AreApart, entry_at-middle}
-
--- the entries that are not dead
-abbrev pub living : ℕ → ℕ → List Entry → List Entry
-living stale moment entries = filter (λ entry. not (is_dead stale entry moment)) entries
-
--- the keys of the dead entries, as these stand
-abbrev pub keys_of_dead : ℕ → ℕ → List Entry → List KeyOf
-keys_of_dead stale moment entries = map (λ entry. entry.key) (filter (λ entry. is_dead stale entry moment) entries)
+use Rattle.rrc_history.specs.Entries.{LacksKey, AreApart, staying, living, keys_of_dead}
+use Rattle.rrc_history.specs.lemmas.ContentsLaws.{contents_staying}
+use Rattle.rrc_history.specs.lemmas.Apart.{entry_at-middle}
 
 -- where no entry has a key, it is not that of a dead one
 pub keys_of_dead-lacks : (stale moment : ℕ) (key : KeyOf) (entries : List Entry) → LacksKey key entries → is_among key (keys_of_dead stale moment entries) ≡ false

@@ -2,9 +2,10 @@
 use Rattle.std.specs.Prelude.{◌≡◌, List, [], ◌∷◌, Bool, true, false, not, if◌then◌else◌, Some, None, find, filter}
 use Rattle.std.proofs.Common.{refl, sym, ap, subst, ◌∙◌}
 use Rattle.rrc_name.specs.Key.{KeyOf, key_eq}
-use Rattle.rrc_name.specs.KeyLaws.{key_eq-same}
+use Rattle.rrc_name.specs.lemmas.KeyLaws.{key_eq-same}
 use Rattle.rrc_history.specs.declared.snapshot.Entry.{Entry}
 use Rattle.rrc_history.specs.Past.{entry_at}
+use Rattle.rrc_history.specs.Entries.{staying}
 
 -- ---- of any list
 
@@ -44,10 +45,6 @@ find-passes test (x ∷ xs) y h = by (test x) refl (find-passes test xs y)
 -- a test of keys says the same of keys that are the same
 pub same_of_keys : (out : KeyOf → Bool) (a b : KeyOf) → key_eq a b ≡ true → out a ≡ out b
 same_of_keys out a b same = ap out (key_eq-same a b same)
-
--- the entries of the keys that stay
-abbrev pub staying : (KeyOf → Bool) → List Entry → List Entry
-staying out entries = filter (λ entry. not (out entry.key)) entries
 
 pub entry_at-staying : (out : KeyOf → Bool) (key : KeyOf) (entries : List Entry) → entry_at key (staying out entries) ≡ (if out key then None else entry_at key entries)
 entry_at-staying out key entries = by (out key) refl

@@ -6,7 +6,8 @@ use Rattle.rrc_history.specs.declared.event.Event.{Event}
 use Rattle.rrc_history.specs.declared.snapshot.Entry.{Entry}
 use Rattle.rrc_history.specs.declared.snapshot.Snapshot.{Snapshot}
 use Rattle.rrc_history.specs.Past.{held, touch, touched, is_evicted, number_after, FallsBelow, AreContents}
-use Rattle.rrc_history.specs.EntryLaws.{staying, entry_at-staying}
+use Rattle.rrc_history.specs.Entries.{staying}
+use Rattle.rrc_history.specs.lemmas.EntryLaws.{entry_at-staying}
 
 -- a higher bound
 pub falls_weaker : (snapshot : Snapshot) (past : List Event) (a b : ℕ) (entries : List Entry) → a ≤ b → FallsBelow snapshot past a entries → FallsBelow snapshot past b entries
