@@ -8,15 +8,15 @@ use lib.ListN.{get_elem?}
 use prog.Atomic.{either}
 use Rattle.atomic_table.specs.Table.{State, step, keeps, Allows, Splits, Joins, Seen}
 use Rattle.rrc_marks.specs.declared.rule.View.{View}
-use Rattle.rrc_marks.specs.Views.{times, after_draw, after_win, after_finish, after_split, split_off, after_join, spent_view, all_turns, IsAlone, Holds}
+use Rattle.rrc_marks.specs.Views.{times, after_step, after_draw, after_win, after_finish, after_split, split_off, after_join, spent_view, all_turns, IsAlone, Holds}
 use Rattle.rrc_marks.specs.Rule.{total, MarksKept}
 use Rattle.rrc_marks.specs.Ends.{IsSettled}
 use Rattle.rrc_marks.specs.Steps.{Moment, moment, draws, wins, finishes, splits, joins}
 use Rattle.rrc_marks.specs.Told.{Known, Draws, Exchanges, IsBounded, TellsDraw, TellsBegin, TellsFinish, TellsLook}
-use Rattle.atomic_table.proofs.Lists.{set_again, set_else}
+use Rattle.atomic_table.proofs.Lists.{set_else}
 use Rattle.rrc_marks.proofs.Counts.{times-get_or, once_below-some, once_below-le}
 use Rattle.rrc_marks.proofs.Totals.{part_le, total-sum, total-alone}
-use Rattle.rrc_marks.proofs.Keeps.{names, held_here}
+use Rattle.rrc_marks.proofs.Keeps.{names, held_here, step_keeps}
 use Rattle.rrc_marks.proofs.StepsKeep.{steps_keep}
 
 abbrev pub Kept : ℕ → ℕ → State (Unit {0}) View → Type 0
@@ -65,14 +65,14 @@ draw_allowed marks turns slots id me some_turn s kept _ at _ =
     let plain : (n + 1) % 18446744073709551616 ≡ n + 1 = omega arith in
     (after_draw n me.0, keeps, tt, subst (λ (k : ℕ). MarksKept marks turns (set s.words 0 k) (set s.views id (after_draw n me.0))) (sym plain) (steps_keep marks turns draws id me.0 (at_first s) (moment (set s.words 0 (n + 1)) (set s.views id (after_draw n me.0))) kept at (omega arith) (some_turn, refl)), (draws_next marks turns s.words s.views kept id me.0 at (omega arith) some_turn, refl))
 
--- where nothing changes, the rule is kept
-stays : (marks turns : ℕ) (words : List ℕ) (views : List View) (i id : ℕ) (v : View) → MarksKept marks turns words views → get_elem? views id ≡ some v
-    → MarksKept marks turns (set words i (get_or words i 0)) (set views id v)
-stays marks turns words views i id v kept at = subst (λ (z : List ℕ × List View). MarksKept marks turns z.0 z.1) (λ k. (sym (set-get_or words i 0) k, sym (set_again views id v at) k)) kept
+-- where a step writes what it found, the rule is kept
+stays : (marks turns : ℕ) (words : List ℕ) (views : List View) (i id : ℕ) (v : View) → MarksKept marks turns words views → get_elem? views id ≡ some v → 0 < all_turns v
+    → MarksKept marks turns (set words i (get_or words i 0)) (set views id (after_step v))
+stays marks turns words views i id v kept at has = subst (λ (ws : List ℕ). MarksKept marks turns ws (set views id (after_step v))) (sym (set-get_or words i 0)) (step_keeps marks turns words views kept id v at has)
 
 module _ (marks turns : ℕ) (words : List ℕ) (views : List View) (kept : MarksKept marks turns words views) (id : ℕ) (v : View) (at : get_elem? views id ≡ some v) (has : 0 < all_turns v) where
   -- the exchange of a mark, of which x was found, after which the pass knows w
-  exchanges : (m : ℕ) (w : View) → (get_or words (m + 1) 0 ≡ 0 → w ≡ after_win m v) → (get_or words (m + 1) 0 ≢ 0 → w ≡ v) → Exchanges v m (get_or words (m + 1) 0) w
+  exchanges : (m : ℕ) (w : View) → (get_or words (m + 1) 0 ≡ 0 → w ≡ after_win m v) → (get_or words (m + 1) 0 ≢ 0 → w ≡ after_step v) → Exchanges v m (get_or words (m + 1) 0) w
   exchanges m w won lost = record {
     won = won;
     free = λ none. let part = part_le (λ u. times m u.held) views id v at in let was = kept.holders m in omega arith;
@@ -81,7 +81,7 @@ module _ (marks turns : ℕ) (words : List ℕ) (views : List View) (kept : Mark
     alone = λ all lacks. let one = alone marks turns words views kept id v at has (λ u. times m u.held) refl all in let was = kept.holders m in omega arith;
   }
 
-  bounded : IsBounded v
+  bounded : IsBounded (after_step v)
   bounded = record {
     within = let part = part_le all_turns views id v at in let sum = whole marks turns words views kept in let start = names turns v (kept.standing id v at) has in omega arith;
     limited = let start = names turns v (kept.standing id v at) has in let limited = kept.limited in omega arith;
@@ -115,11 +115,11 @@ begin_allowed marks turns slots id me mark has below s kept _ at _ =
       λ other is. subst (λ k. Exchanges me.0 k x (after_win mark me.0) × (me.1 ≡ me.1)) (sym (same_mark mark other is)) (told (after_win mark me.0) (λ _. refl) (λ some. absurd (some free)), refl),
     ))
     (λ taken. (
-      me.0,
+      after_step me.0,
       keeps,
       tt,
-      subst (λ b. MarksKept marks turns (set s.words (mark + 1) (either b 1 x)) (set s.views id me.0)) (sym (ne_eqb x 0 taken)) (stays marks turns s.words s.views (mark + 1) id me.0 kept at),
-      λ other is. subst (λ k. Exchanges me.0 k x me.0 × (me.1 ≡ me.1)) (sym (same_mark mark other is)) (told me.0 (λ free. absurd (taken free)) (λ _. refl), refl),
+      subst (λ b. MarksKept marks turns (set s.words (mark + 1) (either b 1 x)) (set s.views id (after_step me.0))) (sym (ne_eqb x 0 taken)) (stays marks turns s.words s.views (mark + 1) id me.0 kept at has),
+      λ other is. subst (λ k. Exchanges me.0 k x (after_step me.0) × (me.1 ≡ me.1)) (sym (same_mark mark other is)) (told (after_step me.0) (λ free. absurd (taken free)) (λ _. refl), refl),
     ))
 
 pub finish_allowed : (marks turns slots id : ℕ) (me : Known) (mark : ℕ) → 0 < all_turns me.0 → mark < marks → Holds me.0 mark
@@ -135,7 +135,7 @@ finish_allowed marks turns slots id me mark has below holds s kept _ at _ = (
 pub look_allowed : (marks turns slots id : ℕ) (me : Known) → 0 < all_turns me.0
     → Allows (Kept marks turns) slots id me 0 (λ n. n) (TellsLook (step slots 0 0 0 none) me)
 look_allowed marks turns slots id me has s kept _ at _ =
-    (me.0, keeps, tt, stays marks turns s.words s.views 0 id me.0 kept at, (refl, bounded marks turns s.words s.views kept id me.0 at has))
+    (after_step me.0, keeps, tt, stays marks turns s.words s.views 0 id me.0 kept at has, (refl, bounded marks turns s.words s.views kept id me.0 at has))
 
 pub split_allowed : (marks turns id : ℕ) (v : View) (k : ℕ) → 0 < k → k ≤ v.turns → k < all_turns v → Splits (Kept marks turns) id v (after_split k v) (split_off k v)
 split_allowed marks turns id v k some_turns enough keeps_some s kept at =

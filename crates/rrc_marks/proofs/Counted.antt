@@ -4,7 +4,7 @@ use mathlib.Core.Logic.{dite}
 use native.Mathlib.Decide.{ℕ_discrete}
 use Rattle.atomic_table.specs.Seated.{TableId}
 use Rattle.rrc_marks.specs.declared.rule.View.{View}
-use Rattle.rrc_marks.specs.Views.{times, without, after_win, after_finish, after_join, all_turns, Holds}
+use Rattle.rrc_marks.specs.Views.{times, without, after_step, after_win, after_finish, after_join, all_turns, Holds}
 use Rattle.rrc_marks.specs.Told.{Known, Exchanges, IsBounded}
 use Rattle.rrc_marks.specs.Seen.{IsCounted}
 use Rattle.rrc_marks.proofs.Counts.{times-append, times-cons_other, times-without_same, times-without_other}
@@ -77,10 +77,10 @@ joined_marks table there v w same mine theirs m holds =
 
 pub counted_join : (table there now : TableId) (knew other knows seen : Known) (turns draws more_turns more_draws : ℕ) → there ≡ table → now ≡ table
     → IsCounted table knew turns draws → IsCounted there other more_turns more_draws
-    → knows ≡ (after_join knew.0 other.0, knew.1) → (seen ≡ knows) × IsBounded knows.0 → IsCounted now seen (turns + more_turns) (draws + more_draws)
+    → knows ≡ (after_join knew.0 other.0, knew.1) → (seen ≡ (after_step knows.0, knows.1)) × IsBounded seen.0 → IsCounted now seen (turns + more_turns) (draws + more_draws)
 counted_join table there now knew other knows seen turns draws more_turns more_draws same now_same counted more told looked =
-    let known : seen ≡ (after_join knew.0 other.0, knew.1) = looked.0 ∙ told in
-    let bounded = subst (λ (m : Known). IsBounded m.0) told looked.1 in
+    let known : seen ≡ (after_step (after_join knew.0 other.0), knew.1) = looked.0 ∙ ap (λ (m : Known). (after_step m.0, m.1)) told in
+    let bounded = subst (λ (m : Known). IsBounded m.0) known looked.1 in
     let long = length-append knew.0.drawn other.0.drawn in
     let a = counted.turns_left in
     let b = counted.numbers in

@@ -6,7 +6,7 @@ use native.Mathlib.Decide.{ℕ_discrete}
 use lib.ListN.{get_elem?}
 use Rattle.atomic_table.proofs.Lists.{set_else}
 use Rattle.rrc_marks.specs.declared.rule.View.{View}
-use Rattle.rrc_marks.specs.Views.{times, without, spent_view, after_draw, after_win, after_finish, after_split, split_off, after_join, all_turns, Holds}
+use Rattle.rrc_marks.specs.Views.{times, without, spent_view, after_step, after_draw, after_win, after_finish, after_split, split_off, after_join, all_turns, Holds}
 use Rattle.rrc_marks.specs.Rule.{total, Stands, MarksKept}
 use Rattle.rrc_marks.proofs.Counts.{times-append, times-cons_same, times-cons_other, times-without_same, times-without_other, once_below-next}
 use Rattle.rrc_marks.proofs.Totals.{total-set, total-push, part_le, AllStand-set, AllStand-push}
@@ -52,12 +52,31 @@ module _ (marks turns : ℕ) (words : List ℕ) (views : List View) (kept : Mark
         standing = AllStand-set turns views id w kept.standing (inl (names turns v (kept.standing id v at) (omega arith), omega arith));
       }
 
+  -- a step that changes no word
+  pub step_keeps : 0 < all_turns v → MarksKept marks turns words (set views id (after_step v))
+  step_keeps has =
+      let w : View = after_step v in
+      let counted = kept.counted in
+      let balanced = kept.balanced in
+      let same = total-set draws views id v w at in
+      let alike = total-set turns_of views id v w at in
+      record {
+        sized = kept.sized;
+        limited = kept.limited;
+        holders = λ m. let change = total-set (held m) views id v w at in let was = kept.holders m in omega arith;
+        one_holder = kept.one_holder;
+        each_once = λ x. let change = total-set (drawn x) views id v w at in let was = kept.each_once x in omega arith;
+        counted = omega arith;
+        balanced = omega arith;
+        standing = AllStand-set turns views id w kept.standing (inl (names turns v (kept.standing id v at) has, has));
+      }
+
   -- a step on the word of the mark m, after which the pass holds these marks
   pub marked : (m new : ℕ) (marks_held : List ℕ) → 0 < all_turns v → m < marks → new ≤ 1
       → times m marks_held + get_or words (m + 1) 0 ≡ times m v.held + new → ((j : ℕ) → j ≢ m → times j marks_held ≡ times j v.held)
-      → MarksKept marks turns (set words (m + 1) new) (set views id record { drawn = v.drawn; held = marks_held; turns = v.turns; start = v.start })
+      → MarksKept marks turns (set words (m + 1) new) (set views id record { drawn = v.drawn; held = marks_held; turns = v.turns; start = v.start; steps = v.steps + 1 })
   marked m new marks_held has below bit mine others =
-      let w : View = record { drawn = v.drawn; held = marks_held; turns = v.turns; start = v.start } in
+      let w : View = record { drawn = v.drawn; held = marks_held; turns = v.turns; start = v.start; steps = v.steps + 1 } in
       let sized = kept.sized in
       let room : m + 1 < length words = omega arith in
       let now : get_or (set words (m + 1) new) (m + 1) 0 ≡ new = get_or-set_same words (m + 1) new 0 room in

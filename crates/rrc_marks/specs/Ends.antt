@@ -1,6 +1,7 @@
 -- What the words of a table are at its end.
-use Rattle.std.specs.Prelude.{◌≡◌, ℕ, ◌+◌, ◌<◌, ◌≤◌, List, true, false, length, slice_index, slice_index_or}
+use Rattle.std.specs.Prelude.{◌≡◌, ℕ, ◌+◌, ◌<◌, List, length, slice_index}
 use Rattle.std.specs.Global.{Global}
+use Rattle.std.specs.Mem.Slots.{slots_items, slots_len, IsFull}
 use Rattle.atomic_table.specs.declared.owned.Closed.{Closed}
 use Rattle.rrc_marks.specs.declared.rule.View.{View}
 use Rattle.rrc_marks.specs.Views.{EachOnceBelow}
@@ -13,10 +14,10 @@ pub record IsSettled (words : List ℕ) (v : View) : Type 0 where
 
 -- the words that a table hands out, word 0 first
 abbrev pub last_words : Closed (Unit {0}) Global → List ℕ
-last_words closed = closed.words.items
+last_words closed = slots_items closed.words
 
 -- each word can be read, there is one at least, and there is no slot
 pub record IsWhole (closed : Closed (Unit {0}) Global) : Type 0 where
-  pub full : (k : ℕ) → 0 ≤ k → k < closed.words.len → slice_index_or closed.words.filled k false ≡ true
-  pub some : 0 < closed.words.len
-  pub none : closed.slots.len ≡ 0
+  pub full : IsFull closed.words
+  pub some : 0 < slots_len closed.words
+  pub none : slots_len closed.slots ≡ 0

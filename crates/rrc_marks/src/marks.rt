@@ -1,7 +1,7 @@
 // The table of marks, and its calls. Word 0 counts the draws, and word m + 1 is the mark m: 1 where a pass holds it, else 0.
 ghost use Rattle.std.specs.Prelude.{◌≡◌, ℕ, ◌<◌, ◌≤◌, [], true, false, length, IfOk, IfSome, IfNone, MatchResult};
 ghost use Rattle.rrc_marks.specs.Limits.{is_within_limits, IsFaultOf};
-ghost use Rattle.rrc_marks.specs.Views.{opening_view, after_finish, after_split, split_off, after_join, all_turns, IsAlone, Holds, Lacks, EachOnceBelow};
+ghost use Rattle.rrc_marks.specs.Views.{opening_view, after_step, after_finish, after_split, split_off, after_join, all_turns, IsAlone, Holds, Lacks, EachOnceBelow};
 ghost use Rattle.rrc_marks.specs.Seen.{IsPassOf};
 ghost use Rattle.rrc_marks.specs.Told.{Draws, Exchanges, IsBounded};
 ghost use Rattle.rrc_marks.specs.Begins.{Begins};
@@ -187,7 +187,7 @@ impl Marks {
     pub fn join(&self, pass: &mut Pass, other: Pass)
         requires own { IsPassOf self.now pass.old }
         requires other { IsPassOf self.now other }
-        ensures both { pass.new ≡ record pass.old { view = after_join pass.old.view other.view } }
+        ensures both { pass.new ≡ record pass.old { view = after_step (after_join pass.old.view other.view) } }
         ensures bounded { IsBounded pass.new.view }
     {
         let Pass { seat, turns, draws } = other;

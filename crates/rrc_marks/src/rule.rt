@@ -8,12 +8,13 @@ use atomic_table::{Join, Play, Split, TableRule};
 use std::collections::LinkedList;
 use std::marker::{Brand, PhantomData};
 
-/// What a pass knows: the numbers that it drew, the marks that it holds, the turns that it has left, and the turns at the table's start. No value of it is made.
+/// What a pass knows: the numbers that it drew, the marks that it holds, the turns that it has left, the turns at the table's start, and how many steps it has taken. No value of it is made.
 pub struct View {
     pub drawn: LinkedList<u64>,
     pub held: LinkedList<u64>,
     pub turns: u64,
     pub start: u64,
+    pub steps: u64,
 }
 
 /// What a table is told once: its number of marks, and the turns at the start.
@@ -49,7 +50,7 @@ impl Play<(), View> for Finish {
     ghost then = { TellsFinish };
 }
 
-// A read after a join, which changes nothing.
+// A read after a join, which changes nothing but the count of steps.
 pub struct Look;
 
 impl Play<(), View> for Look {

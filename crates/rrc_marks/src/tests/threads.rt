@@ -124,7 +124,7 @@ fn begin_beside(marks: &Marks, mut pass: Pass, is_taken: &AtomicBool) -> (Pass, 
     requires own { IsPassOf marks.now pass }
     requires mark { 0 < marks.now.marks }
     requires free { pass.view.held ≡ [] }
-    ensures { result.0 ≡ pass }
+    ensures { KeepsShare pass result.0 }
 {
     let began = marks.begin(&mut pass, 0);
     match began {
@@ -156,7 +156,8 @@ fn two_begin<R: Threads + Sync>(
     requires first { IsPassOf marks.now p × (p.view.held ≡ []) }
     requires second { IsPassOf marks.now q × (q.view.held ≡ []) }
     requires mark { 0 < marks.now.marks }
-    ensures { (result.0.0 ≡ p) × (result.1.0 ≡ q) }
+    ensures first { KeepsShare p result.0.0 }
+    ensures second { KeepsShare q result.1.0 }
 {
     let flag = AtomicBool::new(false);
     let is_taken = &flag;
@@ -164,11 +165,11 @@ fn two_begin<R: Threads + Sync>(
         rt,
         move || -> (Pass, Began)
             requires { IsPassOf marks.now p × (p.view.held ≡ []) × (0 < marks.now.marks) }
-            ensures { result.0 ≡ p }
+            ensures { KeepsShare p result.0 }
         { begin_beside(marks, p, is_taken) },
         move || -> (Pass, Began)
             requires { IsPassOf marks.now q × (q.view.held ≡ []) × (0 < marks.now.marks) }
-            ensures { result.0 ≡ q }
+            ensures { KeepsShare q result.0 }
         { begin_beside(marks, q, is_taken) },
     )
 }

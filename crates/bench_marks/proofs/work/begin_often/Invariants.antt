@@ -1,5 +1,6 @@
-use Rattle.std.proofs.Common.{◌≡◌, ◌≤◌}
+use Rattle.std.proofs.Common.{◌≤◌}
+use Rattle.rrc_marks.specs.Seen.{KeepsShare}
 use Rattle.bench_marks.proofs.work.begin_often.Given as goal
 
 abbrev pub invariant-loop : goal.invariant-loop
-invariant-loop l = (l.pass ≡ l.initial.pass) × (l.mine ≤ l.counter)
+invariant-loop l = KeepsShare l.initial.pass l.pass × (l.mine ≤ l.counter)
