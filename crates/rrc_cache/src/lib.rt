@@ -12,6 +12,7 @@ mod sweep;
 #[cfg(test)]
 mod tests;
 
-pub use part::{LAST_MOMENT, Part};
+pub use part::Part;
 pub use refusal::Refusal;
 pub use reply::{ReplyRef, SetRef, SoaRef};
+pub use rrc_history::LAST_MOMENT;

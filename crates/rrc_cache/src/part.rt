@@ -3,13 +3,10 @@ ghost use Rattle.std.specs.Prelude.{◌≡◌, ◌<◌, ◌≤◌, ◌↔◌, �
 use crate::refusal::Refusal;
 use crate::reply::ReplyRef;
 use crate::{answer, entries, found, judge, sweep};
-use rrc_history::{Ask, Entry, Event, Offer, Outcome, Reply, Rules, Snapshot, Tag};
+use rrc_history::{Ask, Entry, Event, LAST_MOMENT, Offer, Outcome, Reply, Rules, Snapshot, Tag};
 use rrc_name::Sequence;
 use std::alloc::Global;
 use std::marker::Model;
-
-/// The last moment that a call may have, in seconds.
-pub const LAST_MOMENT: u64 = 1 << 40;
 
 /// The number that no event has any more.
 const SPENT: u64 = 1 << 62;

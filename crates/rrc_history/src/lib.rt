@@ -17,5 +17,5 @@ pub use event::{Event, Outcome, Reply, RrSet, Soa, Tag};
 pub use laws::{calls_determine_the_history, legal_histories_keep_the_laws};
 pub use offer::{Offer, OfferFault};
 pub use rrc_name as name;
-pub use rules::Rules;
+pub use rules::{LAST_MOMENT, Rules};
 pub use snapshot::{Entry, Snapshot};

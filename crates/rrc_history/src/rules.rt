@@ -1,5 +1,8 @@
 ghost use Rattle.std.specs.Prelude.{◌≡◌, ◌↔◌, ◌≤◌, IsSome, IfSome};
 
+/// The last moment that a call may have, in seconds.
+pub const LAST_MOMENT: u64 = 1 << 40;
+
 /// How a part of the cache keeps house.
 #[derive(Clone, Copy, Debug, PartialEq, Eq, Hash)]
 pub struct Rules {

@@ -1,11 +1,10 @@
 //! Replays a trace of cache operations from standard input, and writes its report to standard output.
 #![tactic(auto)]
 
-pub mod engine;
 mod options;
 
 use clap::error::ErrorKind;
-use engine::ReplayFault;
+use rrc_replay::trace::ReplayFault;
 use std::io::BufReader;
 use std::process::ExitCode;
 use std::{env, io};
@@ -49,7 +48,7 @@ fn replayed(rt: &HostRuntime, words: &[String]) -> Result<ExitCode, ReplayFault>
     };
     let mut reader = BufReader::new(alloc, rt.reader()).map_err(|_| ReplayFault::Memory)?;
     let mut writer = io::writer(rt);
-    engine::run(alloc, &mut reader, &mut writer, &rules)?;
+    rrc_replay::run(alloc, &mut reader, &mut writer, &rules)?;
     Ok(ExitCode::SUCCESS)
 }
 

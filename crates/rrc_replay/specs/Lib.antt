@@ -1,0 +1,4 @@
+pub mod Life
+pub mod Replay
+pub mod Answers
+pub mod Run

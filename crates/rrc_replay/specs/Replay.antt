@@ -1,0 +1,54 @@
+-- A line of a trace makes one call on a part.
+use Rattle.std.specs.Prelude.{◌≡◌, ℕ, ◌-◌, List, length, slice_get, Option, Some, None}
+use Rattle.rrc_name.specs.Key.{KeyOf}
+use Rattle.rrc_history.specs.declared.event.Event.{Event}
+use Rattle.rrc_history.specs.declared.event.Event.TheVariants.{Offered, Asked, Swept}
+use Rattle.rrc_name.specs.Wire.{folded}
+use Rattle.rrc_name.specs.declared.slot.Slot.TheVariants as slots
+use Rattle.rrc_history.specs.Fits.{OfferOf}
+use Rattle.rrc_history.specs.declared.body.Body.TheVariants.{Positive, Failure}
+use Rattle.rrc_cache.specs.declared.refusal.Refusal.{Refusal}
+use Rattle.rrc_cache.specs.declared.refusal.Refusal.TheVariants as refusals
+use Rattle.rrc_trace.specs.declared.fault.ReplayFault.{ReplayFault}
+use Rattle.rrc_trace.specs.declared.fault.ReplayFault.TheVariants as faults
+use Rattle.rrc_trace.specs.declared.line.Put.{Put}
+use Rattle.rrc_trace.specs.declared.line.Failed.{Failed}
+use Rattle.rrc_replay.specs.Life.{life_of}
+
+-- the fault of a line whose call a part refused; no line's moment is too large
+abbrev pub IsFaultOf : ℕ → Refusal → ReplayFault → Type 0
+IsFaultOf number refusals.HistoryFull fault = fault ≡ faults.Spent number
+IsFaultOf number refusals.MomentTooLarge fault = ⊥
+IsFaultOf number refusals.Memory fault = fault ≡ faults.Memory
+
+-- the offer of a put: the data live for the life of the ttl written
+abbrev pub offer_of : Put → OfferOf
+offer_of put =
+    record {
+      key = record { name = folded put.name; slot = slots.Set put.rtype };
+      body = Positive put.name put.items put.trust (life_of put.ttl);
+      moment = put.moment;
+    }
+
+-- for how many seconds a failure is remembered (RFC 8767 5)
+abbrev pub RECHECK : ℕ
+RECHECK = 30
+
+-- the offer of a failure
+abbrev pub failure_of : Failed → OfferOf
+failure_of failed =
+    record {
+      key = record { name = folded failed.name; slot = slots.Failed failed.rtype };
+      body = Failure RECHECK;
+      moment = failed.moment;
+    }
+
+-- the key that an event evicted
+abbrev pub evicted_in : Event → Option KeyOf
+evicted_in (Offered tag offer outcome evicted) = evicted
+evicted_in (Asked tag ask reply) = None
+evicted_in (Swept tag moment gone) = None
+
+-- the key that the last of some events evicted
+abbrev pub evicted_last : List Event → Option KeyOf
+evicted_last events = elim (slice_get events (length events - 1)) [ Some event ↦ evicted_in event | None ↦ None ]

@@ -1,0 +1,55 @@
+-- What a run reads and writes.
+use Rattle.std.specs.Prelude.{ℕ, List, Option}
+use Rattle.std.specs.Io.KnownBytes.{Appends, Keeps}
+use Rattle.rrc_history.specs.declared.rules.Rules.{Rules}
+use Rattle.rrc_trace.specs.declared.fault.ReplayFault.{ReplayFault}
+use Rattle.rrc_trace.specs.declared.fault.ReplayFault.TheVariants.{BadLine, TooManyLines, Read, Write, Memory, Spent}
+use Rattle.rrc_trace.specs.declared.line.Line.{Line}
+use Rattle.rrc_trace.specs.declared.answer.Answer.{Answer}
+use Rattle.rrc_replay.specs.Answers.{AreAnswers, IsFirstSpent}
+use Rattle.rrc_trace.specs.Reading.{IsTraceFrom, IsFaultOfTrace}
+use Rattle.rrc_trace.specs.Report.{report_text}
+use Rattle.rrc_trace.specs.Writing.{AppendsFront}
+
+-- a trace was read, and the cache of one thread gives these answers to it
+pub record Replays (rules : Rules) (read : Option (List ℕ)) (lines : List Line) (answers : List Answer) : Type 0 where
+  pub trace : IsTraceFrom read lines
+  pub answered : AreAnswers rules lines answers
+
+-- what was read is a trace, and what was written is the text of its report, and nothing else
+pub record Reports (rules : Rules) (read old new : Option (List ℕ)) : Type 0 where
+  pub lines : List Line
+  pub answers : List Answer
+  pub replays : Replays rules read lines answers
+  pub written : Appends old new (report_text answers)
+
+-- what was read is a trace, and what was written is a beginning of the text of its report
+pub record BeginsReport (rules : Rules) (read old new : Option (List ℕ)) : Type 0 where
+  pub lines : List Line
+  pub answers : List Answer
+  pub replays : Replays rules read lines answers
+  pub begun : AppendsFront old new (report_text answers)
+
+-- what was read is a trace, and the line is the first one that finds the chapter full
+pub record MeetsFullChapter (rules : Rules) (read : Option (List ℕ)) (number : ℕ) : Type 0 where
+  pub lines : List Line
+  pub trace : IsTraceFrom read lines
+  pub spent : IsFirstSpent rules lines number
+
+-- a fault is the first one of the text, or the first refusal of its replay
+abbrev pub IsFirstFaultOf : Rules → Option (List ℕ) → ReplayFault → Type 0
+IsFirstFaultOf rules read (BadLine number) = IsFaultOfTrace read (BadLine number)
+IsFirstFaultOf rules read TooManyLines = IsFaultOfTrace read TooManyLines
+IsFirstFaultOf rules read Read = Unit {0}
+IsFirstFaultOf rules read Write = Unit {0}
+IsFirstFaultOf rules read Memory = Unit {0}
+IsFirstFaultOf rules read (Spent number) = MeetsFullChapter rules read number
+
+-- before the fault of a write a beginning of the report went out, before any other nothing
+abbrev pub LeavesWriter : Rules → Option (List ℕ) → Option (List ℕ) → Option (List ℕ) → ReplayFault → Type 0
+LeavesWriter rules read old new (BadLine number) = Keeps old new
+LeavesWriter rules read old new TooManyLines = Keeps old new
+LeavesWriter rules read old new Read = Keeps old new
+LeavesWriter rules read old new Write = BeginsReport rules read old new
+LeavesWriter rules read old new Memory = Keeps old new
+LeavesWriter rules read old new (Spent number) = Keeps old new

@@ -1,0 +1,116 @@
+-- Items are read piece by piece.
+use Rattle.std.proofs.Common.{◌≡◌, ℕ, ◌+◌, ◌<◌, ◌≤◌, List, [], ◌∷◌, length, take, drop, Option, Some, None, true, false, Bool, refl, sym, ap, subst, ◌∙◌, arith, cond, position, nat_lt, nat_le, not, option_map, unwrap_or, Err}
+use Rattle.std.specs.List.{slice_split, position_or_len, onto_first}
+use Rattle.std.proofs.lemmas.List.Splits.{slice_split_first, length-slice_split}
+use Rattle.std.proofs.lemmas.Bool.Decides.{nat_tests}
+use Rattle.rrc_trace.specs.Gives.{◌>>=◌, Gives}
+use Rattle.rrc_trace.specs.declared.line_fault.LineFault.{LineFault}
+use Rattle.rrc_trace.specs.declared.line_fault.LineFault.TheVariants.{NotOne, Memory}
+use Rattle.rrc_trace.specs.Items.{is_comma, cut_round, cut_at_comma, with_piece, items_behind, items_of}
+
+-- so many pieces of the field are read into items, and the rest is left
+pub record IsRead (field : List ℕ) (items : List (List ℕ)) (seen : ℕ) (rest : List ℕ) : Type 0 where
+  pub told : items_behind items (slice_split is_comma rest) ≡ items_behind [] (slice_split is_comma field)
+  pub count : seen + length (slice_split is_comma rest) ≡ length (slice_split is_comma field)
+
+chosen : (b : Bool) (place end : ℕ) → cond b (Some place) None ≡ Some end → (b ≡ true) × (place ≡ end)
+chosen true place end h = (refl, cc)
+chosen false place end h = absurd cc
+
+split_at_place : (octets : List ℕ) (end : ℕ) → position is_comma octets ≡ Some end
+    → slice_split is_comma octets ≡ take end octets ∷ slice_split is_comma (drop (end + 1) octets)
+split_at_place octets end h =
+    let found = chosen (nat_lt (position_or_len is_comma octets) (length octets)) (position_or_len is_comma octets) end h in
+    let inside : position_or_len is_comma octets < length octets = grind (arith, nat_tests, found.0) in
+    subst (λ e. slice_split is_comma octets ≡ take e octets ∷ slice_split is_comma (drop (e + 1) octets)) found.1
+    (slice_split_first is_comma octets 0 inside)
+
+not_chosen : (b : Bool) (place : ℕ) → cond b (Some place) None ≡ None → b ≡ false
+not_chosen true place h = absurd cc
+not_chosen false place h = refl
+
+uncut : (octets : List ℕ) → length octets ≤ position_or_len is_comma octets → slice_split is_comma octets ≡ octets ∷ []
+uncut [] h = refl
+uncut (octet ∷ octets) h =
+    let rest : length octets ≤ position_or_len is_comma octets → slice_split is_comma octets ≡ octets ∷ [] = uncut octets in
+    elim (is_comma octet) as (λ is. length (octet ∷ octets) ≤ cond (not is) (1 + position_or_len is_comma octets) 0
+    → cond is ([] ∷ slice_split is_comma octets) (onto_first octet (slice_split is_comma octets)) ≡ (octet ∷ octets) ∷ []) [
+      | true ↦ λ far. absurd (omega arith)
+      | false ↦ λ far. ap (onto_first octet) (rest (omega arith))
+    ] h
+
+split_nowhere : (octets : List ℕ) → position is_comma octets ≡ None → slice_split is_comma octets ≡ octets ∷ []
+split_nowhere octets h =
+    let far = not_chosen (nat_lt (position_or_len is_comma octets) (length octets)) (position_or_len is_comma octets) h in
+    let past : length octets ≤ position_or_len is_comma octets = grind (arith, nat_tests, far) in
+    uncut octets past
+
+cut_at : (octets piece more : List ℕ) (place : Option ℕ) → position is_comma octets ≡ place
+    → option_map (cut_round octets) place ≡ Some (piece, more) → slice_split is_comma octets ≡ piece ∷ slice_split is_comma more
+cut_at octets piece more None is h = absurd cc
+cut_at octets piece more (Some end) is h =
+    let front : take end octets ≡ piece = ap (λ (o : Option (List ℕ × List ℕ)). (unwrap_or o ([], [])).0) h in
+    let rest : drop (end + 1) octets ≡ more = ap (λ (o : Option (List ℕ × List ℕ)). (unwrap_or o ([], [])).1) h in
+    split_at_place octets end is ∙ ap (λ p. p ∷ slice_split is_comma (drop (end + 1) octets)) front ∙ ap (λ m. piece ∷ slice_split is_comma m) rest
+
+-- the first piece ends at the first comma
+pub split_at_comma : (octets piece more : List ℕ) → cut_at_comma octets ≡ Some (piece, more) → slice_split is_comma octets ≡ piece ∷ slice_split is_comma more
+split_at_comma octets piece more h = cut_at octets piece more (position is_comma octets) refl h
+
+cut_nowhere : (octets : List ℕ) (place : Option ℕ) → position is_comma octets ≡ place
+    → option_map (cut_round octets) place ≡ None → slice_split is_comma octets ≡ octets ∷ []
+cut_nowhere octets None is h = split_nowhere octets is
+cut_nowhere octets (Some end) is h = absurd cc
+
+-- without a comma there is one piece
+pub split_uncut : (octets : List ℕ) → cut_at_comma octets ≡ None → slice_split is_comma octets ≡ octets ∷ []
+split_uncut octets h = cut_nowhere octets (position is_comma octets) refl h
+
+pub IsRead-none : (field : List ℕ) → IsRead field [] 0 field
+IsRead-none field = record { told = refl; count = omega arith }
+
+behind : (items : List (List ℕ)) (piece : List ℕ) (pieces : List (List ℕ)) (said : Option (List (List ℕ))) → with_piece items piece ≡ said
+    → items_behind items (piece ∷ pieces) ≡ (said >>= λ more. items_behind more pieces)
+behind items piece pieces said h = ap (λ o. o >>= λ more. items_behind more pieces) h
+
+module _ (field : List ℕ) (items : List (List ℕ)) (seen : ℕ) (rest : List ℕ) (read : IsRead field items seen rest) where
+  pub IsRead-more : (piece more : List ℕ) (others : List (List ℕ)) → cut_at_comma rest ≡ Some (piece, more) → with_piece items piece ≡ Some others
+      → IsRead field others (seen + 1) more
+  IsRead-more piece more others comma said =
+      let cut = split_at_comma rest piece more comma in
+      record {
+        told = sym (ap (items_behind items) cut ∙ behind items piece (slice_split is_comma more) (Some others) said) ∙ read.told;
+        count = omega (arith, ap length cut, read.count);
+      }
+
+  no_items : items_behind [] (slice_split is_comma field) ≡ None → items_of field ≡ None
+  no_items h =
+      elim (nat_le (length (slice_split is_comma field)) 256) as (λ few. cond few (items_behind [] (slice_split is_comma field)) None ≡ None) [
+        | true ↦ h
+        | false ↦ refl
+      ]
+
+  pub bad_piece : (fault : LineFault) (others : List (List ℕ)) (piece more : List ℕ) → cut_at_comma rest ≡ Some (piece, more)
+      → Gives {X = Unit {0}} (λ _. others) (Err fault) (with_piece items piece) → Gives {X = List (List ℕ)} (λ answer. answer) (Err fault) (items_of field)
+  bad_piece NotOne others piece more comma said =
+      no_items (sym read.told ∙ (ap (items_behind items) (split_at_comma rest piece more comma)
+      ∙ behind items piece (slice_split is_comma more) None said))
+  bad_piece Memory others piece more comma said = tt
+
+  pub bad_last_piece : (fault : LineFault) (others : List (List ℕ)) → cut_at_comma rest ≡ None
+      → Gives {X = Unit {0}} (λ _. others) (Err fault) (with_piece items rest) → Gives {X = List (List ℕ)} (λ answer. answer) (Err fault) (items_of field)
+  bad_last_piece NotOne others uncut said =
+      no_items (sym read.told ∙ (ap (items_behind items) (split_uncut rest uncut) ∙ behind items rest [] None said))
+  bad_last_piece Memory others uncut said = tt
+
+  pub last_piece : (more : List (List ℕ)) → seen < 256 → cut_at_comma rest ≡ None → with_piece items rest ≡ Some more → items_of field ≡ Some more
+  last_piece more within uncut piece =
+      let one = split_uncut rest uncut in
+      let few : nat_le (length (slice_split is_comma field)) 256 ≡ true = grind (arith, nat_tests, read.count, ap length one) in
+      rw few (sym read.told ∙ (ap (items_behind items) one ∙ behind items rest [] (Some more) piece))
+
+  pub too_many_pieces : 256 ≤ seen → items_of field ≡ None
+  too_many_pieces past =
+      let some = length-slice_split is_comma rest in
+      let many : nat_le (length (slice_split is_comma field)) 256 ≡ false = grind (arith, nat_tests, read.count, some) in
+      rw many refl

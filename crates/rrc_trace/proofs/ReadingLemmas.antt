@@ -1,0 +1,276 @@
+-- A trace is read piece by piece.
+use Rattle.std.proofs.Common.{◌≡◌, ◌≢◌, ℕ, suc, ◌+◌, ◌-◌, ◌<◌, ◌≤◌, List, [], ◌∷◌, ◌++◌, length, take, get_or, Option, Some, None, Result, Ok, Err, true, false, refl, sym, ap, subst, ◌∙◌, arith, append_assoc, length-append, length-take, nat_le, ◌==◌, Bool, cond, slice_index, zero}
+use Rattle.std.specs.Prelude.{⊤}
+use Rattle.std.specs.List.{All}
+use Rattle.std.specs.Io.KnownBytes.{IsAtEnd, Consumes}
+use Rattle.std.proofs.lemmas.Bool.Decides.{nat_tests}
+use Rattle.std.proofs.lemmas.List.{append-nil}
+use Rattle.std.proofs.lemmas.List.Elements.{All-nil, All-push}
+use Rattle.rrc_trace.specs.declared.line.Line.{Line}
+use Rattle.rrc_trace.specs.declared.fault.ReplayFault.{ReplayFault}
+use Rattle.rrc_trace.specs.declared.fault.ReplayFault.TheVariants.{BadLine, TooManyLines}
+use Rattle.rrc_trace.specs.Lines.{before_last, line_ended, line_of_piece}
+use Rattle.rrc_trace.specs.Trace.{with_octet, pieces_of, MOST_LINES}
+use Rattle.rrc_trace.proofs.TraceLemmas.{with_line, lines_from, trace_of, trace_of-says, trace_of-bad, trace_of-many}
+use Rattle.rrc_trace.specs.declared.reading.Ending.TheVariants.{Lf, Last, Endless}
+use Rattle.rrc_trace.specs.Lawful.{IsLawful, AreLawful}
+use Rattle.rrc_trace.proofs.LawfulLemmas.{says_lawful}
+use Rattle.rrc_trace.specs.declared.fault.ReplayFault.TheVariants as faults
+use Rattle.rrc_trace.specs.Reading.{IsUnended, ReadsPiece, IsOfReading, GivesLine, IsTraceFrom, IsFaultOfTrace}
+
+abbrev pub lines_behind : List Line → Result (List Line) ReplayFault → Result (List Line) ReplayFault
+lines_behind front (Ok lines) = Ok (front ++ lines)
+lines_behind front (Err fault) = Err fault
+
+-- what is left to read says, behind the lines so far, what the whole trace says
+abbrev pub IsReadTo : Option (List ℕ) → Option (List ℕ) → List Line → ℕ → Type 0
+IsReadTo None now lines number = ⊤
+IsReadTo (Some all) None lines number = ⊥
+IsReadTo (Some all) (Some rest) lines number = lines_behind lines (lines_from number (pieces_of rest)) ≡ trace_of all
+
+pieces_of-ended : (front rest : List ℕ) → IsUnended front → pieces_of (front ++ 10 ∷ rest) ≡ (front ++ 10 ∷ []) ∷ pieces_of rest
+pieces_of-ended [] rest unended = refl
+pieces_of-ended (octet ∷ front) rest unended =
+    let no : (octet == 10) ≡ false = grind (arith, nat_tests, unended.0) in
+    rw no (ap (with_octet octet) (pieces_of-ended front rest unended.1))
+
+pieces_of-last : (octet : ℕ) (octets : List ℕ) → IsUnended (octet ∷ octets) → pieces_of (octet ∷ octets) ≡ (octet ∷ octets) ∷ []
+pieces_of-last octet [] unended =
+    let no : (octet == 10) ≡ false = grind (arith, nat_tests, unended.0) in rw no refl
+pieces_of-last octet (next ∷ octets) unended =
+    let no : (octet == 10) ≡ false = grind (arith, nat_tests, unended.0) in
+    rw no (ap (with_octet octet) (pieces_of-last next octets unended.1))
+
+abbrev wrapped : List Line → Result (List Line) ReplayFault
+wrapped lines = Ok lines
+
+with_line-behind : (front : List Line) (line : Line) (said : Result (List Line) ReplayFault) → lines_behind front (with_line line said) ≡ lines_behind (front ++ line ∷ []) said
+with_line-behind front line (Ok lines) = ap wrapped (sym (append_assoc front (line ∷ []) lines))
+with_line-behind front line (Err fault) = refl
+
+-- one piece is read
+one_piece : (front : List Line) (number : ℕ) (piece : List ℕ) (pieces : List (List ℕ)) (line : Line) → number < 1000000 → line_of_piece piece ≡ Some line
+    → lines_behind front (lines_from number (piece ∷ pieces)) ≡ lines_behind (front ++ line ∷ []) (lines_from (number + 1) pieces)
+one_piece front number piece pieces line few is =
+    let more : nat_le 1000000 number ≡ false = grind (arith, nat_tests) in
+    rw (more, is) (with_line-behind front line (lines_from (number + 1) pieces))
+
+-- more pieces than a trace may have lines
+too_many : (front : List Line) (number octet : ℕ) (octets : List ℕ) → MOST_LINES ≤ number → lines_behind front (lines_from number (pieces_of (octet ∷ octets))) ≡ Err TooManyLines
+too_many front number octet octets many = by (octet == 10) refl (pieces_of octets) refl
+  where
+    over : nat_le MOST_LINES number ≡ true
+    over = grind (arith, nat_tests, many)
+
+    by : (lf : Bool) → (octet == 10) ≡ lf → (pieces : List (List ℕ)) → pieces_of octets ≡ pieces
+        → lines_behind front (lines_from number (pieces_of (octet ∷ octets))) ≡ Err TooManyLines
+    by true is pieces are = rw (is, over) refl
+    by false is [] are = rw (is, are, over) refl
+    by false is (piece ∷ pieces) are = rw (is, are, over) refl
+
+bad_piece : (front : List Line) (number : ℕ) (piece : List ℕ) (pieces : List (List ℕ)) → number < 1000000 → line_of_piece piece ≡ None
+    → lines_behind front (lines_from number (piece ∷ pieces)) ≡ Err (BadLine number)
+bad_piece front number piece pieces few is =
+    let more : nat_le 1000000 number ≡ false = grind (arith, nat_tests) in rw (more, is) refl
+
+abbrev err_at : ℕ → Result (List Line) ReplayFault
+err_at number = Err (BadLine number)
+
+-- a whole piece was read
+abbrev pub ReadsCut : Option (List ℕ) → Option (List ℕ) → List ℕ → Type 0
+ReadsCut None new piece = ⊤
+ReadsCut (Some octets) None piece = ⊥
+ReadsCut (Some octets) (Some rest) piece = pieces_of octets ≡ piece ∷ pieces_of rest
+
+pub reads_lf : (old new : Option (List ℕ)) (piece : List ℕ) → ReadsPiece old new piece Lf → ReadsCut old new piece
+reads_lf None new piece read = tt
+reads_lf (Some octets) None piece read = absurd read
+reads_lf (Some octets) (Some rest) piece read =
+    let front = read.1.0 in
+    let whole : octets ≡ front ++ 10 ∷ rest = read.0 ∙ ap (λ p. p ++ rest) read.1.2 ∙ append_assoc front (10 ∷ []) rest in
+    ap pieces_of whole ∙ pieces_of-ended front rest read.1.1 ∙ ap (λ p. p ∷ pieces_of rest) (sym read.1.2)
+
+pub reads_last : (old new : Option (List ℕ)) (piece : List ℕ) → ReadsPiece old new piece Last → piece ≢ [] → ReadsCut old new piece
+reads_last None new piece read some = tt
+reads_last (Some octets) None piece read some = absurd read
+reads_last (Some octets) (Some rest) [] read some = absurd (some refl)
+reads_last (Some octets) (Some rest) (octet ∷ piece) read some =
+    let whole : octets ≡ octet ∷ piece = read.0 ∙ ap (λ r. (octet ∷ piece) ++ r) read.1.1 ∙ append-nil (octet ∷ piece) in
+    ap pieces_of whole ∙ pieces_of-last octet piece read.1.0 ∙ ap (λ ps. (octet ∷ piece) ∷ ps) (sym (ap pieces_of read.1.1))
+
+pub IsReadTo-none : (all : Option (List ℕ)) → IsReadTo all all [] 0
+IsReadTo-none None = tt
+IsReadTo-none (Some all) =
+    elim (trace_of all) as (λ said. lines_behind [] said ≡ said) [ Ok lines ↦ refl | Err fault ↦ refl ]
+
+pub IsReadTo-more : (all old new : Option (List ℕ)) (lines : List Line) (number : ℕ) (piece : List ℕ) (line : Line) → number < 1000000
+    → IsReadTo all old lines number → ReadsCut old new piece → line_of_piece piece ≡ Some line → IsReadTo all new (lines ++ line ∷ []) (number + 1)
+IsReadTo-more None old new lines number piece line few read cut is = tt
+IsReadTo-more (Some all) None new lines number piece line few read cut is = absurd read
+IsReadTo-more (Some all) (Some octets) None lines number piece line few read cut is = absurd cut
+IsReadTo-more (Some all) (Some octets) (Some rest) lines number piece line few read cut is =
+    sym (one_piece lines number piece (pieces_of rest) line few is) ∙ sym (ap (λ ps. lines_behind lines (lines_from number ps)) cut) ∙ read
+
+stopped : (all octets : List ℕ) (lines : List Line) (number : ℕ) (piece : List ℕ) (pieces : List (List ℕ)) → number < 1000000
+    → lines_behind lines (lines_from number (pieces_of octets)) ≡ trace_of all → pieces_of octets ≡ piece ∷ pieces → line_of_piece piece ≡ None
+    → trace_of all ≡ Err (BadLine number)
+stopped all octets lines number piece pieces few read cut is =
+    sym read ∙ ap (λ ps. lines_behind lines (lines_from number ps)) cut ∙ bad_piece lines number piece pieces few is
+
+pub stops : (fault : ReplayFault) (all old new : Option (List ℕ)) (lines : List Line) (number : ℕ) (piece : List ℕ) → number < MOST_LINES
+    → IsReadTo all old lines number → ReadsCut old new piece → GivesLine number (Err fault) (line_of_piece piece) → IsFaultOfTrace all fault
+stops (faults.BadLine bad) None old new lines number piece few read cut said = tt
+stops (faults.BadLine bad) (Some all) None new lines number piece few read cut said = absurd read
+stops (faults.BadLine bad) (Some all) (Some octets) None lines number piece few read cut said = absurd cut
+stops (faults.BadLine bad) (Some all) (Some octets) (Some rest) lines number piece few read cut said =
+    trace_of-bad all bad (stopped all octets lines number piece (pieces_of rest) few read cut said.1 ∙ ap (λ (n : ℕ). err_at n) (sym said.0))
+stops faults.TooManyLines all old new lines number piece few read cut said = absurd said
+stops faults.Read all old new lines number piece few read cut said = tt
+stops faults.Write all old new lines number piece few read cut said = absurd said
+stops faults.Memory all old new lines number piece few read cut said = tt
+stops (faults.Spent bad) all old new lines number piece few read cut said = absurd said
+
+pub fails : (fault : ReplayFault) (all : Option (List ℕ)) → IsOfReading fault → IsFaultOfTrace all fault
+fails (faults.BadLine bad) all of_reading = absurd of_reading
+fails faults.TooManyLines all of_reading = absurd of_reading
+fails faults.Read all of_reading = tt
+fails faults.Write all of_reading = absurd of_reading
+fails faults.Memory all of_reading = tt
+fails (faults.Spent bad) all of_reading = absurd of_reading
+
+-- nothing is left to read
+pub ends : (all now : Option (List ℕ)) (lines : List Line) (number : ℕ) → IsReadTo all now lines number → IsAtEnd now → number ≤ MOST_LINES → IsTraceFrom all lines
+ends None now lines number read end few = tt
+ends (Some all) None lines number read end few = absurd read
+ends (Some all) (Some rest) lines number read end few =
+    trace_of-says all lines (sym read ∙ ap (λ r. lines_behind lines (lines_from number (pieces_of r))) end ∙ ap wrapped (append-nil lines))
+
+-- an octet is left behind the last line that a trace may have
+pub goes_on : (all old new : Option (List ℕ)) (octet : ℕ) (lines : List Line) (number : ℕ) → MOST_LINES ≤ number → IsReadTo all old lines number
+    → Consumes old new (octet ∷ []) → IsFaultOfTrace all faults.TooManyLines
+goes_on None old new octet lines number many read took = tt
+goes_on (Some all) None new octet lines number many read took = absurd read
+goes_on (Some all) (Some octets) None octet lines number many read took = absurd took
+goes_on (Some all) (Some octets) (Some rest) octet lines number many read took =
+    trace_of-many all (sym read ∙ ap (λ o. lines_behind lines (lines_from number (pieces_of o))) took ∙ too_many lines number octet rest many)
+
+-- no octet is left
+pub no_octet : (all old new : Option (List ℕ)) (lines : List Line) (number : ℕ) → IsReadTo all old lines number → Consumes old new [] → IsReadTo all new lines number
+no_octet None old new lines number read took = tt
+no_octet (Some all) None new lines number read took = absurd read
+no_octet (Some all) (Some octets) None lines number read took = absurd took
+no_octet (Some all) (Some octets) (Some rest) lines number read took = ap (λ o. lines_behind lines (lines_from number (pieces_of o))) (sym took) ∙ read
+
+-- an octet of an unended piece
+unended-at : (piece : List ℕ) (place : ℕ) → IsUnended piece → place < length piece → get_or piece place 0 ≢ 10
+unended-at [] place unended within = absurd (omega arith)
+unended-at (octet ∷ piece) zero unended within = unended.0
+unended-at (octet ∷ piece) (suc place) unended within = unended-at piece place unended.1 (omega arith)
+
+by_tests : (a b : Bool) (front found : List ℕ) → cond a None (cond b (Some front) None) ≡ Some found → (b ≡ true) × (front ≡ found)
+by_tests true b front found h = absurd cc
+by_tests false true front found h = (refl, cc)
+by_tests false false front found h = absurd cc
+
+by_end : (piece : List ℕ) (found : Option (List ℕ)) → before_last piece 10 ≡ found → ((front : List ℕ) → found ≡ Some front → 140000 < length front)
+    → 140000 < length piece → line_of_piece piece ≡ None
+by_end piece None is long longer =
+    let over : nat_le (length piece) 140000 ≡ false = grind (arith, nat_tests) in ap (line_ended piece) is ∙ rw over refl
+by_end piece (Some front) is long longer =
+    let far : 140000 < length front = long front refl in
+    let over : nat_le (length front) 140000 ≡ false = grind (arith, nat_tests) in ap (line_ended piece) is ∙ rw over refl
+
+too_long : (piece more : List ℕ) → IsUnended piece → 140000 < length piece → line_of_piece (piece ++ more) ≡ None
+too_long piece [] unended long =
+    let same : piece ++ [] ≡ piece = append-nil piece in
+    subst (λ p. line_of_piece p ≡ None) (sym same)
+    (by_end piece (before_last piece 10) refl
+    (λ front h.
+    let found = by_tests (length piece == 0) (slice_index piece (length piece - 1) == 10) (take (length piece - 1) piece) front h in
+    let last : get_or piece (length piece - 1) 0 ≡ 10 = grind (arith, nat_tests, found.0) in
+    absurd (unended-at piece (length piece - 1) unended (omega arith) last)) long)
+too_long piece (octet ∷ more) unended long =
+    let whole : List ℕ = piece ++ octet ∷ more in
+    let size : length (piece ++ octet ∷ more) ≡ length piece + suc (length more) = length-append piece (octet ∷ more) in
+    by_end (piece ++ octet ∷ more) (before_last (piece ++ octet ∷ more) 10) refl
+    (λ front h.
+    let found = by_tests (length (piece ++ octet ∷ more) == 0) (slice_index (piece ++ octet ∷ more) (length (piece ++ octet ∷ more) - 1) == 10)
+    (take (length (piece ++ octet ∷ more) - 1) (piece ++ octet ∷ more)) front h in
+    omega (arith, size, ap length found.1, length-take (length (piece ++ octet ∷ more) - 1) (piece ++ octet ∷ more)))
+    (omega (arith, size))
+
+-- pieces, with octets in front of the first
+abbrev onto : List ℕ → List (List ℕ) → List (List ℕ)
+onto front [] = front ∷ []
+onto front (piece ∷ pieces) = (front ++ piece) ∷ pieces
+
+onto-cons : (octet : ℕ) (front : List ℕ) (pieces : List (List ℕ)) → with_octet octet (onto front pieces) ≡ onto (octet ∷ front) pieces
+onto-cons octet front [] = refl
+onto-cons octet front (piece ∷ pieces) = refl
+
+onto-one : (octet : ℕ) (pieces : List (List ℕ)) → with_octet octet pieces ≡ onto (octet ∷ []) pieces
+onto-one octet [] = refl
+onto-one octet (piece ∷ pieces) = refl
+
+pieces_of-onto : (octet : ℕ) (octets rest : List ℕ) → IsUnended (octet ∷ octets) → pieces_of ((octet ∷ octets) ++ rest) ≡ onto (octet ∷ octets) (pieces_of rest)
+pieces_of-onto octet [] rest unended =
+    let no : (octet == 10) ≡ false = grind (arith, nat_tests, unended.0) in rw no (onto-one octet (pieces_of rest))
+pieces_of-onto octet (next ∷ octets) rest unended =
+    let no : (octet == 10) ≡ false = grind (arith, nat_tests, unended.0) in
+    rw no (ap (with_octet octet) (pieces_of-onto next octets rest unended.1) ∙ onto-cons octet (next ∷ octets) (pieces_of rest))
+
+endless_in : (all octets : List ℕ) (lines : List Line) (number : ℕ) (piece : List ℕ) (pieces : List (List ℕ)) → number < 1000000
+    → lines_behind lines (lines_from number (pieces_of octets)) ≡ trace_of all → IsUnended piece → 140000 < length piece
+    → pieces_of octets ≡ onto piece pieces → trace_of all ≡ Err (BadLine number)
+endless_in all octets lines number piece [] few read unended long cut =
+    stopped all octets lines number piece [] few read cut
+    (subst (λ p. line_of_piece p ≡ None) (append-nil piece) (too_long piece [] unended long))
+endless_in all octets lines number piece (first ∷ pieces) few read unended long cut =
+    stopped all octets lines number (piece ++ first) pieces few read cut (too_long piece first unended long)
+
+pub endless : (all old new : Option (List ℕ)) (lines : List Line) (number : ℕ) (piece : List ℕ) → number < 1000000
+    → IsReadTo all old lines number → ReadsPiece old new piece Endless → IsFaultOfTrace all (BadLine number)
+endless None old new lines number piece few read was = tt
+endless (Some all) None new lines number piece few read was = absurd read
+endless (Some all) (Some octets) None lines number piece few read was = absurd was
+endless (Some all) (Some octets) (Some rest) lines number [] few read was = absurd (omega (arith, was.1.1))
+endless (Some all) (Some octets) (Some rest) lines number (octet ∷ piece) few read was =
+    trace_of-bad all number (endless_in all octets lines number (octet ∷ piece) (pieces_of rest) few read was.1.0 was.1.1
+    (ap pieces_of was.0 ∙ pieces_of-onto octet piece rest was.1.0))
+
+-- nothing more was read
+pub nothing : (all old new : Option (List ℕ)) (lines : List Line) (number : ℕ) → IsReadTo all old lines number → ReadsPiece old new [] Last
+    → IsReadTo all new lines number
+nothing None old new lines number read was = tt
+nothing (Some all) None new lines number read was = absurd read
+nothing (Some all) (Some octets) None lines number read was = absurd was
+nothing (Some all) (Some octets) (Some rest) lines number read was = ap (λ o. lines_behind lines (lines_from number (pieces_of o))) (sym was.0) ∙ read
+
+-- the lines so far are lawful, as many as their number says, and what is left to read says the others
+pub record IsReadSoFar (all now : Option (List ℕ)) (lines : List Line) (number : ℕ) : Type 0 where
+  pub read : IsReadTo all now lines number
+  pub lawful : All IsLawful lines
+  pub count : length lines ≡ number
+
+pub so_far_none : (all : Option (List ℕ)) → IsReadSoFar all all [] 0
+so_far_none all = record { read = IsReadTo-none all; lawful = All-nil IsLawful; count = refl }
+
+pub so_far_more : (all old new : Option (List ℕ)) (lines : List Line) (number : ℕ) (piece : List ℕ) (line : Line) → number < MOST_LINES
+    → IsReadSoFar all old lines number → ReadsCut old new piece → line_of_piece piece ≡ Some line → IsReadSoFar all new (lines ++ line ∷ []) (number + 1)
+so_far_more all old new lines number piece line few far cut is = record {
+  read = IsReadTo-more all old new lines number piece line few far.read cut is;
+  lawful = All-push IsLawful lines line far.lawful (says_lawful piece line is);
+  count = length-append lines (line ∷ []) ∙ ap (λ n. n + 1) far.count;
+}
+
+-- lines so far are a trace's where no more are than may be
+pub are_lawful : (all now : Option (List ℕ)) (lines : List Line) (number : ℕ) → IsReadSoFar all now lines number → number ≤ MOST_LINES → AreLawful lines
+are_lawful all now lines number far few = record { few = omega (arith, far.count, few); each = far.lawful }
+
+pub some_octets : (piece : List ℕ) → (length piece == 0) ≡ false → piece ≢ []
+some_octets [] h = λ e. absurd cc
+some_octets (octet ∷ piece) h = λ e. absurd cc
+
+pub no_octets : (piece : List ℕ) → (length piece == 0) ≡ true → piece ≡ []
+no_octets [] h = refl
+no_octets (octet ∷ piece) h = absurd (grind (arith, nat_tests))

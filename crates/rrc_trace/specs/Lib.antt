@@ -1,0 +1,12 @@
+pub mod Gives
+pub mod Fields
+pub mod Numbers
+pub mod Names
+pub mod Words
+pub mod Items
+pub mod Lines
+pub mod Trace
+pub mod Lawful
+pub mod Report
+pub mod Writing
+pub mod Reading

@@ -1,0 +1,85 @@
+-- The lines of a trace.
+use Rattle.std.specs.Prelude.{ℕ, ◌-◌, List, length, take, slice_index, Option, Some, None, unwrap_or, ◌==◌, nat_le, if◌then◌else◌}
+use Rattle.rrc_name.specs.Wire.{folded}
+use Rattle.rrc_trace.specs.declared.line.Line.{Line}
+use Rattle.rrc_trace.specs.declared.line.Line.TheVariants as lines
+use Rattle.rrc_trace.specs.declared.word.Form.TheVariants as forms
+use Rattle.rrc_trace.specs.Gives.{◌>>=◌}
+use Rattle.rrc_trace.specs.Fields.{said_at, has_field}
+use Rattle.rrc_trace.specs.Numbers.{moment_of, rtype_of, trust_of, ttl_of}
+use Rattle.rrc_trace.specs.Names.{name_of}
+use Rattle.rrc_trace.specs.Items.{items_of}
+use Rattle.rrc_trace.specs.Words.{form_of, purpose_of, mode_of}
+
+-- a line behind whose last field no other stands
+abbrev pub ended : List ℕ → Line → Option Line
+ended octets line = if has_field octets then None else Some line
+
+-- the fields of a put: its moment, name, type, trust, time to live and data
+unfoldable pub put_of : List ℕ → Option Line
+put_of octets = do
+  moment ← said_at moment_of octets
+  name ← said_at name_of moment.1
+  rtype ← said_at rtype_of name.1
+  trust ← said_at trust_of rtype.1
+  ttl ← said_at ttl_of trust.1
+  items ← said_at items_of ttl.1
+  ended items.1 (lines.Put (record { moment = moment.0; name = name.0; rtype = rtype.0; trust = trust.0; ttl = ttl.0; items = items.0 }))
+
+-- the fields of an ask: its moment, name, type, purpose and mode
+unfoldable pub ask_of : List ℕ → Option Line
+ask_of octets = do
+  moment ← said_at moment_of octets
+  name ← said_at name_of moment.1
+  rtype ← said_at rtype_of name.1
+  purpose ← said_at purpose_of rtype.1
+  mode ← said_at mode_of purpose.1
+  ended mode.1 (lines.Ask (record { name = folded name.0; rtype = rtype.0; moment = moment.0; purpose = purpose.0; mode = mode.0 }))
+
+-- the fields of a failure: its moment, name and type
+unfoldable pub fail_of : List ℕ → Option Line
+fail_of octets = do
+  moment ← said_at moment_of octets
+  name ← said_at name_of moment.1
+  rtype ← said_at rtype_of name.1
+  ended rtype.1 (lines.Fail (record { moment = moment.0; name = name.0; rtype = rtype.0 }))
+
+-- the field of a sweep: its moment
+unfoldable pub sweep_of : List ℕ → Option Line
+sweep_of octets = do
+  moment ← said_at moment_of octets
+  ended moment.1 (lines.Sweep moment.0)
+
+-- the fields of a line, the first of which says its form
+abbrev pub line_of : List ℕ → Option Line
+line_of octets = do
+  form ← said_at form_of octets
+  elim form.0 [
+    | forms.Put ↦ put_of form.1
+    | forms.Ask ↦ ask_of form.1
+    | forms.Fail ↦ fail_of form.1
+    | forms.Sweep ↦ sweep_of form.1
+  ]
+
+-- the octets before the last one, where that is this one
+abbrev pub before_last : List ℕ → ℕ → Option (List ℕ)
+before_last octets last =
+    if length octets == 0 then None
+    else if slice_index octets (length octets - 1) == last then Some (take (length octets - 1) octets)
+    else None
+
+abbrev pub without_cr : List ℕ → List ℕ
+without_cr octets = unwrap_or (before_last octets 13) octets
+
+-- at most 140,000 octets
+abbrev pub bounded : List ℕ → Option (List ℕ)
+bounded octets = if nat_le (length octets) 140000 then Some octets else None
+
+-- the line of a piece, by the octets before its LF where it has one: before an LF a CR is dropped
+abbrev pub line_ended : List ℕ → Option (List ℕ) → Option Line
+line_ended piece (Some octets) = bounded octets >>= λ octets. line_of (without_cr octets)
+line_ended piece None = bounded piece >>= line_of
+
+-- a piece of a trace ends with its LF or with the trace
+abbrev pub line_of_piece : List ℕ → Option Line
+line_of_piece piece = line_ended piece (before_last piece 10)

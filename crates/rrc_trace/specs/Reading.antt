@@ -1,0 +1,64 @@
+-- Reading a trace, octet by octet.
+use Rattle.std.specs.Prelude.{◌≡◌, ◌≢◌, ◌<◌, ℕ, List, [], ◌∷◌, ◌++◌, length, ⊤, Option, Some, None, IfSome, Result, Ok, Err}
+use Rattle.std.specs.Io.KnownBytes.{IsAtEnd}
+use Rattle.std.specs.List.{AllByRecursion}
+use Rattle.rrc_trace.specs.declared.fault.ReplayFault.{ReplayFault}
+use Rattle.rrc_trace.specs.declared.fault.ReplayFault.TheVariants.{BadLine, TooManyLines, Read, Write, Memory, Spent}
+use Rattle.rrc_trace.specs.declared.reading.Ending.{Ending}
+use Rattle.rrc_trace.specs.declared.reading.Ending.TheVariants.{Lf, Last, Endless}
+use Rattle.rrc_trace.specs.declared.line.Line.{Line}
+use Rattle.rrc_trace.specs.Trace.{TraceOf, IsFirstFault}
+
+-- no octet ends a line
+abbrev pub IsUnended : List ℕ → Type 0
+IsUnended octets = AllByRecursion (λ octet. octet ≢ 10) octets
+
+-- how the piece ends: with its LF, with the trace, or nowhere as far as a line may go
+abbrev pub IsEndOf : Ending → List ℕ → List ℕ → Type 0
+IsEndOf Lf piece rest = (front : List ℕ) × IsUnended front × (piece ≡ front ++ 10 ∷ [])
+IsEndOf Last piece rest = IsUnended piece × (rest ≡ [])
+IsEndOf Endless piece rest = IsUnended piece × (140000 < length piece)
+
+-- a piece was read, where the octets are known
+abbrev pub ReadsPiece : Option (List ℕ) → Option (List ℕ) → List ℕ → Ending → Type 0
+ReadsPiece None new piece ending = ⊤
+ReadsPiece (Some octets) None piece ending = ⊥
+ReadsPiece (Some octets) (Some rest) piece ending = (octets ≡ piece ++ rest) × IsEndOf ending piece rest
+
+-- behind a piece that ends with the trace nothing is left
+abbrev pub LeavesNothing : Option (List ℕ) → Ending → Type 0
+LeavesNothing rest Lf = Unit {0}
+LeavesNothing rest Last = IsAtEnd rest
+LeavesNothing rest Endless = Unit {0}
+
+-- a fault of a reader or of memory, and not of a text
+abbrev pub IsOfReading : ReplayFault → Type 0
+IsOfReading (BadLine number) = ⊥
+IsOfReading TooManyLines = ⊥
+IsOfReading Read = Unit {0}
+IsOfReading Write = ⊥
+IsOfReading Memory = Unit {0}
+IsOfReading (Spent number) = ⊥
+
+-- the lines are those of the octets that a reader gives, where these are known
+abbrev pub IsTraceFrom : Option (List ℕ) → List Line → Type 0
+IsTraceFrom read lines = IfSome read (λ octets. TraceOf octets lines)
+
+-- a fault of the text is its first one, where its octets are known; no other faults come but those of a read and of memory
+abbrev pub IsFaultOfTrace : Option (List ℕ) → ReplayFault → Type 0
+IsFaultOfTrace read (BadLine number) = IfSome read (λ octets. IsFirstFault octets (BadLine number))
+IsFaultOfTrace read TooManyLines = IfSome read (λ octets. IsFirstFault octets TooManyLines)
+IsFaultOfTrace read Read = Unit {0}
+IsFaultOfTrace read Write = ⊥
+IsFaultOfTrace read Memory = Unit {0}
+IsFaultOfTrace read (Spent number) = ⊥
+
+-- the line is what its piece says, unless memory was refused
+abbrev pub GivesLine : ℕ → Result Line ReplayFault → Option Line → Type 0
+GivesLine number (Ok line) said = said ≡ Some line
+GivesLine number (Err (BadLine bad)) said = (bad ≡ number) × (said ≡ None)
+GivesLine number (Err TooManyLines) said = ⊥
+GivesLine number (Err Read) said = ⊥
+GivesLine number (Err Write) said = ⊥
+GivesLine number (Err Memory) said = Unit {0}
+GivesLine number (Err (Spent bad)) said = ⊥

@@ -1,0 +1,32 @@
+-- The words of a line of a trace.
+use Rattle.std.specs.Prelude.{ℕ, List, Option, Some, None, bytes_eq, codes, if◌then◌else◌}
+use Rattle.rrc_trace.specs.declared.word.Form.{Form}
+use Rattle.rrc_trace.specs.declared.word.Form.TheVariants as forms
+use Rattle.rrc_history.specs.declared.ask.Purpose.{Purpose}
+use Rattle.rrc_history.specs.declared.ask.Purpose.TheVariants as purposes
+use Rattle.rrc_history.specs.declared.ask.Mode.{Mode}
+use Rattle.rrc_history.specs.declared.ask.Mode.TheVariants as modes
+
+-- what a line is, by its first word
+abbrev pub form_of : List ℕ → Option Form
+form_of word =
+    if bytes_eq word (codes "put") then Some forms.Put
+    else if bytes_eq word (codes "ask") then Some forms.Ask
+    else if bytes_eq word (codes "fail") then Some forms.Fail
+    else if bytes_eq word (codes "sweep") then Some forms.Sweep
+    else None
+
+-- what an answer is for
+abbrev pub purpose_of : List ℕ → Option Purpose
+purpose_of word =
+    if bytes_eq word (codes "any") then Some purposes.Any
+    else if bytes_eq word (codes "answer") then Some purposes.Answer
+    else None
+
+-- whether a stale answer will do (RFC 8767 5)
+abbrev pub mode_of : List ℕ → Option Mode
+mode_of word =
+    if bytes_eq word (codes "none") then Some modes.NoStale
+    else if bytes_eq word (codes "failed") then Some modes.Failed
+    else if bytes_eq word (codes "now") then Some modes.Now
+    else None

@@ -1,0 +1,19 @@
+use rrc_history::{Outcome, Reply};
+use rrc_name::Key;
+
+/// What became of an offer, and the key that it evicted.
+#[derive(Debug, Drop)]
+pub struct Told {
+    pub outcome: Outcome,
+    pub evicted: Option<Key>,
+}
+
+/// What a line of a trace got.
+#[derive(Debug, Drop)]
+pub enum Answer {
+    Put(Told),
+    Ask(Reply),
+    Fail(Told),
+    /// How many keys a sweep removed.
+    Swept(usize),
+}

@@ -1,0 +1,41 @@
+use std::alloc::{AllocError, AllocFailed};
+use thiserror::Error;
+
+/// Why a trace has no report. Lines are numbered from 0, and the first fault is answered.
+#[derive(Clone, Copy, Debug, PartialEq, Eq, Hash, Error)]
+pub enum ReplayFault {
+    #[error("line {0} is not a line of a trace")]
+    BadLine(u64),
+    #[error("the trace has more than 1000000 lines")]
+    TooManyLines,
+    #[error("the trace could not be read")]
+    Read,
+    #[error("the report could not be written")]
+    Write,
+    #[error("memory or a thread was refused")]
+    Memory,
+    #[error("line {0} met a part whose numbers are spent")]
+    Spent(u64),
+}
+
+impl From<AllocError> for ReplayFault {
+    ghost use Rattle.std.specs.Prelude.{◌≡◌};
+    ghost use Rattle.rrc_trace.specs.declared.fault.ReplayFault.TheVariants.{Memory};
+
+    ghost from_gives = { λ _ fault. fault ≡ Memory };
+
+    fn from(_refused: AllocError) -> ReplayFault {
+        ReplayFault::Memory
+    }
+}
+
+impl<T: Drop> From<AllocFailed<T>> for ReplayFault {
+    ghost use Rattle.std.specs.Prelude.{◌≡◌};
+    ghost use Rattle.rrc_trace.specs.declared.fault.ReplayFault.TheVariants.{Memory};
+
+    ghost from_gives = { λ _ fault. fault ≡ Memory };
+
+    fn from(_refused: AllocFailed<T>) -> ReplayFault {
+        ReplayFault::Memory
+    }
+}

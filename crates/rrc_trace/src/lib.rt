@@ -1,0 +1,26 @@
+//! Traces of cache operations and reports of their answers: reading the one, and writing the text of the other.
+#![tactic(auto)]
+
+mod answer;
+mod fault;
+mod field;
+mod item;
+mod line;
+mod line_fault;
+mod name;
+mod number;
+mod reading;
+mod report;
+#[cfg(test)]
+mod tests;
+mod trace;
+mod word;
+mod writing;
+
+pub use answer::{Answer, Told};
+pub use fault::ReplayFault;
+pub use line::{Failed, Line, Put};
+pub use reading::{one_trace_or_fault, read_trace};
+pub use report::report_text;
+pub use trace::Trace;
+pub use writing::write_whole;

@@ -1,0 +1,182 @@
+ghost use Rattle.std.specs.Prelude.{◌≡◌, option_map};
+ghost use Rattle.rrc_trace.specs.Gives.{Gives};
+ghost use Rattle.rrc_trace.specs.Lines.{put_of, ask_of, fail_of, sweep_of, line_of, before_last, without_cr, bounded, line_of_piece};
+
+use crate::field::has_field;
+use crate::item::items_at;
+use crate::line_fault::LineFault;
+use crate::name::name_at;
+use crate::number::{moment_at, rtype_at, trust_at, ttl_at};
+use crate::word::{Form, form_at, mode_at, purpose_at};
+use rrc_history::{Ask, Trust};
+use rrc_name::{Name, Octets, Sequence};
+use std::alloc::Global;
+
+/// The most octets of a line, its LF not counted.
+pub(crate) const MOST_OCTETS: usize = 140_000;
+
+/// An RRset that a resolver puts into its cache, at a moment in seconds.
+#[derive(Debug, Drop)]
+pub struct Put {
+    pub moment: u64,
+    /// The owner, in the spelling of the line.
+    pub name: Name,
+    pub rtype: u16,
+    pub trust: Trust,
+    /// The time to live as written, in seconds.
+    pub ttl: u32,
+    /// The data, each once.
+    pub items: Sequence<Octets>,
+}
+
+/// A question that a resolver could not get answered, at a moment in seconds.
+#[derive(Debug, Drop)]
+pub struct Failed {
+    pub moment: u64,
+    /// The name, in the spelling of the line.
+    pub name: Name,
+    pub rtype: u16,
+}
+
+/// A line of a trace.
+#[derive(Debug, Drop)]
+pub enum Line {
+    Put(Put),
+    Ask(Ask),
+    Fail(Failed),
+    /// A sweep of what is dead at this moment, in seconds.
+    Sweep(u64),
+}
+
+/// The line whose first word was `put`.
+#[tactic(auto, unfolding(crate::specs::Lines::put_of))]
+fn put_in(alloc: Global, octets: &[u8]) -> Result<Line, LineFault>
+    ensures { Gives (λ line. line) result (put_of octets.now) }
+{
+    let (moment, rest) = moment_at(octets)?;
+    let (name, rest) = name_at(alloc, rest)?;
+    let (rtype, rest) = rtype_at(rest)?;
+    let (trust, rest) = trust_at(rest)?;
+    let (ttl, rest) = ttl_at(rest)?;
+    let (items, rest) = items_at(alloc, rest)?;
+    if has_field(rest) {
+        return Err(LineFault::NotOne);
+    }
+    Ok(Line::Put(Put {
+        moment,
+        name,
+        rtype,
+        trust,
+        ttl,
+        items,
+    }))
+}
+
+/// The line whose first word was `ask`.
+#[tactic(auto, unfolding(crate::specs::Lines::ask_of))]
+fn ask_in(alloc: Global, octets: &[u8]) -> Result<Line, LineFault>
+    ensures { Gives (λ line. line) result (ask_of octets.now) }
+{
+    let (moment, rest) = moment_at(octets)?;
+    let (name, rest) = name_at(alloc, rest)?;
+    let (rtype, rest) = rtype_at(rest)?;
+    let (purpose, rest) = purpose_at(rest)?;
+    let (mode, rest) = mode_at(rest)?;
+    if has_field(rest) {
+        return Err(LineFault::NotOne);
+    }
+    Ok(Line::Ask(Ask {
+        name: name.folded()?,
+        rtype,
+        moment,
+        purpose,
+        mode,
+    }))
+}
+
+/// The line whose first word was `fail`.
+#[tactic(auto, unfolding(crate::specs::Lines::fail_of))]
+fn fail_in(alloc: Global, octets: &[u8]) -> Result<Line, LineFault>
+    ensures { Gives (λ line. line) result (fail_of octets.now) }
+{
+    let (moment, rest) = moment_at(octets)?;
+    let (name, rest) = name_at(alloc, rest)?;
+    let (rtype, rest) = rtype_at(rest)?;
+    if has_field(rest) {
+        return Err(LineFault::NotOne);
+    }
+    Ok(Line::Fail(Failed {
+        moment,
+        name,
+        rtype,
+    }))
+}
+
+/// The line whose first word was `sweep`.
+#[tactic(auto, unfolding(crate::specs::Lines::sweep_of))]
+fn sweep_in(octets: &[u8]) -> Result<Line, LineFault>
+    ensures { Gives (λ line. line) result (sweep_of octets.now) }
+{
+    let (moment, rest) = moment_at(octets)?;
+    if has_field(rest) {
+        return Err(LineFault::NotOne);
+    }
+    Ok(Line::Sweep(moment))
+}
+
+/// The line that octets without its end spell.
+fn line_in(alloc: Global, octets: &[u8]) -> Result<Line, LineFault>
+    ensures { Gives (λ line. line) result (line_of octets.now) }
+{
+    let (form, rest) = form_at(octets)?;
+    match form {
+        Form::Put => put_in(alloc, rest),
+        Form::Ask => ask_in(alloc, rest),
+        Form::Fail => fail_in(alloc, rest),
+        Form::Sweep => sweep_in(rest),
+    }
+}
+
+/// The octets before the last one, where that is this one.
+fn before_last(octets: &[u8], last: u8) -> Option<&[u8]>
+    ensures { option_map (λ front. front.now) result ≡ before_last octets.now last }
+{
+    if octets.is_empty() {
+        return None;
+    }
+    let end = octets.len() - 1;
+    if octets[end] == last {
+        Some(&octets[..end])
+    } else {
+        None
+    }
+}
+
+fn without_cr(octets: &[u8]) -> &[u8]
+    ensures { result.now ≡ without_cr octets.now }
+{
+    match before_last(octets, b'\r') {
+        Some(front) => front,
+        None => octets,
+    }
+}
+
+fn bounded(octets: &[u8]) -> Result<&[u8], LineFault>
+    ensures { Gives (λ octets. octets.now) result (bounded octets.now) }
+{
+    if octets.len() <= MOST_OCTETS {
+        Ok(octets)
+    } else {
+        Err(LineFault::NotOne)
+    }
+}
+
+/// The line of a piece of a trace, which ends with its LF or with the trace. A CR before an LF is dropped.
+pub(crate) fn line_of_piece(alloc: Global, piece: &[u8]) -> Result<Line, LineFault>
+    ensures { Gives (λ line. line) result (line_of_piece piece.now) }
+{
+    match before_last(piece, b'\n') {
+        Some(octets) => line_in(alloc, without_cr(bounded(octets)?)),
+        None => line_in(alloc, bounded(piece)?),
+    }
+}

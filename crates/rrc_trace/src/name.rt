@@ -1,0 +1,35 @@
+ghost use Rattle.std.specs.Prelude.{◌≡◌};
+ghost use Rattle.rrc_trace.specs.Fields.{said_at};
+ghost use Rattle.rrc_trace.specs.Gives.{Gives};
+ghost use Rattle.rrc_trace.specs.Names.{name_of};
+
+use crate::field::field_at;
+use crate::line_fault::LineFault;
+use rrc_name::{Name, NameFault};
+use std::alloc::Global;
+use std::str;
+
+/// The name that a field spells, in its spelling.
+fn name_in(alloc: Global, field: &[u8]) -> Result<Name, LineFault>
+    ensures { Gives (λ name. name) result (name_of field.now) }
+{
+    if !field.is_ascii() {
+        return Err(LineFault::NotOne);
+    }
+    let Ok(text) = str::from_utf8(field) else {
+        return Err(LineFault::NotOne);
+    };
+    match Name::from_text(alloc, text) {
+        Ok(name) => Ok(name),
+        Err(NameFault::Memory) => Err(LineFault::Memory),
+        Err(_) => Err(LineFault::NotOne),
+    }
+}
+
+/// A name, and the octets behind it.
+pub(crate) fn name_at(alloc: Global, octets: &[u8]) -> Result<(Name, &[u8]), LineFault>
+    ensures { Gives (λ found. (found.0, found.1.now)) result (said_at name_of octets.now) }
+{
+    let (field, rest) = field_at(octets)?;
+    Ok((name_in(alloc, field)?, rest))
+}

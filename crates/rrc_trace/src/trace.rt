@@ -1,0 +1,24 @@
+use crate::line::Line;
+use rrc_name::Sequence;
+use std::marker::Model;
+
+/// The lines of a trace, in order: at most 1,000,000. Each has a moment of at most 2^40 seconds, its type is one that is kept,
+/// and a put has 1 to 256 data. Contracts see the list of lines.
+#[derive(Debug, Drop)]
+pub struct Trace {
+    pub lines: Sequence<Line>,
+}
+
+impl Model for Trace {
+    ghost use Rattle.std.specs.Prelude.{List};
+    ghost use Rattle.rrc_trace.specs.declared.line.Line.{Line};
+    ghost use Rattle.rrc_trace.specs.Lawful.{AreLawful};
+
+    ghost Value = { List Line };
+
+    ghost view = { λ t. t.lines };
+
+    ghost invariant = { λ t. AreLawful t.lines };
+
+    ghost inverse = { λ lines. record { lines = lines } };
+}

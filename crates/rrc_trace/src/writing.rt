@@ -1,0 +1,30 @@
+ghost use Rattle.std.specs.Prelude.{◌≡◌, IfOk, OnOk, OnErr, take, Err, ℕ};
+ghost use Rattle.std.specs.Io.KnownBytes.{Appends};
+ghost use Rattle.rrc_trace.specs.Writing.{AppendsFront};
+
+use crate::fault::ReplayFault;
+use std::io::Write;
+
+/// Writes octets, and flushes. `Write` where a write or the flush failed, or a write took nothing; a beginning of the octets
+/// went out then. Nothing that failed is tried again.
+pub fn write_whole<W: Write>(writer: &mut W, octets: &[u8]) -> Result<(), ReplayFault>
+    ensures ok { OnOk result (Appends (W.contents writer.old) (W.contents writer.new) octets.now) }
+    ensures err { OnErr result (result ≡ Err ReplayFault.Write) }
+    ensures front { OnErr result (AppendsFront (W.contents writer.old) (W.contents writer.new) octets.now) }
+{
+    let mut written = 0;
+    for _ in 0..octets.len() {
+        if written >= octets.len() {
+            break;
+        }
+        match writer.write(&octets[written..]) {
+            Ok(0) => return Err(ReplayFault::Write),
+            Ok(taken) => written += taken,
+            Err(_) => return Err(ReplayFault::Write),
+        }
+    }
+    match writer.flush() {
+        Ok(()) => Ok(()),
+        Err(_) => Err(ReplayFault::Write),
+    }
+}

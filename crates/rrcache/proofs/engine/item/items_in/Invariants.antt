@@ -1,6 +1,0 @@
--- the pieces that are left say, behind the items so far, what all of them say
-use Rattle.rrcache.proofs.ItemLemmas.{IsRead}
-use Rattle.rrcache.proofs.engine.item.items_in.Given as goal
-
-abbrev pub invariant-loop-seen : goal.invariant-loop-seen
-invariant-loop-seen l = IsRead l.field l.items l._seen l.rest

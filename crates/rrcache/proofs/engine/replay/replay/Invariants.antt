@@ -1,7 +1,0 @@
--- the part has answered the lines so far
-use Rattle.std.proofs.Common.{take}
-use Rattle.rrcache.proofs.ReplayLemmas.{HasAnswered}
-use Rattle.rrcache.proofs.engine.replay.replay.Given as goal
-
-abbrev pub invariant-loop-number : goal.invariant-loop-number
-invariant-loop-number l = HasAnswered l.rules l.part (take l.number l.trace) l.answers
