@@ -1,4 +1,4 @@
-use rrc_name::{Name, Octets, Sequence};
+use rrc_name::{Name, Octets, Sequence, Shared};
 use std::alloc::AllocError;
 
 /// How far the place where a set stood is trusted (RFC 2181 section 5.4.1), from low to high.
@@ -21,7 +21,7 @@ pub enum Body {
     /// The data of an RRset, one at least, under the spelling of its owner as received; for `ttl` seconds.
     Positive {
         owner: Name,
-        items: Sequence<Octets>,
+        items: Shared<Sequence<Octets>>,
         trust: Trust,
         ttl: u32,
     },
@@ -29,7 +29,7 @@ pub enum Body {
     /// for `ttl` seconds.
     Negative {
         soa_owner: Name,
-        soa: Octets,
+        soa: Shared<Octets>,
         trust: Trust,
         ttl: u32,
     },

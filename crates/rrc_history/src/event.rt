@@ -1,6 +1,6 @@
 use crate::ask::Ask;
 use crate::offer::Offer;
-use rrc_name::{Key, Name, Octets, Sequence};
+use rrc_name::{Key, Name, Octets, Sequence, Shared};
 use std::alloc::AllocError;
 
 /// What became of an offer.
@@ -18,14 +18,14 @@ pub enum Outcome {
 #[derive(Debug, Drop, PartialEq, Eq)]
 pub struct RrSet {
     pub owner: Name,
-    pub items: Sequence<Octets>,
+    pub items: Shared<Sequence<Octets>>,
 }
 
 /// The SOA record that tells that a name or a type does not exist, its data expanded.
 #[derive(Debug, Drop, PartialEq, Eq)]
 pub struct Soa {
     pub owner: Name,
-    pub octets: Octets,
+    pub octets: Shared<Octets>,
 }
 
 /// What a cache answers.

@@ -1,15 +1,15 @@
-use crate::name::{Key, Name, NameFault, Octets, Sequence, Slot};
+use crate::name::{Key, Name, NameFault, Octets, Sequence, Shared, Slot};
 use crate::{Ask, Body, Mode, Offer, OfferFault, Purpose, Reply, RrSet, Rules, Soa, Trust};
 use std::alloc::{AllocError, Global};
 use std::test::Fail;
 
 /// The address 192.0.2.1, where one is wanted.
-fn addresses(alloc: Global, some: bool) -> Result<Sequence<Octets>, AllocError> {
+fn addresses(alloc: Global, some: bool) -> Result<Shared<Sequence<Octets>>, AllocError> {
     let mut items = Sequence::new(alloc);
     if some {
         items.push(Octets::from_slice(alloc, &[192, 0, 2, 1])?)?;
     }
-    Ok(items)
+    Ok(Shared::new(alloc, items)?)
 }
 
 /// A set of addresses, from an authoritative answer.
@@ -26,7 +26,7 @@ fn body(alloc: Global, owner: &str, some: bool, ttl: u32) -> Result<Body, NameFa
 fn negative(alloc: Global, ttl: u32) -> Result<Body, NameFault> {
     Ok(Body::Negative {
         soa_owner: Name::from_text(alloc, "example.")?,
-        soa: Octets::from_slice(alloc, &[0, 0, 0, 0, 1])?,
+        soa: Shared::new(alloc, Octets::from_slice(alloc, &[0, 0, 0, 0, 1])?)?,
         trust: Trust::AuthoritativeAnswer,
         ttl,
     })
@@ -174,7 +174,7 @@ fn set(alloc: Global) -> Result<RrSet, NameFault> {
 fn soa(alloc: Global) -> Result<Soa, NameFault> {
     Ok(Soa {
         owner: Name::from_text(alloc, "Example.")?,
-        octets: Octets::from_slice(alloc, &[0, 0, 0, 0, 1])?,
+        octets: Shared::new(alloc, Octets::from_slice(alloc, &[0, 0, 0, 0, 1])?)?,
     })
 }
 

@@ -14,6 +14,9 @@ mod order;
 mod order_tests;
 mod printed;
 mod sequence;
+mod shared;
+#[cfg(test)]
+mod shared_tests;
 mod slot;
 mod text;
 
@@ -23,4 +26,5 @@ pub use laws::reading_undoes_printing;
 pub use name::Name;
 pub use octets::Octets;
 pub use sequence::Sequence;
+pub use shared::Shared;
 pub use slot::Slot;

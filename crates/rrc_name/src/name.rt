@@ -6,6 +6,7 @@ ghost use Rattle.rrc_name.specs.Text.{name_in, text_of};
 
 use crate::fault::NameFault;
 use crate::octets::Octets;
+use crate::shared::Shared;
 use crate::{order, printed, text};
 use std::alloc::{AllocError, Global};
 use std::cmp::Ordering;
@@ -15,7 +16,7 @@ use std::marker::Model;
 /// octets behind its length, and a zero octet at the end, at most 255 octets in all.
 #[derive(Debug, Drop, PartialEq, Eq, Hash)]
 pub struct Name {
-    pub wire: Octets,
+    pub wire: Shared<Octets>,
 }
 
 impl Model for Name {
@@ -37,7 +38,7 @@ impl Name {
         ensures { IfOk result (λ name. name ≡ 0 ∷ []) }
     {
         Ok(Name {
-            wire: Octets::from_slice(alloc, &[0])?,
+            wire: Shared::new(alloc, Octets::from_slice(alloc, &[0])?)?,
         })
     }
 
@@ -53,8 +54,9 @@ impl Name {
         if text == b".".as_slice() {
             return Ok(Name::root(alloc)?);
         }
+        let wire = Octets::from_vec(text::wire_in(alloc, text)?);
         Ok(Name {
-            wire: Octets::from_vec(text::wire_in(alloc, text)?),
+            wire: Shared::new(alloc, wire)?,
         })
     }
 
@@ -75,12 +77,23 @@ impl Name {
         self.wire.len()
     }
 
-    /// The name with its letters A to Z as a to z.
+    /// The octets of the wire form.
+    pub fn as_slice(&self) -> &[u8]
+        ensures value { result.now ≡ self.now }
+        ensures name { IsWireForm self.now }
+    {
+        self.wire.as_slice()
+    }
+
+    /// The name with its letters A to Z as a to z. Where it has none, that is a clone, which takes no memory.
     pub fn folded(&self) -> Result<Name, AllocError>
         ensures { IfOk result (λ name. name ≡ folded self.now) }
     {
+        if is_folded(self.wire.as_slice()) {
+            return self.clone();
+        }
         Ok(Name {
-            wire: self.wire.lowered()?,
+            wire: Shared::new(self.wire.alloc(), self.wire.lowered()?)?,
         })
     }
 
@@ -110,6 +123,14 @@ impl Name {
     {
         order::is_within(self.wire.as_slice(), zone.wire.as_slice())
     }
+}
+
+/// Whether the octets have no letter A to Z.
+fn is_folded(wire: &[u8]) -> bool
+    ensures { IsTrue result ↔ IsFolded wire.now }
+{
+    wire.iter()
+        .all(|octet| octet.to_ascii_lowercase() == *octet)
 }
 
 impl Clone for Name {

@@ -4,7 +4,7 @@ ghost use Rattle.rrc_wire.specs.Name.{name_at};
 
 use crate::fault::WireFault;
 use crate::item::{Item, Run, item_at};
-use rrc_name::{Name, Octets};
+use rrc_name::{Name, Octets, Shared};
 use std::alloc::Global;
 
 /// Names of at most this many octets are read with one request for memory.
@@ -29,7 +29,7 @@ pub(crate) fn read_name(
             Item::End => {
                 wire.push(0)?;
                 let name = Name {
-                    wire: Octets::from_vec(wire),
+                    wire: Shared::new(alloc, Octets::from_vec(wire))?,
                 };
                 return Ok((name, behind.unwrap_or(place + 1)));
             }

@@ -20,5 +20,5 @@ loop-preserved c =
     let message = c.args.message.now in let name = c.in_ok-name.name in
     let read : name_in_data message c.args.end c.loop.next ≡ Ok (name, c.in_ok-name.behind) = ap (name_at message) (sym c.in_data.ensures) ∙ c.in_ok-name.ensures.gives in
     let octets : c.extend_from_slice.new.self.items ≡ c.loop.before.items ++ name =
-    c.in_ok-extend_from_slice.ensures.items ∙ ap (λ n. c.loop.before.items ++ n) (c.as_slice.ensures ∙ c.name.view_is) in
+    c.in_ok-extend_from_slice.ensures.items ∙ ap (λ n. c.loop.before.items ++ n) (c.as_slice.ensures ∙ (c.deref.ensures ∙ c.name.view_is)) in
     rw octets (sym (times-more (name_in_data message c.args.end) c.args.names c.loop.counter c.loop.before.items c.loop.next (name, c.in_ok-name.behind) c.loop-test.true read) ∙ c.loop.invariant)

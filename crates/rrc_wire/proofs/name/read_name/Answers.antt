@@ -31,7 +31,7 @@ returns-in_err-item_at-clause-gives c =
 
 pub invariant_of-name : goal.invariant_of-name
 invariant_of-name c =
-    let octets : c.from_vec.result ≡ c.loop-wire.wire.items ++ 0 ∷ [] = c.from_vec.ensures ∙ c.in_ok-push-in-End.ensures.items in
+    let octets : c.in_ok-new-in-End.field-0 ≡ c.loop-wire.wire.items ++ 0 ∷ [] = c.in_ok-new-in-End.ensures.ok ∙ (c.from_vec.ensures ∙ c.in_ok-push-in-End.ensures.items) in
     subst IsWireForm (sym octets) (name_of_labels c.loop-wire.wire.items c.loop-wire.invariant.labels)
 
 pub returns-in-End-clause-gives : goal.returns-in-End-clause-gives
@@ -39,7 +39,7 @@ returns-in-End-clause-gives c =
     let loop = c.loop-wire in
     let size : length loop.wire.items ≡ c.len.result = omega (arith, c.len.ensures, loop.wire.ok) in
     let item : item_at c.args.message.now loop.run (length loop.wire.items) loop.place ≡ Ok End = ap (λ n. item_at c.args.message.now loop.run n loop.place) size ∙ c.in_ok-item_at.ensures ∙ ap Ok c.in-End.is in
-    let octets : c.from_vec.result ≡ loop.wire.items ++ 0 ∷ [] = c.from_vec.ensures ∙ c.in_ok-push-in-End.ensures.items in
+    let octets : c.in_ok-new-in-End.field-0 ≡ loop.wire.items ++ 0 ∷ [] = c.in_ok-new-in-End.ensures.ok ∙ (c.from_vec.ensures ∙ c.in_ok-push-in-End.ensures.items) in
     rw (octets, c.unwrap_or.ensures) (goes-End c.args.message.now c.args.first loop.run loop.wire.items loop.behind loop.place loop.invariant.labels.room loop.invariant.goes item)
 
 pub loop-wire-preserved-in-Label : goal.loop-wire-preserved-in-Label

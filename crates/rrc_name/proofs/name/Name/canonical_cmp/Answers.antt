@@ -9,7 +9,7 @@ returns-clause-same c =
     let is = subst IsWireForm c.self.view_is c.self.invariant in
     let is_other = subst IsWireForm c.other.view_is c.other.invariant in
     let order : c.order_of_names.result ≡ canonical_order c.args.self.now c.args.other.now =
-    rw (← c.self.view_is, ← c.other.view_is, ← c.as_slice.ensures, ← c.as_slice-2.ensures) c.order_of_names.ensures in (
+    rw (← c.self.view_is, ← c.other.view_is, ← c.deref.ensures, ← c.deref-2.ensures, ← c.as_slice.ensures, ← c.as_slice-2.ensures) c.order_of_names.ensures in (
       λ tied. same-from_tie c.args.self.now c.args.other.now is is_other (sym order ∙ tied),
       λ same. order ∙ tie-from_same c.args.self.now c.args.other.now is is_other same,
     )

@@ -8,7 +8,8 @@ use Rattle.rrc_name.proofs.name.Name.to_text.Goals as goal
 pub returns-clause-read_again : goal.returns-clause-read_again
 returns-clause-read_again c =
     let wire = c.as_slice.result.now in
-    let is = subst IsWireForm (sym c.as_slice.ensures) c.self.invariant in
+    let seen = c.as_slice.ensures ∙ c.deref-2.ensures in
+    let is = subst IsWireForm (sym seen) c.self.invariant in
     IfOk-weaker c.text_in.result (λ text. string_bytes text ≡ text_of wire) (λ text. name_in (string_bytes text) ≡ Ok c.args.self.now)
-    (λ text same. ap name_in same ∙ (read_again wire is ∙ ap Ok (c.as_slice.ensures ∙ c.self.view_is)))
+    (λ text same. ap name_in same ∙ (read_again wire is ∙ ap Ok (seen ∙ c.self.view_is)))
     c.text_in.ensures

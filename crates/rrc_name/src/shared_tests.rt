@@ -1,0 +1,67 @@
+use crate::name::Name;
+use crate::octets::Octets;
+use crate::sequence::Sequence;
+use crate::shared::Shared;
+use lru::LruCache;
+use std::alloc::AllocError;
+use std::num::NonZeroUsize;
+use std::ops::Deref;
+use std::test::Fail;
+
+fn shared(rt: &HostRuntime, octets: &[u8]) -> Result<Shared<Octets>, AllocError> {
+    Ok(Shared::new(rt.alloc(), Octets::from_slice(rt.alloc(), octets)?)?)
+}
+
+/// The number of octets that something shows.
+fn shown<D: Deref<Target = Octets>>(it: &D) -> usize {
+    it.deref().len()
+}
+
+#[test]
+fn owners_see_one_value(rt: HostRuntime) -> Result<(), Fail> {
+    let octets = shared(&rt, &[192, 0, 2, 1])?;
+    let other = octets.clone()?;
+    assert!(rt; other == octets);
+    assert_eq!(rt; octets.owners(), 2);
+    assert!(rt; octets == shared(&rt, &[192, 0, 2, 1])?);
+    assert!(rt; octets != shared(&rt, &[192, 0, 2, 2])?);
+    assert_eq!(rt; shown(&octets), 4);
+
+    // The value stays while it has an owner.
+    drop(octets);
+    assert_eq!(rt; other.owners(), 1);
+    assert_eq!(rt; other.as_slice(), [192, 0, 2, 1].as_slice());
+    Ok(())
+}
+
+#[test]
+fn owners_stand_in_lists_and_maps(rt: HostRuntime) -> Result<(), Fail> {
+    let mut list = Sequence::new(rt.alloc());
+    list.push(shared(&rt, &[1, 2])?)?;
+    list.push(shared(&rt, &[])?)?;
+    assert!(rt; list.clone()? == list);
+
+    let mut cache = LruCache::new(rt.alloc(), NonZeroUsize::new(2).ok_or("no room")?)?;
+    cache.put(shared(&rt, &[1, 2])?, 1)?;
+    cache.put(shared(&rt, &[1, 3])?, 2)?;
+    assert_eq!(rt; cache.get(&shared(&rt, &[1, 2])?).copied(), Some(1));
+    assert_eq!(rt; cache.get(&shared(&rt, &[2, 1])?).copied(), None);
+    assert_eq!(rt;
+        format!(in rt.alloc(); "{:?}", shared(&rt, &[1, 2])?)?,
+        format!(in rt.alloc(); "{:?}", Octets::from_slice(rt.alloc(), &[1, 2])?)?
+    );
+    Ok(())
+}
+
+#[test]
+fn a_folded_name_is_shared(rt: HostRuntime) -> Result<(), Fail> {
+    let mixed = Name::from_text(rt.alloc(), "wWw.example")?;
+    let low = mixed.folded()?;
+    assert_eq!(rt; low.as_slice(), b"\x03www\x07example\0".as_slice());
+    assert_eq!(rt; mixed.as_slice(), b"\x03wWw\x07example\0".as_slice());
+    assert_eq!(rt; low.wire.owners(), 1);
+    let again = low.folded()?;
+    assert!(rt; again == low);
+    assert_eq!(rt; low.wire.owners(), 2);
+    Ok(())
+}
