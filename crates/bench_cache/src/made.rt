@@ -5,7 +5,7 @@ use crate::numbers::Numbers;
 use anyhow::{Context, Result};
 use rrc_cache::Part;
 use rrc_history::{Ask, Body, Mode, Offer, Purpose, Rules, Trust};
-use rrc_name::{Key, Name, Octets, Sequence, Slot};
+use rrc_name::{Key, Name, Octets, Sequence, Shared, Slot};
 use std::alloc::Global;
 
 /// How many events the chapter has room for.
@@ -27,7 +27,7 @@ fn offer(alloc: Global, number: u64, moment: u64) -> Result<Offer> {
     items.push(Octets::from_slice(alloc, &[192, 0, 2, 1])?)?;
     let body = Body::Positive {
         owner: key.name().clone()?,
-        items,
+        items: Shared::new(alloc, items)?,
         trust: Trust::AuthoritativeAnswer,
         ttl: TTL,
     };
