@@ -1,5 +1,6 @@
 #!/usr/bin/env python3
-"""Times the message reader on responses of 43 and of 512 octets, a message of many small records and a chain of pointers.
+"""Times the message reader on responses of 43 and of 512 octets, a message of many small records, a chain of pointers, a message whose
+names all go through a chain, and one whose names expand most; and tells how much longer the last but one takes than the last.
 
 Build the program first, by `rt run` in crates/bench_wire. Each line is the median of RUNS runs, less a run of no pass.
 """
@@ -48,6 +49,27 @@ def chain():
     return header(2) + first + pointers + bytes.fromhex("fe9a000100010000003c0004c0000201")
 
 
+def minfo(name):
+    """A record of 16 octets with three names, each of them this pointer (RFC 1035 section 3.3.7)."""
+    return name + bytes.fromhex("000e00010000003c0004") + name + name
+
+
+def chains():
+    """A chain of 8,178 pointers, and as many records as 65,535 octets hold, whose names all go through it."""
+    pointers = b"".join(struct.pack(">H", 0xC000 + 26 + 2 * i) for i in range(1, 8178))
+    first = bytes.fromhex("0000010001") + bytes.fromhex("00001000010000003c3fe4") + bytes(2)
+    count = (65535 - 16384) // 16
+    return header(1 + count) + first + pointers + minfo(bytes.fromhex("fffe")) * count
+
+
+def expanding():
+    """As many records as 65,535 octets hold, with three names of 255 octets each."""
+    name = b"".join(bytes([size]) + size * b"x" for size in (63, 63, 63, 61)) + bytes(1)
+    question = name + bytes.fromhex("00010001")
+    count = (65535 - 12 - len(question)) // 16
+    return header(count) + question + minfo(bytes.fromhex("c00c")) * count
+
+
 def seconds(path, passes):
     """Runs the program once, and answers how long it took and what it printed."""
     start = time.perf_counter()
@@ -62,8 +84,10 @@ def main():
     args = parser.parse_args()
     if not PROGRAM.exists():
         sys.exit("build the program first: `rt run` in crates/bench_wire")
+    messages = (small, usual, crowded, chain, chains, expanding)
+    each = {}
     with tempfile.TemporaryDirectory() as folder:
-        for name, message in (("small", small()), ("usual", usual()), ("crowded", crowded()), ("chain", chain())):
+        for name, message in ((make.__name__, make()) for make in messages):
             path = pathlib.Path(folder) / name
             path.write_text(message.hex() + "\n")
             passes = max(1, args.octets // len(message))
@@ -73,6 +97,11 @@ def main():
             idle = statistics.median(seconds(path, 0)[0] for _ in range(args.runs))
             took = statistics.median(seconds(path, passes)[0] for _ in range(args.runs)) - idle
             print(f"{name}, {len(message)} octets: {passes / took:,.0f} messages and {passes * len(message) / took / 1e6:,.1f} million octets a second")
+            each[name] = took / passes
+    ratio = each["chains"] / each["expanding"]
+    print(f"chains take {ratio:.2f} times as long as expanding")
+    if ratio > 3:
+        sys.exit("that is more than 3 times")
 
 
 if __name__ == "__main__":

@@ -3,6 +3,7 @@ pub mod NameLoop
 pub mod Pieces
 pub mod Steps
 pub mod NameGrammar
+pub mod Chains
 pub mod RecordGrammar
 pub mod MessageGrammar
 pub mod NoMemory

@@ -8,4 +8,5 @@ pub mod Data
 pub mod Record
 pub mod Message
 pub mod Grammar
+pub mod Chain
 pub mod Law

@@ -1,5 +1,4 @@
 ghost use Rattle.std.specs.Prelude.{◌≡◌, ◌<◌, ◌≤◌, length};
-ghost use Rattle.rrc_wire.specs.Reading.{Gives};
 ghost use Rattle.rrc_wire.specs.Item.{item_at, label_at, pointer_at, to_end, in_data};
 
 use crate::fault::WireFault;
@@ -53,7 +52,7 @@ fn label_at(run: Run, size: usize, place: usize, octets: usize) -> Result<Item, 
     requires size { size ≤ 255 }
     requires label { octets < 64 }
     requires place { place < run.end }
-    ensures { Gives (λ item. item) result (label_at run size place octets) }
+    ensures { result ≡ label_at run size place octets }
 {
     if size + octets + 2 > 255 {
         return Err(WireFault::NameTooLong);
@@ -68,7 +67,7 @@ fn label_at(run: Run, size: usize, place: usize, octets: usize) -> Result<Item, 
 fn pointer_at(message: &[u8], run: Run, place: usize) -> Result<Item, WireFault>
     requires within { run.end ≤ length message.now }
     requires place { place < run.end }
-    ensures { Gives (λ item. item) result (pointer_at message.now run place) }
+    ensures { result ≡ pointer_at message.now run place }
 {
     if run.end - place < 2 {
         return Err(run.past);
@@ -89,7 +88,7 @@ pub(crate) fn item_at(
 ) -> Result<Item, WireFault>
     requires within { run.end ≤ length message.now }
     requires size { size ≤ 255 }
-    ensures { Gives (λ item. item) result (item_at message.now run size place) }
+    ensures { result ≡ item_at message.now run size place }
 {
     if place >= run.end {
         return Err(run.past);

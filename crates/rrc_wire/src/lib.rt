@@ -11,10 +11,11 @@ mod message;
 mod name;
 mod question;
 mod record;
+mod source;
 
 pub use fault::WireFault;
 pub use layout::is_kept;
-pub use message::{Message, one_message_or_fault, read_message};
+pub use message::{Message, chains_lead_to_names, one_message_or_fault, read_message};
 pub use question::Question;
 pub use record::Rr;
 

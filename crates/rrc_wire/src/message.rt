@@ -2,12 +2,14 @@ ghost use Rattle.std.specs.Prelude.{◌≡◌, ◌⊎◌, ℕ, List, IfOk, IfErr
 ghost use Rattle.rrc_wire.specs.Reading.{Gives};
 ghost use Rattle.rrc_wire.specs.Message.{message_in, FirstFault};
 ghost use Rattle.rrc_wire.specs.Grammar.{MessageOf};
+ghost use Rattle.rrc_wire.specs.Chain.{LeadsToName};
 ghost use Rattle.rrc_wire.specs.Law.{BeginsWithMessage, HasFault};
 
 use crate::fault::WireFault;
 use crate::header::{self, header_of};
 use crate::question::{Question, read_question};
 use crate::record::{Rr, read_section};
+use crate::source::Source;
 use rrc_name::Sequence;
 use std::alloc::Global;
 
@@ -32,7 +34,8 @@ pub struct Message {
 }
 
 /// The message that some octets begin with; those behind its last record are ignored. Records of a class other than IN, or of a
-/// type that is not kept, are read over. A message of n octets takes time in proportion to n and to what its names expand to.
+/// type that is not kept, are read over. The time is in proportion to the octets of the message and to those that its names expand
+/// to; chains of pointers cost no more.
 ///
 /// The first fault in the order of reading is answered, or `Memory` where memory was refused before it.
 pub fn read_message(alloc: Global, octets: &[u8]) -> Result<Message, WireFault>
@@ -48,15 +51,22 @@ pub fn one_message_or_fault()
     ensures { (octets : List ℕ) → BeginsWithMessage octets ⊎ HasFault octets }
 {}
 
+/// The law of pointers: a chain of them leads from each place to one last place, and a name stands at the first exactly where it
+/// stands at the last.
+pub fn chains_lead_to_names()
+    ensures { (message : List ℕ) (place : ℕ) → LeadsToName message place }
+{}
+
 /// The message that some octets begin with, field by field.
 fn read_whole(alloc: Global, message: &[u8]) -> Result<Message, WireFault>
     ensures { Gives (λ found. found) result (message_in message.now) }
 {
     let header = header_of(message)?;
-    let (question, next) = read_question(alloc, message, header::SIZE)?;
-    let (answer, next) = read_section(alloc, message, header.answers, next)?;
-    let (authority, next) = read_section(alloc, message, header.authorities, next)?;
-    let (additional, _next) = read_section(alloc, message, header.additionals, next)?;
+    let mut source = Source::new(alloc, message);
+    let (question, next) = read_question(&mut source, header::SIZE)?;
+    let (answer, next) = read_section(&mut source, header.answers, next)?;
+    let (authority, next) = read_section(&mut source, header.authorities, next)?;
+    let (additional, _next) = read_section(&mut source, header.additionals, next)?;
     Ok(Message {
         id: header.id,
         opcode: header.opcode,

@@ -4,23 +4,21 @@ ghost use Rattle.rrc_wire.specs.Name.{name_at};
 
 use crate::fault::WireFault;
 use crate::item::{Item, Run, item_at};
+use crate::source::Source;
 use rrc_name::{Name, Octets, Shared};
-use std::alloc::Global;
 
 /// Names of at most this many octets are read with one request for memory.
 const USUAL_SIZE: usize = 64;
 
-/// The name whose first run is given, with the pointers in it followed, and the place behind it.
-pub(crate) fn read_name(
-    alloc: Global,
-    message: &[u8],
-    first: Run,
-) -> Result<(Name, usize), WireFault>
-    requires { first.end ≤ length message.now }
-    ensures gives { Gives (λ read. read) result (name_at message.now first) }
+/// The name whose first run is given, with the pointers in it followed, and the place behind it. A chain of pointers is one step.
+pub(crate) fn read_name(source: &mut Source<'_>, first: Run) -> Result<(Name, usize), WireFault>
+    requires { first.end ≤ length source.old }
+    ensures gives { Gives (λ read. read) result (name_at source.old first) }
     ensures within { IfOk result (λ read. read.1 ≤ first.end) }
+    ensures same { source.new ≡ source.old }
 {
-    let mut wire = Vec::with_capacity(alloc, USUAL_SIZE)?;
+    let message = source.message();
+    let mut wire = Vec::with_capacity(source.alloc(), USUAL_SIZE)?;
     let mut run = first;
     let mut place = first.start;
     let mut behind = None;
@@ -29,7 +27,7 @@ pub(crate) fn read_name(
             Item::End => {
                 wire.push(0)?;
                 let name = Name {
-                    wire: Shared::new(alloc, Octets::from_vec(wire))?,
+                    wire: Shared::new(source.alloc(), Octets::from_vec(wire))?,
                 };
                 return Ok((name, behind.unwrap_or(place + 1)));
             }
@@ -40,8 +38,8 @@ pub(crate) fn read_name(
             }
             Item::Pointer(target) => {
                 behind = Some(behind.unwrap_or(place + 2));
-                run = Run::to_end(message, target);
-                place = target;
+                place = source.end_of_chain(target)?;
+                run = Run::to_end(message, place);
             }
         }
     }

@@ -1,4 +1,4 @@
-ghost use Rattle.std.specs.Prelude.{◌≤◌, length, IfOk};
+ghost use Rattle.std.specs.Prelude.{◌≡◌, ◌≤◌, length, IfOk};
 ghost use Rattle.rrc_wire.specs.Reading.{Gives};
 ghost use Rattle.rrc_wire.specs.Question.{question_at};
 
@@ -6,8 +6,8 @@ use crate::fault::WireFault;
 use crate::field::{within, word_at};
 use crate::item::Run;
 use crate::name::read_name;
+use crate::source::Source;
 use rrc_name::Name;
-use std::alloc::Global;
 
 /// What a message answers (RFC 1035 section 4.1.2).
 #[derive(Debug, Drop, PartialEq, Eq)]
@@ -20,14 +20,15 @@ pub struct Question {
 /// The question at a place, and the place behind it.
 #[tactic(auto, unfolding(crate::specs::Question::question_at))]
 pub(crate) fn read_question(
-    alloc: Global,
-    message: &[u8],
+    source: &mut Source<'_>,
     place: usize,
 ) -> Result<(Question, usize), WireFault>
-    ensures gives { Gives (λ read. read) result (question_at message.now place) }
-    ensures within { IfOk result (λ read. read.1 ≤ length message.now) }
+    ensures gives { Gives (λ read. read) result (question_at source.old place) }
+    ensures within { IfOk result (λ read. read.1 ≤ length source.old) }
+    ensures same { source.new ≡ source.old }
 {
-    let (name, fields) = read_name(alloc, message, Run::to_end(message, place))?;
+    let message = source.message();
+    let (name, fields) = read_name(source, Run::to_end(message, place))?;
     let next = within(message, fields, 4)?;
     let question = Question {
         name,

@@ -9,8 +9,8 @@ use crate::field::{long_at, within, word_at};
 use crate::item::Run;
 use crate::layout::is_kept;
 use crate::name::read_name;
+use crate::source::Source;
 use rrc_name::{Name, Octets, Sequence};
-use std::alloc::Global;
 
 /// A kept record of class IN (RFC 1035 section 4.1.3). The names in its data are expanded.
 #[derive(Debug, Drop, PartialEq, Eq)]
@@ -25,14 +25,12 @@ pub struct Rr {
 const IN: u16 = 1;
 
 /// The record at a place, where it is kept, and the place behind it.
-fn read_record(
-    alloc: Global,
-    message: &[u8],
-    place: usize,
-) -> Result<(Option<Rr>, usize), WireFault>
-    ensures { Gives (λ read. (option_to_list read.0, read.1)) result (record_at message.now place) }
+fn read_record(source: &mut Source<'_>, place: usize) -> Result<(Option<Rr>, usize), WireFault>
+    ensures gives { Gives (λ read. (option_to_list read.0, read.1)) result (record_at source.old place) }
+    ensures same { source.new ≡ source.old }
 {
-    let (owner, fields) = read_name(alloc, message, Run::to_end(message, place))?;
+    let message = source.message();
+    let (owner, fields) = read_name(source, Run::to_end(message, place))?;
     let data = within(message, fields, 10)?;
     let end = within(message, data, usize::from(word_at(message, fields + 8)))?;
     let rtype = word_at(message, fields);
@@ -43,7 +41,7 @@ fn read_record(
         owner,
         rtype,
         ttl: long_at(message, fields + 4),
-        rdata: read_data(alloc, message, rtype, data, end)?,
+        rdata: read_data(source, rtype, data, end)?,
     };
     Ok((Some(rr), end))
 }
@@ -51,17 +49,17 @@ fn read_record(
 /// The kept ones of so many records from a place on, and the place behind them.
 #[tactic(auto, unfolding(crate::specs::Record::section_at))]
 pub(crate) fn read_section(
-    alloc: Global,
-    message: &[u8],
+    source: &mut Source<'_>,
     records: u16,
     place: usize,
 ) -> Result<(Sequence<Rr>, usize), WireFault>
-    ensures { Gives (λ read. read) result (section_at message.now records place) }
+    ensures gives { Gives (λ read. read) result (section_at source.old records place) }
+    ensures same { source.new ≡ source.old }
 {
-    let mut kept = Sequence::new(alloc);
+    let mut kept = Sequence::new(source.alloc());
     let mut next = place;
     for _ in 0..records {
-        let (rr, behind) = read_record(alloc, message, next)?;
+        let (rr, behind) = read_record(source, next)?;
         match rr {
             Some(rr) => kept.push(rr)?,
             None => {}

@@ -5,20 +5,24 @@ use Rattle.rrc_wire.specs.Data.{name_in_data}
 use Rattle.rrc_wire.proofs.Pieces.{times-more, times-Err}
 use Rattle.rrc_wire.proofs.data.read_names.Goals as goal
 
-pub returns-in_err-name : goal.returns-in_err-name
-returns-in_err-name c =
-    let message = c.args.message.now in let fault = c.in_err-name.field-0.0 in
+pub returns-in_err-name-clause-gives : goal.returns-in_err-name-clause-gives
+returns-in_err-name-clause-gives c =
+    let message = c.args.source.now in let fault = c.in_err-name.field-0.0 in
     let exit = err_from_is_err_and c.from_residual.result c.from_residual.ensures.1 in
     rw (exit.1, exit.2) (elim (c.in_err-name.ensures.gives) [
       | inl refused ↦ inl refused
-      | inr first ↦ inr (sym c.loop.invariant ∙ times-Err (name_in_data message c.args.end) c.args.names c.loop.counter c.loop.before.items c.loop.next fault c.loop-test.true
-          (ap (name_at message) (sym c.in_data.ensures) ∙ first))
+      | inr first ↦ inr (sym c.loop.invariant.left ∙ times-Err (name_in_data message c.args.end) c.args.names c.loop.counter c.loop.before.items c.loop.next fault c.loop-test.true
+          (ap (λ octets. name_in_data octets c.args.end c.loop.next) (sym c.loop.invariant.unchanged) ∙ ap (name_at c.loop.source) (sym c.in_data.ensures) ∙ first))
     ])
 
 pub loop-preserved : goal.loop-preserved
 loop-preserved c =
-    let message = c.args.message.now in let name = c.in_ok-name.name in
-    let read : name_in_data message c.args.end c.loop.next ≡ Ok (name, c.in_ok-name.behind) = ap (name_at message) (sym c.in_data.ensures) ∙ c.in_ok-name.ensures.gives in
+    let message = c.args.source.now in let name = c.in_ok-name.name in
+    let read : name_in_data message c.args.end c.loop.next ≡ Ok (name, c.in_ok-name.behind) =
+    ap (λ octets. name_in_data octets c.args.end c.loop.next) (sym c.loop.invariant.unchanged) ∙ ap (name_at c.loop.source) (sym c.in_data.ensures) ∙ c.in_ok-name.ensures.gives in
     let octets : c.extend_from_slice.new.self.items ≡ c.loop.before.items ++ name =
     c.in_ok-extend_from_slice.ensures.items ∙ ap (λ n. c.loop.before.items ++ n) (c.as_slice.ensures ∙ (c.deref.ensures ∙ c.name.view_is)) in
-    rw octets (sym (times-more (name_in_data message c.args.end) c.args.names c.loop.counter c.loop.before.items c.loop.next (name, c.in_ok-name.behind) c.loop-test.true read) ∙ c.loop.invariant)
+    rw octets (record {
+      unchanged = c.read_name.ensures.same ∙ c.loop.invariant.unchanged;
+      left = sym (times-more (name_in_data message c.args.end) c.args.names c.loop.counter c.loop.before.items c.loop.next (name, c.in_ok-name.behind) c.loop-test.true read) ∙ c.loop.invariant.left;
+    })

@@ -5,5 +5,7 @@ use Rattle.rrc_wire.specs.Data.{name_in_data}
 use Rattle.rrc_wire.proofs.data.read_names.Given as goal
 
 abbrev pub invariant-loop : goal.invariant-loop
-invariant-loop l =
-    times (name_in_data l.message l.end) (l.names - l.counter) l.before.items l.next ≡ times (name_in_data l.message l.end) l.names l.fn.before.items l.place
+invariant-loop l = record {
+  unchanged : l.source ≡ l.fn.source;
+  left : times (name_in_data l.fn.source l.end) (l.names - l.counter) l.before.items l.next ≡ times (name_in_data l.fn.source l.end) l.names l.fn.before.items l.place;
+}

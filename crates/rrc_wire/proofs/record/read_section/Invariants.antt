@@ -5,4 +5,7 @@ use Rattle.rrc_wire.specs.Record.{record_at, section_at}
 use Rattle.rrc_wire.proofs.record.read_section.Given as goal
 
 abbrev pub invariant-loop : goal.invariant-loop
-invariant-loop l = times (record_at l.message) (l.records - l.counter) l.kept l.next ≡ section_at l.message l.records l.place
+invariant-loop l = record {
+  unchanged : l.source ≡ l.fn.source;
+  left : times (record_at l.fn.source) (l.records - l.counter) l.kept l.next ≡ section_at l.fn.source l.records l.place;
+}
