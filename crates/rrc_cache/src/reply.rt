@@ -2,21 +2,21 @@ ghost use Rattle.std.specs.Prelude.{◌≡◌, IfOk};
 ghost use Rattle.rrc_cache.specs.Reply.{reply_in};
 
 use rrc_history::{Reply, RrSet, Soa};
-use rrc_name::{Name, Octets, Sequence};
+use rrc_name::{Name, Octets, Sequence, Shared};
 use std::alloc::AllocError;
 
 /// The data of an RRset where the cache keeps them.
 #[derive(Clone, Copy, Debug)]
 pub struct SetRef<'a> {
     pub owner: &'a Name,
-    pub items: &'a Sequence<Octets>,
+    pub items: &'a Shared<Sequence<Octets>>,
 }
 
 /// The SOA record of a negative answer where the cache keeps it.
 #[derive(Clone, Copy, Debug)]
 pub struct SoaRef<'a> {
     pub owner: &'a Name,
-    pub octets: &'a Octets,
+    pub octets: &'a Shared<Octets>,
 }
 
 /// A reply that borrows what the cache keeps.

@@ -65,7 +65,7 @@ pub(crate) fn remove_dead(entries: &mut Vec<Entry>, stale: u64, moment: u64)
 mod tests {
     use crate::part::Part;
     use rrc_history::{Body, Event, Offer, Rules, Tag, Trust};
-    use rrc_name::{Key, Name, Octets, Sequence, Slot};
+    use rrc_name::{Key, Name, Octets, Sequence, Shared, Slot};
     use std::alloc::Global;
     use std::test::Fail;
 
@@ -77,7 +77,7 @@ mod tests {
         let key = Key::of(&owner, Slot::Set(1))?;
         let body = Body::Positive {
             owner,
-            items,
+            items: Shared::new(alloc, items)?,
             trust: Trust::AuthoritativeAnswer,
             ttl: 1,
         };

@@ -7,7 +7,7 @@ mod trust;
 use crate::part::Part;
 use crate::refusal::Refusal;
 use rrc_history::{Ask, Body, Event, Mode, Offer, Outcome, Purpose, Reply, Rules, Tag, Trust};
-use rrc_name::{Key, Name, NameFault, Octets, Sequence, Slot};
+use rrc_name::{Key, Name, NameFault, Octets, Sequence, Shared, Slot};
 use std::alloc::{AllocError, Global};
 use std::test::Fail;
 
@@ -45,10 +45,10 @@ fn key(alloc: Global, name: &str, slot: Slot) -> Result<Key, NameFault> {
 }
 
 /// The one address 192.0.2.`host`.
-fn address(alloc: Global, host: u8) -> Result<Sequence<Octets>, AllocError> {
+fn address(alloc: Global, host: u8) -> Result<Shared<Sequence<Octets>>, AllocError> {
     let mut items = Sequence::new(alloc);
     items.push(Octets::from_slice(alloc, &[192, 0, 2, host])?)?;
-    Ok(items)
+    Ok(Shared::new(alloc, items)?)
 }
 
 /// Offers a body as line `line` of a trace.
@@ -95,7 +95,7 @@ fn deny(
     let (moment, name, slot, trust, ttl) = negative;
     let body = Body::Negative {
         soa_owner: Name::from_text(alloc, "example.")?,
-        soa: Octets::from_slice(alloc, &[0, 0, 1, 44])?,
+        soa: Shared::new(alloc, Octets::from_slice(alloc, &[0, 0, 1, 44])?)?,
         trust,
         ttl,
     };
@@ -187,4 +187,23 @@ fn has_evicted_nothing(part: &Part) -> bool {
         part.events().last(),
         Some(Event::Offered { evicted: None, .. })
     )
+}
+
+#[test]
+fn an_answer_shares_what_is_kept(rt: HostRuntime) -> Result<(), Fail> {
+    let alloc = rt.alloc();
+    let mut part = part(alloc, 4, 8)?;
+    assert_eq!(rt;
+        put(alloc, &mut part, 0, (100, "A.example.", AA, 60, 1))?,
+        KEPT
+    );
+    let asked = question(alloc, (101, "a.example.", Purpose::Answer, Mode::NoStale))?;
+    let tag = Tag { line: 1, place: 0 };
+    let Reply::Fresh { set, .. } = part.ask(tag, &asked)? else {
+        return Err("no fresh answer")?;
+    };
+    // The offer and the answer as they were written, what is kept, and the answer handed out.
+    assert_eq!(rt; set.owner.wire.owners(), 4);
+    assert_eq!(rt; set.items.owners(), 4);
+    Ok(())
 }
