@@ -63,6 +63,17 @@ pub fn would_answer_all<R: CpuClock>(rt: &R, part: &Part, asks: &[&Ask]) -> Resu
     Ok(Done { counts, time })
 }
 
+/// Asks so often whether there is room, and counts a yes as a hit.
+pub fn has_room_all<R: CpuClock>(rt: &R, part: &Part, calls: u32) -> Result<Done> {
+    let mut counts = NONE;
+    let before = rt.thread_cpu_time()?;
+    for _ in 0..calls {
+        counts.count(part.has_room());
+    }
+    let time = rt.thread_cpu_time()?.saturating_sub(before);
+    Ok(Done { counts, time })
+}
+
 pub fn offer_all<R: CpuClock>(rt: &R, part: &mut Part, offers: Vec<Offer>) -> Result<Done> {
     let mut counts = NONE;
     let before = rt.thread_cpu_time()?;

@@ -1,11 +1,11 @@
-//! Calls a part of the cache many times and prints what it counted, and on standard error the nanoseconds of processor time that the calls took, for a script that compares: `bench_cache TASK KEYS CALLS`, where TASK is `hit`, `miss`, `would`, `replace` or `evict`. Without arguments it does a few of each.
+//! Calls a part of the cache many times and prints what it counted, and on standard error the nanoseconds of processor time that the calls took, for a script that compares: `bench_cache TASK KEYS CALLS`, where TASK is `hit`, `miss`, `would`, `room`, `replace` or `evict`. Without arguments it does a few of each.
 #![tactic(auto)]
 
 mod calls;
 mod made;
 mod numbers;
 
-use crate::calls::{Counts, Done, ask_all, offer_all, would_answer_all};
+use crate::calls::{Counts, Done, ask_all, has_room_all, offer_all, would_answer_all};
 use crate::made::{asks, filled, offers_of_absent, offers_of_held, picked};
 use anyhow::{Context, Result, bail};
 use std::alloc::Global;
@@ -37,9 +37,10 @@ fn done<R: CpuClock>(rt: &R, alloc: Global, task: &str, keys: u32, calls: u32) -
             let asks = asks(alloc, 0, keys)?;
             would_answer_all(rt, &part, picked(alloc, asks.as_slice(), calls)?.as_slice())
         }
+        "room" => has_room_all(rt, &part, calls),
         "replace" => offer_all(rt, &mut part, offers_of_held(alloc, keys, calls)?),
         "evict" => offer_all(rt, &mut part, offers_of_absent(alloc, keys, calls)?),
-        _ => bail!("it does hit, miss, would, replace or evict"),
+        _ => bail!("it does hit, miss, would, room, replace or evict"),
     }
 }
 
@@ -65,7 +66,7 @@ fn run<R: Env + Print + Eprint + Alloc<A = Global> + CpuClock>(rt: &R) -> Result
     let mut args = env::args(rt)?;
     let _program = args.next();
     let Some(task) = args.next() else {
-        for task in ["hit", "miss", "would", "replace", "evict"] {
+        for task in ["hit", "miss", "would", "room", "replace", "evict"] {
             report(rt, task, 16, 1000)?;
         }
         return Ok(());

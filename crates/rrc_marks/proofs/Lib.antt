@@ -4,4 +4,5 @@ pub mod Keeps
 pub mod Allowed
 pub mod Counted
 pub mod StepsKeep
+pub mod StepsCount
 pub mod Apart

@@ -1,10 +1,10 @@
 -- The laws of a table of marks: what keeps its rule, and what the rule says of its passes.
-use Rattle.std.specs.Prelude.{◌≡◌, ◌≢◌, ℕ, ◌<◌, [], slice_index}
+use Rattle.std.specs.Prelude.{◌≡◌, ◌≢◌, ℕ, ◌+◌, ◌<◌, [], slice_index}
 use mathlib.Core.Option.{some}
 use lib.ListN.{get_elem?}
 use Rattle.rrc_marks.specs.declared.rule.View.{View}
 use Rattle.rrc_marks.specs.Views.{times, all_turns, IsAlone, Holds, Lacks}
-use Rattle.rrc_marks.specs.Rule.{MarksKept}
+use Rattle.rrc_marks.specs.Rule.{total, MarksKept}
 use Rattle.rrc_marks.specs.Ends.{IsSettled}
 use Rattle.rrc_marks.specs.Steps.{Moment, Kind, Steps}
 
@@ -19,6 +19,10 @@ Knows s id v = get_elem? s.views id ≡ some v
 -- a step of any kind, by a pass that is not spent, keeps the rule
 abbrev pub EachStepKeepsTheRule : Type 0
 EachStepKeepsTheRule = (marks turns : ℕ) (kind : Kind) (id : ℕ) (v : View) (s t : Moment) → Keeps marks turns s → Knows s id v → 0 < all_turns v → Steps marks kind id v s t → Keeps marks turns t
+
+-- a step of any kind adds one to the steps that all passes have taken
+abbrev pub EachStepIsCounted : Type 0
+EachStepIsCounted = (marks : ℕ) (kind : Kind) (id : ℕ) (v : View) (s t : Moment) → Knows s id v → Steps marks kind id v s t → total (λ w. w.steps) t.views ≡ total (λ w. w.steps) s.views + 1
 
 -- a mark that one pass holds, no other holds
 abbrev pub EachMarkHasOneHolder : Type 0

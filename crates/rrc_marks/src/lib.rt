@@ -10,7 +10,7 @@ mod rule;
 
 pub use began::Began;
 pub use fault::MarksFault;
-pub use law::{each_step_keeps_the_rule, the_rule_tells_passes_apart};
+pub use law::{each_step_is_counted, each_step_keeps_the_rule, the_rule_tells_passes_apart};
 pub use marks::Marks;
 pub use pass::Pass;
 

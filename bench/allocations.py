@@ -1,0 +1,70 @@
+#!/usr/bin/env python3
+"""Counts how often memory is asked for by the calls that are to take none, and by the others beside them.
+
+Build the programs first, by `rt run` in crates/bench_cache and crates/bench_marks. Each is run twice, and the second run makes MORE calls more
+than the first and nothing else; what it asks for beyond the first run, MORE calls ask for. A C compiler makes the library that counts.
+The exit status is 1 where a call asks for memory that is to take none.
+"""
+import argparse
+import os
+import pathlib
+import subprocess
+import sys
+import tempfile
+
+CRATES = pathlib.Path(__file__).resolve().parent.parent / "crates"
+# Both runs need lists of as many places, since these grow by doubling.
+FIRST, MORE = 600, 400
+COUNTER = r"""
+extern void *__libc_malloc(unsigned long);
+extern void *__libc_realloc(void *, unsigned long);
+extern int dprintf(int, const char *, ...);
+extern _Noreturn void _Exit(int);
+static unsigned long asked;
+void *malloc(unsigned long size) { __atomic_fetch_add(&asked, 1, __ATOMIC_SEQ_CST); return __libc_malloc(size); }
+void *realloc(void *block, unsigned long size) { __atomic_fetch_add(&asked, 1, __ATOMIC_SEQ_CST); return __libc_realloc(block, size); }
+__attribute__((destructor)) static void tell(void) { dprintf(2, "%lu\n", asked); }
+// A program with threads ends by this one, and then nothing tells at the end.
+void _exit(int status) { tell(); _Exit(status); }
+"""
+# The program and its words before the number of calls, what is called, and whether it is to take no memory.
+CALLS = (
+    ("bench_cache", ("would", "16"), "would_answer", True),
+    ("bench_cache", ("room", "16"), "has_room", True),
+    ("bench_cache", ("hit", "16"), "an ask that hits", False),
+    ("bench_cache", ("miss", "16"), "an ask that misses", False),
+    ("bench_cache", ("replace", "16"), "making an offer, and a put that replaces", False),
+    ("bench_cache", ("evict", "16"), "making an offer, and a put that evicts", False),
+    ("bench_marks", ("draws", "1"), "draw", True),
+    ("bench_marks", ("pairs", "1"), "begin and finish", True),
+)
+
+
+def asked(counter, program, words, calls):
+    """Runs a program with the library that counts, and answers what it counted."""
+    path = CRATES / program / "out" / program
+    if not path.exists():
+        sys.exit(f"build the program first: `rt run` in crates/{program}")
+    around = dict(os.environ, LD_PRELOAD=counter)
+    done = subprocess.run([path, *words, str(calls)], env=around, capture_output=True, text=True, check=True)
+    return int(done.stderr.split()[-1])
+
+
+def main():
+    parser = argparse.ArgumentParser(description=__doc__.splitlines()[0])
+    parser.add_argument("--compiler", default="cc", help="the C compiler (default cc)")
+    args = parser.parse_args()
+    is_right = True
+    with tempfile.TemporaryDirectory() as folder:
+        source, counter = f"{folder}/counter.c", f"{folder}/counter.so"
+        pathlib.Path(source).write_text(COUNTER)
+        subprocess.run([args.compiler, "-shared", "-fPIC", "-o", counter, source], check=True)
+        for program, words, name, takes_none in CALLS:
+            more = asked(counter, program, words, FIRST + MORE) - asked(counter, program, words, FIRST)
+            print(f"{name}: {more / MORE:g} a call{', which must be 0' if takes_none else ''}")
+            is_right = is_right and not (takes_none and more)
+    return 0 if is_right else 1
+
+
+if __name__ == "__main__":
+    sys.exit(main())
