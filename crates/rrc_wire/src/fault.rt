@@ -24,6 +24,18 @@ pub enum WireFault {
     Memory = 9,
 }
 
+impl WireFault {
+    ghost use Rattle.std.specs.Prelude.{◌≡◌};
+    ghost use Rattle.rrc_wire.specs.Fault.{number_of};
+
+    /// The number of the fault, 1 to 9, as the variants have it.
+    pub fn number(&self) -> u8
+        ensures { result ≡ number_of self.now }
+    {
+        *self as u8
+    }
+}
+
 impl From<AllocError> for WireFault {
     ghost use Rattle.std.specs.Prelude.{◌≡◌};
     ghost use Rattle.rrc_wire.specs.declared.fault.WireFault.TheVariants.{Memory};
