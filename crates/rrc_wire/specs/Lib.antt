@@ -1,3 +1,4 @@
+pub mod Fault
 pub mod Reading
 pub mod Layout
 pub mod Header

@@ -1,7 +1,8 @@
 use std::alloc::{AllocError, AllocFailed};
 use thiserror::Error;
 
-/// Why octets are not a response, in the order of reading: the first fault is answered.
+/// Why octets are not a response. The first fault is answered: of the size, then of the header, then of the question and the records
+/// field by field. The variants stand by their numbers.
 #[derive(Clone, Copy, Debug, PartialEq, Eq, Hash, Error)]
 pub enum WireFault {
     #[error("the message ends too soon")]
@@ -22,6 +23,18 @@ pub enum WireFault {
     TooLong = 8,
     #[error("memory was refused")]
     Memory = 9,
+}
+
+impl WireFault {
+    ghost use Rattle.std.specs.Prelude.{◌≡◌};
+    ghost use Rattle.rrc_wire.specs.Fault.{number_of};
+
+    /// The number of the fault, 1 to 9, as the variants have it.
+    pub fn number(&self) -> u8
+        ensures { result ≡ number_of self.now }
+    {
+        *self as u8
+    }
 }
 
 impl From<AllocError> for WireFault {

@@ -416,3 +416,20 @@ fn kept_types(rt: HostRuntime) {
         assert!(rt; is_kept(rtype), "{rtype}");
     }
 }
+
+#[test]
+fn numbers_of_faults(rt: HostRuntime) {
+    for (fault, number) in [
+        (WireFault::Short, 1),
+        (WireFault::ReservedLabel, 2),
+        (WireFault::BadPointer, 3),
+        (WireFault::NameTooLong, 4),
+        (WireFault::BadData, 5),
+        (WireFault::NotResponse, 6),
+        (WireFault::NotOneQuestion, 7),
+        (WireFault::TooLong, 8),
+        (WireFault::Memory, 9),
+    ] {
+        assert_eq!(rt; fault.number(), number, "{fault}");
+    }
+}
