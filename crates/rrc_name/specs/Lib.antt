@@ -2,5 +2,6 @@ pub mod Wire
 pub mod Folding
 pub mod Order
 pub mod Text
+pub mod Reading
 pub mod Key
 pub mod KeyLaws
