@@ -2,4 +2,8 @@ pub mod WireForms
 pub mod Spelling
 pub mod LabelOrder
 pub mod NameTies
+pub mod OctetReading
+pub mod TextReading
+pub mod TextRuns
+pub mod TextLaw
 pub mod ReadAgain

@@ -1,5 +1,6 @@
 pub mod Wire
 pub mod Order
 pub mod Text
+pub mod Reading
 pub mod Key
 pub mod lemmas

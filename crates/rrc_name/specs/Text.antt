@@ -1,63 +1,103 @@
 -- The text of a name (RFC 1035 5.1): labels with a dot between them, and escapes for octets that have no letter.
-use Rattle.std.specs.Prelude.{◌≡◌, ℕ, ◌+◌, ◌-◌, ◌*◌, ◌/◌, ◌%◌, List, [], ◌∷◌, ◌++◌, length, if◌then◌else◌, ◌==◌, ◌||◌, nat_lt, nat_le, bytes_eq, Result, Ok, Err}
-use Rattle.std.specs.List.{flat_map}
-use Rattle.std.specs.Char.{is_ascii_graphic, is_ascii_digit}
-use Rattle.rrc_name.specs.declared.text.Escape.{Escape}
-use Rattle.rrc_name.specs.declared.text.Escape.TheVariants.{Unescaped, Begun, OneDigit, TwoDigits}
-use Rattle.rrc_name.specs.declared.text.Spelled.{Spelled}
-use Rattle.rrc_name.specs.declared.text.Spelled.TheVariants.{Part, Octet, Dot, NoSpelling}
+use Rattle.std.specs.Prelude.{◌≡◌, ◌≢◌, ◌<◌, ◌≤◌, ◌⊎◌, ℕ, ◌+◌, ◌*◌, ◌/◌, ◌%◌, List, [], ◌∷◌, ◌++◌, length, if◌then◌else◌, ◌==◌, ◌||◌}
+use Rattle.std.specs.List.{AllByRecursion, flat_map}
+use Rattle.std.specs.Char.{is_ascii_graphic}
 use Rattle.rrc_name.specs.declared.fault.NameFault.{NameFault}
 use Rattle.rrc_name.specs.declared.fault.NameFault.TheVariants.{EmptyLabel, LabelTooLong, NameTooLong, BadEscape}
-use Rattle.rrc_name.specs.Wire.{labels_of, IsWireForm}
+use Rattle.rrc_name.specs.Wire.{wire_of, labels_of, IsLabel, IsWireForm}
 
--- what follows an answer, or its fault
-abbrev pub and_then : Result (List ℕ) NameFault → (List ℕ → Result (List ℕ) NameFault) → Result (List ℕ) NameFault
-and_then (Ok answer) next = next answer
-and_then (Err fault) next = Err fault
+-- a graphic octet: '!' to '~'
+abbrev pub IsGraphic : ℕ → Type 0
+IsGraphic octet = (33 ≤ octet) × (octet ≤ 126)
 
--- what the next octet of a text spells: behind a backslash three decimal digits, of at most 255, or one graphic octet; else
--- the dot between labels, or a graphic octet
-abbrev pub spelled_by : Escape → ℕ → Spelled
-spelled_by Unescaped octet =
-    if octet == 46 then Dot else if octet == 92 then Part Begun else if is_ascii_graphic octet then Octet octet else NoSpelling
-spelled_by Begun octet =
-    if is_ascii_digit octet then Part (OneDigit (octet - 48)) else if is_ascii_graphic octet then Octet octet else NoSpelling
-spelled_by (OneDigit hundreds) octet =
-    if is_ascii_digit octet then Part (TwoDigits hundreds (octet - 48)) else NoSpelling
-spelled_by (TwoDigits hundreds tens) octet =
-    let number = 100 * hundreds + 10 * tens + (octet - 48) in
-    if is_ascii_digit octet then if nat_le number 255 then Octet number else NoSpelling else NoSpelling
+-- an octet other than the digits '0' to '9'
+abbrev pub IsNoDigit : ℕ → Type 0
+IsNoDigit octet = (octet < 48) ⊎ (57 < octet)
 
--- the wire form of some labels with one more at its end, where that is a label and the name is not too long
-abbrev pub with_label : List ℕ → List ℕ → Result (List ℕ) NameFault
-with_label before label =
-    if length label == 0 then Err EmptyLabel
-    else if nat_lt 63 (length label) then Err LabelTooLong
-    else if nat_lt 255 (length before + length label + 2) then Err NameTooLong
-    else Ok (before ++ length label ∷ label)
+-- a text spells an octet of a label
+pub data SpellsOctet : List ℕ → ℕ → Type 0 where
+  -- a graphic octet, but no dot and no backslash, spells itself
+  itself : {octet : ℕ} → IsGraphic octet → octet ≢ 46 → octet ≢ 92 → SpellsOctet (octet ∷ []) octet
+  -- a graphic octet that is no digit is spelled by a backslash and itself
+  escaped : {octet : ℕ} → IsGraphic octet → IsNoDigit octet → SpellsOctet (92 ∷ octet ∷ []) octet
+  -- any octet is spelled by a backslash and the three digits of its decimal number
+  decimal : {hundreds tens ones octet : ℕ} → hundreds ≤ 9 → tens ≤ 9 → ones ≤ 9 → 100 * hundreds + 10 * tens + ones ≡ octet → octet ≤ 255
+      → SpellsOctet (92 ∷ (48 + hundreds) ∷ (48 + tens) ∷ (48 + ones) ∷ []) octet
 
--- a name ends with a label or with the dot behind one
-abbrev pub name_ends : List ℕ → List ℕ → Escape → Result (List ℕ) NameFault
-name_ends before label Unescaped =
-    if length label == 0
-    then if length before == 0 then Err EmptyLabel else Ok (before ++ 0 ∷ [])
-    else and_then (with_label before label) (λ labels. Ok (labels ++ 0 ∷ []))
-name_ends before label escape = Err BadEscape
+-- a text spells a label: the spellings of its octets, one after another
+pub data SpellsLabel : List ℕ → List ℕ → Type 0 where
+  no_octet : SpellsLabel [] []
+  octet_more : {first behind label : List ℕ} {octet : ℕ} → SpellsOctet first octet → SpellsLabel behind label → SpellsLabel (first ++ behind) (octet ∷ label)
 
--- the name of a text, read from the left; before it stand whole labels, in wire form, and the octets of this label so far
-abbrev pub name_from : List ℕ → List ℕ → Escape → List ℕ → Result (List ℕ) NameFault
-name_from before label escape [] = name_ends before label escape
-name_from before label escape (octet ∷ text) =
-    elim (spelled_by escape octet) [
-      | Part more ↦ name_from before label more text
-      | Octet spelled ↦ name_from before (label ++ spelled ∷ []) Unescaped text
-      | Dot ↦ and_then (with_label before label) (λ labels. name_from labels [] Unescaped text)
-      | NoSpelling ↦ Err BadEscape
-    ]
+-- a text spells labels, each with a dot behind it
+pub data SpellsLabels : List ℕ → List (List ℕ) → Type 0 where
+  no_label : SpellsLabels [] []
+  label_more : {first behind label : List ℕ} {labels : List (List ℕ)} → SpellsLabel first label → SpellsLabels behind labels
+      → SpellsLabels (first ++ 46 ∷ behind) (label ∷ labels)
 
--- a text is a dot, the root, or labels with dots between them
-abbrev pub name_in : List ℕ → Result (List ℕ) NameFault
-name_in text = if bytes_eq text (46 ∷ []) then Ok (0 ∷ []) else name_from [] [] Unescaped text
+-- the labels of a name have 1 to 63 octets, and its wire form at most 255 (RFC 1035 2.3.4)
+pub record MakeName (labels : List (List ℕ)) : Type 0 where
+  pub all : AllByRecursion IsLabel labels
+  pub short : length (wire_of labels) ≤ 255
+
+-- a text spells the name that has this wire form
+pub data Spells : List ℕ → List ℕ → Type 0 where
+  -- a dot alone is the root
+  root : Spells (46 ∷ []) (0 ∷ [])
+  -- labels, each with a dot behind it
+  last_dot : {text : List ℕ} {labels : List (List ℕ)} → SpellsLabels text labels → 1 ≤ length labels → MakeName labels → Spells text (wire_of labels)
+  -- the last dot may be left out
+  no_last_dot : {front last label : List ℕ} {labels : List (List ℕ)} → SpellsLabels front labels → SpellsLabel last label → MakeName (labels ++ label ∷ [])
+      → Spells (front ++ last) (wire_of (labels ++ label ∷ []))
+
+-- a text begins with a dot
+abbrev pub BeginsWithDot : List ℕ → Type 0
+BeginsWithDot text = (behind : List ℕ) × (text ≡ 46 ∷ behind)
+
+-- a label ends where the text does, or before a dot
+abbrev pub EndsLabel : List ℕ → Type 0
+EndsLabel behind = (behind ≡ []) ⊎ BeginsWithDot behind
+
+-- a text neither ends a label nor begins with what spells an octet
+pub record SpellsNothing (text : List ℕ) : Type 0 where
+  pub goes_on : EndsLabel text → ⊥
+  pub no_octet : (first behind : List ℕ) (octet : ℕ) → text ≡ first ++ behind → SpellsOctet first octet → ⊥
+
+-- behind whole labels, each with its dot, a text is faulty in this way
+pub data IsFaulty (labels : List (List ℕ)) : List ℕ → NameFault → Type 0 where
+  -- within a label something spells nothing
+  bad_escape : {first behind label : List ℕ} → SpellsLabel first label → SpellsNothing behind → IsFaulty labels (first ++ behind) BadEscape
+  -- a dot stands where a label would begin
+  empty_label : {behind : List ℕ} → IsFaulty labels (46 ∷ behind) EmptyLabel
+  -- there is no label at all
+  no_text : labels ≡ [] → IsFaulty labels [] EmptyLabel
+  -- a label that ends has more than 63 octets
+  label_too_long : {first behind label : List ℕ} → SpellsLabel first label → EndsLabel behind → 63 < length label
+      → IsFaulty labels (first ++ behind) LabelTooLong
+  -- with a label that ends the name has more than 255 octets
+  name_too_long : {first behind label : List ℕ} → SpellsLabel first label → EndsLabel behind → 1 ≤ length label → length label ≤ 63
+      → 255 < length (wire_of (labels ++ label ∷ [])) → IsFaulty labels (first ++ behind) NameTooLong
+
+-- reading from the left, the first fault of a text: whole labels that make a name stand before what is faulty
+pub record IsFirstFaultOf (text : List ℕ) (fault : NameFault) : Type 0 where
+  pub no_root : text ≢ 46 ∷ []
+  pub labels : List (List ℕ)
+  pub front : List ℕ
+  pub rest : List ℕ
+  pub whole : text ≡ front ++ rest
+  pub labels_before : SpellsLabels front labels
+  pub make_name : MakeName labels
+  pub faulty : IsFaulty labels rest fault
+
+-- each text spells one name, or it has one first fault, and never both
+pub record HasNameOrFault (text : List ℕ) : Type 0 where
+  pub either : ((name : List ℕ) × Spells text name) ⊎ ((fault : NameFault) × IsFirstFaultOf text fault)
+  pub one_name : (name other : List ℕ) → Spells text name → Spells text other → name ≡ other
+  pub one_fault : (fault other : NameFault) → IsFirstFaultOf text fault → IsFirstFaultOf text other → fault ≡ other
+  pub not_both : (name : List ℕ) (fault : NameFault) → Spells text name → IsFirstFaultOf text fault → ⊥
+
+abbrev pub OneNameOrFault : Type 0
+OneNameOrFault = (text : List ℕ) → HasNameOrFault text
 
 -- an octet as three decimal digits
 abbrev pub decimal_of : ℕ → List ℕ
@@ -85,6 +125,6 @@ text_of_labels (label ∷ labels) = dotted (label ∷ labels)
 abbrev pub text_of : List ℕ → List ℕ
 text_of name = text_of_labels (labels_of name)
 
--- each name is read again from its text, octet for octet
+-- the text of each name spells that name, octet for octet
 abbrev pub IsReadAgain : Type 0
-IsReadAgain = (name : List ℕ) → IsWireForm name → name_in (text_of name) ≡ Ok name
+IsReadAgain = (name : List ℕ) → IsWireForm name → Spells (text_of name) name

@@ -1,7 +1,15 @@
-ghost use Rattle.rrc_name.specs.Text.{IsReadAgain};
+ghost use Rattle.rrc_name.specs.Reading.{IsReadAsSpelled};
+ghost use Rattle.rrc_name.specs.Text.{IsReadAgain, OneNameOrFault};
 
-/// Each name is read again from its text, octet for octet: `Name::from_text` undoes `Name::to_text`. The function does
+/// The text of each name spells that name, octet for octet: `Name::from_text` undoes `Name::to_text`. The function does
 /// nothing; its contract is the law.
 pub fn reading_undoes_printing()
     ensures { IsReadAgain }
+{}
+
+/// Each text spells exactly one name, or it has exactly one first fault, and never both (RFC 1035 section 5.1); reading octet
+/// by octet answers which. The function does nothing; its contract is the law.
+pub fn one_name_or_fault()
+    ensures one { OneNameOrFault }
+    ensures read { IsReadAsSpelled }
 {}

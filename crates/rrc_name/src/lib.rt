@@ -22,7 +22,7 @@ mod text;
 
 pub use fault::NameFault;
 pub use key::Key;
-pub use laws::reading_undoes_printing;
+pub use laws::{one_name_or_fault, reading_undoes_printing};
 pub use name::Name;
 pub use octets::Octets;
 pub use sequence::Sequence;

@@ -2,7 +2,7 @@ ghost use Rattle.std.specs.Prelude.{◌≡◌, ◌⊎◌, ◌↔◌, [], ◌∷�
 ghost use Rattle.rrc_name.specs.Wire.{folded, IsWireForm, IsSameName, same_name};
 ghost use Rattle.rrc_name.specs.Key.{IsFolded};
 ghost use Rattle.rrc_name.specs.Order.{canonical_order, IsAtOrBelow, is_at_or_below};
-ghost use Rattle.rrc_name.specs.Text.{name_in, text_of};
+ghost use Rattle.rrc_name.specs.Text.{Spells, IsFirstFaultOf, text_of};
 
 use crate::fault::NameFault;
 use crate::octets::Octets;
@@ -47,8 +47,8 @@ impl Name {
     ///
     /// The text is read from the left and its first fault is answered.
     pub fn from_text(alloc: Global, text: &str) -> Result<Name, NameFault>
-        ensures ok { IfOk result (λ name. name_in text.now ≡ Ok name) }
-        ensures err { IfErr result (λ fault. (fault ≡ NameFault.Memory) ⊎ (name_in text.now ≡ Err fault)) }
+        ensures ok { IfOk result (λ name. Spells text.now name) }
+        ensures err { IfErr result (λ fault. (fault ≡ NameFault.Memory) ⊎ IsFirstFaultOf text.now fault) }
     {
         let text = text.as_bytes();
         if text == b".".as_slice() {
@@ -64,7 +64,7 @@ impl Name {
     /// that is no graphic one, by its decimal number; `.` alone for the root. `from_text` reads the name again from it.
     pub fn to_text(&self) -> Result<String, AllocError>
         ensures text { IfOk result (λ text. string_bytes text ≡ text_of self.now) }
-        ensures read_again { IfOk result (λ text. name_in (string_bytes text) ≡ Ok self.now) }
+        ensures read_again { IfOk result (λ text. Spells (string_bytes text) self.now) }
     {
         printed::text_in(self.wire.alloc(), self.wire.as_slice())
     }

@@ -1,5 +1,5 @@
 ghost use Rattle.std.specs.Prelude.{◌≡◌, ◌⊎◌, [], ◌++◌, ◌∷◌, IfOk, IfErr, OnErr, MatchResult, bytes_eq, Err};
-ghost use Rattle.rrc_name.specs.Text.{spelled_by, with_label, name_from, name_ends};
+ghost use Rattle.rrc_name.specs.Reading.{spelled_by, with_label, name_from, name_ends};
 
 use crate::fault::NameFault;
 use std::alloc::Global;

@@ -1,7 +1,7 @@
 -- The names of a line of a trace.
 use Rattle.std.specs.Prelude.{ℕ, List, Option, Some, None, Ok, Err, nat_lt, if◌then◌else◌}
 use Rattle.std.specs.List.{list_all}
-use Rattle.rrc_name.specs.Text.{name_in}
+use Rattle.rrc_name.specs.Reading.{name_in}
 
 -- the name that a text spells (RFC 1035 5.1); a text has octets below 128 alone
 abbrev pub name_of : List ℕ → Option (List ℕ)

@@ -1,6 +1,6 @@
 -- what is left of the text says, behind what was read, what the whole text says
 use Rattle.std.proofs.Common.{◌≡◌, drop, []}
-use Rattle.rrc_name.specs.Text.{name_from}
+use Rattle.rrc_name.specs.Reading.{name_from}
 use Rattle.rrc_name.specs.declared.text.Escape.TheVariants.{Unescaped}
 use Rattle.rrc_name.proofs.text.wire_in.Given as goal
 
