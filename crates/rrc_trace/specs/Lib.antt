@@ -9,4 +9,5 @@ pub mod Trace
 pub mod Lawful
 pub mod Report
 pub mod Writing
+pub mod Faults
 pub mod Reading

@@ -18,6 +18,25 @@ pub enum ReplayFault {
     Spent(u64),
 }
 
+impl ReplayFault {
+    ghost use Rattle.std.specs.Prelude.{◌≡◌};
+    ghost use Rattle.rrc_trace.specs.Faults.{fault_number};
+
+    /// The number by which the documents know the fault: 1 to 7, of which 5 is not used.
+    pub fn number(&self) -> u8
+        ensures { result ≡ fault_number self.now }
+    {
+        match self {
+            ReplayFault::BadLine(_) => 1,
+            ReplayFault::TooManyLines => 2,
+            ReplayFault::Read => 3,
+            ReplayFault::Write => 4,
+            ReplayFault::Memory => 6,
+            ReplayFault::Spent(_) => 7,
+        }
+    }
+}
+
 impl From<AllocError> for ReplayFault {
     ghost use Rattle.std.specs.Prelude.{◌≡◌};
     ghost use Rattle.rrc_trace.specs.declared.fault.ReplayFault.TheVariants.{Memory};

@@ -350,22 +350,29 @@ fn writers_that_stumble_once(rt: HostRuntime) -> Result<(), Fail> {
 }
 
 #[test]
-fn texts_of_faults(rt: HostRuntime) -> Result<(), Fail> {
-    let texts = [
-        (ReplayFault::BadLine(3), "line 3 is not a line of a trace"),
+fn numbers_and_texts_of_faults(rt: HostRuntime) -> Result<(), Fail> {
+    let faults = [
+        (
+            ReplayFault::BadLine(3),
+            1,
+            "line 3 is not a line of a trace",
+        ),
         (
             ReplayFault::TooManyLines,
+            2,
             "the trace has more than 1000000 lines",
         ),
-        (ReplayFault::Read, "the trace could not be read"),
-        (ReplayFault::Write, "the report could not be written"),
-        (ReplayFault::Memory, "memory or a thread was refused"),
+        (ReplayFault::Read, 3, "the trace could not be read"),
+        (ReplayFault::Write, 4, "the report could not be written"),
+        (ReplayFault::Memory, 6, "memory or a thread was refused"),
         (
             ReplayFault::Spent(3),
+            7,
             "line 3 met a part whose numbers are spent",
         ),
     ];
-    for (fault, text) in texts {
+    for (fault, number, text) in faults {
+        assert_eq!(rt; fault.number(), number, "{fault:?}");
         assert_eq!(rt; format!(in rt.alloc(); "{fault}")?.as_str(), text);
     }
     Ok(())
