@@ -9,7 +9,7 @@ use crate::name::name_at;
 use crate::number::{moment_at, rtype_at, trust_at, ttl_at};
 use crate::word::{Form, form_at, mode_at, purpose_at};
 use rrc_history::{Ask, Trust};
-use rrc_name::{Name, Octets, Sequence};
+use rrc_name::{Name, Octets, Sequence, Shared};
 use std::alloc::Global;
 
 /// The most octets of a line, its LF not counted.
@@ -26,7 +26,7 @@ pub struct Put {
     /// The time to live as written, in seconds.
     pub ttl: u32,
     /// The data, each once.
-    pub items: Sequence<Octets>,
+    pub items: Shared<Sequence<Octets>>,
 }
 
 /// A question that a resolver could not get answered, at a moment in seconds.
@@ -68,7 +68,7 @@ fn put_in(alloc: Global, octets: &[u8]) -> Result<Line, LineFault>
         rtype,
         trust,
         ttl,
-        items,
+        items: Shared::new(alloc, items)?,
     }))
 }
 
