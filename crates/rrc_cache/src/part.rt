@@ -76,7 +76,8 @@ impl Part {
         (self.events.len() as u64) < self.snapshot.rules.chapter && self.next_number() < SPENT
     }
 
-    /// What an ask would be answered, at any moment. It takes no memory and touches nothing.
+    /// The reply that `ask` would give to this ask now. It comes whatever the ask's moment is, also above the last one, and in a
+    /// full chapter too, where `ask` refuses. It takes no memory and touches nothing.
     pub fn would_answer(&self, ask: &Ask) -> ReplyRef<'_>
         ensures { reply_in result ≡ reply_to self.now.snapshot (past_of self.now) ask.now }
     {

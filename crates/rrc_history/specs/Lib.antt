@@ -1,4 +1,5 @@
 pub mod Fits
+pub mod Faults
 pub mod Asked
 pub mod Limits
 pub mod Lives

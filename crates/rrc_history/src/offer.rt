@@ -36,6 +36,19 @@ pub enum OfferFault {
     WrongBody { key: Key, body: Body },
 }
 
+impl OfferFault {
+    ghost use Rattle.rrc_history.specs.Faults.{number_of};
+
+    /// The number of the fault: 1 for `WrongBody`.
+    pub fn number(&self) -> u8
+        ensures value { result ≡ number_of self.now }
+    {
+        match self {
+            OfferFault::WrongBody { .. } => 1,
+        }
+    }
+}
+
 fn is_fit(key: &Key, body: &Body) -> bool
     ensures { result ≡ fits key.now body.now }
 {

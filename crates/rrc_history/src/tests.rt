@@ -102,6 +102,16 @@ fn a_failure_fits_the_slot_of_failures_alone(rt: HostRuntime) -> Result<(), Fail
 }
 
 #[test]
+fn a_wrong_body_has_the_number_1(rt: HostRuntime) -> Result<(), Fail> {
+    let key = Key::of(&Name::from_text(rt.alloc(), "a.example.")?, Slot::Nx)?;
+    let Err(fault) = Offer::new(key, Body::Failure { ttl: 30 }, 100) else {
+        return Err("a failure was taken under a name")?;
+    };
+    assert_eq!(rt; fault.number(), 1);
+    Ok(())
+}
+
+#[test]
 fn keeps_the_ranges_of_rules(rt: HostRuntime) {
     let within = [
         (1, 1, 0),

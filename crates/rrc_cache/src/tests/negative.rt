@@ -1,4 +1,4 @@
-use super::{AA, ELSEWHERE, KEPT, MISS, Seen, ask, deny, part, put};
+use super::{AA, ELSEWHERE, KEPT, MISS, Seen, ask, deny, part, put, would};
 use rrc_history::{Mode, Purpose};
 use rrc_name::Slot;
 use std::test::Fail;
@@ -12,6 +12,7 @@ fn later_nxdomain_governs_an_unexpired_address(rt: HostRuntime) -> Result<(), Fa
     let denied = deny(alloc, &mut part, 1, (2000, "a.example.", Slot::Nx, AA, 300))?;
     assert_eq!(rt; denied, KEPT);
     let last = (2299, "a.example.", Purpose::Answer, Mode::NoStale);
+    assert_eq!(rt; would(alloc, &part, last)?, Seen::NxDomain(1, 44));
     assert_eq!(rt; ask(alloc, &mut part, 2, last)?, Ok(Seen::NxDomain(1, 44)));
     let past = (2300, "a.example.", Purpose::Answer, Mode::Now);
     assert_eq!(rt; ask(alloc, &mut part, 3, past)?, MISS);
@@ -53,6 +54,7 @@ fn nodata_until_its_ttl(rt: HostRuntime) -> Result<(), Fail> {
     )?;
     assert_eq!(rt; denied, KEPT);
     let last = (399, "a.example.", Purpose::Answer, Mode::NoStale);
+    assert_eq!(rt; would(alloc, &part, last)?, Seen::NoData(1, 44));
     assert_eq!(rt; ask(alloc, &mut part, 1, last)?, Ok(Seen::NoData(1, 44)));
     let past = (400, "a.example.", Purpose::Answer, Mode::NoStale);
     assert_eq!(rt; ask(alloc, &mut part, 2, past)?, MISS);

@@ -1,4 +1,4 @@
-use super::{AA, KEPT, MISS, Seen, ask, fail, part, put};
+use super::{AA, KEPT, MISS, Seen, ask, fail, part, put, would};
 use rrc_history::{Mode, Purpose};
 use std::test::Fail;
 
@@ -31,6 +31,7 @@ fn stale_after_a_recent_failure(rt: HostRuntime) -> Result<(), Fail> {
     let last = (329, "a.example.", Purpose::Answer, Mode::Failed);
     assert_eq!(rt; ask(alloc, &mut part, 3, last)?, Ok(Seen::Stale(30, 1)));
     let no_stale = (329, "a.example.", Purpose::Answer, Mode::NoStale);
+    assert_eq!(rt; would(alloc, &part, no_stale)?, Seen::Miss(Some(330)));
     assert_eq!(rt;
         ask(alloc, &mut part, 4, no_stale)?,
         Ok(Seen::Miss(Some(330)))
