@@ -1,4 +1,21 @@
 //! The message reader: a response of the DNS read whole and exactly, or its first fault.
+//!
+//! The addresses that a response has in its answer:
+//!
+//! ```text
+//! use rrc_wire::{Octets, WireFault, read_message};
+//!
+//! fn addresses_in(alloc: Global, response: &[u8]) -> Result<Vec<Octets>, WireFault> {
+//!     let message = read_message(alloc, response)?;
+//!     let mut addresses = Vec::new(alloc);
+//!     for rr in message.answer.iter() {
+//!         if rr.rtype == 1 {
+//!             addresses.push(rr.rdata.clone()?)?;
+//!         }
+//!     }
+//!     Ok(addresses)
+//! }
+//! ```
 #![tactic(auto)]
 
 mod data;
@@ -18,6 +35,7 @@ pub use layout::is_kept;
 pub use message::{Message, chains_lead_to_names, one_message_or_fault, read_message};
 pub use question::Question;
 pub use record::Rr;
+pub use rrc_name::{Name, NameFault, Octets, Sequence};
 
 #[cfg(test)]
 mod tests;

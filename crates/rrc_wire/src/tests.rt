@@ -2,8 +2,7 @@
 
 ghost use Rattle.std.specs.Prelude.{◌≤◌};
 
-use crate::{Message, Rr, WireFault, is_kept, read_message};
-use rrc_name::{Octets, Sequence};
+use crate::{Message, Octets, Rr, Sequence, WireFault, is_kept, read_message};
 use std::alloc::{AllocError, Global};
 use std::process::Abort;
 use std::test::Fail;
@@ -432,4 +431,32 @@ fn numbers_of_faults(rt: HostRuntime) {
     ] {
         assert_eq!(rt; fault.number(), number, "{fault}");
     }
+}
+
+/// The addresses that a response has in its answer, as the crate's page shows it.
+fn addresses_in(alloc: Global, response: &[u8]) -> Result<Vec<Octets>, WireFault> {
+    let message = read_message(alloc, response)?;
+    let mut addresses = Vec::new(alloc);
+    for rr in message.answer.iter() {
+        if rr.rtype == 1 {
+            addresses.push(rr.rdata.clone()?)?;
+        }
+    }
+    Ok(addresses)
+}
+
+#[test]
+fn addresses_of_a_response(rt: HostRuntime) -> Result<(), Fail> {
+    let alloc = rt.alloc();
+    let response = octets_of(
+        alloc,
+        "1234 8400 0001 0003 0000 0000 Q c00c000500010000003c00040162c00e c027000100010000003c0004c0000201 c027000100010000003c0004c0000202",
+    )?;
+    let addresses = addresses_in(alloc, response.as_slice())?;
+    let wanted = [[192, 0, 2, 1], [192, 0, 2, 2]];
+    assert_eq!(rt; addresses.len(), wanted.len());
+    for (address, octets) in addresses.iter().zip(&wanted) {
+        assert_eq!(rt; address.as_slice(), octets.as_slice());
+    }
+    Ok(())
 }
