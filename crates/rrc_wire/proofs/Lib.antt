@@ -7,3 +7,6 @@ pub mod RecordGrammar
 pub mod MessageGrammar
 pub mod NoMemory
 pub mod Laws
+pub mod FrontNames
+pub mod PlainParts
+pub mod LoweredParts
