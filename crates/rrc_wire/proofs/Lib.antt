@@ -8,3 +8,6 @@ pub mod RecordGrammar
 pub mod MessageGrammar
 pub mod NoMemory
 pub mod Laws
+pub mod FrontNames
+pub mod PlainParts
+pub mod LoweredParts

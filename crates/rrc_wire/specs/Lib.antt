@@ -7,6 +7,9 @@ pub mod Name
 pub mod Question
 pub mod Data
 pub mod Record
+pub mod Plain
+pub mod Same
+pub mod SameLaws
 pub mod Message
 pub mod Grammar
 pub mod Chain

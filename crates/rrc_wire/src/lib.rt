@@ -26,16 +26,22 @@ mod item;
 mod layout;
 mod message;
 mod name;
+mod plain;
+#[cfg(test)]
+mod plain_tests;
 mod question;
 mod record;
+mod same;
 mod source;
 
 pub use fault::WireFault;
 pub use layout::is_kept;
 pub use message::{Message, chains_lead_to_names, one_message_or_fault, read_message};
+pub use plain::plain_rdata;
 pub use question::Question;
 pub use record::Rr;
 pub use rrc_name::{Name, NameFault, Octets, Sequence};
+pub use same::{same_rdata, sameness_is_an_equivalence};
 
 #[cfg(test)]
 mod tests;

@@ -1,0 +1,49 @@
+ghost use Rattle.std.specs.Prelude.{◌≡◌, ◌↔◌, ℕ, Some, IsTrue};
+ghost use Rattle.std.specs.Cmp.{IsEquivalence};
+ghost use Rattle.std.specs.List.{concat};
+ghost use Rattle.rrc_wire.specs.Plain.{Fills, parts_in};
+ghost use Rattle.rrc_wire.specs.Same.{lowered_by, IsSameRdata, same_rdata};
+
+use crate::layout::{Layout, layout_of};
+use crate::plain::is_plain;
+
+/// What data of a layout are made of: fixed octets, names end to end, fixed octets.
+fn parts_of(layout: Layout, octets: &[u8]) -> (&[u8], &[u8], &[u8])
+    requires { Fills layout octets.now }
+    ensures before { result.0.now ≡ (parts_in layout octets.now).before }
+    ensures names { result.1.now ≡ concat (parts_in layout octets.now).names }
+    ensures behind { result.2.now ≡ (parts_in layout octets.now).behind }
+{
+    let (before, rest) = octets.split_at(usize::from(layout.before));
+    let (names, behind) = rest.split_at(rest.len() - usize::from(layout.behind));
+    (before, names, behind)
+}
+
+/// Whether data of a layout are the same but for the case of letters in their names.
+fn has_same_parts(layout: Layout, a: &[u8], b: &[u8]) -> bool
+    requires a_fills { Fills layout a.now }
+    requires b_fills { Fills layout b.now }
+    ensures { IsTrue result ↔ (lowered_by (Some layout) a.now ≡ lowered_by (Some layout) b.now) }
+{
+    let (before, names, behind) = parts_of(layout, a);
+    let (other_before, other_names, other_behind) = parts_of(layout, b);
+    before == other_before && names.eq_ignore_ascii_case(other_names) && behind == other_behind
+}
+
+/// Whether data of a type are the same: where both are plain, as `plain_rdata` takes them, the letters A to Z of their names are
+/// read as a to z (RFC 4343 section 3); every other octet has to be equal (RFC 3597 section 6). It takes no memory.
+pub fn same_rdata(rtype: u16, a: &[u8], b: &[u8]) -> bool
+    ensures value { result ≡ same_rdata rtype a.now b.now }
+    ensures meaning { IsTrue result ↔ IsSameRdata rtype a.now b.now }
+{
+    match layout_of(rtype) {
+        Some(layout) if is_plain(rtype, a) && is_plain(rtype, b) => has_same_parts(layout, a, b),
+        _ => a == b,
+    }
+}
+
+/// The law of sameness: of data of one type it is an equivalence, so which of the same data stands for them makes no difference
+/// to what is the same.
+pub fn sameness_is_an_equivalence()
+    ensures { (rtype : ℕ) → IsEquivalence (same_rdata rtype) }
+{}
