@@ -37,6 +37,7 @@ CALLS = (
     ("bench_cache", ("evict", "16"), "making an offer, and a put that evicts", False),
     ("bench_marks", ("draws", "1"), "draw", True),
     ("bench_marks", ("pairs", "1"), "begin and finish", True),
+    ("bench_marks", ("shares", "1"), "split and join", True),
 )
 
 

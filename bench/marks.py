@@ -1,8 +1,9 @@
 #!/usr/bin/env python3
-"""Times the table of marks: draws, and pairs of begin and finish, a second on 1, 2 and 4 threads.
+"""Times the table of marks: draws, pairs of begin and finish, and of split and join, a second on 1, 2 and 4 threads.
 
-Build the program first, by `rt run` in crates/bench_marks. Each thread draws COUNT numbers of one table, or begins and
-finishes a mark of its own COUNT times; the whole run is timed, thread starts and all. Prints the median of RUNS runs.
+Build the program first, by `rt run` in crates/bench_marks. Each thread draws COUNT numbers of one table, begins and finishes
+a mark of its own COUNT times, or gives a turn away and takes it back COUNT times; the whole run is timed, thread starts and
+all. Prints the median of RUNS runs.
 """
 import argparse
 import pathlib
@@ -32,7 +33,7 @@ def main():
     args = parser.parse_args()
     if not PROGRAM.exists():
         sys.exit("build the program first: `rt run` in crates/bench_marks")
-    for what in ("draws", "pairs"):
+    for what in ("draws", "pairs", "shares"):
         for threads in (1, 2, 4):
             took = statistics.median(seconds(what, threads, args.count) for _ in range(args.runs))
             print(f"{what} on {threads} threads: {threads * args.count / took / 1e6:.1f} million a second")

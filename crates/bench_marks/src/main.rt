@@ -1,4 +1,4 @@
-//! Draws and marks by one, two or four threads at once, counted, for a script that times them: `bench_marks WHAT THREADS COUNT`, where WHAT is `draws` or `pairs` and each thread does COUNT. Without arguments it does a few of each.
+//! Draws and marks by one, two or four threads at once, counted, for a script that times them: `bench_marks WHAT THREADS COUNT`, where WHAT is `draws`, `pairs` or `shares` and each thread does COUNT. Without arguments it does a few of each.
 #![tactic(auto)]
 
 mod work;
@@ -14,7 +14,7 @@ use std::thread::Threads;
 
 const MOST_COUNT: u64 = 1 << 32;
 
-// How many draws were made, and how often a mark was begun.
+// How many draws were made, and how often a mark was begun or a turn given away.
 fn done<R: Threads + Sync>(
     rt: &R,
     alloc: Global,
@@ -22,15 +22,15 @@ fn done<R: Threads + Sync>(
     threads: u64,
     turns: u64,
 ) -> Result<(u64, u64)> {
-    let begun = AtomicU64::new(0);
+    let counted = AtomicU64::new(0);
     let (marks, pass) = Marks::new(alloc, 4, 0, turns)?;
     let pass = match threads {
-        1 => by_one(&marks, pass, task, 0, &begun),
-        2 if turns >= 2 => by_two(rt, &marks, pass, task, 0, &begun),
-        4 if turns >= 4 => by_four(rt, &marks, pass, task, &begun),
+        1 => by_one(&marks, pass, task, 0, &counted),
+        2 if turns >= 2 => by_two(rt, &marks, pass, task, 0, &counted),
+        4 if turns >= 4 => by_four(rt, &marks, pass, task, &counted),
         _ => bail!("there are 1, 2 or 4 threads"),
     };
-    Ok((marks.close(pass), begun.load(SeqCst)))
+    Ok((marks.close(pass), counted.load(SeqCst)))
 }
 
 fn report<R: Print + Alloc<A = Global> + Threads + Sync>(
@@ -45,7 +45,8 @@ fn report<R: Print + Alloc<A = Global> + Threads + Sync>(
     let counted = match what {
         "draws" => done(rt, rt.alloc(), Task::Draws, threads, threads * count)?.0,
         "pairs" => done(rt, rt.alloc(), Task::Pairs(count), threads, threads)?.1,
-        _ => bail!("it does draws or pairs"),
+        "shares" => done(rt, rt.alloc(), Task::Shares(count), threads, 2 * threads)?.1,
+        _ => bail!("it does draws, pairs or shares"),
     };
     println!(rt; "{what}: {counted} by {threads} threads")?;
     Ok(())
@@ -56,7 +57,8 @@ fn main(rt: HostRuntime) -> Result<()> {
     let _program = args.next();
     let Some(what) = args.next() else {
         report(&rt, "draws", 4, 1000)?;
-        return report(&rt, "pairs", 4, 1000);
+        report(&rt, "pairs", 4, 1000)?;
+        return report(&rt, "shares", 4, 1000);
     };
     let threads = args.next().context("how many threads?")?;
     let count = args.next().context("how many does each do?")?;
