@@ -1,5 +1,3 @@
-use hex::FromHexError;
-use rrc_name::NameFault;
 use std::alloc::{AllocError, AllocFailed};
 
 /// Why octets are not read as a line, or as a part of one.
