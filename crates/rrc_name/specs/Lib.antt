@@ -3,5 +3,6 @@ pub mod Folding
 pub mod Order
 pub mod Text
 pub mod Reading
+pub mod WireFault
 pub mod Key
 pub mod KeyLaws
