@@ -2,6 +2,8 @@ pub mod WireForms
 pub mod Spelling
 pub mod LabelOrder
 pub mod NameTies
+pub mod WireReading
+pub mod WireLaw
 pub mod OctetReading
 pub mod TextReading
 pub mod TextRuns

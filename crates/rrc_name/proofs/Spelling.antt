@@ -1,9 +1,9 @@
 -- What a text spells is a name.
 use Rattle.std.proofs.Common.{◌≡◌, ℕ, ◌≤◌, List, [], ◌∷◌, ◌++◌, length, refl, ap, subst, ◌∙◌, arith, length-append}
 use Rattle.std.specs.List.{AllByRecursion}
-use Rattle.rrc_name.specs.Wire.{wire_of, IsLabel, IsWireForm}
+use Rattle.rrc_name.specs.Wire.{wire_of, front_of, IsLabel, IsWireForm}
 use Rattle.rrc_name.specs.Text.{Spells, root, last_dot, no_last_dot}
-use Rattle.rrc_name.proofs.WireForms.{front_of, wire_of-front, wire_form_of}
+use Rattle.rrc_name.proofs.WireForms.{wire_of-front, wire_form_of}
 
 -- whole labels, which leave room for the octet that ends a name
 pub record AreLabels (before : List ℕ) : Type 0 where

@@ -6,10 +6,10 @@ use Rattle.std.proofs.lemmas.List.{append-nil}
 use Rattle.rrc_name.specs.declared.fault.NameFault.{NameFault}
 use Rattle.rrc_name.specs.declared.fault.NameFault.TheVariants.{EmptyLabel, LabelTooLong, NameTooLong, BadEscape, Memory}
 use Rattle.rrc_name.specs.declared.text.Escape.TheVariants.{Unescaped}
-use Rattle.rrc_name.specs.Wire.{wire_of}
+use Rattle.rrc_name.specs.Wire.{wire_of, front_of, MakeName}
 use Rattle.rrc_name.specs.Reading.{and_then, with_label, name_ends, name_from}
-use Rattle.rrc_name.specs.Text.{SpellsOctet, itself, escaped, decimal, SpellsLabel, no_octet, octet_more, SpellsLabels, no_label, label_more, MakeName, Spells, last_dot, no_last_dot, EndsLabel, SpellsNothing, IsFaulty, bad_escape, empty_label, no_text, label_too_long, name_too_long, IsFirstFaultOf}
-use Rattle.rrc_name.proofs.WireForms.{front_of, wire_of-front, front_of-push, all_labels-push}
+use Rattle.rrc_name.specs.Text.{SpellsOctet, itself, escaped, decimal, SpellsLabel, no_octet, octet_more, SpellsLabels, no_label, label_more, Spells, last_dot, no_last_dot, EndsLabel, SpellsNothing, IsFaulty, bad_escape, empty_label, no_text, label_too_long, name_too_long, IsFirstFaultOf}
+use Rattle.rrc_name.proofs.WireForms.{wire_of-front, front_of-push, all_labels-push}
 use Rattle.rrc_name.proofs.OctetReading.{octet_from, octet_from-spelled, octet_from-begins, name_from-octet, name_from-nothing, found_octet}
 
 -- what reading tells of a text

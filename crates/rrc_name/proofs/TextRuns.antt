@@ -8,10 +8,10 @@ use Rattle.std.proofs.lemmas.Slice.Eq.{bytes_eq-Decides}
 use Rattle.rrc_name.specs.declared.fault.NameFault.{NameFault}
 use Rattle.rrc_name.specs.declared.fault.NameFault.TheVariants.{EmptyLabel, LabelTooLong, NameTooLong}
 use Rattle.rrc_name.specs.declared.text.Escape.TheVariants.{Unescaped}
-use Rattle.rrc_name.specs.Wire.{wire_of, IsLabel}
+use Rattle.rrc_name.specs.Wire.{wire_of, front_of, IsLabel}
 use Rattle.rrc_name.specs.Reading.{and_then, with_label, name_from, name_in}
 use Rattle.rrc_name.specs.Text.{SpellsLabel, no_octet, octet_more, SpellsLabels, no_label, label_more, Spells, root, last_dot, no_last_dot, EndsLabel, SpellsNothing, IsFaulty, bad_escape, empty_label, no_text, label_too_long, name_too_long, IsFirstFaultOf}
-use Rattle.rrc_name.proofs.WireForms.{front_of, wire_of-front, front_of-push}
+use Rattle.rrc_name.proofs.WireForms.{wire_of-front, front_of-push}
 use Rattle.rrc_name.proofs.OctetReading.{octet_from, octet_from-spelled, octet_from-begins, name_from-octet, name_from-nothing, GoesOn}
 use Rattle.rrc_name.proofs.TextReading.{length-push, name_ends-label, name_ends-dot}
 

@@ -6,12 +6,7 @@ use Rattle.std.proofs.lemmas.Grind.{common_steps}
 use Rattle.std.proofs.lemmas.List.{append-nil, length-map, map-append}
 use Rattle.std.proofs.Math.Seq.{take-append_seam, drop-append_seam}
 use Rattle.std.specs.Char.{to_ascii_lowercase}
-use Rattle.rrc_name.specs.Wire.{wire_of, labels_within, labels_of, IsLabel, IsWireForm, BeginsWith, folded}
-
--- some labels in wire form, without the octet that ends a name
-abbrev pub front_of : List (List ℕ) → List ℕ
-front_of [] = []
-front_of (label ∷ labels) = length label ∷ (label ++ front_of labels)
+use Rattle.rrc_name.specs.Wire.{wire_of, front_of, labels_within, labels_of, IsLabel, IsWireForm, BeginsWith, folded}
 
 pub wire_of-front : (labels : List (List ℕ)) → wire_of labels ≡ front_of labels ++ 0 ∷ []
 wire_of-front [] = refl

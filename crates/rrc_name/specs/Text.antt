@@ -1,10 +1,10 @@
 -- The text of a name (RFC 1035 5.1): labels with a dot between them, and escapes for octets that have no letter.
 use Rattle.std.specs.Prelude.{◌≡◌, ◌≢◌, ◌<◌, ◌≤◌, ◌⊎◌, ℕ, ◌+◌, ◌*◌, ◌/◌, ◌%◌, List, [], ◌∷◌, ◌++◌, length, if◌then◌else◌, ◌==◌, ◌||◌}
-use Rattle.std.specs.List.{AllByRecursion, flat_map}
+use Rattle.std.specs.List.{flat_map}
 use Rattle.std.specs.Char.{is_ascii_graphic}
 use Rattle.rrc_name.specs.declared.fault.NameFault.{NameFault}
 use Rattle.rrc_name.specs.declared.fault.NameFault.TheVariants.{EmptyLabel, LabelTooLong, NameTooLong, BadEscape}
-use Rattle.rrc_name.specs.Wire.{wire_of, labels_of, IsLabel, IsWireForm}
+use Rattle.rrc_name.specs.Wire.{wire_of, labels_of, MakeName, IsWireForm}
 
 -- a graphic octet: '!' to '~'
 abbrev pub IsGraphic : ℕ → Type 0
@@ -34,11 +34,6 @@ pub data SpellsLabels : List ℕ → List (List ℕ) → Type 0 where
   no_label : SpellsLabels [] []
   label_more : {first behind label : List ℕ} {labels : List (List ℕ)} → SpellsLabel first label → SpellsLabels behind labels
       → SpellsLabels (first ++ 46 ∷ behind) (label ∷ labels)
-
--- the labels of a name have 1 to 63 octets, and its wire form at most 255 (RFC 1035 2.3.4)
-pub record MakeName (labels : List (List ℕ)) : Type 0 where
-  pub all : AllByRecursion IsLabel labels
-  pub short : length (wire_of labels) ≤ 255
 
 -- a text spells the name that has this wire form
 pub data Spells : List ℕ → List ℕ → Type 0 where

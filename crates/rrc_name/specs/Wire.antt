@@ -9,6 +9,11 @@ abbrev pub wire_of : List (List ℕ) → List ℕ
 wire_of [] = 0 ∷ []
 wire_of (label ∷ labels) = length label ∷ (label ++ wire_of labels)
 
+-- the octets of some labels in a wire form, without the zero octet at its end
+abbrev pub front_of : List (List ℕ) → List ℕ
+front_of [] = []
+front_of (label ∷ labels) = length label ∷ (label ++ front_of labels)
+
 -- at most so many labels, read from the front of a wire form
 unfoldable pub labels_within : ℕ → List ℕ → List (List ℕ)
 labels_within zero octets = []
@@ -25,6 +30,11 @@ pub record IsLabel (label : List ℕ) : Type 0 where
   pub some : 1 ≤ length label
   pub few : length label ≤ 63
   pub octets : AllByRecursion (λ octet. octet < 256) label
+
+-- the labels of a name have 1 to 63 octets, and its wire form at most 255 (RFC 1035 2.3.4)
+pub record MakeName (labels : List (List ℕ)) : Type 0 where
+  pub all : AllByRecursion IsLabel labels
+  pub short : length (wire_of labels) ≤ 255
 
 -- the octets are a whole name: its labels, of at most 255 octets in all (RFC 1035 2.3.4)
 pub record IsWireForm (octets : List ℕ) : Type 0 where

@@ -16,6 +16,21 @@ pub enum NameFault {
     Memory = 5,
 }
 
+/// Why octets are not the wire form of a name, in the order of reading: the first fault is answered.
+#[derive(Clone, Copy, Debug, PartialEq, Eq, Hash, Error)]
+pub enum WireNameFault {
+    #[error("the name ends too soon")]
+    Short = 1,
+    #[error("a label has more than 63 octets")]
+    LabelTooLong = 2,
+    #[error("the name has more than 255 octets")]
+    NameTooLong = 3,
+    #[error("octets stand behind the name")]
+    LeftOver = 4,
+    #[error("memory was refused")]
+    Memory = 5,
+}
+
 impl From<AllocError> for NameFault {
     ghost use Rattle.std.specs.Prelude.{◌≡◌};
     ghost use Rattle.rrc_name.specs.declared.fault.NameFault.TheVariants.{Memory};
@@ -35,5 +50,27 @@ impl<T: Drop> From<AllocFailed<T>> for NameFault {
 
     fn from(_refused: AllocFailed<T>) -> NameFault {
         NameFault::Memory
+    }
+}
+
+impl From<AllocError> for WireNameFault {
+    ghost use Rattle.std.specs.Prelude.{◌≡◌};
+    ghost use Rattle.rrc_name.specs.declared.fault.WireNameFault.TheVariants.{Memory};
+
+    ghost from_gives = { λ _ fault. fault ≡ Memory };
+
+    fn from(_refused: AllocError) -> WireNameFault {
+        WireNameFault::Memory
+    }
+}
+
+impl<T: Drop> From<AllocFailed<T>> for WireNameFault {
+    ghost use Rattle.std.specs.Prelude.{◌≡◌};
+    ghost use Rattle.rrc_name.specs.declared.fault.WireNameFault.TheVariants.{Memory};
+
+    ghost from_gives = { λ _ fault. fault ≡ Memory };
+
+    fn from(_refused: AllocFailed<T>) -> WireNameFault {
+        WireNameFault::Memory
     }
 }

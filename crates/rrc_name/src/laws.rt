@@ -1,5 +1,6 @@
 ghost use Rattle.rrc_name.specs.Reading.{IsReadAsSpelled};
 ghost use Rattle.rrc_name.specs.Text.{IsReadAgain, OneNameOrFault};
+ghost use Rattle.rrc_name.specs.WireFault.{OneFormOrFault};
 
 /// The text of each name spells that name, octet for octet: `Name::from_text` undoes `Name::to_text`. The function does
 /// nothing; its contract is the law.
@@ -12,4 +13,10 @@ pub fn reading_undoes_printing()
 pub fn one_name_or_fault()
     ensures one { OneNameOrFault }
     ensures read { IsReadAsSpelled }
+{}
+
+/// Octets are the wire form of a name, or they have exactly one first fault, and never both (RFC 1035 section 3.1). The function
+/// does nothing; its contract is the law.
+pub fn one_wire_form_or_fault()
+    ensures { OneFormOrFault }
 {}

@@ -19,10 +19,11 @@ mod shared;
 mod shared_tests;
 mod slot;
 mod text;
+mod wire;
 
-pub use fault::NameFault;
+pub use fault::{NameFault, WireNameFault};
 pub use key::Key;
-pub use laws::{one_name_or_fault, reading_undoes_printing};
+pub use laws::{one_name_or_fault, one_wire_form_or_fault, reading_undoes_printing};
 pub use name::Name;
 pub use octets::Octets;
 pub use sequence::Sequence;

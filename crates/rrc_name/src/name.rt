@@ -3,11 +3,12 @@ ghost use Rattle.rrc_name.specs.Wire.{folded, IsWireForm, IsSameName, same_name}
 ghost use Rattle.rrc_name.specs.Key.{IsFolded};
 ghost use Rattle.rrc_name.specs.Order.{canonical_order, IsAtOrBelow, is_at_or_below};
 ghost use Rattle.rrc_name.specs.Text.{Spells, IsFirstFaultOf, text_of};
+ghost use Rattle.rrc_name.specs.WireFault.{IsFirstFaultOfWire};
 
-use crate::fault::NameFault;
+use crate::fault::{NameFault, WireNameFault};
 use crate::octets::Octets;
 use crate::shared::Shared;
-use crate::{order, printed, text};
+use crate::{order, printed, text, wire};
 use std::alloc::{AllocError, Global};
 use std::cmp::Ordering;
 use std::marker::Model;
@@ -57,6 +58,19 @@ impl Name {
         let wire = Octets::from_vec(text::wire_in(alloc, text)?);
         Ok(Name {
             wire: Shared::new(alloc, wire)?,
+        })
+    }
+
+    /// The name that has this wire form (RFC 1035 section 3.1). The octets are read from the left and their first fault is
+    /// answered.
+    pub fn from_wire(alloc: Global, octets: &[u8]) -> Result<Name, WireNameFault>
+        ensures ok { IfOk result (λ name. name ≡ octets.now) }
+        ensures wire_form { IfOk result (λ _. IsWireForm octets.now) }
+        ensures err { IfErr result (λ fault. (fault ≡ WireNameFault.Memory) ⊎ IsFirstFaultOfWire octets.now fault) }
+    {
+        wire::test_wire_form(octets)?;
+        Ok(Name {
+            wire: Shared::new(alloc, Octets::from_slice(alloc, octets)?)?,
         })
     }
 

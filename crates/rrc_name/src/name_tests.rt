@@ -1,4 +1,4 @@
-use crate::fault::NameFault;
+use crate::fault::{NameFault, WireNameFault};
 use crate::key::Key;
 use crate::name::Name;
 use crate::slot::Slot;
@@ -105,6 +105,62 @@ fn keeps_the_limits_of_length(rt: HostRuntime) -> Result<(), Fail> {
         Name::from_text(rt.alloc(), text.as_str()).err(),
         Some(NameFault::BadEscape)
     );
+    Ok(())
+}
+
+#[test]
+fn reads_wire_forms(rt: HostRuntime) -> Result<(), Fail> {
+    let cases: [(&[u8], Option<WireNameFault>); 12] = [
+        (b"\0", None),
+        (b"\x03www\x07Example\0", None),
+        (b"\x02.\\\0", None),
+        (b"", Some(WireNameFault::Short)),
+        (b"\x03ww", Some(WireNameFault::Short)),
+        (b"\x03www", Some(WireNameFault::Short)),
+        (b"\x01a\0\0", Some(WireNameFault::LeftOver)),
+        (b"\0\x01a\0", Some(WireNameFault::LeftOver)),
+        (b"\x40", Some(WireNameFault::LabelTooLong)),
+        (b"\x01a\xc0\x0c", Some(WireNameFault::LabelTooLong)),
+        (b"\0\x40", Some(WireNameFault::LeftOver)),
+        (b"\x3f", Some(WireNameFault::Short)),
+    ];
+    for (octets, fault) in cases {
+        match Name::from_wire(rt.alloc(), octets) {
+            Ok(name) => {
+                assert_eq!(rt; None, fault);
+                assert_eq!(rt; name.wire.as_slice(), octets);
+            }
+            Err(refused) => assert_eq!(rt; Some(refused), fault),
+        }
+    }
+    Ok(())
+}
+
+#[test]
+fn keeps_the_limit_of_a_wire_form(rt: HostRuntime) -> Result<(), Fail> {
+    let cases: [(&[u8], Option<WireNameFault>); 4] = [
+        (&[63, 63, 63, 61], None),
+        (&[63, 63, 63, 62], Some(WireNameFault::NameTooLong)),
+        (&[63, 63, 63, 60, 1], Some(WireNameFault::NameTooLong)),
+        (&[63, 63, 63, 64], Some(WireNameFault::LabelTooLong)),
+    ];
+    for (counts, fault) in cases {
+        let mut octets = Vec::new(rt.alloc());
+        for &count in counts {
+            octets.push(count)?;
+            for _ in 0..count {
+                octets.push(b'a')?;
+            }
+        }
+        octets.push(0)?;
+        match Name::from_wire(rt.alloc(), octets.as_slice()) {
+            Ok(name) => {
+                assert_eq!(rt; None, fault);
+                assert_eq!(rt; name.len(), 255);
+            }
+            Err(refused) => assert_eq!(rt; Some(refused), fault),
+        }
+    }
     Ok(())
 }
 
