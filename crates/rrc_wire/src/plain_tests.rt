@@ -1,39 +1,114 @@
-// Data by hand: which are plain, and which are the same.
+// Data by hand, in hexadecimal behind their type: which are plain, and which are the same.
 
+use crate::tests::push_octets;
 use crate::{WireFault, plain_rdata, same_rdata};
 use std::alloc::{AllocError, Global};
 use std::process::Abort;
 use std::test::Fail;
 
-const NS: u16 = 2;
+const PLAIN: &str = "
+SOA: 6 076578616d706c6500 076578616d706c6500 000000010000 0e100000025800093a800000012c
+the root: 2 00
+MX: 15 000a 0161076578616d706c6500
+SRV: 33 000100020035 016100
+fixed octets like a pointer: 26 c00c 016100 016200
+opaque octets: 16 c00c
+no octets: 16
+";
 
-const SOA: u16 = 6;
+const OTHERS: &str = "
+a pointer: 2 c00c
+a pointer behind a label: 2 0161c00c
+an octet left over: 2 016100 00
+an octet left over behind MINIMUM: 6 00 00 000000010000 0e100000025800093a800000012c 00
+an octet missing: 6 00 00 000000010000 0e100000025800093a80000001
+a name missing: 15 000a
+half a preference: 15 00
+no name: 2
+a label that is cut: 2 0261
+a name with no end: 2 0161
+reserved bits: 2 4000
+";
 
-const MX: u16 = 15;
+const SAME: &str = "
+the case of a name: 2 0161 074558414d504c45 00 = 0141 076578616d706c65 00
+the second name: 26 4142 016100 016200 = 4142 016100 014200
+names of a SOA: 6 016100 016200 4142434445464748494a4b4c4d4e4f5051525354 = 014100 014200 4142434445464748494a4b4c4d4e4f5051525354
+a name behind letters: 15 0041 016100 = 0041 014100
+a target: 33 414243444546 016100 = 414243444546 014100
+opaque octets: 16 0161 = 0161
+octets that are not plain: 2 0161 = 0161
+";
 
-const TXT: u16 = 16;
+const DIFFERENT: &str = "
+names: 2 016100 = 016200
+octets next to the letters: 2 015b00 = 017b00
+a preference: 15 0041 016100 = 0061 016100
+a port: 33 414243444546 016100 = 414243444566 016100
+the last octet of a SOA: 6 016100 016200 4142434445464748494a4b4c4d4e4f5051525354 = 016100 016200 4142434445464748494a4b4c4d4e4f5051525374
+opaque octets: 16 0161 = 0141
+a name that is cut: 2 0161 = 0141
+a name with a pointer: 2 0161c00c = 0141c00c
+";
 
-const PX: u16 = 26;
+/// The type and the octets of a text.
+fn data_of(alloc: Global, text: &str) -> Result<(u16, Vec<u8>), Fail> {
+    let (rtype, digits) = text.split_once(' ').unwrap_or((text, ""));
+    let mut octets = Vec::new(alloc);
+    push_octets(&mut octets, digits)?;
+    Ok((rtype.parse::<u16>()?, octets))
+}
 
-const SRV: u16 = 33;
-
-/// Asserts that octets are plain data of a type.
-fn is_taken(rt: &impl Abort, alloc: Global, rtype: u16, octets: &[u8]) -> Result<(), Fail> {
-    assert_eq!(rt;
-        plain_rdata(alloc, rtype, octets)?.as_slice(),
-        octets,
-        "type {rtype}"
-    );
+/// Asserts what `plain_rdata` answers for the data of a line.
+fn is_taken(rt: &impl Abort, alloc: Global, line: &str, plain: bool) -> Result<(), Fail> {
+    let (_name, text) = line.split_once(": ").ok_or("a line with no name")?;
+    let (rtype, octets) = data_of(alloc, text)?;
+    match plain_rdata(alloc, rtype, octets.as_slice()) {
+        Ok(rdata) => assert_eq!(rt;
+            (plain, rdata.as_slice()),
+            (true, octets.as_slice()),
+            "{line}"
+        ),
+        Err(fault) => assert_eq!(rt; (plain, fault), (false, WireFault::BadData), "{line}"),
+    }
     Ok(())
 }
 
-/// Asserts that octets are no plain data of a type.
-fn is_refused(rt: &impl Abort, alloc: Global, rtype: u16, octets: &[u8]) {
-    assert_eq!(rt;
-        plain_rdata(alloc, rtype, octets),
-        Err(WireFault::BadData),
-        "type {rtype}"
+#[test]
+fn plain_data(rt: HostRuntime) -> Result<(), Fail> {
+    for line in PLAIN.trim().lines() {
+        is_taken(&rt, rt.alloc(), line, true)?;
+    }
+    for line in OTHERS.trim().lines() {
+        is_taken(&rt, rt.alloc(), line, false)?;
+    }
+    Ok(())
+}
+
+/// Asserts whether the two data of a line are the same, from either side.
+fn are_same(rt: &impl Abort, alloc: Global, line: &str, same: bool) -> Result<(), Fail> {
+    let (_name, text) = line.split_once(": ").ok_or("a line with no name")?;
+    let (text, digits) = text.split_once(" = ").ok_or("a line with one datum")?;
+    let (rtype, octets) = data_of(alloc, text)?;
+    let mut other = Vec::new(alloc);
+    push_octets(&mut other, digits)?;
+    let answers = (
+        same_rdata(rtype, octets.as_slice(), other.as_slice()),
+        same_rdata(rtype, other.as_slice(), octets.as_slice()),
     );
+    assert_eq!(rt; answers, (same, same), "{line}");
+    Ok(())
+}
+
+#[test]
+fn same_data(rt: HostRuntime) -> Result<(), Fail> {
+    for line in SAME.trim().lines() {
+        are_same(&rt, rt.alloc(), line, true)?;
+    }
+    for line in DIFFERENT.trim().lines() {
+        are_same(&rt, rt.alloc(), line, false)?;
+    }
+    Ok(())
 }
 
 /// A name of four labels: three of 63 octets, and one of so many.
@@ -50,147 +125,19 @@ fn long_name(alloc: Global, last: u8) -> Result<Vec<u8>, AllocError> {
 }
 
 #[test]
-fn plain_data(rt: HostRuntime) -> Result<(), Fail> {
+fn plain_names_of_255_octets(rt: HostRuntime) -> Result<(), Fail> {
     let alloc = rt.alloc();
-    let soa =
-        b"\x07example\x00\x07example\x00\x00\x00\x00\x01\x00\x00\x0e\x10\x00\x00\x02\x58\x00\x09\x3a\x80\x00\x00\x01\x2c";
-    is_taken(&rt, alloc, SOA, soa.as_slice())?;
-    is_taken(&rt, alloc, NS, b"\x00".as_slice())?;
-    is_taken(&rt, alloc, MX, b"\x00\x0a\x01a\x07example\x00".as_slice())?;
-    is_taken(
-        &rt,
-        alloc,
-        SRV,
-        b"\x00\x01\x00\x02\x00\x35\x01a\x00".as_slice(),
-    )?;
-    is_taken(&rt, alloc, PX, b"\xc0\x0c\x01a\x00\x01b\x00".as_slice())?;
-    is_taken(&rt, alloc, TXT, b"\xc0\x0c".as_slice())?;
-    is_taken(&rt, alloc, TXT, b"".as_slice())?;
-    is_taken(&rt, alloc, NS, long_name(alloc, 61)?.as_slice())
-}
-
-#[test]
-fn other_data(rt: HostRuntime) -> Result<(), Fail> {
-    let alloc = rt.alloc();
-    // a pointer, alone and behind a label
-    is_refused(&rt, alloc, NS, b"\xc0\x0c".as_slice());
-    is_refused(&rt, alloc, NS, b"\x01a\xc0\x0c".as_slice());
-    // octets left over, and octets missing
-    is_refused(&rt, alloc, NS, b"\x01a\x00\x00".as_slice());
-    is_refused(&rt, alloc, SOA, b"\x00\x00ABCDEFGHIJKLMNOPQRS".as_slice());
-    is_refused(&rt, alloc, SOA, b"\x00\x00ABCDEFGHIJKLMNOPQRSTU".as_slice());
-    is_refused(&rt, alloc, MX, b"\x00".as_slice());
-    is_refused(&rt, alloc, MX, b"\x00\x0a".as_slice());
-    is_refused(&rt, alloc, NS, b"".as_slice());
-    // a label that is cut, no end, and reserved bits
-    is_refused(&rt, alloc, NS, b"\x02a".as_slice());
-    is_refused(&rt, alloc, NS, b"\x01a".as_slice());
-    is_refused(&rt, alloc, NS, b"\x40\x00".as_slice());
-    is_refused(&rt, alloc, NS, long_name(alloc, 62)?.as_slice());
+    assert!(rt; plain_rdata(alloc, 2, long_name(alloc, 61)?.as_slice()).is_ok());
+    assert!(rt; plain_rdata(alloc, 2, long_name(alloc, 62)?.as_slice()).is_err());
     Ok(())
 }
 
 #[test]
-fn data_of_65535_octets(rt: HostRuntime) -> Result<(), Fail> {
+fn plain_data_of_65535_octets(rt: HostRuntime) -> Result<(), Fail> {
     let alloc = rt.alloc();
     let mut octets = vec![in alloc; 0; 65535]?;
-    is_taken(&rt, alloc, TXT, octets.as_slice())?;
+    assert!(rt; plain_rdata(alloc, 16, octets.as_slice()).is_ok());
     octets.push(0)?;
-    is_refused(&rt, alloc, TXT, octets.as_slice());
-    Ok(())
-}
-
-/// Asserts whether two data of a type are the same, from either side.
-fn are(rt: &impl Abort, rtype: u16, same: bool, a: &[u8], b: &[u8]) {
-    assert_eq!(rt; same_rdata(rtype, a, b), same, "type {rtype}");
-    assert_eq!(rt; same_rdata(rtype, b, a), same, "type {rtype}");
-}
-
-#[test]
-fn same_data(rt: HostRuntime) -> Result<(), Fail> {
-    are(
-        &rt,
-        NS,
-        true,
-        b"\x01a\x07EXAMPLE\x00".as_slice(),
-        b"\x01A\x07example\x00".as_slice(),
-    );
-    are(
-        &rt,
-        NS,
-        false,
-        b"\x01a\x00".as_slice(),
-        b"\x01b\x00".as_slice(),
-    );
-    are(
-        &rt,
-        NS,
-        false,
-        b"\x01[\x00".as_slice(),
-        b"\x01{\x00".as_slice(),
-    );
-    // of a preference the case counts, of the name it does not
-    are(
-        &rt,
-        MX,
-        true,
-        b"\x00A\x01a\x00".as_slice(),
-        b"\x00A\x01A\x00".as_slice(),
-    );
-    are(
-        &rt,
-        MX,
-        false,
-        b"\x00A\x01a\x00".as_slice(),
-        b"\x00a\x01a\x00".as_slice(),
-    );
-    are(
-        &rt,
-        SRV,
-        true,
-        b"ABCDEF\x01a\x00".as_slice(),
-        b"ABCDEF\x01A\x00".as_slice(),
-    );
-    are(
-        &rt,
-        SRV,
-        false,
-        b"ABCDEF\x01a\x00".as_slice(),
-        b"ABCDEf\x01a\x00".as_slice(),
-    );
-    are(
-        &rt,
-        PX,
-        true,
-        b"AB\x01a\x00\x01b\x00".as_slice(),
-        b"AB\x01a\x00\x01B\x00".as_slice(),
-    );
-    // the last octets of a SOA
-    are(
-        &rt,
-        SOA,
-        true,
-        b"\x01a\x00\x01b\x00ABCDEFGHIJKLMNOPQRST".as_slice(),
-        b"\x01A\x00\x01B\x00ABCDEFGHIJKLMNOPQRST".as_slice(),
-    );
-    are(
-        &rt,
-        SOA,
-        false,
-        b"\x01a\x00\x01b\x00ABCDEFGHIJKLMNOPQRST".as_slice(),
-        b"\x01a\x00\x01b\x00ABCDEFGHIJKLMNOPQRSt".as_slice(),
-    );
-    // opaque octets, and octets that are no plain data
-    are(&rt, TXT, false, b"\x01a".as_slice(), b"\x01A".as_slice());
-    are(&rt, TXT, true, b"\x01a".as_slice(), b"\x01a".as_slice());
-    are(&rt, NS, false, b"\x01a".as_slice(), b"\x01A".as_slice());
-    are(&rt, NS, true, b"\x01a".as_slice(), b"\x01a".as_slice());
-    are(
-        &rt,
-        NS,
-        false,
-        b"\x01a\xc0\x0c".as_slice(),
-        b"\x01A\xc0\x0c".as_slice(),
-    );
+    assert!(rt; plain_rdata(alloc, 16, octets.as_slice()).is_err());
     Ok(())
 }

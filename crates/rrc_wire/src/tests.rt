@@ -80,7 +80,7 @@ fn digit_of(letter: u8) -> Option<u8> {
 }
 
 /// Puts the octets of a text in hexadecimal behind others. What is no digit is passed over.
-fn push_octets(octets: &mut Vec<u8>, text: &str) -> Result<(), AllocError> {
+pub(crate) fn push_octets(octets: &mut Vec<u8>, text: &str) -> Result<(), AllocError> {
     let mut high = None;
     for &letter in text.as_bytes() {
         if let Some(digit) = digit_of(letter) {
