@@ -3,10 +3,7 @@ use Rattle.std.proofs.Common.{length-append, ◌≡◌, ◌⊎◌, ℕ, zero, su
 use Rattle.std.proofs.lemmas.List.{get_or_push, get_or_append_left}
 use Rattle.std.proofs.lemmas.Grind.{get_or_default_zero}
 use Rattle.rrc_wire.specs.declared.fault.WireFault.{WireFault}
-use Rattle.rrc_wire.specs.declared.item.Item.{Item}
-use Rattle.rrc_wire.specs.declared.item.Item.TheVariants.{End, Label, Pointer}
-use Rattle.rrc_wire.specs.declared.item.Run.{Run}
-use Rattle.rrc_wire.specs.Item.{item_at, to_end}
+use Rattle.rrc_wire.specs.Item.{ItemOf, End, Label, Pointer, RunOf, item_at, to_end}
 use Rattle.rrc_wire.specs.Grammar.{NameAt, root, label, pointer, StandsAt}
 use Rattle.rrc_wire.specs.Chain.{PointsTo, PointsNowhere, Leads, ends, points, AreEnds, LeadsToName}
 use Rattle.rrc_wire.proofs.Items.{item_at-Pointer}
@@ -23,12 +20,12 @@ pub points-item : (message : List ℕ) (size place target : ℕ) → PointsTo me
 points-item message size place target to =
     Pointer-item_at message (to_end message place) size place target (record { top_bits = to.top_bits; target_is = to.target_is; lower = to.lower; within = to.within })
 
-pub nowhere : (message : List ℕ) (place : ℕ) (item : Result Item WireFault) → item_at message (to_end message place) 0 place ≡ item → ((target : ℕ) → item ≡ Ok (Pointer target) → ⊥)
+pub nowhere : (message : List ℕ) (place : ℕ) (item : Result ItemOf WireFault) → item_at message (to_end message place) 0 place ≡ item → ((target : ℕ) → item ≡ Ok (Pointer target) → ⊥)
     → PointsNowhere message place
 nowhere message place item is no_pointer target to = no_pointer target (sym is ∙ points-item message 0 place target to)
 
 -- what is left to read from a chain's first place is left to read from its last
-pub goes-leads : {message : List ℕ} {place last : ℕ} → Leads message place last → (first : Run) (before : List ℕ) (behind : ℕ) → length before ≤ 254
+pub goes-leads : {message : List ℕ} {place last : ℕ} → Leads message place last → (first : RunOf) (before : List ℕ) (behind : ℕ) → length before ≤ 254
     → Goes message first (to_end message place) before (Some behind) place → Goes message first (to_end message last) before (Some behind) last
 goes-leads (ends none) first before behind room goes = goes
 goes-leads {message} {place} (points {target = target} to rest) first before behind room goes =
@@ -59,7 +56,7 @@ pub target-in : (message : List ℕ) (place target : ℕ) → PointsTo message p
 target-in message place target to = omega (arith, to.within, to.target_is, to.lower)
 
 -- whether a pointer to a lower place stands at a place
-decided : (message : List ℕ) (place : ℕ) (item : Result Item WireFault) → item_at message (to_end message place) 0 place ≡ item → ((target : ℕ) × PointsTo message place target) ⊎ PointsNowhere message place
+decided : (message : List ℕ) (place : ℕ) (item : Result ItemOf WireFault) → item_at message (to_end message place) 0 place ≡ item → ((target : ℕ) × PointsTo message place target) ⊎ PointsNowhere message place
 decided message place (Err fault) is = inr (nowhere message place (Err fault) is (λ target h. cc))
 decided message place (Ok End) is = inr (nowhere message place (Ok End) is (λ target h. cc))
 decided message place (Ok (Label octets)) is = inr (nowhere message place (Ok (Label octets)) is (λ target h. cc))

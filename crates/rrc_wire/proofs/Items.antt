@@ -5,17 +5,15 @@ use Rattle.std.specs.List.{AllByRecursion}
 use Rattle.std.proofs.lemmas.Bool.Decides.{nat_tests}
 use Rattle.std.proofs.lemmas.List.{drop_more}
 use Rattle.std.proofs.lemmas.List.Elements.{All-from_get_or, All-take, All-drop, recursion_from_All}
-use Rattle.rrc_wire.specs.declared.item.Item.TheVariants.{End, Label, Pointer}
-use Rattle.rrc_wire.specs.declared.item.Run.{Run}
-use Rattle.rrc_wire.specs.Item.{item_at, target_at}
+use Rattle.rrc_wire.specs.Item.{End, Label, Pointer, RunOf, item_at, target_at}
 
 -- the zero octet that ends a name stands at a place
-pub record EndStands (message : List ℕ) (run : Run) (place : ℕ) : Type 0 where
+pub record EndStands (message : List ℕ) (run : RunOf) (place : ℕ) : Type 0 where
   pub zero_octet : slice_index message place ≡ 0
   pub within : place < run.end
 
 -- a label stands at a place, and leaves room for the octet that ends its name
-pub record LabelStands (message : List ℕ) (run : Run) (size place octets : ℕ) : Type 0 where
+pub record LabelStands (message : List ℕ) (run : RunOf) (size place octets : ℕ) : Type 0 where
   pub length_octet : slice_index message place ≡ octets
   pub some : 1 ≤ octets
   pub few : octets ≤ 63
@@ -23,17 +21,17 @@ pub record LabelStands (message : List ℕ) (run : Run) (size place octets : ℕ
   pub within : place + 1 + octets ≤ run.end
 
 -- a pointer stands at a place
-pub record PointerStands (message : List ℕ) (run : Run) (place target : ℕ) : Type 0 where
+pub record PointerStands (message : List ℕ) (run : RunOf) (place target : ℕ) : Type 0 where
   pub top_bits : 192 ≤ slice_index message place
   pub target_is : target ≡ target_at message place
   pub lower : target < run.start
   pub within : place + 2 ≤ run.end
 
-pub item_at-End : (message : List ℕ) (run : Run) (size place : ℕ) → item_at message run size place ≡ Ok End → EndStands message run place
+pub item_at-End : (message : List ℕ) (run : RunOf) (size place : ℕ) → item_at message run size place ≡ Ok End → EndStands message run place
 item_at-End message run size place h =
     record { zero_octet = grind (arith, nat_tests); within = grind (arith, nat_tests) }
 
-pub item_at-Label : (message : List ℕ) (run : Run) (size place octets : ℕ) → item_at message run size place ≡ Ok (Label octets) → LabelStands message run size place octets
+pub item_at-Label : (message : List ℕ) (run : RunOf) (size place octets : ℕ) → item_at message run size place ≡ Ok (Label octets) → LabelStands message run size place octets
 item_at-Label message run size place octets h =
     record {
       length_octet = grind (arith, nat_tests);
@@ -43,7 +41,7 @@ item_at-Label message run size place octets h =
       within = grind (arith, nat_tests);
     }
 
-pub item_at-Pointer : (message : List ℕ) (run : Run) (size place target : ℕ) → item_at message run size place ≡ Ok (Pointer target) → PointerStands message run place target
+pub item_at-Pointer : (message : List ℕ) (run : RunOf) (size place target : ℕ) → item_at message run size place ≡ Ok (Pointer target) → PointerStands message run place target
 item_at-Pointer message run size place target h =
     record {
       top_bits = grind (arith, nat_tests);

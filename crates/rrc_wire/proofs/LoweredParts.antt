@@ -8,8 +8,7 @@ use Rattle.std.proofs.lemmas.List.{take_at, drop_at, length-map, map-append}
 use Rattle.std.specs.Char.{to_ascii_lowercase}
 use Rattle.rrc_name.specs.Wire.{IsWireForm, folded}
 use Rattle.rrc_name.proofs.WireForms.{folded-IsWireForm}
-use Rattle.rrc_wire.specs.declared.layout.Layout.{Layout}
-use Rattle.rrc_wire.specs.Layout.{layout_of}
+use Rattle.rrc_wire.specs.Layout.{LayoutOf, layout_of}
 use Rattle.rrc_wire.specs.Plain.{Parts, octets_of, AreParts, Fills, parts_in, is_plain}
 use Rattle.rrc_wire.specs.Same.{lowered_parts, lowered_by, lowered_rdata, IsSameRdata, same_rdata}
 use Rattle.rrc_wire.specs.SameLaws.{same_rdata-Decides}
@@ -25,7 +24,7 @@ folded-names [] all = tt
 folded-names (name ∷ names) all = (folded-IsWireForm name all.0, folded-names names all.1)
 
 -- lowered parts are parts of the same layout
-pub lowered-AreParts : (layout : Layout) (parts : Parts) → AreParts layout parts → AreParts layout (lowered_parts parts)
+pub lowered-AreParts : (layout : LayoutOf) (parts : Parts) → AreParts layout parts → AreParts layout (lowered_parts parts)
 lowered-AreParts layout parts are =
     record { before = are.before; names = length-map parts.names folded ∙ are.names; wire_forms = folded-names parts.names are.wire_forms; behind = are.behind }
 
@@ -44,7 +43,7 @@ same_parts-lowered p q ((before, names), behind) =
     let low : concat (map folded p.names) ≡ concat (map folded q.names) = concat-folded p.names ∙ (names ∙ sym (concat-folded q.names)) in
     cc
 
-pub lowered-same_parts : (layout : Layout) (p q : Parts) → AreParts layout p → AreParts layout q → octets_of (lowered_parts p) ≡ octets_of (lowered_parts q) → SameParts p q
+pub lowered-same_parts : (layout : LayoutOf) (p q : Parts) → AreParts layout p → AreParts layout q → octets_of (lowered_parts p) ≡ octets_of (lowered_parts q) → SameParts p q
 lowered-same_parts layout p q are are_other is =
     let low = concat (map folded p.names) in
     let low_other = concat (map folded q.names) in
@@ -55,7 +54,7 @@ lowered-same_parts layout p q are are_other is =
     ((first.0, sym (concat-folded p.names) ∙ (rest.0 ∙ concat-folded q.names)), rest.1)
 
 -- whether the parts are the same tells whether the lowered data are
-pub same_parts-Decides : (layout : Layout) (a b : List ℕ) → Fills layout a → Fills layout b → (r : Bool) → Decides r (SameParts (parts_in layout a) (parts_in layout b))
+pub same_parts-Decides : (layout : LayoutOf) (a b : List ℕ) → Fills layout a → Fills layout b → (r : Bool) → Decides r (SameParts (parts_in layout a) (parts_in layout b))
     → Decides r (lowered_by (Some layout) a ≡ lowered_by (Some layout) b)
 same_parts-Decides layout a b fills fills_other r decides =
     let are : AreParts layout (parts_in layout a) = subst (AreParts layout) (sym (found_parts layout a fills)) fills.are_parts in
@@ -71,11 +70,11 @@ length-lowered_parts parts =
     omega (arith, length-append parts.before (low ++ parts.behind), length-append low parts.behind, length-append parts.before (concat parts.names ++ parts.behind), length-append (concat parts.names) parts.behind)
 
 -- the data with their names lowered fill the same layout, and are as long
-pub record StaysPlain (layout : Option Layout) (octets low : List ℕ) : Type 0 where
+pub record StaysPlain (layout : Option LayoutOf) (octets low : List ℕ) : Type 0 where
   pub size : length low ≡ length octets
   pub fills : MatchOption layout ⊤ (λ l. Fills l low)
 
-stays_plain : (layout : Option Layout) (octets : List ℕ) → MatchOption layout ⊤ (λ l. Fills l octets) → StaysPlain layout octets (lowered_by layout octets)
+stays_plain : (layout : Option LayoutOf) (octets : List ℕ) → MatchOption layout ⊤ (λ l. Fills l octets) → StaysPlain layout octets (lowered_by layout octets)
 stays_plain None octets fills = record { size = refl; fills = tt }
 stays_plain (Some layout) octets fills =
     let found = found_parts layout octets fills in
@@ -113,9 +112,9 @@ not_plain-Decides rtype a b one r decides =
     decides
 
 -- without a layout equality of octets tells
-lowered-opaque : (layout : Option Layout) (b : Bool) (octets : List ℕ) → layout ≡ None → cond b (lowered_by layout octets) octets ≡ octets
+lowered-opaque : (layout : Option LayoutOf) (b : Bool) (octets : List ℕ) → layout ≡ None → cond b (lowered_by layout octets) octets ≡ octets
 lowered-opaque layout false octets is = refl
-lowered-opaque layout true octets is = ap (λ (l : Option Layout). lowered_by l octets) is
+lowered-opaque layout true octets is = ap (λ (l : Option LayoutOf). lowered_by l octets) is
 
 pub opaque-Decides : (rtype : ℕ) (a b : List ℕ) → layout_of rtype ≡ None → (r : Bool) → Decides r (a ≡ b) → Decides r (IsSameRdata rtype a b)
 opaque-Decides rtype a b is r decides =
@@ -124,30 +123,30 @@ opaque-Decides rtype a b is r decides =
     Decides-like r (λ same. ap (lowered_rdata rtype) same) (λ same. sym (low a) ∙ (same ∙ low b)) decides
 
 -- plain data of a layout are the same where their lowered parts are
-pub plain-Decides : (rtype : ℕ) (layout : Layout) (a b : List ℕ) → layout_of rtype ≡ Some layout → is_plain rtype a ≡ true → is_plain rtype b ≡ true
+pub plain-Decides : (rtype : ℕ) (layout : LayoutOf) (a b : List ℕ) → layout_of rtype ≡ Some layout → is_plain rtype a ≡ true → is_plain rtype b ≡ true
     → (r : Bool) → Decides r (lowered_by (Some layout) a ≡ lowered_by (Some layout) b) → Decides r (IsSameRdata rtype a b)
 plain-Decides rtype layout a b is plain plain_other r decides =
     let low : (octets : List ℕ) → is_plain rtype octets ≡ true → lowered_rdata rtype octets ≡ lowered_by (Some layout) octets =
-    λ octets h. lowered_where true rtype octets h ∙ ap (λ (l : Option Layout). lowered_by l octets) is in
+    λ octets h. lowered_where true rtype octets h ∙ ap (λ (l : Option LayoutOf). lowered_by l octets) is in
     Decides-like r (λ same. low a plain ∙ (same ∙ sym (low b plain_other))) (λ same. sym (low a plain) ∙ (same ∙ low b plain_other)) decides
 
 -- plain data of a type with a layout fill it
-pub plain_fills : (rtype : ℕ) (layout : Layout) (octets : List ℕ) → layout_of rtype ≡ Some layout → is_plain rtype octets ≡ true → Fills layout octets
+pub plain_fills : (rtype : ℕ) (layout : LayoutOf) (octets : List ℕ) → layout_of rtype ≡ Some layout → is_plain rtype octets ≡ true → Fills layout octets
 plain_fills rtype layout octets is plain =
-    subst (λ (l : Option Layout). MatchOption l ⊤ (λ (one : Layout). Fills one octets)) is ((is_plain-Decides rtype octets).0 plain).fills
+    subst (λ (l : Option LayoutOf). MatchOption l ⊤ (λ (one : LayoutOf). Fills one octets)) is ((is_plain-Decides rtype octets).0 plain).fills
 
 pub same_rdata-told : (rtype : ℕ) (a b : List ℕ) (r : Bool) → Decides r (IsSameRdata rtype a b) → r ≡ same_rdata rtype a b
 same_rdata-told rtype a b r decides = same_from_decides r (same_rdata rtype a b) decides (same_rdata-Decides rtype a b)
 
 -- the parts as slices of the octets
 
-pub record Split (layout : Layout) (octets : List ℕ) : Type 0 where
+pub record Split (layout : LayoutOf) (octets : List ℕ) : Type 0 where
   pub before : layout.before ≤ length octets
   pub behind : layout.behind ≤ length (drop layout.before octets)
   pub names : take (length (drop layout.before octets) - layout.behind) (drop layout.before octets) ≡ concat (parts_in layout octets).names
   pub last : drop (length (drop layout.before octets) - layout.behind) (drop layout.before octets) ≡ (parts_in layout octets).behind
 
-pub split_of : (layout : Layout) (octets : List ℕ) → Fills layout octets → Split layout octets
+pub split_of : (layout : LayoutOf) (octets : List ℕ) → Fills layout octets → Split layout octets
 split_of layout octets fills =
     let p = fills.parts in
     let names = concat p.names in

@@ -3,12 +3,11 @@ use Rattle.std.proofs.Common.{◌≡◌, ℕ, ◌≤◌, Bool, true, false, cond
 use Rattle.std.specs.Prelude.{not}
 use Rattle.rrc_wire.specs.declared.fault.WireFault.{WireFault}
 use Rattle.rrc_wire.specs.declared.fault.WireFault.TheVariants.{Short, NotResponse, NotOneQuestion, TooLong}
-use Rattle.rrc_wire.specs.declared.header.Header.{Header}
+use Rattle.rrc_wire.specs.Header.{HeaderFields, flag, fields_of, header_of}
 use Rattle.rrc_wire.specs.declared.question.Question.{Question}
 use Rattle.rrc_wire.specs.declared.record.Rr.{Rr}
 use Rattle.rrc_wire.specs.declared.message.Message.{Message}
 use Rattle.rrc_wire.specs.Reading.{◌>>=◌, word_at}
-use Rattle.rrc_wire.specs.Header.{flag, fields_of, header_of}
 use Rattle.rrc_wire.specs.Question.{question_at}
 use Rattle.rrc_wire.specs.Record.{section_at}
 use Rattle.rrc_wire.specs.Message.{message_of, message_in}
@@ -18,7 +17,7 @@ use Rattle.rrc_wire.proofs.RecordGrammar.{question_at-finds, question_at-reads, 
 
 -- the header
 
-pub record Begins (octets : List ℕ) (header : Header) : Type 0 where
+pub record Begins (octets : List ℕ) (header : HeaderFields) : Type 0 where
   pub long : 12 ≤ length octets
   pub short : length octets ≤ 65535
   pub response : flag (word_at octets 2) 15 ≡ true
@@ -29,10 +28,10 @@ not_false : (b : Bool) → not b ≡ false → b ≡ true
 not_false true h = refl
 not_false false h = sym h
 
-abbrev tested : Bool → WireFault → Result Header WireFault → Result Header WireFault
+abbrev tested : Bool → WireFault → Result HeaderFields WireFault → Result HeaderFields WireFault
 tested b fault rest = cond b (Err fault) rest
 
-header_of-finds : (octets : List ℕ) (header : Header) → header_of octets ≡ Ok header → Begins octets header
+header_of-finds : (octets : List ℕ) (header : HeaderFields) → header_of octets ≡ Ok header → Begins octets header
 unfolding header_of
 header_of-finds octets header h =
     let last = tested (not (eqb (word_at octets 4) 1)) NotOneQuestion (Ok (fields_of octets)) in
@@ -50,10 +49,10 @@ header_of-finds octets header h =
       fields = ok_is (fields_of octets) header d.1;
     }
 
-passed : (b : Bool) (fault : WireFault) (rest : Result Header WireFault) → b ≡ false → tested b fault rest ≡ rest
+passed : (b : Bool) (fault : WireFault) (rest : Result HeaderFields WireFault) → b ≡ false → tested b fault rest ≡ rest
 passed b fault rest h = ap (λ (t : Bool). tested t fault rest) h
 
-header_of-reads : (octets : List ℕ) (header : Header) → Begins octets header → header_of octets ≡ Ok header
+header_of-reads : (octets : List ℕ) (header : HeaderFields) → Begins octets header → header_of octets ≡ Ok header
 unfolding header_of
 header_of-reads octets header is =
     let last = tested (not (eqb (word_at octets 4) 1)) NotOneQuestion (Ok (fields_of octets)) in
@@ -63,23 +62,23 @@ header_of-reads octets header is =
     ∙ passed (nat_lt (length octets) 12) Short third (lt_false (length octets) 12 is.long)
     ∙ passed (not (flag (word_at octets 2) 15)) NotResponse last (ap not is.response)
     ∙ passed (not (eqb (word_at octets 4) 1)) NotOneQuestion (Ok (fields_of octets)) (ap not (eq_true (word_at octets 4) 1 is.one_question))
-    ∙ ap (λ (header : Header). Ok header) is.fields
+    ∙ ap (λ (header : HeaderFields). Ok header) is.fields
 
 -- the message
 
-abbrev whole : Header → Question × ℕ → List Rr × ℕ → List Rr × ℕ → List Rr × ℕ → Result Message WireFault
+abbrev whole : HeaderFields → Question × ℕ → List Rr × ℕ → List Rr × ℕ → List Rr × ℕ → Result Message WireFault
 whole header question answer authority additional = Ok (message_of header question.0 answer.0 authority.0 additional.0)
 
-abbrev behind_authority : List ℕ → Header → Question × ℕ → List Rr × ℕ → List Rr × ℕ → Result Message WireFault
+abbrev behind_authority : List ℕ → HeaderFields → Question × ℕ → List Rr × ℕ → List Rr × ℕ → Result Message WireFault
 behind_authority octets header question answer authority = section_at octets header.additionals authority.1 >>= whole header question answer authority
 
-abbrev behind_answer : List ℕ → Header → Question × ℕ → List Rr × ℕ → Result Message WireFault
+abbrev behind_answer : List ℕ → HeaderFields → Question × ℕ → List Rr × ℕ → Result Message WireFault
 behind_answer octets header question answer = section_at octets header.authorities answer.1 >>= behind_authority octets header question answer
 
-abbrev behind_question : List ℕ → Header → Question × ℕ → Result Message WireFault
+abbrev behind_question : List ℕ → HeaderFields → Question × ℕ → Result Message WireFault
 behind_question octets header question = section_at octets header.answers question.1 >>= behind_answer octets header question
 
-abbrev behind_header : List ℕ → Header → Result Message WireFault
+abbrev behind_header : List ℕ → HeaderFields → Result Message WireFault
 behind_header octets header = question_at octets 12 >>= behind_question octets header
 
 -- what is read as a message is one

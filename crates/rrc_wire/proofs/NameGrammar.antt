@@ -5,10 +5,7 @@ use Rattle.std.proofs.lemmas.Bool.Decides.{nat_tests}
 use Rattle.rrc_name.specs.Wire.{wire_of}
 use Rattle.rrc_wire.specs.declared.fault.WireFault.{WireFault}
 use Rattle.rrc_wire.specs.declared.fault.WireFault.TheVariants.{Short}
-use Rattle.rrc_wire.specs.declared.item.Item.{Item}
-use Rattle.rrc_wire.specs.declared.item.Item.TheVariants.{End, Label, Pointer}
-use Rattle.rrc_wire.specs.declared.item.Run.{Run}
-use Rattle.rrc_wire.specs.Item.{item_at, to_end}
+use Rattle.rrc_wire.specs.Item.{ItemOf, End, Label, Pointer, RunOf, item_at, to_end}
 use Rattle.rrc_wire.specs.Name.{name_from, name_at}
 use Rattle.rrc_wire.specs.Grammar.{NameAt, root, label, pointer, StandsAt}
 use Rattle.rrc_wire.proofs.Items.{LabelStands, PointerStands, item_at-End, item_at-Label, item_at-Pointer, slice_range-label, length-slice_range}
@@ -16,7 +13,7 @@ use Rattle.rrc_wire.proofs.Steps.{ok_is}
 use Rattle.rrc_wire.proofs.NameLoop.{name_from-End, name_from-Label, name_from-Pointer}
 
 -- behind the labels before it, the rest of a name was found at a place
-pub record Found (message : List ℕ) (run : Run) (before : List ℕ) (behind : Option ℕ) (place : ℕ) (name : List ℕ) (next : ℕ) : Type 0 where
+pub record Found (message : List ℕ) (run : RunOf) (before : List ℕ) (behind : Option ℕ) (place : ℕ) (name : List ℕ) (next : ℕ) : Type 0 where
   pub labels : List (List ℕ)
   pub follows : ℕ
   pub labels_stand : NameAt message run.end run.start place labels follows
@@ -25,11 +22,11 @@ pub record Found (message : List ℕ) (run : Run) (before : List ℕ) (behind : 
   pub short : length name ≤ 255
 
 abbrev Finds : ℕ → Type 0
-Finds items = (message : List ℕ) (run : Run) (before : List ℕ) (behind : Option ℕ) (place : ℕ) (name : List ℕ) (next : ℕ) → run.end ≤ length message → length before ≤ 254
+Finds items = (message : List ℕ) (run : RunOf) (before : List ℕ) (behind : Option ℕ) (place : ℕ) (name : List ℕ) (next : ℕ) → run.end ≤ length message → length before ≤ 254
     → name_from items message run before behind place ≡ Ok (name, next) → Found message run before behind place name next
 
-after_item : (items : ℕ) → Finds items → (message : List ℕ) (run : Run) (before : List ℕ) (behind : Option ℕ) (place : ℕ) (name : List ℕ) (next : ℕ) → run.end ≤ length message → length before ≤ 254
-    → (item : Result Item WireFault) → item_at message run (length before) place ≡ item
+after_item : (items : ℕ) → Finds items → (message : List ℕ) (run : RunOf) (before : List ℕ) (behind : Option ℕ) (place : ℕ) (name : List ℕ) (next : ℕ) → run.end ≤ length message → length before ≤ 254
+    → (item : Result ItemOf WireFault) → item_at message run (length before) place ≡ item
     → name_from (suc items) message run before behind place ≡ Ok (name, next) → Found message run before behind place name next
 after_item items rest message run before behind place name next within room (Err fault) is h = absurd (cc (rw (is, name_from) at h))
 after_item items rest message run before behind place name next within room (Ok End) is h =
@@ -80,7 +77,7 @@ name_from-finds (suc items) message run before behind place name next within roo
     after_item items (name_from-finds items) message run before behind place name next within room (item_at message run (length before) place) refl h
 
 -- what is read as a name stands there
-pub name_at-stands : (message : List ℕ) (first : Run) (name : List ℕ) (next : ℕ) → first.end ≤ length message → name_at message first ≡ Ok (name, next) → StandsAt message first.end first.start name next
+pub name_at-stands : (message : List ℕ) (first : RunOf) (name : List ℕ) (next : ℕ) → first.end ≤ length message → name_at message first ≡ Ok (name, next) → StandsAt message first.end first.start name next
 name_at-stands message first name next within h =
     let found = name_from-finds (first.start + 256) message first [] None first.start name next within (omega arith) h in
     record {
@@ -91,16 +88,16 @@ name_at-stands message first name next within h =
     }
 
 -- the items that stand there are read
-pub End-item_at : (message : List ℕ) (run : Run) (size place : ℕ) → place < run.end → slice_index message place ≡ 0 → item_at message run size place ≡ Ok End
+pub End-item_at : (message : List ℕ) (run : RunOf) (size place : ℕ) → place < run.end → slice_index message place ≡ 0 → item_at message run size place ≡ Ok End
 End-item_at message run size place within octet = grind (arith, nat_tests)
 
-pub Label-item_at : (message : List ℕ) (run : Run) (size place octets : ℕ) → LabelStands message run size place octets → item_at message run size place ≡ Ok (Label octets)
+pub Label-item_at : (message : List ℕ) (run : RunOf) (size place octets : ℕ) → LabelStands message run size place octets → item_at message run size place ≡ Ok (Label octets)
 Label-item_at message run size place octets stands = grind (arith, nat_tests, stands.length_octet, stands.some, stands.few, stands.room, stands.within)
 
-pub Pointer-item_at : (message : List ℕ) (run : Run) (size place target : ℕ) → PointerStands message run place target → item_at message run size place ≡ Ok (Pointer target)
+pub Pointer-item_at : (message : List ℕ) (run : RunOf) (size place target : ℕ) → PointerStands message run place target → item_at message run size place ≡ Ok (Pointer target)
 Pointer-item_at message run size place target stands = grind (arith, nat_tests, stands.top_bits, stands.target_is, stands.lower, stands.within)
 
-abbrev run_of : ℕ → ℕ → WireFault → Run
+abbrev run_of : ℕ → ℕ → WireFault → RunOf
 run_of start end past = record { start = start; end = end; past = past }
 
 abbrev Reads : (message : List ℕ) → ℕ → ℕ → ℕ → List (List ℕ) → ℕ → Type 0

@@ -4,15 +4,11 @@ use Rattle.std.specs.Prelude.{slice_range, not}
 use Rattle.std.proofs.lemmas.Bool.Decides.{nat_tests}
 use Rattle.rrc_wire.specs.declared.fault.WireFault.{WireFault}
 use Rattle.rrc_wire.specs.declared.fault.WireFault.TheVariants.{Short, BadData, NotResponse, NotOneQuestion, TooLong, Memory}
-use Rattle.rrc_wire.specs.declared.item.Item.{Item}
-use Rattle.rrc_wire.specs.declared.item.Item.TheVariants.{End, Label, Pointer}
-use Rattle.rrc_wire.specs.declared.item.Run.{Run}
-use Rattle.rrc_wire.specs.declared.layout.Layout.{Layout}
+use Rattle.rrc_wire.specs.Item.{ItemOf, End, Label, Pointer, RunOf, item_at, to_end, in_data}
+use Rattle.rrc_wire.specs.Layout.{LayoutOf, layout_of}
 use Rattle.rrc_wire.specs.declared.record.Rr.{Rr}
 use Rattle.rrc_wire.specs.Reading.{◌>>=◌, word_at, within, times}
 use Rattle.rrc_wire.specs.Header.{flag, fields_of, header_of}
-use Rattle.rrc_wire.specs.Layout.{layout_of}
-use Rattle.rrc_wire.specs.Item.{item_at, to_end, in_data}
 use Rattle.rrc_wire.specs.Name.{name_from, name_at}
 use Rattle.rrc_wire.specs.Question.{question_at}
 use Rattle.rrc_wire.specs.Data.{name_in_data, last_octets, data_of, data_at}
@@ -37,12 +33,12 @@ test_reads false r s first second = second
 err_reads : {A : Type 0} (fault : WireFault) → fault ≢ Memory → Reads {A = A} (Err fault)
 err_reads fault other h = other (cc)
 
-item_at-reads : (message : List ℕ) (run : Run) (size place : ℕ) → run.past ≢ Memory → Reads (item_at message run size place)
+item_at-reads : (message : List ℕ) (run : RunOf) (size place : ℕ) → run.past ≢ Memory → Reads (item_at message run size place)
 item_at-reads message run size place past h = past (grind (arith, nat_tests))
 
-after_item : (items : ℕ) (message : List ℕ) (run : Run) (before : List ℕ) (behind : Option ℕ) (place : ℕ)
-    → ((next_run : Run) (more : List ℕ) (next_behind : Option ℕ) (next : ℕ) → next_run.past ≢ Memory → Reads (name_from items message next_run more next_behind next))
-    → run.past ≢ Memory → (item : Result Item WireFault) → item_at message run (length before) place ≡ item → Reads (name_from (suc items) message run before behind place)
+after_item : (items : ℕ) (message : List ℕ) (run : RunOf) (before : List ℕ) (behind : Option ℕ) (place : ℕ)
+    → ((next_run : RunOf) (more : List ℕ) (next_behind : Option ℕ) (next : ℕ) → next_run.past ≢ Memory → Reads (name_from items message next_run more next_behind next))
+    → run.past ≢ Memory → (item : Result ItemOf WireFault) → item_at message run (length before) place ≡ item → Reads (name_from (suc items) message run before behind place)
 after_item items message run before behind place rest past (Err fault) is h = item_at-reads message run (length before) place past (cc (rw (is, name_from) at h, is))
 after_item items message run before behind place rest past (Ok End) is h = absurd (cc (rw (is, name_from) at h))
 after_item items message run before behind place rest past (Ok (Label octets)) is h =
@@ -50,12 +46,12 @@ after_item items message run before behind place rest past (Ok (Label octets)) i
 after_item items message run before behind place rest past (Ok (Pointer target)) is h =
     rest (to_end message target) before (Some (unwrap_or behind (place + 2))) target (λ e. cc) (rw (is, name_from) at h)
 
-name_from-reads : (items : ℕ) (message : List ℕ) (run : Run) (before : List ℕ) (behind : Option ℕ) (place : ℕ) → run.past ≢ Memory → Reads (name_from items message run before behind place)
+name_from-reads : (items : ℕ) (message : List ℕ) (run : RunOf) (before : List ℕ) (behind : Option ℕ) (place : ℕ) → run.past ≢ Memory → Reads (name_from items message run before behind place)
 name_from-reads zero message run before behind place past = λ h. cc
 name_from-reads (suc items) message run before behind place past =
     after_item items message run before behind place (name_from-reads items message) past (item_at message run (length before) place) refl
 
-name_at-reads : (message : List ℕ) (first : Run) → first.past ≢ Memory → Reads (name_at message first)
+name_at-reads : (message : List ℕ) (first : RunOf) → first.past ≢ Memory → Reads (name_at message first)
 name_at-reads message first past = name_from-reads (first.start + 256) message first [] None first.start past
 
 within-reads : (message : List ℕ) (place octets : ℕ) → Reads (within message place octets)
@@ -66,11 +62,11 @@ times-reads reader reads zero before place = ok_reads (before, place)
 times-reads {A} reader reads (suc count) before place =
     bind_reads (reader place) (λ (piece : List A × ℕ). times reader count (before ++ piece.0) piece.1) (reads place) (λ piece. times-reads reader reads count (before ++ piece.0) piece.1)
 
-last_octets-reads : (message : List ℕ) (layout : Layout) (end : ℕ) (before : List ℕ × ℕ) → Reads (last_octets message layout end before)
+last_octets-reads : (message : List ℕ) (layout : LayoutOf) (end : ℕ) (before : List ℕ × ℕ) → Reads (last_octets message layout end before)
 last_octets-reads message layout end before =
     test_reads (eqb (before.1 + layout.behind) end) (Ok (before.0 ++ slice_range message before.1 end)) (Err BadData) (ok_reads (before.0 ++ slice_range message before.1 end)) (err_reads BadData (λ e. cc))
 
-data_of-reads : (layout : Option Layout) (message : List ℕ) (place end : ℕ) → Reads (data_of layout message place end)
+data_of-reads : (layout : Option LayoutOf) (message : List ℕ) (place end : ℕ) → Reads (data_of layout message place end)
 data_of-reads None message place end = ok_reads (slice_range message place end)
 data_of-reads (Some layout) message place end =
     let names = place + layout.before in

@@ -6,14 +6,13 @@ use Rattle.std.specs.List.{AllByRecursion, concat, list_all}
 use Rattle.std.proofs.lemmas.Bool.Decides.{Decides-and, Decides-like, Decides-eqb, Decides-ltb, same_from_decides, nat_tests}
 use Rattle.std.proofs.lemmas.List.{take_at, drop_at, take-append-drop, length-take-le}
 use Rattle.rrc_name.specs.Wire.{wire_of, labels_of, IsLabel, IsWireForm}
-use Rattle.rrc_wire.specs.declared.layout.Layout.{Layout}
-use Rattle.rrc_wire.specs.Layout.{layout_of}
+use Rattle.rrc_wire.specs.Layout.{LayoutOf, layout_of}
 use Rattle.rrc_wire.specs.Plain.{Parts, octets_of, AreParts, Fills, IsPlain, AreNamesThen, is_label, is_wire_form, names_in, parts_in, are_parts, is_filled, fills_any, is_plain}
 use Rattle.rrc_wire.proofs.Steps.{le_true, true_le}
 use Rattle.rrc_wire.proofs.FrontNames.{names_in-then, one_behind_names}
 
 -- the parts of octets are those that the octets are made of
-pub parts_in-octets_of : (layout : Layout) (parts : Parts) → AreParts layout parts → parts_in layout (octets_of parts) ≡ parts
+pub parts_in-octets_of : (layout : LayoutOf) (parts : Parts) → AreParts layout parts → parts_in layout (octets_of parts) ≡ parts
 parts_in-octets_of layout parts are =
     let octets = octets_of parts in
     let front = parts.before ++ concat parts.names in
@@ -49,7 +48,7 @@ is_wire_form-Decides octets =
     (Decides-and (pointwise nat_eq (wire_of labels) octets) (list_all is_label labels && nat_le (length octets) 255) (bytes_decides (wire_of labels) octets)
     (Decides-and (list_all is_label labels) (nat_le (length octets) 255) (Decides-list_all is_label IsLabel is_label-Decides labels) (Decides-le (length octets) 255)))
 
-are_parts-Decides : (layout : Layout) (parts : Parts) → Decides (are_parts layout parts) (AreParts layout parts)
+are_parts-Decides : (layout : LayoutOf) (parts : Parts) → Decides (are_parts layout parts) (AreParts layout parts)
 are_parts-Decides layout parts =
     let names = length parts.names == layout.names in
     let forms = list_all is_wire_form parts.names in
@@ -61,10 +60,10 @@ are_parts-Decides layout parts =
     (Decides-and forms behind (Decides-list_all is_wire_form IsWireForm is_wire_form-Decides parts.names) (Decides-eqb (length parts.behind) layout.behind))))
 
 -- where octets fill a layout, their parts are found
-pub found_parts : (layout : Layout) (octets : List ℕ) → (is : Fills layout octets) → parts_in layout octets ≡ is.parts
+pub found_parts : (layout : LayoutOf) (octets : List ℕ) → (is : Fills layout octets) → parts_in layout octets ≡ is.parts
 found_parts layout octets is = ap (parts_in layout) (sym is.whole) ∙ parts_in-octets_of layout is.parts is.are_parts
 
-pub is_filled-Decides : (layout : Layout) (octets : List ℕ) → Decides (is_filled layout octets) (Fills layout octets)
+pub is_filled-Decides : (layout : LayoutOf) (octets : List ℕ) → Decides (is_filled layout octets) (Fills layout octets)
 unfolding is_filled
 is_filled-Decides layout octets =
     let parts = parts_in layout octets in
@@ -72,7 +71,7 @@ is_filled-Decides layout octets =
     (λ is. let found = sym (found_parts layout octets is) in (subst (AreParts layout) found is.are_parts, ap octets_of (sym found) ∙ is.whole))
     (Decides-and (are_parts layout parts) (pointwise nat_eq (octets_of parts) octets) (are_parts-Decides layout parts) (bytes_decides (octets_of parts) octets))
 
-fills_any-Decides : (layout : Option Layout) (octets : List ℕ) → Decides (fills_any layout octets) (MatchOption layout ⊤ (λ l. Fills l octets))
+fills_any-Decides : (layout : Option LayoutOf) (octets : List ℕ) → Decides (fills_any layout octets) (MatchOption layout ⊤ (λ l. Fills l octets))
 fills_any-Decides None octets = (λ _. tt, λ _. refl)
 fills_any-Decides (Some layout) octets = is_filled-Decides layout octets
 
@@ -85,7 +84,7 @@ is_plain-Decides rtype octets =
 -- the walk over the names of a layout
 
 -- octets that fill a layout have its names behind its first octets
-fills_names : (layout : Layout) (octets : List ℕ) → (is : Fills layout octets) → AreNamesThen layout.names (drop layout.before octets) is.parts.behind
+fills_names : (layout : LayoutOf) (octets : List ℕ) → (is : Fills layout octets) → AreNamesThen layout.names (drop layout.before octets) is.parts.behind
 fills_names layout octets is =
     let parts = is.parts in
     let rest = concat parts.names ++ parts.behind in
@@ -96,7 +95,7 @@ fills_names layout octets is =
       whole = sym (drop_at parts.before rest layout.before is.are_parts.before) ∙ ap (drop layout.before) is.whole;
     }
 
-names_fill : (layout : Layout) (octets behind : List ℕ) → layout.before ≤ length octets → AreNamesThen layout.names (drop layout.before octets) behind → length behind ≡ layout.behind
+names_fill : (layout : LayoutOf) (octets behind : List ℕ) → layout.before ≤ length octets → AreNamesThen layout.names (drop layout.before octets) behind → length behind ≡ layout.behind
     → Fills layout octets
 names_fill layout octets behind room are size =
     let before = take layout.before octets in
@@ -106,17 +105,17 @@ names_fill layout octets behind room are size =
       whole = ap (λ rest. before ++ rest) are.whole ∙ take-append-drop layout.before octets;
     }
 
-not_filled : (layout : Layout) (octets : List ℕ) → (Fills layout octets → ⊥) → false ≡ is_filled layout octets
+not_filled : (layout : LayoutOf) (octets : List ℕ) → (Fills layout octets → ⊥) → false ≡ is_filled layout octets
 not_filled layout octets none = same_from_decides false (is_filled layout octets) ((λ h. absurd cc), λ is. absurd (none is)) (is_filled-Decides layout octets)
 
-pub too_short : (layout : Layout) (octets : List ℕ) → length octets < layout.before → false ≡ is_filled layout octets
+pub too_short : (layout : LayoutOf) (octets : List ℕ) → length octets < layout.before → false ≡ is_filled layout octets
 too_short layout octets short =
     not_filled layout octets (λ is. omega (arith, short, ap length is.whole, is.are_parts.before, length-append is.parts.before (concat is.parts.names ++ is.parts.behind)))
 
-pub no_names_fill : (layout : Layout) (octets : List ℕ) → ((behind : List ℕ) → AreNamesThen layout.names (drop layout.before octets) behind → ⊥) → false ≡ is_filled layout octets
+pub no_names_fill : (layout : LayoutOf) (octets : List ℕ) → ((behind : List ℕ) → AreNamesThen layout.names (drop layout.before octets) behind → ⊥) → false ≡ is_filled layout octets
 no_names_fill layout octets none = not_filled layout octets (λ is. none is.parts.behind (fills_names layout octets is))
 
-pub last_octets_fill : (layout : Layout) (octets behind : List ℕ) → layout.before ≤ length octets → AreNamesThen layout.names (drop layout.before octets) behind
+pub last_octets_fill : (layout : LayoutOf) (octets behind : List ℕ) → layout.before ≤ length octets → AreNamesThen layout.names (drop layout.before octets) behind
     → (length behind == layout.behind) ≡ is_filled layout octets
 last_octets_fill layout octets behind room are =
     same_from_decides (length behind == layout.behind) (is_filled layout octets)
@@ -127,10 +126,10 @@ last_octets_fill layout octets behind room are =
 
 -- a type's layout decides
 
-pub plain_by_layout : (rtype : ℕ) (octets : List ℕ) (layout : Option Layout) → length octets ≤ 65535 → layout ≡ layout_of rtype → fills_any layout octets ≡ is_plain rtype octets
+pub plain_by_layout : (rtype : ℕ) (octets : List ℕ) (layout : Option LayoutOf) → length octets ≤ 65535 → layout ≡ layout_of rtype → fills_any layout octets ≡ is_plain rtype octets
 unfolding is_plain
 plain_by_layout rtype octets layout short is =
-    ap (λ (l : Option Layout). fills_any l octets) is ∙ sym (ap (λ b. b && fills_any (layout_of rtype) octets) (le_true (length octets) 65535 short))
+    ap (λ (l : Option LayoutOf). fills_any l octets) is ∙ sym (ap (λ b. b && fills_any (layout_of rtype) octets) (le_true (length octets) 65535 short))
 
 pub too_long : (rtype : ℕ) (octets : List ℕ) → 65535 < length octets → nat_le (length octets) 65535 ≡ is_plain rtype octets
 unfolding is_plain

@@ -3,11 +3,10 @@ use Rattle.std.proofs.Common.{◌≡◌, ℕ, ◌+◌, ◌≤◌, Bool, true, fa
 use Rattle.std.specs.Prelude.{slice_range}
 use Rattle.rrc_wire.specs.declared.fault.WireFault.{WireFault}
 use Rattle.rrc_wire.specs.declared.fault.WireFault.TheVariants.{Short, BadData}
-use Rattle.rrc_wire.specs.declared.layout.Layout.{Layout}
+use Rattle.rrc_wire.specs.Layout.{LayoutOf, layout_of}
 use Rattle.rrc_wire.specs.declared.question.Question.{Question}
 use Rattle.rrc_wire.specs.declared.record.Rr.{Rr}
 use Rattle.rrc_wire.specs.Reading.{◌>>=◌, word_at, within, times}
-use Rattle.rrc_wire.specs.Layout.{layout_of}
 use Rattle.rrc_wire.specs.Item.{to_end, in_data}
 use Rattle.rrc_wire.specs.Name.{name_at}
 use Rattle.rrc_wire.specs.Question.{question_at}
@@ -27,13 +26,13 @@ outer-reads message place name next stands = StandsAt-reads message (length mess
 
 -- data
 
-last_octets-finds : (message : List ℕ) (layout : Layout) (end : ℕ) (before : List ℕ × ℕ) (rdata : List ℕ) → last_octets message layout end before ≡ Ok rdata
+last_octets-finds : (message : List ℕ) (layout : LayoutOf) (end : ℕ) (before : List ℕ × ℕ) (rdata : List ℕ) → last_octets message layout end before ≡ Ok rdata
     → (before.1 + layout.behind ≡ end) × (rdata ≡ before.0 ++ slice_range message before.1 end)
 last_octets-finds message layout end before rdata h =
     let test = test_ok (eqb (before.1 + layout.behind) end) (Ok (before.0 ++ slice_range message before.1 end)) BadData rdata h in
     (true_eq (before.1 + layout.behind) end test.0, sym (ok_is (before.0 ++ slice_range message before.1 end) rdata test.1))
 
-laid_out-finds : (message : List ℕ) (layout : Layout) (place end : ℕ) (rdata : List ℕ) → end ≤ length message → laid_out_at message layout place end ≡ Ok rdata
+laid_out-finds : (message : List ℕ) (layout : LayoutOf) (place end : ℕ) (rdata : List ℕ) → end ≤ length message → laid_out_at message layout place end ≡ Ok rdata
     → IsLaidOut message layout place end rdata
 laid_out-finds message layout place end rdata inside h =
     let names = place + layout.before in
@@ -52,7 +51,7 @@ laid_out-finds message layout place end rdata inside h =
       expanded = last.1 ∙ ap (λ octets. octets ++ slice_range message step.0.1 end) found.pieces_are;
     }
 
-laid_out-reads : (message : List ℕ) (layout : Layout) (place end : ℕ) (rdata : List ℕ) → end ≤ length message → IsLaidOut message layout place end rdata
+laid_out-reads : (message : List ℕ) (layout : LayoutOf) (place end : ℕ) (rdata : List ℕ) → end ≤ length message → IsLaidOut message layout place end rdata
     → laid_out_at message layout place end ≡ Ok rdata
 laid_out-reads message layout place end rdata inside is =
     let names = place + layout.before in
@@ -64,12 +63,12 @@ laid_out-reads message layout place end rdata inside is =
     (test_true (eqb (is.behind + layout.behind) end) (Ok ((first ++ is.names) ++ slice_range message is.behind end)) (Err BadData) (eq_true (is.behind + layout.behind) end is.last_octets)
     ∙ ap (λ octets. Ok octets) (sym is.expanded))
 
-data-finds : (message : List ℕ) (layout : Option Layout) (place end : ℕ) (rdata : List ℕ) → end ≤ length message → data_of layout message place end ≡ Ok rdata
+data-finds : (message : List ℕ) (layout : Option LayoutOf) (place end : ℕ) (rdata : List ℕ) → end ≤ length message → data_of layout message place end ≡ Ok rdata
     → MatchOption layout (rdata ≡ slice_range message place end) (λ l. IsLaidOut message l place end rdata)
 data-finds message None place end rdata inside h = sym (ok_is (slice_range message place end) rdata h)
 data-finds message (Some layout) place end rdata inside h = laid_out-finds message layout place end rdata inside h
 
-data-reads : (message : List ℕ) (layout : Option Layout) (place end : ℕ) (rdata : List ℕ) → end ≤ length message
+data-reads : (message : List ℕ) (layout : Option LayoutOf) (place end : ℕ) (rdata : List ℕ) → end ≤ length message
     → MatchOption layout (rdata ≡ slice_range message place end) (λ l. IsLaidOut message l place end rdata) → data_of layout message place end ≡ Ok rdata
 data-reads message None place end rdata inside is = ap (λ octets. Ok octets) (sym is)
 data-reads message (Some layout) place end rdata inside is = laid_out-reads message layout place end rdata inside is

@@ -2,9 +2,8 @@
 use Rattle.std.specs.Prelude.{ℕ, ◌+◌, ◌==◌, nat_le, List, ◌++◌, slice_range, Option, Some, None, if◌then◌else◌, Result, Ok, Err}
 use Rattle.rrc_wire.specs.declared.fault.WireFault.{WireFault}
 use Rattle.rrc_wire.specs.declared.fault.WireFault.TheVariants.{BadData}
-use Rattle.rrc_wire.specs.declared.layout.Layout.{Layout}
+use Rattle.rrc_wire.specs.Layout.{LayoutOf, layout_of}
 use Rattle.rrc_wire.specs.Reading.{◌>>=◌, times}
-use Rattle.rrc_wire.specs.Layout.{layout_of}
 use Rattle.rrc_wire.specs.Item.{in_data}
 use Rattle.rrc_wire.specs.Name.{name_at}
 
@@ -13,12 +12,12 @@ abbrev pub name_in_data : List ℕ → ℕ → ℕ → Result (List ℕ × ℕ) 
 name_in_data message end place = name_at message (in_data place end)
 
 -- the last fixed octets, behind the data before them: no more and no fewer than the layout has
-abbrev pub last_octets : List ℕ → Layout → ℕ → List ℕ × ℕ → Result (List ℕ) WireFault
+abbrev pub last_octets : List ℕ → LayoutOf → ℕ → List ℕ × ℕ → Result (List ℕ) WireFault
 last_octets message layout end before =
     if before.1 + layout.behind == end then Ok (before.0 ++ slice_range message before.1 end) else Err BadData
 
 -- the data of a layout
-abbrev pub laid_out_at : List ℕ → Layout → ℕ → ℕ → Result (List ℕ) WireFault
+abbrev pub laid_out_at : List ℕ → LayoutOf → ℕ → ℕ → Result (List ℕ) WireFault
 laid_out_at message layout place end =
     let names = place + layout.before in
     if nat_le names end
@@ -26,7 +25,7 @@ laid_out_at message layout place end =
     else Err BadData
 
 -- the data of a kept type, which end at `end`, with the names in them expanded; without a layout they are opaque octets
-abbrev pub data_of : Option Layout → List ℕ → ℕ → ℕ → Result (List ℕ) WireFault
+abbrev pub data_of : Option LayoutOf → List ℕ → ℕ → ℕ → Result (List ℕ) WireFault
 data_of (Some layout) message place end = laid_out_at message layout place end
 data_of None message place end = Ok (slice_range message place end)
 

@@ -1,12 +1,11 @@
 -- What stands where in a response (RFC 1035 4.1), apart from how it is read.
 use Rattle.std.specs.Prelude.{◌≡◌, ◌<◌, ◌≤◌, ℕ, zero, suc, ◌+◌, ◌/◌, ◌%◌, ◌^◌, true, false, List, [], ◌∷◌, ◌++◌, length, slice_index, slice_range, MatchOption}
 use Rattle.rrc_name.specs.Wire.{wire_of}
-use Rattle.rrc_wire.specs.declared.layout.Layout.{Layout}
+use Rattle.rrc_wire.specs.Layout.{LayoutOf, layout_of}
 use Rattle.rrc_wire.specs.declared.question.Question.{Question}
 use Rattle.rrc_wire.specs.declared.record.Rr.{Rr}
 use Rattle.rrc_wire.specs.declared.message.Message.{Message}
 use Rattle.rrc_wire.specs.Reading.{word_at}
-use Rattle.rrc_wire.specs.Layout.{layout_of}
 use Rattle.rrc_wire.specs.Header.{flag}
 use Rattle.rrc_wire.specs.Item.{target_at}
 use Rattle.rrc_wire.specs.Record.{keeps, rr_of}
@@ -41,7 +40,7 @@ pub data Follow {A : Type 0} (Stands : ℕ → List A → ℕ → Type 0) : ℕ 
       → Stands place piece middle → Follow Stands count middle others next → pieces ≡ piece ++ others → Follow Stands (suc count) place pieces next
 
 -- the data of a layout fill what is between `place` and `end`: fixed octets, names, fixed octets
-pub record IsLaidOut (message : List ℕ) (layout : Layout) (place end : ℕ) (rdata : List ℕ) : Type 0 where
+pub record IsLaidOut (message : List ℕ) (layout : LayoutOf) (place end : ℕ) (rdata : List ℕ) : Type 0 where
   pub names : List ℕ
   pub behind : ℕ
   pub names_stand : Follow (StandsAt message end) layout.names (place + layout.before) names behind

@@ -2,15 +2,27 @@
 use Rattle.std.specs.Prelude.{ℕ, ◌/◌, ◌%◌, ◌^◌, Bool, not, ◌==◌, nat_lt, List, length, if◌then◌else◌, Result, Ok, Err}
 use Rattle.rrc_wire.specs.declared.fault.WireFault.{WireFault}
 use Rattle.rrc_wire.specs.declared.fault.WireFault.TheVariants.{Short, NotResponse, NotOneQuestion, TooLong}
-use Rattle.rrc_wire.specs.declared.header.Header.{Header}
 use Rattle.rrc_wire.specs.Reading.{word_at}
+
+-- the fields of a header; its counts are those of the three sections
+pub record HeaderFields : Type 0 where
+  pub id : ℕ
+  pub opcode : ℕ
+  pub aa : Bool
+  pub tc : Bool
+  pub rd : Bool
+  pub ra : Bool
+  pub rcode : ℕ
+  pub answers : ℕ
+  pub authorities : ℕ
+  pub additionals : ℕ
 
 -- whether the bit of a flag word is set, the lowest being bit 0
 abbrev pub flag : ℕ → ℕ → Bool
 flag flags bit = flags / 2 ^ bit % 2 == 1
 
 -- the fields of the header; Z is ignored
-abbrev pub fields_of : List ℕ → Header
+abbrev pub fields_of : List ℕ → HeaderFields
 fields_of message =
     let flags = word_at message 2 in record {
       id = word_at message 0;
@@ -26,7 +38,7 @@ fields_of message =
     }
 
 -- the header of a response with one question
-unfoldable pub header_of : List ℕ → Result Header WireFault
+unfoldable pub header_of : List ℕ → Result HeaderFields WireFault
 header_of message =
     if nat_lt 65535 (length message) then Err TooLong
     else if nat_lt (length message) 12 then Err Short

@@ -1,9 +1,14 @@
 -- Which records are kept, and how the data of each type stand in a message.
 use Rattle.std.specs.Prelude.{ℕ, Bool, ◌||◌, ◌&&◌, not, ◌==◌, nat_le, List, [], ◌∷◌, Option, Some, None, if◌then◌else◌}
 use Rattle.std.specs.List.{list_any}
-use Rattle.rrc_wire.specs.declared.layout.Layout.{Layout}
 
-abbrev fixed : ℕ → ℕ → ℕ → Option Layout
+-- how many fixed octets, names and fixed octets the data of a type have
+pub record LayoutOf : Type 0 where
+  pub before : ℕ
+  pub names : ℕ
+  pub behind : ℕ
+
+abbrev fixed : ℕ → ℕ → ℕ → Option LayoutOf
 fixed before names behind = Some (record { before = before; names = names; behind = behind })
 
 -- whether a type is one of these
@@ -11,7 +16,7 @@ abbrev pub is_one : ℕ → List ℕ → Bool
 is_one rtype types = list_any (λ one. rtype == one) types
 
 -- the data of these types are fixed octets, names and fixed octets; those of any other type are opaque octets
-unfoldable pub layout_of : ℕ → Option Layout
+unfoldable pub layout_of : ℕ → Option LayoutOf
 layout_of rtype =
     if is_one rtype (2 ∷ 3 ∷ 4 ∷ 5 ∷ 7 ∷ 8 ∷ 9 ∷ 12 ∷ []) then fixed 0 1 0  -- NS, MD, MF, CNAME, MB, MG, MR, PTR (RFC 1035 3.3)
     else if is_one rtype (6 ∷ []) then fixed 0 2 20  -- SOA, whose last four octets are MINIMUM (RFC 1035 3.3.13)

@@ -3,6 +3,7 @@ pub mod Reading
 pub mod Layout
 pub mod Header
 pub mod Item
+pub mod Shown
 pub mod Name
 pub mod Question
 pub mod Data

@@ -1,17 +1,16 @@
 -- Reading a message whole (RFC 1035 4.1), and its first fault.
 use Rattle.std.specs.Prelude.{◌≡◌, ℕ, List, Result, Ok, Err}
 use Rattle.rrc_wire.specs.declared.fault.WireFault.{WireFault}
-use Rattle.rrc_wire.specs.declared.header.Header.{Header}
+use Rattle.rrc_wire.specs.Header.{HeaderFields, header_of}
 use Rattle.rrc_wire.specs.declared.record.Rr.{Rr}
 use Rattle.rrc_wire.specs.declared.question.Question.{Question}
 use Rattle.rrc_wire.specs.declared.message.Message.{Message}
 use Rattle.rrc_wire.specs.Reading.{◌>>=◌}
-use Rattle.rrc_wire.specs.Header.{header_of}
 use Rattle.rrc_wire.specs.Question.{question_at}
 use Rattle.rrc_wire.specs.Record.{section_at}
 
 -- a message of a header, a question and the kept records of three sections
-abbrev pub message_of : Header → Question → List Rr → List Rr → List Rr → Message
+abbrev pub message_of : HeaderFields → Question → List Rr → List Rr → List Rr → Message
 message_of header question answer authority additional =
     record {
       id = header.id;

@@ -2,14 +2,12 @@
 use Rattle.std.specs.Prelude.{ℕ, zero, suc, ◌+◌, List, [], ◌∷◌, ◌++◌, length, slice_range, Option, Some, None, unwrap_or, Result, Ok, Err}
 use Rattle.rrc_wire.specs.declared.fault.WireFault.{WireFault}
 use Rattle.rrc_wire.specs.declared.fault.WireFault.TheVariants.{BadPointer}
-use Rattle.rrc_wire.specs.declared.item.Item.TheVariants.{End, Label, Pointer}
-use Rattle.rrc_wire.specs.declared.item.Run.{Run}
+use Rattle.rrc_wire.specs.Item.{End, Label, Pointer, RunOf, item_at, to_end}
 use Rattle.rrc_wire.specs.Reading.{◌>>=◌}
-use Rattle.rrc_wire.specs.Item.{item_at, to_end}
 
 -- the name that goes on at a place behind its labels so far, and the place behind the name, which is `behind` where a
 -- pointer was met. Each item lowers `run.start + 256 - length before`, so more items than that are never met
-abbrev pub name_from : ℕ → List ℕ → Run → List ℕ → Option ℕ → ℕ → Result (List ℕ × ℕ) WireFault
+abbrev pub name_from : ℕ → List ℕ → RunOf → List ℕ → Option ℕ → ℕ → Result (List ℕ × ℕ) WireFault
 name_from zero message run before behind place = Err BadPointer
 name_from (suc items) message run before behind place =
     item_at message run (length before) place >>= λ item. elim item [
@@ -19,5 +17,5 @@ name_from (suc items) message run before behind place =
     ]
 
 -- the name whose first run is given, and the place behind it
-abbrev pub name_at : List ℕ → Run → Result (List ℕ × ℕ) WireFault
+abbrev pub name_at : List ℕ → RunOf → Result (List ℕ × ℕ) WireFault
 name_at message first = name_from (first.start + 256) message first [] None first.start

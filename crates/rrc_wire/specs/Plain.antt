@@ -3,8 +3,7 @@ use Rattle.std.specs.Prelude.{◌≡◌, ◌≤◌, ℕ, zero, suc, ◌-◌, ◌
 use Rattle.std.specs.Cmp.Lexicographic.{pointwise}
 use Rattle.std.specs.List.{AllByRecursion, concat, list_all}
 use Rattle.rrc_name.specs.Wire.{wire_of, labels_of, IsLabel, IsWireForm}
-use Rattle.rrc_wire.specs.declared.layout.Layout.{Layout}
-use Rattle.rrc_wire.specs.Layout.{layout_of}
+use Rattle.rrc_wire.specs.Layout.{LayoutOf, layout_of}
 
 -- fixed octets, names, fixed octets
 pub record Parts : Type 0 where
@@ -17,14 +16,14 @@ abbrev pub octets_of : Parts → List ℕ
 octets_of parts = parts.before ++ (concat parts.names ++ parts.behind)
 
 -- the parts are as many as a layout has, and each name is a wire form of at most 255 octets (RFC 1035 3.1, 2.3.4)
-pub record AreParts (layout : Layout) (parts : Parts) : Type 0 where
+pub record AreParts (layout : LayoutOf) (parts : Parts) : Type 0 where
   pub before : length parts.before ≡ layout.before
   pub names : length parts.names ≡ layout.names
   pub wire_forms : AllByRecursion IsWireForm parts.names
   pub behind : length parts.behind ≡ layout.behind
 
 -- the octets are the parts of a layout, with none left over and none missing
-pub record Fills (layout : Layout) (octets : List ℕ) : Type 0 where
+pub record Fills (layout : LayoutOf) (octets : List ℕ) : Type 0 where
   pub parts : Parts
   pub are_parts : AreParts layout parts
   pub whole : octets_of parts ≡ octets
@@ -62,7 +61,7 @@ names_in zero octets = []
 names_in (suc names) octets = wire_of (labels_of octets) ∷ names_in names (drop (length (wire_of (labels_of octets))) octets)
 
 -- the parts that octets have where they fill a layout; they can have no others
-abbrev pub parts_in : Layout → List ℕ → Parts
+abbrev pub parts_in : LayoutOf → List ℕ → Parts
 parts_in layout octets =
     record {
       before = take layout.before octets;
@@ -71,15 +70,15 @@ parts_in layout octets =
     }
 
 -- whether the parts are as many as a layout has, and each name is one
-abbrev pub are_parts : Layout → Parts → Bool
+abbrev pub are_parts : LayoutOf → Parts → Bool
 are_parts layout parts = (length parts.before == layout.before) && ((length parts.names == layout.names) && (list_all is_wire_form parts.names && (length parts.behind == layout.behind)))
 
 -- whether octets fill a layout
-unfoldable pub is_filled : Layout → List ℕ → Bool
+unfoldable pub is_filled : LayoutOf → List ℕ → Bool
 is_filled layout octets = are_parts layout (parts_in layout octets) && pointwise nat_eq (octets_of (parts_in layout octets)) octets
 
 -- whether octets fill the layout, if there is one
-abbrev pub fills_any : Option Layout → List ℕ → Bool
+abbrev pub fills_any : Option LayoutOf → List ℕ → Bool
 fills_any None octets = true
 fills_any (Some layout) octets = is_filled layout octets
 

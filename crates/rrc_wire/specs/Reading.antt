@@ -14,6 +14,11 @@ abbrev pub Gives : {X Y : Type 0} → (X → Y) → Result X WireFault → Resul
 Gives view (Ok found) read = read ≡ Ok (view found)
 Gives view (Err fault) read = (fault ≡ Memory) ⊎ (read ≡ Err fault)
 
+-- what a reader that takes no memory gave, seen by view, is what reading gives
+abbrev pub Agrees : {X Y : Type 0} → (X → Y) → Result X WireFault → Result Y WireFault → Type 0
+Agrees view (Ok found) read = read ≡ Ok (view found)
+Agrees view (Err fault) read = read ≡ Err fault
+
 -- a field of 16 bits, the high octet first (RFC 1035 2.3.2)
 abbrev pub word_at : List ℕ → ℕ → ℕ
 word_at message place = 256 * slice_index message place + slice_index message (place + 1)

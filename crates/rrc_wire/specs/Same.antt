@@ -2,8 +2,7 @@
 use Rattle.std.specs.Prelude.{◌≡◌, ℕ, nat_eq, Bool, List, map, Option, Some, None, if◌then◌else◌}
 use Rattle.std.specs.Cmp.Lexicographic.{pointwise}
 use Rattle.rrc_name.specs.Wire.{folded}
-use Rattle.rrc_wire.specs.declared.layout.Layout.{Layout}
-use Rattle.rrc_wire.specs.Layout.{layout_of}
+use Rattle.rrc_wire.specs.Layout.{LayoutOf, layout_of}
 use Rattle.rrc_wire.specs.Plain.{Parts, octets_of, parts_in, is_plain}
 
 -- the parts with the letters A to Z of their names as a to z (RFC 4343 3)
@@ -11,7 +10,7 @@ abbrev pub lowered_parts : Parts → Parts
 lowered_parts parts = record { before = parts.before; names = map folded parts.names; behind = parts.behind }
 
 -- the data of a layout with the letters of their names lowered; without a layout there are no names
-abbrev pub lowered_by : Option Layout → List ℕ → List ℕ
+abbrev pub lowered_by : Option LayoutOf → List ℕ → List ℕ
 lowered_by None octets = octets
 lowered_by (Some layout) octets = octets_of (lowered_parts (parts_in layout octets))
 

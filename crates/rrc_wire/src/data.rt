@@ -1,5 +1,6 @@
 ghost use Rattle.std.specs.Prelude.{◌≡◌, ◌≤◌, length};
 ghost use Rattle.rrc_wire.specs.Reading.{Gives, times};
+ghost use Rattle.rrc_wire.specs.Shown.{as_layout};
 ghost use Rattle.rrc_wire.specs.Data.{data_at, laid_out_at, name_in_data};
 
 use crate::fault::WireFault;
@@ -40,7 +41,7 @@ fn read_laid_out(
 ) -> Result<Octets, WireFault>
     requires begins { place ≤ end }
     requires ends { end ≤ length source.old }
-    ensures gives { Gives (λ octets. octets) result (laid_out_at source.old layout place end) }
+    ensures gives { Gives (λ octets. octets) result (laid_out_at source.old (as_layout layout) place end) }
     ensures same { source.new ≡ source.old }
 {
     let message = source.message();

@@ -1,5 +1,6 @@
 ghost use Rattle.std.specs.Prelude.{◌≡◌, ◌<◌, ◌≤◌, ◌/◌, ◌%◌, ◌^◌, length};
 ghost use Rattle.rrc_wire.specs.Reading.{Gives};
+ghost use Rattle.rrc_wire.specs.Shown.{as_header};
 ghost use Rattle.rrc_wire.specs.Header.{header_of, fields_of, flag};
 
 use crate::fault::WireFault;
@@ -48,7 +49,7 @@ fn rcode_of(flags: u16) -> u8
 /// The fields of the header that a message begins with.
 fn fields_of(message: &[u8]) -> Header
     requires { 12 ≤ length message.now }
-    ensures { result ≡ fields_of message.now }
+    ensures { as_header result ≡ fields_of message.now }
 {
     let flags = word_at(message, 2);
     Header {
@@ -68,7 +69,7 @@ fn fields_of(message: &[u8]) -> Header
 /// The header of a message, where it is a response with one question.
 #[tactic(auto, unfolding(crate::specs::Header::header_of))]
 pub(crate) fn header_of(message: &[u8]) -> Result<Header, WireFault>
-    ensures { Gives (λ header. header) result (header_of message.now) }
+    ensures { Gives as_header result (header_of message.now) }
 {
     if message.len() > 65535 {
         return Err(WireFault::TooLong);

@@ -1,5 +1,7 @@
 ghost use Rattle.std.specs.Prelude.{◌≡◌, ◌<◌, ◌≤◌, length};
 ghost use Rattle.rrc_wire.specs.Item.{item_at, label_at, pointer_at, to_end, in_data};
+ghost use Rattle.rrc_wire.specs.Reading.{Agrees};
+ghost use Rattle.rrc_wire.specs.Shown.{as_item, as_run};
 
 use crate::fault::WireFault;
 use crate::field::word_at;
@@ -26,7 +28,7 @@ pub(crate) struct Run {
 impl Run {
     /// The run that begins at a place and may read up to the message's end.
     pub(crate) fn to_end(message: &[u8], start: usize) -> Run
-        ensures { result ≡ to_end message.now start }
+        ensures { as_run result ≡ to_end message.now start }
     {
         Run {
             start,
@@ -37,7 +39,7 @@ impl Run {
 
     /// The run that begins in the data of a record, which end at `end`.
     pub(crate) fn in_data(start: usize, end: usize) -> Run
-        ensures { result ≡ in_data start end }
+        ensures { as_run result ≡ in_data start end }
     {
         Run {
             start,
@@ -52,7 +54,7 @@ fn label_at(run: Run, size: usize, place: usize, octets: usize) -> Result<Item, 
     requires size { size ≤ 255 }
     requires label { octets < 64 }
     requires place { place < run.end }
-    ensures { result ≡ label_at run size place octets }
+    ensures { Agrees as_item result (label_at (as_run run) size place octets) }
 {
     if size + octets + 2 > 255 {
         return Err(WireFault::NameTooLong);
@@ -67,7 +69,7 @@ fn label_at(run: Run, size: usize, place: usize, octets: usize) -> Result<Item, 
 fn pointer_at(message: &[u8], run: Run, place: usize) -> Result<Item, WireFault>
     requires within { run.end ≤ length message.now }
     requires place { place < run.end }
-    ensures { result ≡ pointer_at message.now run place }
+    ensures { Agrees as_item result (pointer_at message.now (as_run run) place) }
 {
     if run.end - place < 2 {
         return Err(run.past);
@@ -88,7 +90,7 @@ pub(crate) fn item_at(
 ) -> Result<Item, WireFault>
     requires within { run.end ≤ length message.now }
     requires size { size ≤ 255 }
-    ensures { result ≡ item_at message.now run size place }
+    ensures { Agrees as_item result (item_at message.now (as_run run) size place) }
 {
     if place >= run.end {
         return Err(run.past);

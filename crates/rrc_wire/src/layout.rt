@@ -1,4 +1,6 @@
 ghost use Rattle.std.specs.Prelude.{◌≡◌};
+ghost use Rattle.std.specs.Option.{option_map};
+ghost use Rattle.rrc_wire.specs.Shown.{as_layout};
 ghost use Rattle.rrc_wire.specs.Layout.{layout_of, is_kept};
 
 /// How the data of a type stand in a message: fixed octets, names, fixed octets.
@@ -23,7 +25,7 @@ fn row(before: u8, names: u8, behind: u8) -> Option<Layout>
 /// opaque octets.
 #[tactic(auto, unfolding(crate::specs::Layout::layout_of))]
 pub(crate) fn layout_of(rtype: u16) -> Option<Layout>
-    ensures { result ≡ layout_of rtype }
+    ensures { option_map as_layout result ≡ layout_of rtype }
 {
     match rtype {
         // NS, MD, MF, CNAME, MB, MG, MR, PTR

@@ -1,6 +1,7 @@
 ghost use Rattle.std.specs.Prelude.{◌≡◌, ◌≤◌, length, IfOk};
 ghost use Rattle.rrc_wire.specs.Reading.{Gives};
 ghost use Rattle.rrc_wire.specs.Name.{name_at};
+ghost use Rattle.rrc_wire.specs.Shown.{as_run};
 
 use crate::fault::WireFault;
 use crate::item::{Item, Run, item_at};
@@ -13,7 +14,7 @@ const USUAL_SIZE: usize = 64;
 /// The name whose first run is given, with the pointers in it followed, and the place behind it. A chain of pointers is one step.
 pub(crate) fn read_name(source: &mut Source<'_>, first: Run) -> Result<(Name, usize), WireFault>
     requires { first.end ≤ length source.old }
-    ensures gives { Gives (λ read. read) result (name_at source.old first) }
+    ensures gives { Gives (λ read. read) result (name_at source.old (as_run first)) }
     ensures within { IfOk result (λ read. read.1 ≤ first.end) }
     ensures same { source.new ≡ source.old }
 {

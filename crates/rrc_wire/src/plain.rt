@@ -1,4 +1,5 @@
 ghost use Rattle.std.specs.Prelude.{◌≡◌, ◌⊎◌, ℕ, List, IfOk, IfErr, OnOk, IfSome, IfNone};
+ghost use Rattle.rrc_wire.specs.Shown.{as_layout};
 ghost use Rattle.rrc_wire.specs.Plain.{IsNameThen, AreNamesThen, is_filled, IsPlain, is_plain};
 
 use crate::fault::WireFault;
@@ -51,7 +52,7 @@ fn behind_names(octets: &[u8], names: u8) -> Option<&[u8]>
 
 /// Whether octets fill a layout, with none left over and none missing.
 fn is_filled(layout: Layout, octets: &[u8]) -> bool
-    ensures { result ≡ is_filled layout octets.now }
+    ensures { result ≡ is_filled (as_layout layout) octets.now }
 {
     let before = usize::from(layout.before);
     if before > octets.len() {

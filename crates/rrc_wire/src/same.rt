@@ -2,6 +2,7 @@ ghost use Rattle.std.specs.Prelude.{◌≡◌, ◌↔◌, ℕ, Some, IsTrue};
 ghost use Rattle.std.specs.Cmp.{IsEquivalence};
 ghost use Rattle.std.specs.List.{concat};
 ghost use Rattle.rrc_wire.specs.Plain.{Fills, parts_in};
+ghost use Rattle.rrc_wire.specs.Shown.{as_layout};
 ghost use Rattle.rrc_wire.specs.Same.{lowered_by, IsSameRdata, same_rdata};
 
 use crate::layout::{Layout, layout_of};
@@ -9,10 +10,10 @@ use crate::plain::is_plain;
 
 /// What data of a layout are made of: fixed octets, names end to end, fixed octets.
 fn parts_of(layout: Layout, octets: &[u8]) -> (&[u8], &[u8], &[u8])
-    requires { Fills layout octets.now }
-    ensures before { result.0.now ≡ (parts_in layout octets.now).before }
-    ensures names { result.1.now ≡ concat (parts_in layout octets.now).names }
-    ensures behind { result.2.now ≡ (parts_in layout octets.now).behind }
+    requires { Fills (as_layout layout) octets.now }
+    ensures before { result.0.now ≡ (parts_in (as_layout layout) octets.now).before }
+    ensures names { result.1.now ≡ concat (parts_in (as_layout layout) octets.now).names }
+    ensures behind { result.2.now ≡ (parts_in (as_layout layout) octets.now).behind }
 {
     let (before, rest) = octets.split_at(usize::from(layout.before));
     let (names, behind) = rest.split_at(rest.len() - usize::from(layout.behind));
@@ -21,9 +22,9 @@ fn parts_of(layout: Layout, octets: &[u8]) -> (&[u8], &[u8], &[u8])
 
 /// Whether data of a layout are the same but for the case of letters in their names.
 fn has_same_parts(layout: Layout, a: &[u8], b: &[u8]) -> bool
-    requires a_fills { Fills layout a.now }
-    requires b_fills { Fills layout b.now }
-    ensures { IsTrue result ↔ (lowered_by (Some layout) a.now ≡ lowered_by (Some layout) b.now) }
+    requires a_fills { Fills (as_layout layout) a.now }
+    requires b_fills { Fills (as_layout layout) b.now }
+    ensures { IsTrue result ↔ (lowered_by (Some (as_layout layout)) a.now ≡ lowered_by (Some (as_layout layout)) b.now) }
 {
     let (before, names, behind) = parts_of(layout, a);
     let (other_before, other_names, other_behind) = parts_of(layout, b);

@@ -1,5 +1,6 @@
 use Rattle.std.proofs.Common.{◌≡◌, ◌+◌, ◌-◌, length}
 use Rattle.rrc_name.proofs.Spelling.{AreLabels}
+use Rattle.rrc_wire.specs.Shown.{as_run}
 use Rattle.rrc_wire.proofs.NameLoop.{Goes, StandsIn}
 use Rattle.rrc_wire.proofs.name.read_name.Given as goal
 
@@ -7,8 +8,8 @@ abbrev pub invariant-loop-wire : goal.invariant-loop-wire
 invariant-loop-wire l = record {
   unchanged : l.source ≡ l.message;
   labels : AreLabels l.wire.items;
-  stands : StandsIn l.message l.fn.first l.run l.behind;
-  goes : Goes l.message l.fn.first l.run l.wire.items l.behind l.place;
+  stands : StandsIn l.message (as_run l.fn.first) (as_run l.run) l.behind;
+  goes : Goes l.message (as_run l.fn.first) (as_run l.run) l.wire.items l.behind l.place;
 }
 
 abbrev pub decreases-loop-wire : goal.decreases-loop-wire

@@ -3,6 +3,7 @@ use Rattle.std.specs.List.{concat}
 use Rattle.std.proofs.lemmas.Bool.Decides.{Decides-at}
 use Rattle.rrc_name.specs.Wire.{folded}
 use Rattle.rrc_wire.specs.Plain.{Parts, parts_in}
+use Rattle.rrc_wire.specs.Shown.{as_layout}
 use Rattle.rrc_wire.proofs.LoweredParts.{same_parts-Decides, one_test_more, slices-Decides, names-Decides}
 use Rattle.rrc_wire.proofs.same.has_same_parts.Goals as goal
 use Rattle.rrc_wire.proofs.same.has_same_parts.Goals.{then-eq, else-eq}
@@ -13,7 +14,7 @@ Tests first all p q = ((first ≡ true) × Decides all (folded (concat p.names) 
 
 pub returns-then-eq_ignore_ascii_case : goal.returns-then-eq_ignore_ascii_case
 returns-then-eq_ignore_ascii_case c =
-    let layout = c.args.layout in let a = c.args.a.now in let b = c.args.b.now in
+    let layout = as_layout c.args.layout in let a = c.args.a.now in let b = c.args.b.now in
     let p = parts_in layout a in let q = parts_in layout b in
     let x = c.parts_of.result in let y = c.parts_of-2.result in
     let from = c.parts_of.ensures in let other = c.parts_of-2.ensures in
@@ -33,7 +34,7 @@ returns-then-eq_ignore_ascii_case c =
 
 pub returns-else-eq_ignore_ascii_case : goal.returns-else-eq_ignore_ascii_case
 returns-else-eq_ignore_ascii_case c =
-    let layout = c.args.layout in let a = c.args.a.now in let b = c.args.b.now in
+    let layout = as_layout c.args.layout in let a = c.args.a.now in let b = c.args.b.now in
     let p = parts_in layout a in let q = parts_in layout b in
     let x = c.parts_of.result in let y = c.parts_of-2.result in
     let from = c.parts_of.ensures in let other = c.parts_of-2.ensures in
