@@ -75,6 +75,22 @@ impl<T> Sequence<T> {
     }
 }
 
+impl<'a, T> IntoIterator for &'a Sequence<T> {
+    ghost use Rattle.std.specs.Prelude.{◌<◌, ◌^◌};
+    ghost use Rattle.std.specs.Slice.Iter.{iter_steps};
+    ghost use Rattle.std.specs.Iterator.Runs.{EveryRun, ItemsMapTo};
+
+    type Item = &'a T;
+
+    type IntoIter = slice::Iter<'a, T>;
+
+    ghost into_iter_gives = { λ s r. (iter_rest r ≡ s.now) × (length (iter_rest r) < 2 ^ 64) × EveryRun (iter_steps {A = T}) (λ p. ItemsMapTo p (λ y. y.now) (iter_rest p.from)) };
+
+    fn into_iter(self) -> slice::Iter<'a, T> {
+        self.values.as_slice().iter()
+    }
+}
+
 impl<T: PartialEq> PartialEq for Sequence<T> {
     ghost eq = { pointwise T.eq };
 
