@@ -106,8 +106,10 @@ impl<T: Eq> Eq for Sequence<T> {
 }
 
 impl<T: Clone> Clone for Sequence<T> {
-    // Where each value's clone is the value, so is the sequence's.
-    ghost is_clone = { λ a b. ((x y : T) → T.is_clone x y → y ≡ x) → b ≡ a };
+    ghost use Rattle.std.specs.List.{AllZip};
+
+    // Each value is a clone of its fellow, and there are as many.
+    ghost is_clone = { λ a b. AllZip T.is_clone a b };
 
     fn clone(&self) -> Result<Sequence<T>, AllocError> {
         Ok(Sequence {
