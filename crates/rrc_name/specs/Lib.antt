@@ -1,3 +1,4 @@
+pub mod Fault
 pub mod Wire
 pub mod Order
 pub mod Text

@@ -16,6 +16,18 @@ pub enum NameFault {
     Memory = 5,
 }
 
+impl NameFault {
+    ghost use Rattle.std.specs.Prelude.{◌≡◌};
+    ghost use Rattle.rrc_name.specs.Fault.{number_of};
+
+    /// The fault's number, by which programs tell of it.
+    pub fn number(&self) -> u8
+        ensures { result ≡ number_of self.now }
+    {
+        *self as u8
+    }
+}
+
 /// Why octets are not the wire form of a name, in the order of reading: the first fault is answered.
 #[derive(Clone, Copy, Debug, PartialEq, Eq, Hash, Error)]
 pub enum WireNameFault {

@@ -14,6 +14,8 @@ mod order;
 mod order_tests;
 mod printed;
 mod sequence;
+#[cfg(test)]
+mod sequence_tests;
 mod shared;
 #[cfg(test)]
 mod shared_tests;

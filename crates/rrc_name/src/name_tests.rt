@@ -78,6 +78,21 @@ fn refuses_other_texts(rt: HostRuntime) -> Result<(), Fail> {
 }
 
 #[test]
+fn numbers_its_faults(rt: HostRuntime) -> Result<(), Fail> {
+    let faults = [
+        NameFault::EmptyLabel,
+        NameFault::LabelTooLong,
+        NameFault::NameTooLong,
+        NameFault::BadEscape,
+        NameFault::Memory,
+    ];
+    for (fault, number) in faults.iter().zip(1..=5) {
+        assert_eq!(rt; fault.number(), number);
+    }
+    Ok(())
+}
+
+#[test]
 fn keeps_the_limits_of_length(rt: HostRuntime) -> Result<(), Fail> {
     let cases: [(&[usize], Option<NameFault>); 6] = [
         (&[63], None),

@@ -75,6 +75,22 @@ impl<T> Sequence<T> {
     }
 }
 
+impl<'a, T> IntoIterator for &'a Sequence<T> {
+    ghost use Rattle.std.specs.Prelude.{◌<◌, ◌^◌};
+    ghost use Rattle.std.specs.Slice.Iter.{iter_steps};
+    ghost use Rattle.std.specs.Iterator.Runs.{EveryRun, ItemsMapTo};
+
+    type Item = &'a T;
+
+    type IntoIter = slice::Iter<'a, T>;
+
+    ghost into_iter_gives = { λ s r. (iter_rest r ≡ s.now) × (length (iter_rest r) < 2 ^ 64) × EveryRun (iter_steps {A = T}) (λ p. ItemsMapTo p (λ y. y.now) (iter_rest p.from)) };
+
+    fn into_iter(self) -> slice::Iter<'a, T> {
+        self.values.as_slice().iter()
+    }
+}
+
 impl<T: PartialEq> PartialEq for Sequence<T> {
     ghost eq = { pointwise T.eq };
 
@@ -90,8 +106,10 @@ impl<T: Eq> Eq for Sequence<T> {
 }
 
 impl<T: Clone> Clone for Sequence<T> {
-    // Where each value's clone is the value, so is the sequence's.
-    ghost is_clone = { λ a b. ((x y : T) → T.is_clone x y → y ≡ x) → b ≡ a };
+    ghost use Rattle.std.specs.List.{AllZip};
+
+    // Each value is a clone of its fellow, and there are as many.
+    ghost is_clone = { λ a b. AllZip T.is_clone a b };
 
     fn clone(&self) -> Result<Sequence<T>, AllocError> {
         Ok(Sequence {
