@@ -22,7 +22,7 @@ pub use message::{Message, one_message_or_fault, read_message};
 pub use plain::plain_rdata;
 pub use question::Question;
 pub use record::Rr;
-pub use same::{same_rdata, sameness_is_an_equivalence};
+pub use same::{laws_of_sameness, same_rdata};
 
 #[cfg(test)]
 mod tests;
