@@ -10,9 +10,9 @@ use Rattle.rrc_name.specs.Wire.{IsWireForm, folded}
 use Rattle.rrc_name.proofs.WireForms.{folded-IsWireForm}
 use Rattle.rrc_wire.specs.Layout.{LayoutOf, layout_of}
 use Rattle.rrc_wire.specs.Plain.{Parts, octets_of, AreParts, Fills, parts_in, is_plain}
-use Rattle.rrc_wire.specs.Same.{lowered_parts, lowered_by, lowered_rdata, IsSameRdata, same_rdata}
+use Rattle.rrc_wire.specs.Same.{lowered_parts, lowered_by, lowered_rdata, LowersNames, IsSameRdata, same_rdata}
 use Rattle.rrc_wire.specs.SameLaws.{same_rdata-Decides}
-use Rattle.rrc_wire.proofs.PlainParts.{found_parts, is_plain-Decides}
+use Rattle.rrc_wire.proofs.PlainParts.{found_parts, parts_in-octets_of, is_plain-Decides}
 
 -- names lowered one by one are lowered end to end
 pub concat-folded : (names : List (List ℕ)) → concat (map folded names) ≡ folded (concat names)
@@ -88,13 +88,22 @@ lowered_where : (b : Bool) (rtype : ℕ) (octets : List ℕ) → is_plain rtype 
 unfolding lowered_rdata
 lowered_where b rtype octets is = ap (λ t. cond t (lowered_by (layout_of rtype) octets) octets) is
 
-lowered_is_plain : (b : Bool) (rtype : ℕ) (octets : List ℕ) → is_plain rtype octets ≡ b → is_plain rtype (lowered_rdata rtype octets) ≡ b
+pub lowered_is_plain : (b : Bool) (rtype : ℕ) (octets : List ℕ) → is_plain rtype octets ≡ b → is_plain rtype (lowered_rdata rtype octets) ≡ b
 lowered_is_plain false rtype octets is = ap (is_plain rtype) (lowered_where false rtype octets is) ∙ is
 lowered_is_plain true rtype octets is =
     let plain = (is_plain-Decides rtype octets).0 is in
     let stays = stays_plain (layout_of rtype) octets plain.fills in
     ap (is_plain rtype) (lowered_where true rtype octets is)
     ∙ (is_plain-Decides rtype (lowered_by (layout_of rtype) octets)).1 (record { short = omega (arith, stays.size, plain.short); fills = stays.fills })
+
+-- data made of parts are lowered name by name
+pub lowers_names : LowersNames
+lowers_names rtype layout parts is are short =
+    let octets = octets_of parts in
+    let fills : MatchOption (layout_of rtype) ⊤ (λ l. Fills l octets) =
+    subst (λ (l : Option Layout). MatchOption l ⊤ (λ (one : Layout). Fills one octets)) (sym is) (record { parts = parts; are_parts = are; whole = refl }) in
+    lowered_where true rtype octets ((is_plain-Decides rtype octets).1 (record { short = short; fills = fills }))
+    ∙ (ap (λ (l : Option Layout). lowered_by l octets) is ∙ ap (λ p. octets_of (lowered_parts p)) (parts_in-octets_of layout parts are))
 
 -- data that are the same are plain both, or none of them
 same_plain : (rtype : ℕ) (a b : List ℕ) → IsSameRdata rtype a b → is_plain rtype a ≡ is_plain rtype b

@@ -41,7 +41,7 @@ pub use plain::plain_rdata;
 pub use question::Question;
 pub use record::Rr;
 pub use rrc_name::{Name, NameFault, Octets, Sequence};
-pub use same::{same_rdata, sameness_is_an_equivalence};
+pub use same::{laws_of_sameness, same_rdata};
 
 #[cfg(test)]
 mod tests;

@@ -1,9 +1,9 @@
-ghost use Rattle.std.specs.Prelude.{◌≡◌, ◌↔◌, ℕ, Some, IsTrue};
+ghost use Rattle.std.specs.Prelude.{◌≡◌, ◌↔◌, ℕ, List, Some, IsTrue};
 ghost use Rattle.std.specs.Cmp.{IsEquivalence};
 ghost use Rattle.std.specs.List.{concat};
-ghost use Rattle.rrc_wire.specs.Plain.{Fills, parts_in};
+ghost use Rattle.rrc_wire.specs.Plain.{Fills, parts_in, IsPlain, is_plain};
 ghost use Rattle.rrc_wire.specs.Shown.{as_layout};
-ghost use Rattle.rrc_wire.specs.Same.{lowered_by, IsSameRdata, same_rdata};
+ghost use Rattle.rrc_wire.specs.Same.{lowered_by, lowered_rdata, LowersNames, IsSameRdata, same_rdata};
 
 use crate::layout::{Layout, layout_of};
 use crate::plain::is_plain;
@@ -43,8 +43,11 @@ pub fn same_rdata(rtype: u16, a: &[u8], b: &[u8]) -> bool
     }
 }
 
-/// The law of sameness: of data of one type it is an equivalence, so which of the same data stands for them makes no difference
-/// to what is the same.
-pub fn sameness_is_an_equivalence()
-    ensures { (rtype : ℕ) → IsEquivalence (same_rdata rtype) }
+/// The laws of sameness: the test in its definition tells which data are plain; plain data are lowered name by name, and stay
+/// plain; and of data of one type sameness is an equivalence, so which of the same data stands for them makes no difference.
+pub fn laws_of_sameness()
+    ensures plain { (rtype : ℕ) (octets : List ℕ) → IsTrue (is_plain rtype octets) ↔ IsPlain rtype octets }
+    ensures lowered { LowersNames }
+    ensures stays_plain { (rtype : ℕ) (octets : List ℕ) → is_plain rtype (lowered_rdata rtype octets) ≡ is_plain rtype octets }
+    ensures equivalence { (rtype : ℕ) → IsEquivalence (same_rdata rtype) }
 {}
