@@ -101,9 +101,9 @@ pub lowers_names : LowersNames
 lowers_names rtype layout parts is are short =
     let octets = octets_of parts in
     let fills : MatchOption (layout_of rtype) ⊤ (λ l. Fills l octets) =
-    subst (λ (l : Option Layout). MatchOption l ⊤ (λ (one : Layout). Fills one octets)) (sym is) (record { parts = parts; are_parts = are; whole = refl }) in
+    subst (λ (l : Option LayoutOf). MatchOption l ⊤ (λ (one : LayoutOf). Fills one octets)) (sym is) (record { parts = parts; are_parts = are; whole = refl }) in
     lowered_where true rtype octets ((is_plain-Decides rtype octets).1 (record { short = short; fills = fills }))
-    ∙ (ap (λ (l : Option Layout). lowered_by l octets) is ∙ ap (λ p. octets_of (lowered_parts p)) (parts_in-octets_of layout parts are))
+    ∙ (ap (λ (l : Option LayoutOf). lowered_by l octets) is ∙ ap (λ p. octets_of (lowered_parts p)) (parts_in-octets_of layout parts are))
 
 -- data that are the same are plain both, or none of them
 same_plain : (rtype : ℕ) (a b : List ℕ) → IsSameRdata rtype a b → is_plain rtype a ≡ is_plain rtype b

@@ -20,7 +20,7 @@ lowered_rdata rtype octets = if is_plain rtype octets then lowered_by (layout_of
 
 -- plain data, made of the parts of a layout, are lowered name by name
 abbrev pub LowersNames : Type 0
-LowersNames = (rtype : ℕ) (layout : Layout) (parts : Parts) → layout_of rtype ≡ Some layout → AreParts layout parts → length (octets_of parts) ≤ 65535
+LowersNames = (rtype : ℕ) (layout : LayoutOf) (parts : Parts) → layout_of rtype ≡ Some layout → AreParts layout parts → length (octets_of parts) ≤ 65535
     → lowered_rdata rtype (octets_of parts) ≡ octets_of (lowered_parts parts)
 
 -- the data are the same but for the case of letters in their names; of a type without a layout they are the same octets (RFC 3597 6)
