@@ -1,4 +1,4 @@
-use Rattle.std.proofs.Common.{[], ◌∷◌, sym, subst, arith, length-append}
+use Rattle.std.proofs.Common.{ℕ, sym, subst, arith, length-append}
 use Rattle.rrc_wire.specs.Chain.{Leads, ends}
 use Rattle.rrc_wire.proofs.Chains.{ends-push, leads-table}
 use Rattle.rrc_wire.proofs.source.ends_of.Goals as goal
@@ -15,6 +15,6 @@ loop-place-preserved c =
       | in-None w ↦ subst (Leads message place) (sym w.end-is) (ends w.in-None.ensures)
     ] in
     rw c.in_ok-push.ensures.items (record {
-      many = omega (arith, c.loop-place.invariant.many, length-append table (c.match-target_of.end ∷ []));
+      many = omega (arith, c.loop-place.invariant.many, length-append {A = ℕ});
       are_ends = ends-push message table place c.match-target_of.end c.loop-place.invariant.many c.loop-place.invariant.are_ends leads;
     })
