@@ -12,3 +12,4 @@ pub mod SameLaws
 pub mod Message
 pub mod Grammar
 pub mod Law
+pub mod ReadPlain

@@ -19,7 +19,7 @@ mod same;
 pub use fault::WireFault;
 pub use layout::is_kept;
 pub use message::{Message, one_message_or_fault, read_message};
-pub use plain::plain_rdata;
+pub use plain::{plain_rdata, read_data_are_plain};
 pub use question::Question;
 pub use record::Rr;
 pub use same::{laws_of_sameness, same_rdata};
