@@ -11,3 +11,4 @@ pub mod Laws
 pub mod FrontNames
 pub mod PlainParts
 pub mod LoweredParts
+pub mod ReadData

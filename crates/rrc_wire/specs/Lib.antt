@@ -15,3 +15,4 @@ pub mod Message
 pub mod Grammar
 pub mod Chain
 pub mod Law
+pub mod ReadPlain

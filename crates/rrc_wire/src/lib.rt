@@ -37,7 +37,7 @@ mod source;
 pub use fault::WireFault;
 pub use layout::is_kept;
 pub use message::{Message, chains_lead_to_names, one_message_or_fault, read_message};
-pub use plain::plain_rdata;
+pub use plain::{plain_rdata, read_data_are_plain};
 pub use question::Question;
 pub use record::Rr;
 pub use rrc_name::{Name, NameFault, Octets, Sequence};

@@ -1,6 +1,7 @@
 ghost use Rattle.std.specs.Prelude.{◌≡◌, ◌⊎◌, ℕ, List, IfOk, IfErr, OnOk, IfSome, IfNone};
 ghost use Rattle.rrc_wire.specs.Shown.{as_layout};
 ghost use Rattle.rrc_wire.specs.Plain.{IsNameThen, AreNamesThen, is_filled, IsPlain, is_plain};
+ghost use Rattle.rrc_wire.specs.ReadPlain.{ReadsPlainData};
 
 use crate::fault::WireFault;
 use crate::layout::{Layout, layout_of};
@@ -89,3 +90,8 @@ pub fn plain_rdata(alloc: Global, rtype: u16, octets: &[u8]) -> Result<Octets, W
     }
     Ok(Octets::from_slice(alloc, octets)?)
 }
+
+/// The law of the data that are read: those of each kept record of a message are plain data of its type.
+pub fn read_data_are_plain()
+    ensures { ReadsPlainData }
+{}
