@@ -1,9 +1,7 @@
-use super::{AA, KEPT, Seen, ask, deny, part, put, question, would};
+use super::{AA, KEPT, Seen, ask, part, put, would};
 use crate::part::Part;
 use crate::refusal::Refusal;
-use crate::reply::ReplyRef;
 use rrc_history::{Event, Mode, Outcome, Purpose};
-use rrc_name::{Octets, Slot};
 use std::test::Fail;
 
 /// Whether the part is in the chapter it began with, and has taken nothing but the offer of line 0.
@@ -86,39 +84,6 @@ fn would_answer_what_ask_answers(rt: HostRuntime) -> Result<(), Fail> {
     assert!(rt; has_one_offer(&part));
     assert_eq!(rt; ask(alloc, &mut part, 1, fresh)?, Ok(Seen::Fresh(1, 1)));
     assert_eq!(rt; ask(alloc, &mut part, 2, stale)?, Ok(Seen::Stale(30, 1)));
-    Ok(())
-}
-
-/// The calls between the two allocations take no memory. `rt try --test --fail-alloc N` shows it: one N refuses the allocation in
-/// front of them, and N + 1 the one behind them.
-#[test]
-fn looking_takes_no_memory(rt: HostRuntime) -> Result<(), Fail> {
-    let alloc = rt.alloc();
-    let mut part = part(alloc, 1024, 4096)?;
-    let put = put(alloc, &mut part, 0, (100, "a.example.", AA, 60, 1))?;
-    assert_eq!(rt; put, KEPT);
-    let denied = deny(alloc, &mut part, 1, (100, "b.example.", Slot::Nx, AA, 60))?;
-    assert_eq!(rt; denied, KEPT);
-    let held = question(alloc, (159, "a.example.", Purpose::Answer, Mode::NoStale))?;
-    let expired = question(alloc, (160, "a.example.", Purpose::Answer, Mode::Now))?;
-    let denied = question(alloc, (159, "b.example.", Purpose::Answer, Mode::NoStale))?;
-    let absent = question(alloc, (159, "c.example.", Purpose::Answer, Mode::NoStale))?;
-    let in_front = Octets::from_slice(alloc, &[1]);
-    let has_room = part.has_room();
-    let replies = [
-        part.would_answer(&held),
-        part.would_answer(&expired),
-        part.would_answer(&denied),
-        part.would_answer(&absent),
-    ];
-    let behind = Octets::from_slice(alloc, &[2]);
-    assert!(rt; in_front.is_ok(), "refused in front of the calls");
-    assert!(rt; behind.is_ok(), "refused behind the calls");
-    assert!(rt; has_room);
-    assert!(rt; matches!(replies[0], ReplyRef::Fresh { left: 1, .. }));
-    assert!(rt; matches!(replies[1], ReplyRef::Stale { left: 30, .. }));
-    assert!(rt; matches!(replies[2], ReplyRef::NxDomain { left: 1, .. }));
-    assert!(rt; matches!(replies[3], ReplyRef::Miss { retry_from: None }));
     Ok(())
 }
 
