@@ -3,22 +3,9 @@ mod fakes;
 use super::*;
 use fakes::{Endless, FailsOnce, Stumble, Stumbling};
 use rrc_history::{Mode, Outcome, Purpose, Reply, RrSet, Soa, Trust};
-use rrc_name::{Key, Name, Octets, Sequence, Slot};
+use rrc_name::{Key, Name, Octets, Sequence, Shared, Slot};
 use std::alloc::Global;
 use std::test::Fail;
-
-const HEAD: &str = "put 1 a.example. 1 4 60 ";
-
-/// How many lines a trace has.
-fn count(rt: &HostRuntime, text: &str) -> Result<usize, Fail> {
-    Ok(read_trace(rt.alloc(), &mut text.as_bytes())?.lines.len())
-}
-
-/// The fault of a text.
-fn fault(rt: &HostRuntime, text: &[u8]) -> Option<ReplayFault> {
-    let mut reader = text;
-    read_trace(rt.alloc(), &mut reader).err()
-}
 
 #[test]
 fn fields_of_lines(rt: HostRuntime) -> Result<(), Fail> {
@@ -55,155 +42,6 @@ fn fields_of_lines(rt: HostRuntime) -> Result<(), Fail> {
     }
     assert!(rt; matches!(lines.next(), Some(Line::Sweep(1_099_511_627_776))));
     assert!(rt; lines.next().is_none());
-    Ok(())
-}
-
-#[test]
-fn lines_that_are_none(rt: HostRuntime) -> Result<(), Fail> {
-    let lines = [
-        // The worked examples.
-        "ask 1 a..example. 1 any none\n",
-        "ask 1099511627777 a.example. 1 any none\n",
-        "put 1 a.example. 1 4 4294967296 c0000201\n",
-        "ask 1 a.example. 46 any none\n",
-        "put 1 a.example. 1 4 60 c000020\n",
-        "   \n",
-        "put 10 a.example. 1/3 4 60 c0000201\n",
-        "put 10 a.example. 16/2 4 60 0141\n",
-        // Ends of lines.
-        "\n",
-        "\r\n",
-        "ask 1 a 1 any none\r\r\n",
-        "ask 1 a 1 any none\r",
-        // Fields.
-        "ask 1\ta 1 any none\n",
-        "ask 1 a 1 any\n",
-        "ask 1 a 1 any none none\n",
-        "put 1 a 1 4 60\n",
-        "put 1 a 1 4 60 00 00\n",
-        "ask 1 a\0 1 any none\n",
-        "ask 1 \u{e9} 1 any none\n",
-        // Words and numbers.
-        "sweep\n",
-        "sweep 1 2\n",
-        "sweep 1099511627777\n",
-        "fail 1 a\n",
-        "fail 1 a 1 60\n",
-        "response 1 . -\n",
-        "PUT 1 a 1 4 60 00\n",
-        "ask 1 a 1 Any none\n",
-        "ask 1 a 1 any stale\n",
-        "ask +1 a 1 any none\n",
-        "ask 1 a 0 any none\n",
-        "ask 1 a 65537 any none\n",
-        "ask 1 a 2 any none\n",
-        "put 1 a 1 0 60 00\n",
-        "put 1 a 1 5 60 00\n",
-        // Items.
-        "put 1 a 1 4 60 ,00\n",
-        "put 1 a 1 4 60 00,\n",
-        "put 1 a 1 4 60 0g\n",
-        "put 1 a 1 4 60 --\n",
-    ];
-    for line in &lines {
-        assert_eq!(rt;
-            fault(&rt, line.as_bytes()),
-            Some(ReplayFault::BadLine(0)),
-            "at {line:?}"
-        );
-    }
-    assert_eq!(rt;
-        fault(&rt, b"ask 1 \xff 1 any none\n"),
-        Some(ReplayFault::BadLine(0))
-    );
-    assert_eq!(rt;
-        fault(&rt, b"ask 1 a 1 any none\nask\nask\n"),
-        Some(ReplayFault::BadLine(1))
-    );
-    Ok(())
-}
-
-/// A put whose items are these many numbers of eight digits.
-fn put_of(rt: &HostRuntime, items: u32) -> Result<String, Fail> {
-    let mut line = String::from_str(rt.alloc(), HEAD)?;
-    for item in 0..items {
-        if item > 0 {
-            line.push_str(",")?;
-        }
-        line.push_str(format!(in rt.alloc(); "{item:08x}")?.as_str())?;
-    }
-    Ok(line)
-}
-
-/// A put with one item of these many octets.
-fn put_long(rt: &HostRuntime, octets: u32) -> Result<String, Fail> {
-    let mut line = String::from_str(rt.alloc(), HEAD)?;
-    for _ in 0..octets {
-        line.push_str("00")?;
-    }
-    Ok(line)
-}
-
-#[test]
-fn many_and_long_items(rt: HostRuntime) -> Result<(), Fail> {
-    assert_eq!(rt; count(&rt, put_of(&rt, 256)?.as_str())?, 1);
-    assert_eq!(rt;
-        fault(&rt, put_of(&rt, 257)?.as_bytes()),
-        Some(ReplayFault::BadLine(0))
-    );
-    assert_eq!(rt; count(&rt, put_long(&rt, 65_535)?.as_str())?, 1);
-    assert_eq!(rt;
-        fault(&rt, put_long(&rt, 65_536)?.as_bytes()),
-        Some(ReplayFault::BadLine(0))
-    );
-    Ok(())
-}
-
-/// An ask for a name of 254 or more octets: labels of 63, 63, 63 and these many letters.
-fn ask_long(rt: &HostRuntime, letters: u32) -> Result<String, Fail> {
-    let mut line = String::from_str(rt.alloc(), "ask 1 ")?;
-    for letter in 0..192 {
-        line.push_str(if letter % 64 == 63 { "." } else { "a" })?;
-    }
-    for _ in 0..letters {
-        line.push_str("d")?;
-    }
-    line.push_str(" 1 any none")?;
-    Ok(line)
-}
-
-#[test]
-fn long_names(rt: HostRuntime) -> Result<(), Fail> {
-    assert_eq!(rt; count(&rt, ask_long(&rt, 61)?.as_str())?, 1);
-    assert_eq!(rt;
-        fault(&rt, ask_long(&rt, 62)?.as_bytes()),
-        Some(ReplayFault::BadLine(0))
-    );
-    Ok(())
-}
-
-/// An ask with spaces in front, and its end.
-fn ask_behind(rt: &HostRuntime, spaces: u32, end: &str) -> Result<String, Fail> {
-    let mut line = String::new(rt.alloc());
-    for _ in 0..spaces {
-        line.push_str(" ")?;
-    }
-    line.push_str("ask 1 a 1 any none")?;
-    line.push_str(end)?;
-    Ok(line)
-}
-
-#[test]
-fn long_lines(rt: HostRuntime) -> Result<(), Fail> {
-    // The ask itself has 18 octets. A CR counts, an LF does not.
-    for (spaces, end) in [(139_982, ""), (139_982, "\n"), (139_981, "\r\n")] {
-        assert_eq!(rt; count(&rt, ask_behind(&rt, spaces, end)?.as_str())?, 1);
-        let longer = ask_behind(&rt, spaces + 1, end)?;
-        assert_eq!(rt;
-            fault(&rt, longer.as_bytes()),
-            Some(ReplayFault::BadLine(0))
-        );
-    }
     Ok(())
 }
 
@@ -262,14 +100,14 @@ fn set(alloc: Global) -> Result<RrSet, Fail> {
     items.push(Octets::new(alloc))?;
     Ok(RrSet {
         owner: Name::from_text(alloc, "A.example.")?,
-        items,
+        items: Shared::new(alloc, items)?,
     })
 }
 
 fn soa(alloc: Global) -> Result<Soa, Fail> {
     Ok(Soa {
         owner: Name::from_text(alloc, "Example.")?,
-        octets: Octets::from_slice(alloc, &[0, 10, 255])?,
+        octets: Shared::new(alloc, Octets::from_slice(alloc, &[0, 10, 255])?)?,
     })
 }
 
