@@ -12,3 +12,4 @@ pub mod FrontNames
 pub mod PlainParts
 pub mod LoweredParts
 pub mod ReadData
+pub mod Pointed

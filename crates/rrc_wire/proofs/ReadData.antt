@@ -74,13 +74,13 @@ no_layout l h = absurd cc
 layout_of-small : (rtype : ℕ) → AreSmall (layout_of rtype)
 unfolding layout_of
 layout_of-small rtype =
-    let row : ℕ → ℕ → ℕ → LayoutOf = λ before names behind. record { before = before; names = names; behind = behind } in
-    one_or _ (row 0 1 0) _ (record { before = omega arith; names = omega arith; behind = omega arith })
-    (one_or _ (row 0 2 20) _ (record { before = omega arith; names = omega arith; behind = omega arith })
-    (one_or _ (row 0 2 0) _ (record { before = omega arith; names = omega arith; behind = omega arith })
-    (one_or _ (row 2 1 0) _ (record { before = omega arith; names = omega arith; behind = omega arith })
-    (one_or _ (row 2 2 0) _ (record { before = omega arith; names = omega arith; behind = omega arith })
-    (one_or _ (row 6 1 0) _ (record { before = omega arith; names = omega arith; behind = omega arith })
+    let fixed : ℕ → ℕ → ℕ → LayoutOf = λ before names behind. record { before = before; names = names; behind = behind } in
+    one_or _ (fixed 0 1 0) _ (record { before = omega arith; names = omega arith; behind = omega arith })
+    (one_or _ (fixed 0 2 20) _ (record { before = omega arith; names = omega arith; behind = omega arith })
+    (one_or _ (fixed 0 2 0) _ (record { before = omega arith; names = omega arith; behind = omega arith })
+    (one_or _ (fixed 2 1 0) _ (record { before = omega arith; names = omega arith; behind = omega arith })
+    (one_or _ (fixed 2 2 0) _ (record { before = omega arith; names = omega arith; behind = omega arith })
+    (one_or _ (fixed 6 1 0) _ (record { before = omega arith; names = omega arith; behind = omega arith })
     no_layout)))))
 
 -- data of a layout

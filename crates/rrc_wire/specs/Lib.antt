@@ -16,3 +16,4 @@ pub mod Grammar
 pub mod Chain
 pub mod Law
 pub mod ReadPlain
+pub mod Last

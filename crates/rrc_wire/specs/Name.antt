@@ -1,5 +1,5 @@
 -- Reading a name, item by item (RFC 1035 4.1.4).
-use Rattle.std.specs.Prelude.{ℕ, zero, suc, ◌+◌, List, [], ◌∷◌, ◌++◌, length, slice_range, Option, Some, None, unwrap_or, Result, Ok, Err}
+use Rattle.std.specs.Prelude.{◌≡◌, ℕ, zero, suc, ◌+◌, List, [], ◌∷◌, ◌++◌, length, slice_range, Option, Some, None, unwrap_or, Result, Ok, Err}
 use Rattle.rrc_wire.specs.declared.fault.WireFault.{WireFault}
 use Rattle.rrc_wire.specs.declared.fault.WireFault.TheVariants.{BadPointer}
 use Rattle.rrc_wire.specs.Item.{End, Label, Pointer, RunOf, item_at, to_end}
@@ -19,3 +19,11 @@ name_from (suc items) message run before behind place =
 -- the name whose first run is given, and the place behind it
 abbrev pub name_at : List ℕ → RunOf → Result (List ℕ × ℕ) WireFault
 name_at message first = name_from (first.start + 256) message first [] None first.start
+
+-- the name that stands at a place of the message
+abbrev pub standing_at : List ℕ → ℕ → Result (List ℕ) WireFault
+standing_at message place = name_at message (to_end message place) >>= λ read. Ok read.0
+
+-- a name stands at a place of the message
+abbrev pub IsNameAt : List ℕ → ℕ → List ℕ → Type 0
+IsNameAt message place name = standing_at message place ≡ Ok name

@@ -6,7 +6,7 @@ ghost use Rattle.rrc_wire.specs.Data.{data_at, laid_out_at, name_in_data};
 use crate::fault::WireFault;
 use crate::item::Run;
 use crate::layout::{Layout, layout_of};
-use crate::name::read_name;
+use crate::name::read_wire;
 use crate::source::Source;
 use rrc_name::Octets;
 
@@ -25,8 +25,8 @@ fn read_names(
 {
     let mut next = place;
     for _ in 0..names {
-        let (name, behind) = read_name(source, Run::in_data(next, end))?;
-        before.extend_from_slice(name.wire.as_slice())?;
+        let (name, behind) = read_wire(source, Run::in_data(next, end))?;
+        before.extend_from_slice(&name)?;
         next = behind;
     }
     Ok((before, next))

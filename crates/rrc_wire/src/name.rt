@@ -1,20 +1,65 @@
 ghost use Rattle.std.specs.Prelude.{◌≡◌, ◌≤◌, length, IfOk};
+ghost use Rattle.rrc_name.specs.Wire.{IsWireForm};
 ghost use Rattle.rrc_wire.specs.Reading.{Gives};
-ghost use Rattle.rrc_wire.specs.Name.{name_at};
+ghost use Rattle.rrc_wire.specs.Item.{to_end};
+ghost use Rattle.rrc_wire.specs.Name.{name_at, standing_at};
 ghost use Rattle.rrc_wire.specs.Shown.{as_run};
 
 use crate::fault::WireFault;
 use crate::item::{Item, Run, item_at};
-use crate::source::Source;
+use crate::source::{Source, target_of};
 use rrc_name::{Name, Octets, Shared};
 
-/// Names of at most this many octets are read with one request for memory.
+/// The octets of names of at most this many are read with one request for memory.
 const USUAL_SIZE: usize = 64;
 
-/// The name whose first run is given, with the pointers in it followed, and the place behind it. A chain of pointers is one step.
-pub(crate) fn read_name(source: &mut Source<'_>, first: Run) -> Result<(Name, usize), WireFault>
+/// The name whose first run begins at a place and may read up to the message's end, and the place behind the name. A pointer to
+/// the name that was read last shares it, and takes no memory.
+pub(crate) fn read_name(source: &mut Source<'_>, place: usize) -> Result<(Name, usize), WireFault>
+    ensures gives { Gives (λ read. read) result (name_at source.old (to_end source.old place)) }
+    ensures within { IfOk result (λ read. read.1 ≤ length source.old) }
+    ensures same { source.new ≡ source.old }
+{
+    match target_of(source.message(), place) {
+        Some(target) => Ok((name_standing_at(source, target)?, place + 2)),
+        None => read_and_remember(source, place),
+    }
+}
+
+/// The name that stands at a place, shared if it was read last.
+fn name_standing_at(source: &mut Source<'_>, place: usize) -> Result<Name, WireFault>
+    ensures gives { Gives (λ name. name) result (standing_at source.old place) }
+    ensures same { source.new ≡ source.old }
+{
+    match source.last_name_at(place) {
+        Some(name) => Ok(name.clone()?),
+        None => {
+            let (name, _behind) = read_and_remember(source, place)?;
+            Ok(name)
+        }
+    }
+}
+
+/// The name at a place, which is then the one that was read last, and the place behind it.
+fn read_and_remember(source: &mut Source<'_>, place: usize) -> Result<(Name, usize), WireFault>
+    ensures gives { Gives (λ read. read) result (name_at source.old (to_end source.old place)) }
+    ensures within { IfOk result (λ read. read.1 ≤ length source.old) }
+    ensures same { source.new ≡ source.old }
+{
+    let first = Run::to_end(source.message(), place);
+    let (wire, behind) = read_wire(source, first)?;
+    let wire = Shared::new(source.alloc(), Octets::from_vec(wire))?;
+    let name = Name { wire };
+    source.remember(place, name.clone()?);
+    Ok((name, behind))
+}
+
+/// The octets of the name whose first run is given, with the pointers in it followed, and the place behind it. A chain of pointers
+/// is one step.
+pub(crate) fn read_wire(source: &mut Source<'_>, first: Run) -> Result<(Vec<u8>, usize), WireFault>
     requires { first.end ≤ length source.old }
-    ensures gives { Gives (λ read. read) result (name_at source.old (as_run first)) }
+    ensures gives { Gives (λ read. (read.0.items, read.1)) result (name_at source.old (as_run first)) }
+    ensures wire_form { IfOk result (λ read. IsWireForm read.0.items) }
     ensures within { IfOk result (λ read. read.1 ≤ first.end) }
     ensures same { source.new ≡ source.old }
 {
@@ -27,10 +72,7 @@ pub(crate) fn read_name(source: &mut Source<'_>, first: Run) -> Result<(Name, us
         match item_at(message, run, wire.len(), place)? {
             Item::End => {
                 wire.push(0)?;
-                let name = Name {
-                    wire: Shared::new(source.alloc(), Octets::from_vec(wire))?,
-                };
-                return Ok((name, behind.unwrap_or(place + 1)));
+                return Ok((wire, behind.unwrap_or(place + 1)));
             }
             Item::Label(size) => {
                 let next = place + 1 + size;

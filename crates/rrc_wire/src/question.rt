@@ -4,7 +4,6 @@ ghost use Rattle.rrc_wire.specs.Question.{question_at};
 
 use crate::fault::WireFault;
 use crate::field::{within, word_at};
-use crate::item::Run;
 use crate::name::read_name;
 use crate::source::Source;
 use rrc_name::Name;
@@ -28,7 +27,7 @@ pub(crate) fn read_question(
     ensures same { source.new ≡ source.old }
 {
     let message = source.message();
-    let (name, fields) = read_name(source, Run::to_end(message, place))?;
+    let (name, fields) = read_name(source, place)?;
     let next = within(message, fields, 4)?;
     let question = Question {
         name,

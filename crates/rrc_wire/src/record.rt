@@ -6,7 +6,6 @@ ghost use Rattle.rrc_wire.specs.Record.{record_at, section_at};
 use crate::data::read_data;
 use crate::fault::WireFault;
 use crate::field::{long_at, within, word_at};
-use crate::item::Run;
 use crate::layout::is_kept;
 use crate::name::read_name;
 use crate::source::Source;
@@ -30,7 +29,7 @@ fn read_record(source: &mut Source<'_>, place: usize) -> Result<(Option<Rr>, usi
     ensures same { source.new ≡ source.old }
 {
     let message = source.message();
-    let (owner, fields) = read_name(source, Run::to_end(message, place))?;
+    let (owner, fields) = read_name(source, place)?;
     let data = within(message, fields, 10)?;
     let end = within(message, data, usize::from(word_at(message, fields + 8)))?;
     let rtype = word_at(message, fields);

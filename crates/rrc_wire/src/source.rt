@@ -1,15 +1,25 @@
 ghost use Rattle.std.specs.Prelude.{◌≡◌, ◌^◌, length, min, IfOk, IfErr, MatchOption};
+ghost use Rattle.std.specs.Option.{IfSome};
 ghost use Rattle.rrc_wire.specs.Chain.{PointsTo, PointsNowhere, Leads, AreEnds};
+ghost use Rattle.rrc_wire.specs.Name.{IsNameAt};
 
 use crate::fault::WireFault;
 use crate::item::{Item, Run, item_at};
+use rrc_name::Name;
 use std::alloc::Global;
 use std::marker::Model;
 
 /// Pointers lead to places below this one (RFC 1035 section 4.1.4).
 const POINTED: usize = 1 << 14;
 
-/// A message as it is read, and where its chains of pointers end. Contracts see its octets.
+/// A name that was read, and the place where it stands.
+#[derive(Drop)]
+pub(crate) struct Standing {
+    pub(crate) place: usize,
+    pub(crate) name: Name,
+}
+
+/// A message as it is read, where its chains of pointers end, and the name that was read last. Contracts see its octets.
 #[derive(Drop)]
 pub(crate) struct Source<'m> {
     alloc: Global,
@@ -17,17 +27,20 @@ pub(crate) struct Source<'m> {
     // For each place that a pointer can lead to, where its chain ends. It is empty until a chain of two pointers is met, so that
     // most messages need none.
     ends: Vec<u16>,
+    // The owner that was read last, since most owners are pointers to the one before.
+    last: Option<Standing>,
 }
 
 impl<'m> Model for Source<'m> {
     ghost use Rattle.std.specs.Prelude.{ℕ, List};
     ghost use Rattle.rrc_wire.specs.Chain.{IsTable};
+    ghost use Rattle.rrc_wire.specs.Last.{IsLast};
 
     ghost Value = { List ℕ };
 
     ghost view = { λ s. s.message.now };
 
-    ghost invariant = { λ s. IsTable s.message.now s.ends.items };
+    ghost invariant = { λ s. IsTable s.message.now s.ends.items × IsLast s.message.now s.last };
 }
 
 impl<'m> Source<'m> {
@@ -39,6 +52,7 @@ impl<'m> Source<'m> {
             alloc,
             message,
             ends: Vec::new(alloc),
+            last: None,
         }
     }
 
@@ -52,6 +66,24 @@ impl<'m> Source<'m> {
         ensures { result.now ≡ self.now }
     {
         self.message
+    }
+
+    /// The name that was read last, if it stands at a place.
+    pub(crate) fn last_name_at(&self, place: usize) -> Option<&Name>
+        ensures { IfSome result (λ name. IsNameAt self.now place name.now) }
+    {
+        match &self.last {
+            Some(last) if last.place == place => Some(&last.name),
+            _ => None,
+        }
+    }
+
+    /// Remembers a name that stands at a place as the one that was read last.
+    pub(crate) fn remember(&mut self, place: usize, name: Name)
+        requires { IsNameAt self.old place name }
+        ensures { self.new ≡ self.old }
+    {
+        self.last = Some(Standing { place, name });
     }
 
     /// Where the chain of pointers ends that begins at a place.
@@ -73,7 +105,7 @@ impl<'m> Source<'m> {
 }
 
 /// Where the pointer leads that stands at a place, if a pointer to a lower one does.
-fn target_of(message: &[u8], place: usize) -> Option<usize>
+pub(crate) fn target_of(message: &[u8], place: usize) -> Option<usize>
     ensures { MatchOption result (PointsNowhere message.now place) (PointsTo message.now place) }
 {
     match item_at(message, Run::to_end(message, place), 0, place) {

@@ -17,12 +17,12 @@ returns-in_err-name-clause-gives c =
 
 pub loop-preserved : goal.loop-preserved
 loop-preserved c =
-    let message = c.args.source.now in let name = c.in_ok-name.name in
+    let message = c.args.source.now in let name = c.in_ok-name.name.items in
     let read : name_in_data message c.args.end c.loop.next ≡ Ok (name, c.in_ok-name.behind) =
     ap (λ octets. name_in_data octets c.args.end c.loop.next) (sym c.loop.invariant.unchanged) ∙ ap (name_at c.loop.source) (sym c.in_data.ensures) ∙ c.in_ok-name.ensures.gives in
     let octets : c.extend_from_slice.new.self.items ≡ c.loop.before.items ++ name =
-    c.in_ok-extend_from_slice.ensures.items ∙ ap (λ n. c.loop.before.items ++ n) (c.as_slice.ensures ∙ (c.deref.ensures ∙ c.name.view_is)) in
+    c.in_ok-extend_from_slice.ensures.items ∙ ap (λ n. c.loop.before.items ++ n) c.deref.ensures.value in
     rw octets (record {
-      unchanged = c.read_name.ensures.same ∙ c.loop.invariant.unchanged;
+      unchanged = c.read_wire.ensures.same ∙ c.loop.invariant.unchanged;
       left = sym (times-more (name_in_data message c.args.end) c.args.names c.loop.counter c.loop.before.items c.loop.next (name, c.in_ok-name.behind) c.loop-test.true read) ∙ c.loop.invariant.left;
     })

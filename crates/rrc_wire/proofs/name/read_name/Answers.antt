@@ -1,85 +1,21 @@
-use Rattle.std.proofs.Common.{◌≡◌, ◌+◌, [], ◌∷◌, ◌++◌, length, None, Ok, refl, sym, ap, subst, ◌∙◌, arith, inr, unwrap_or, Err}
-use Rattle.std.specs.Prelude.{slice_range}
+use Rattle.std.proofs.Common.{subst, inl, inr}
 use Rattle.std.proofs.lemmas.Result.{err_from_is_err_and}
-use Rattle.rrc_name.specs.Wire.{IsWireForm}
-use Rattle.rrc_name.proofs.Spelling.{AreLabels, name_of_labels}
-use Rattle.rrc_wire.specs.Item.{End, Label, Pointer, RunOf, item_at}
-use Rattle.rrc_wire.specs.Shown.{as_item, as_run}
-use Rattle.rrc_wire.specs.Name.{name_at}
-use Rattle.rrc_wire.specs.Chain.{Leads}
-use Rattle.rrc_wire.proofs.Items.{item_at-Label, item_at-Pointer}
-use Rattle.rrc_wire.proofs.NameLoop.{Goes, no_labels, goes-begin, goes-Err, goes-End, goes-Label, goes-Pointer, labels-more, behind-within}
-use Rattle.rrc_wire.proofs.Chains.{goes-leads, leads-below}
+use Rattle.rrc_wire.specs.Chain.{PointsTo}
+use Rattle.rrc_wire.proofs.Pointed.{pointed-Ok, pointed-Err}
 use Rattle.rrc_wire.proofs.name.read_name.Goals as goal
 
-pub loop-wire-init : goal.loop-wire-init
-loop-wire-init c =
-    let message = c.message-message.result.now in
-    let none : [] ≡ c.in_ok-wire.wire.items = sym c.in_ok-wire.ensures.items in
-    record {
-      unchanged = sym c.message-message.ensures;
-      labels = subst AreLabels none no_labels;
-      stands = record { within = omega (arith, c.requires, ap length c.message-message.ensures); first_run = refl };
-      goes = subst (λ before. Goes message (as_run c.args.first) (as_run c.args.first) before None c.args.first.start) none (goes-begin message (as_run c.args.first));
-    }
+pub returns-in_err-name_standing_at-in-Some-clause-gives : goal.returns-in_err-name_standing_at-in-Some-clause-gives
+returns-in_err-name_standing_at-in-Some-clause-gives c =
+    let message = c.args.source.now in let target = c.in-Some.target in let fault = c.in_err-name_standing_at-in-Some.field-0.0 in
+    let to : PointsTo message c.args.place target = subst (λ octets. PointsTo octets c.args.place target) c.message.ensures c.in-Some.ensures in
+    let exit = err_from_is_err_and c.from_residual.result c.from_residual.ensures.1 in
+    rw (exit.1, exit.2) (elim (c.in_err-name_standing_at-in-Some.ensures.gives) [
+      | inl refused ↦ inl refused
+      | inr first ↦ inr (pointed-Err message c.args.place target fault to first)
+    ])
 
-pub returns-in_err-item_at-clause-gives : goal.returns-in_err-item_at-clause-gives
-returns-in_err-item_at-clause-gives c =
-    let message = c.message-message.result.now in let loop = c.loop-wire in let fault = c.in_err-item_at.field-0.0 in
-    let size : length loop.wire.items ≡ c.len.result = omega (arith, c.len.ensures, loop.wire.ok) in
-    let exit = err_from_is_err_and c.from_residual-in_err-item_at.result c.from_residual-in_err-item_at.ensures.1 in
-    rw (exit.1, exit.2) (inr (subst (λ octets. name_at octets (as_run c.args.first) ≡ Err fault) c.message-message.ensures
-    (goes-Err message (as_run c.args.first) (as_run loop.run) loop.wire.items loop.behind loop.place fault loop.invariant.labels.room loop.invariant.goes
-    (ap (λ n. item_at message (as_run loop.run) n loop.place) size ∙ c.in_err-item_at.ensures))))
-
-pub invariant_of-name : goal.invariant_of-name
-invariant_of-name c =
-    let octets : c.in_ok-new-in-End.field-0 ≡ c.loop-wire.wire.items ++ 0 ∷ [] = c.in_ok-new-in-End.ensures.ok ∙ (c.from_vec.ensures ∙ c.in_ok-push-in-End.ensures.items) in
-    subst IsWireForm (sym octets) (name_of_labels c.loop-wire.wire.items c.loop-wire.invariant.labels)
-
-pub returns-in-End-clause-gives : goal.returns-in-End-clause-gives
-returns-in-End-clause-gives c =
-    let message = c.message-message.result.now in let loop = c.loop-wire in
-    let size : length loop.wire.items ≡ c.len.result = omega (arith, c.len.ensures, loop.wire.ok) in
-    let item : item_at message (as_run loop.run) (length loop.wire.items) loop.place ≡ Ok End = ap (λ n. item_at message (as_run loop.run) n loop.place) size ∙ c.in_ok-item_at.ensures ∙ ap (λ found. Ok (as_item found)) c.in-End.is in
-    let octets : c.in_ok-new-in-End.field-0 ≡ loop.wire.items ++ 0 ∷ [] = c.in_ok-new-in-End.ensures.ok ∙ (c.from_vec.ensures ∙ c.in_ok-push-in-End.ensures.items) in
-    rw (octets, c.unwrap_or.ensures) (subst (λ octets. name_at octets (as_run c.args.first) ≡ Ok (loop.wire.items ++ 0 ∷ [], unwrap_or loop.behind (loop.place + 1))) c.message-message.ensures
-    (goes-End message (as_run c.args.first) (as_run loop.run) loop.wire.items loop.behind loop.place loop.invariant.labels.room loop.invariant.goes item))
-
-pub loop-wire-preserved-in-Label : goal.loop-wire-preserved-in-Label
-loop-wire-preserved-in-Label c =
-    let message = c.message-message.result.now in let loop = c.loop-wire in let octets = c.in-Label.size in
-    let size : length loop.wire.items ≡ c.len.result = omega (arith, c.len.ensures, loop.wire.ok) in
-    let item : item_at message (as_run loop.run) (length loop.wire.items) loop.place ≡ Ok (Label octets) = ap (λ n. item_at message (as_run loop.run) n loop.place) size ∙ c.in_ok-item_at.ensures ∙ ap (λ found. Ok (as_item found)) c.in-Label.is in
-    let stands = item_at-Label message (as_run loop.run) (length loop.wire.items) loop.place octets item in
-    let more : loop.wire.items ++ slice_range message loop.place (loop.place + 1 + octets) ≡ c.extend_from_slice.new.self.items = sym c.in_ok-extend_from_slice-in-Label.ensures.items in
-    record {
-      unchanged = loop.invariant.unchanged;
-      labels = subst AreLabels more (labels-more message (as_run loop.run) loop.wire.items octets loop.place (λ i. omega (arith, c.type_inv.message i)) loop.invariant.stands.within stands loop.invariant.labels);
-      stands = loop.invariant.stands;
-      goes = subst (λ before. Goes message (as_run c.args.first) (as_run loop.run) before loop.behind (loop.place + 1 + octets)) more (goes-Label message (as_run c.args.first) (as_run loop.run) loop.wire.items loop.behind loop.place octets loop.invariant.labels.room loop.invariant.stands.within loop.invariant.goes item);
-    }
-
-pub loop-wire-smaller : goal.loop-wire-smaller
-loop-wire-smaller c =
-    let message = c.message-message.result.now in let loop = c.loop-wire in let target = c.in-Pointer.target in
-    let item : item_at message (as_run loop.run) c.len.result loop.place ≡ Ok (Pointer target) = c.in_ok-item_at.ensures ∙ ap (λ found. Ok (as_item found)) c.in-Pointer.is in
-    let stands = item_at-Pointer message (as_run loop.run) c.len.result loop.place target item in
-    let below = leads-below c.in_ok-place-in-Pointer.ensures.ok in
-    let start : c.to_end-run.result.start ≡ c.in_ok-place-in-Pointer.place = ap (λ (run : RunOf). run.start) c.to_end-run.ensures in
-    omega (arith, start, below, stands.lower, loop.invariant.labels.room)
-
-pub loop-wire-preserved : goal.loop-wire-preserved
-loop-wire-preserved c =
-    let message = c.message-message.result.now in let loop = c.loop-wire in let target = c.in-Pointer.target in let place = c.in_ok-place-in-Pointer.place in
-    let size : length loop.wire.items ≡ c.len.result = omega (arith, c.len.ensures, loop.wire.ok) in
-    let item : item_at message (as_run loop.run) (length loop.wire.items) loop.place ≡ Ok (Pointer target) = ap (λ n. item_at message (as_run loop.run) n loop.place) size ∙ c.in_ok-item_at.ensures ∙ ap (λ found. Ok (as_item found)) c.in-Pointer.is in
-    let stands = item_at-Pointer message (as_run loop.run) (length loop.wire.items) loop.place target item in
-    let leads : Leads message target place = subst (λ octets. Leads octets target place) loop.invariant.unchanged c.in_ok-place-in-Pointer.ensures.ok in
-    let there = goes-Pointer message (as_run c.args.first) (as_run loop.run) loop.wire.items loop.behind loop.place target loop.invariant.labels.room loop.invariant.goes item in
-    rw (c.to_end-run.ensures, c.unwrap_or-in-Pointer.ensures) (record {
-      unchanged = c.end_of_chain.ensures.same ∙ loop.invariant.unchanged;
-      labels = loop.invariant.labels;
-      stands = record { within = omega arith; first_run = behind-within message (as_run c.args.first) (as_run loop.run) loop.behind (loop.place + 2) loop.invariant.stands stands.within };
-      goes = goes-leads leads (as_run c.args.first) loop.wire.items (unwrap_or loop.behind (loop.place + 2)) loop.invariant.labels.room there;
-    })
+pub returns-in_ok-name_standing_at-in-Some-clause-gives : goal.returns-in_ok-name_standing_at-in-Some-clause-gives
+returns-in_ok-name_standing_at-in-Some-clause-gives c =
+    let message = c.args.source.now in let target = c.in-Some.target in
+    let to : PointsTo message c.args.place target = subst (λ octets. PointsTo octets c.args.place target) c.message.ensures c.in-Some.ensures in
+    pointed-Ok message c.args.place target c.in_ok-name_standing_at-in-Some.field-0 to c.in_ok-name_standing_at-in-Some.ensures.gives

@@ -24,7 +24,7 @@ returns-after-is_empty-clause-ok c =
           let made = w.in_ok-self-inside-in-Some.ensures in subst (Has message target) (sym w.self-inside-is) (made.ok, omega (arith, in_whole, made.whole))
       | else-is_empty w ↦
           let some : 0 < length c.self.inside.ends.items = grind (arith, nat_tests, w.if-is_empty.ensures, c.self.inside.ends.ok) in
-          subst (Has message target) (sym w.self-inside-is) (c.self.invariant.are_ends, omega (arith, in_whole, c.self.invariant.whole some))
+          subst (Has message target) (sym w.self-inside-is) (c.self.invariant.0.are_ends, omega (arith, in_whole, c.self.invariant.0.whole some))
     ] in
     let leads : Leads message c.args.place c.index.result.now = leads-table message c.if-is_empty.self-inside.ends.items c.args.place target c.index.result.now table.0 to table.1 c.index.ensures in
     rw c.from.ensures (subst (λ octets. Leads octets c.args.place c.index.result.now) c.self.view_is leads)

@@ -2,7 +2,7 @@ use Rattle.std.proofs.Common.{◌≡◌, ◌+◌, ◌-◌, length}
 use Rattle.rrc_name.proofs.Spelling.{AreLabels}
 use Rattle.rrc_wire.specs.Shown.{as_run}
 use Rattle.rrc_wire.proofs.NameLoop.{Goes, StandsIn}
-use Rattle.rrc_wire.proofs.name.read_name.Given as goal
+use Rattle.rrc_wire.proofs.name.read_wire.Given as goal
 
 abbrev pub invariant-loop-wire : goal.invariant-loop-wire
 invariant-loop-wire l = record {
