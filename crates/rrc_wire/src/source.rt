@@ -27,7 +27,7 @@ pub(crate) struct Source<'m> {
     // For each place that a pointer can lead to, where its chain ends. It is empty until a chain of two pointers is met, so that
     // most messages need none.
     ends: Vec<u16>,
-    // The owner that was read last, since most owners are pointers to the one before.
+    // Most owners are pointers to the name that was read before them.
     last: Option<Standing>,
 }
 
