@@ -1,3 +1,6 @@
+mod aliases;
+mod offers;
+
 use crate::{Limits, life, part_of};
 use rrc_name::Name;
 use std::test::Fail;
