@@ -32,16 +32,23 @@ abbrev pub set_offer : Section → Message → List ℕ → ℕ → Limits → S
 set_offer section message zone moment limits set =
     if is_at_or_below set.owner zone then option_map (living_offer section message moment set) (set_life limits message.aa set.ttls) else None
 
+-- the records of a section
+abbrev pub records_of : Section → Message → List Rr
+records_of Answer message = message.answer
+records_of Authority message = message.authority
+records_of Additional message = message.additional
+
 -- the offers of a section's sets, in order
-unfoldable pub section_offers : Section → Message → List ℕ → ℕ → Limits → List Rr → List OfferOf
-section_offers section message zone moment limits records = filter_map (set_offer section message zone moment limits) (sets_of records)
+unfoldable pub section_offers : Section → Message → List ℕ → ℕ → Limits → List OfferOf
+section_offers section message zone moment limits =
+    filter_map (set_offer section message zone moment limits) (sets_of (records_of section message))
 
 -- the offers of a reply that answers: the sets of its three sections, and then its negative answer
 unfoldable pub answer_offers : Message → List ℕ → ℕ → Limits → List OfferOf
 answer_offers message zone moment limits =
-    section_offers Answer message zone moment limits message.answer
-    ++ (section_offers Authority message zone moment limits message.authority
-    ++ (section_offers Additional message zone moment limits message.additional
+    section_offers Answer message zone moment limits
+    ++ (section_offers Authority message zone moment limits
+    ++ (section_offers Additional message zone moment limits
     ++ option_to_list (negative_offer message zone moment limits)))
 
 -- the offer of a reply that failed: that asking for the question's name and type did (RFC 8767 5)

@@ -1,6 +1,6 @@
 ghost use Rattle.std.specs.Prelude.{◌≡◌, ◌++◌, IfOk, IfErr, OnOk};
 ghost use Rattle.std.specs.Option.{option_to_list};
-ghost use Rattle.rrc_sets.specs.Offers.{living_offer, set_offer, section_offers, answer_offers, failure_offers, is_silent, offers_of};
+ghost use Rattle.rrc_sets.specs.Offers.{set_offer, records_of, section_offers, answer_offers, failure_offers, is_silent, offers_of};
 
 use crate::denial::negative_offer;
 use crate::fault::SetsFault;
@@ -62,20 +62,30 @@ fn add(offers: &mut Vec<Offer>, offer: Option<Offer>) -> Result<(), AllocError>
     }
 }
 
+/// The records of a section.
+fn records_of(section: Section, message: &Message) -> &[Rr]
+    ensures { result.now ≡ records_of section message.now }
+{
+    match section {
+        Section::Answer => message.answer.as_slice(),
+        Section::Authority => message.authority.as_slice(),
+        Section::Additional => message.additional.as_slice(),
+    }
+}
+
 /// Puts the offers of a section's sets behind the others.
 fn add_section(
     alloc: Global,
     offers: &mut Vec<Offer>,
     section: Section,
-    records: &[Rr],
     message: &Message,
     zone: &Name,
     moment: u64,
     limits: &Limits,
 ) -> Result<(), AllocError>
-    ensures { OnOk result (offers.new.items ≡ offers.old.items ++ section_offers section message.now zone.now moment limits.now records.now) }
+    ensures { OnOk result (offers.new.items ≡ offers.old.items ++ section_offers section message.now zone.now moment limits.now) }
 {
-    for set in sets_of(alloc, records)? {
+    for set in sets_of(alloc, records_of(section, message))? {
         let offer = set_offer(section, message, zone, moment, limits, set)?;
         add(offers, offer)?;
     }
@@ -94,41 +104,27 @@ fn answer_offers(
     ensures { IfOk result (λ offers. offers.items ≡ answer_offers message.now zone.now moment limits.now) }
 {
     let mut offers = Vec::new(alloc);
-    let answer = message.answer.as_slice();
+    let made = &mut offers;
+    add_section(alloc, made, Section::Answer, message, zone, moment, limits)?;
     add_section(
         alloc,
-        &mut offers,
-        Section::Answer,
-        answer,
-        message,
-        zone,
-        moment,
-        limits,
-    )?;
-    let authority = message.authority.as_slice();
-    add_section(
-        alloc,
-        &mut offers,
+        made,
         Section::Authority,
-        authority,
         message,
         zone,
         moment,
         limits,
     )?;
-    let additional = message.additional.as_slice();
     add_section(
         alloc,
-        &mut offers,
+        made,
         Section::Additional,
-        additional,
         message,
         zone,
         moment,
         limits,
     )?;
-    let negative = negative_offer(alloc, message, zone, moment, limits)?;
-    add(&mut offers, negative)?;
+    add(made, negative_offer(alloc, message, zone, moment, limits)?)?;
     Ok(offers)
 }
 

@@ -5,7 +5,7 @@ use Rattle.std.proofs.lemmas.List.{map-id}
 use Rattle.std.proofs.lemmas.List.Elements.{filter_map-append}
 use Rattle.std.proofs.lemmas.Iterator.Consumers.{YieldsList-end}
 use Rattle.std.proofs.lemmas.Iterator.Adapters.{YieldsList-from_vec}
-use Rattle.rrc_sets.specs.Sets.{SetOf}
+use Rattle.rrc_sets.specs.Sets.{SetOf, sets_of}
 use Rattle.rrc_sets.specs.Offers.{set_offer, section_offers}
 use Rattle.rrc_sets.proofs.reply.add_section.Goals as goal
 
@@ -32,5 +32,5 @@ returns c =
     let gives = c.into_iter-set-iterator.ensures.into_iter_gives in
     let from = YieldsList-from_vec {s = c.into_iter-set-iterator.result} sets.items gives.0 (gives.1 ∙ sets.ok.0) in
     let whole = YieldsList-end from c.loop-set.yielded c.loop-set.set-iterator c.loop-set.yielded_by c.next.result c.next.new.self c.in-None.is c.next.ensures.steps in
-    let all = sym (map-id c.loop-set.yielded) ∙ (whole.0 ∙ c.in_ok-set-items.ensures) in
+    let all = sym (map-id c.loop-set.yielded) ∙ (whole.0 ∙ (c.in_ok-set-items.ensures ∙ ap sets_of c.records_of.ensures)) in
     c.loop-set.invariant ∙ ap (λ (yielded : List SetOf). before ++ filter_map made yielded) all
