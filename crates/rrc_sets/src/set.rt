@@ -9,7 +9,7 @@ use rrc_wire::Rr;
 use std::alloc::{AllocError, Global};
 use std::marker::Model;
 
-/// Whether data of a type are the same.
+/// Whether data of a type are the same, octet for octet.
 fn same_rdata(_rtype: u16, a: &[u8], b: &[u8]) -> bool
     ensures { result ≡ same_rdata _rtype a.now b.now }
 {
