@@ -1,0 +1,13 @@
+pub mod Limits
+pub mod Life
+pub mod Parts
+pub mod Plain
+pub mod Uniques
+pub mod Sets
+pub mod Ranks
+pub mod Names
+pub mod Aliases
+pub mod Denials
+pub mod Offers
+pub mod Gathering
+pub mod Same
