@@ -7,11 +7,12 @@ use Rattle.std.proofs.lemmas.List.{map-append, append-nil}
 use Rattle.std.proofs.lemmas.Bool.{or_parts}
 use Rattle.std.proofs.lemmas.List.Elements.{filter-append}
 use Rattle.rrc_wire.specs.declared.record.Rr.{Rr}
-use Rattle.rrc_sets.specs.Plain.{same_rdata}
+use Rattle.rrc_wire.specs.Same.{same_rdata}
+use Rattle.rrc_wire.specs.SameLaws.{same_rdata-equiv}
 use Rattle.rrc_sets.specs.Uniques.{uniques}
 use Rattle.rrc_sets.specs.Sets.{SetOf, same_set, set_of, sets_of}
 use Rattle.rrc_sets.specs.Gathering.{alone, with_value, grown, with_record}
-use Rattle.rrc_sets.specs.Same.{same_set-laws, same_rdata-laws}
+use Rattle.rrc_sets.specs.Same.{same_set-laws}
 
 module _ {A : Type 0} (same : A → A → Bool) (laws : IsEquivalence same) where
   -- a value that is not the same as z stays unlike it, whatever is the same as it
@@ -118,7 +119,7 @@ made-push : (first : Rr) (own : List Rr) (rr : Rr) → made first (own ++ rr ∷
 unfolding made
 made-push first own rr =
     let data_are : map (λ (r : Rr). r.rdata) (own ++ rr ∷ []) ≡ map (λ (r : Rr). r.rdata) own ++ rr.rdata ∷ [] = map-append (λ (r : Rr). r.rdata) own (rr ∷ []) in
-    let items_are = ap (uniques (same_rdata first.rtype)) data_are ∙ uniques-push (same_rdata first.rtype) (same_rdata-laws first.rtype) (map (λ (r : Rr). r.rdata) own) rr.rdata in
+    let items_are = ap (uniques (same_rdata first.rtype)) data_are ∙ uniques-push (same_rdata first.rtype) (same_rdata-equiv first.rtype) (map (λ (r : Rr). r.rdata) own) rr.rdata in
     let ttls_are : map (λ (r : Rr). r.ttl) (own ++ rr ∷ []) ≡ map (λ (r : Rr). r.ttl) own ++ rr.ttl ∷ [] = map-append (λ (r : Rr). r.ttl) own (rr ∷ []) in
     λ i. record { owner = first.owner; rtype = first.rtype; items = items_are i; ttls = ttls_are i }
 

@@ -1,7 +1,6 @@
 pub mod Limits
 pub mod Life
 pub mod Parts
-pub mod Plain
 pub mod Uniques
 pub mod Sets
 pub mod Ranks

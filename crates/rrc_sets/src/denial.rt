@@ -11,7 +11,7 @@ use crate::rank::{Section, rank_of};
 use crate::times::life;
 use byteorder::{BigEndian, ByteOrder};
 use rrc_history::{Body, Offer};
-use rrc_name::{Key, Name, Slot};
+use rrc_name::{Key, Name, Shared, Slot};
 use rrc_wire::{Message, Rr, is_kept};
 use std::alloc::{AllocError, Global};
 
@@ -106,7 +106,7 @@ fn denial(message: &Message, limits: &Limits, name: &Name, soa: &Rr) -> Result<B
     let asked = name.same(&message.question.name);
     Ok(Body::Negative {
         soa_owner: soa.owner.clone()?,
-        soa: soa.rdata.clone()?,
+        soa: Shared::new(soa.rdata.alloc(), soa.rdata.clone()?)?,
         trust: rank_of(Section::Answer, message.aa, asked),
         ttl: negative_life(soa, limits),
     })

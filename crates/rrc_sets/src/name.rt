@@ -3,7 +3,7 @@ ghost use Rattle.std.specs.Cmp.Lexicographic.{pointwise};
 ghost use Rattle.rrc_sets.specs.Names.{behind_label, is_labelled, is_name};
 ghost use Rattle.rrc_sets.specs.Aliases.{as_name};
 
-use rrc_name::{Name, Octets};
+use rrc_name::{Name, Octets, Shared};
 use std::alloc::{AllocError, Global};
 
 /// The most labels that a name has, the root counted.
@@ -60,6 +60,6 @@ pub(crate) fn name_in(alloc: Global, octets: &[u8]) -> Result<Option<Name>, Allo
         return Ok(None);
     }
     Ok(Some(Name {
-        wire: Octets::from_slice(alloc, octets)?,
+        wire: Shared::new(alloc, Octets::from_slice(alloc, octets)?)?,
     }))
 }

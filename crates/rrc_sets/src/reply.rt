@@ -9,7 +9,7 @@ use crate::rank::{Section, rank_of};
 use crate::set::{Set, sets_of};
 use crate::times::set_life;
 use rrc_history::{Body, Offer};
-use rrc_name::{Key, Name, Slot};
+use rrc_name::{Key, Name, Shared, Slot};
 use rrc_wire::{Message, Rr, is_kept};
 use std::alloc::{AllocError, Global};
 
@@ -26,6 +26,7 @@ const NXDOMAIN: u8 = 3;
 
 /// The offer of a set of the zone that has a life.
 fn set_offer(
+    alloc: Global,
     section: Section,
     message: &Message,
     zone: &Name,
@@ -45,7 +46,7 @@ fn set_offer(
     let asked = set.owner.same(&message.question.name);
     let body = Body::Positive {
         owner: set.owner,
-        items: set.items,
+        items: Shared::new(alloc, set.items)?,
         trust: rank_of(section, message.aa, asked),
         ttl,
     };
@@ -86,7 +87,7 @@ fn add_section(
     ensures { OnOk result (offers.new.items ≡ offers.old.items ++ section_offers section message.now zone.now moment limits.now) }
 {
     for set in sets_of(alloc, records_of(section, message))? {
-        let offer = set_offer(section, message, zone, moment, limits, set)?;
+        let offer = set_offer(alloc, section, message, zone, moment, limits, set)?;
         add(offers, offer)?;
     }
     Ok(())

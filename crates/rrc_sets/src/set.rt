@@ -1,20 +1,13 @@
 ghost use Rattle.std.specs.Prelude.{◌≡◌, ◌++◌, ◌<◌, OnOk, IfOk, IfSome, position, length};
 ghost use Rattle.std.specs.List.{list_any};
-ghost use Rattle.rrc_sets.specs.Plain.{same_rdata};
+ghost use Rattle.rrc_wire.specs.Same.{same_rdata};
 ghost use Rattle.rrc_sets.specs.Sets.{sets_of};
 ghost use Rattle.rrc_sets.specs.Gathering.{holds, alone, grown, with_record};
 
 use rrc_name::{Name, Octets, Sequence};
-use rrc_wire::Rr;
+use rrc_wire::{Rr, same_rdata};
 use std::alloc::{AllocError, Global};
 use std::marker::Model;
-
-/// Whether data of a type are the same, octet for octet.
-fn same_rdata(_rtype: u16, a: &[u8], b: &[u8]) -> bool
-    ensures { result ≡ same_rdata _rtype a.now b.now }
-{
-    a == b
-}
 
 /// An RRset of a section (RFC 2181 section 5): its owner as its first record spells it, its data without repeats, one at least, and
 /// the times to live of all its records.
