@@ -4,7 +4,6 @@ pub mod Parts
 pub mod Uniques
 pub mod Sets
 pub mod Ranks
-pub mod Names
 pub mod Aliases
 pub mod Denials
 pub mod Offers
