@@ -41,7 +41,7 @@ is_label-Decides label =
     (Decides-and (nat_le 1 (length label)) (nat_le (length label) 63 && list_all (λ octet. nat_lt octet 256) label) (Decides-le 1 (length label))
     (Decides-and (nat_le (length label) 63) (list_all (λ octet. nat_lt octet 256) label) (Decides-le (length label) 63) small))
 
-is_wire_form-Decides : (octets : List ℕ) → Decides (is_wire_form octets) (IsWireForm octets)
+pub is_wire_form-Decides : (octets : List ℕ) → Decides (is_wire_form octets) (IsWireForm octets)
 is_wire_form-Decides octets =
     let labels = labels_of octets in
     Decides-like (is_wire_form octets) (λ (whole, (are, short)). record { whole = whole; labels = are; short = short }) (λ is. (is.whole, (is.labels, is.short)))

@@ -1,0 +1,5 @@
+pub mod Growing
+pub mod Places
+pub mod Chains
+pub mod NameLemmas
+pub mod Fitting

@@ -1,0 +1,15 @@
+-- How far the places of a reply are trusted (RFC 2181 5.4.1).
+use Rattle.std.specs.Prelude.{Bool, true, false}
+use Rattle.rrc_history.specs.declared.body.Trust.{Trust}
+use Rattle.rrc_history.specs.declared.body.Trust.TheVariants as ranks
+use Rattle.rrc_sets.specs.declared.rank.Section.{Section}
+use Rattle.rrc_sets.specs.declared.rank.Section.TheVariants as sections
+
+-- the rank of a set by its section, whether the reply is authoritative, and whether its owner was asked for
+abbrev pub rank_of : Section → Bool → Bool → Trust
+rank_of sections.Answer true true = ranks.AuthoritativeAnswer
+rank_of sections.Answer true false = ranks.NonAuthoritativeAnswer
+rank_of sections.Answer false asked = ranks.NonAuthoritativeAnswer
+rank_of sections.Authority true asked = ranks.Authority
+rank_of sections.Authority false asked = ranks.Additional
+rank_of sections.Additional aa asked = ranks.Additional

@@ -1,0 +1,69 @@
+ghost use Rattle.std.specs.Prelude.{◌≡◌, IfOk, option_map, find};
+ghost use Rattle.std.specs.Option.{option_copied};
+ghost use Rattle.rrc_name.specs.Wire.{same_name};
+ghost use Rattle.rrc_sets.specs.Aliases.{is_of, target_of, end_of_chain, final_name};
+
+use crate::name::name_in;
+use rrc_name::Name;
+use rrc_wire::{Message, Rr};
+use std::alloc::{AllocError, Global};
+
+/// The type of aliases.
+const CNAME: u16 = 5;
+
+/// The type of questions about every type.
+const ANY: u16 = 255;
+
+/// The most names of a chain of aliases: the question's, and 16 behind it.
+const MOST_NAMES: u8 = 17;
+
+/// Whether two names in wire form are the same but for the case of letters.
+pub(crate) fn same(a: &[u8], b: &[u8]) -> bool
+    ensures { result ≡ same_name a.now b.now }
+{
+    a.eq_ignore_ascii_case(b)
+}
+
+/// Whether a record is of a type, under a name.
+pub(crate) fn is_of(rtype: u16, name: &[u8], rr: &Rr) -> bool
+    ensures { result ≡ is_of rtype name.now rr.now }
+{
+    rr.rtype == rtype && same(rr.owner.wire.as_slice(), name)
+}
+
+/// The name that a name is an alias of, in wire form: the data of its first CNAME record.
+fn target_of<'a>(answer: &'a [Rr], name: &[u8]) -> Option<&'a [u8]>
+    ensures { option_map (λ target. target.now) result ≡ target_of answer.now name.now }
+{
+    let alias = answer.iter().find(|rr| is_of(CNAME, name, rr))?;
+    Some(alias.rdata.as_slice())
+}
+
+/// The last name of a chain of aliases that begins with a name, in wire form.
+fn end_of_chain<'a>(answer: &'a [Rr], name: &'a [u8]) -> Option<&'a [u8]>
+    ensures { option_map (λ end. end.now) result ≡ end_of_chain 17 answer.now name.now }
+{
+    let mut name = name;
+    for _name in 0..MOST_NAMES {
+        match target_of(answer, name) {
+            Some(target) => name = target,
+            None => return Some(name),
+        }
+    }
+    None
+}
+
+/// The name that an answer ends with (RFC 2308 section 1), at most 16 aliases behind the question's name. Where the question is about
+/// aliases, or about every type, it is the question's name.
+pub(crate) fn final_name(alloc: Global, message: &Message) -> Result<Option<Name>, AllocError>
+    ensures { IfOk result (λ name. name ≡ final_name message.now) }
+{
+    let question = &message.question;
+    if question.qtype == CNAME || question.qtype == ANY {
+        return Ok(Some(question.name.clone()?));
+    }
+    match end_of_chain(message.answer.as_slice(), question.name.wire.as_slice()) {
+        Some(end) => name_in(alloc, end),
+        None => Ok(None),
+    }
+}

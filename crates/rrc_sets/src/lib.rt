@@ -1,0 +1,22 @@
+//! What a response of the DNS offers to a cache: its RRsets with their ranks of trust and their times to live.
+#![tactic(auto)]
+
+mod alias;
+mod denial;
+mod fault;
+mod limits;
+mod name;
+mod parts;
+mod rank;
+mod reply;
+mod set;
+mod times;
+
+pub use fault::SetsFault;
+pub use limits::Limits;
+pub use parts::part_of;
+pub use reply::offers;
+pub use times::life;
+
+#[cfg(test)]
+mod tests;

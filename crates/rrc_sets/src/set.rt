@@ -1,0 +1,107 @@
+ghost use Rattle.std.specs.Prelude.{◌≡◌, ◌++◌, ◌<◌, OnOk, IfOk, IfSome, position, length};
+ghost use Rattle.std.specs.List.{list_any};
+ghost use Rattle.rrc_wire.specs.Same.{same_rdata};
+ghost use Rattle.rrc_sets.specs.Sets.{sets_of};
+ghost use Rattle.rrc_sets.specs.Gathering.{holds, alone, grown, with_record};
+
+use rrc_name::{Name, Octets, Sequence};
+use rrc_wire::{Rr, same_rdata};
+use std::alloc::{AllocError, Global};
+use std::marker::Model;
+
+/// An RRset of a section (RFC 2181 section 5): its owner as its first record spells it, its data without repeats, one at least, and
+/// the times to live of all its records.
+#[derive(Debug, Drop)]
+pub(crate) struct Set {
+    pub(crate) owner: Name,
+    pub(crate) rtype: u16,
+    pub(crate) items: Sequence<Octets>,
+    pub(crate) ttls: Vec<u32>,
+}
+
+impl Model for Set {
+    ghost use Rattle.std.specs.Prelude.{◌≡◌, true};
+    ghost use Rattle.rrc_history.specs.Fits.{has_items};
+    ghost use Rattle.rrc_sets.specs.Sets.{SetOf};
+
+    ghost Value = { SetOf };
+
+    ghost view = { λ s. record { owner = s.owner; rtype = s.rtype; items = s.items; ttls = s.ttls.items } };
+
+    ghost invariant = { λ s. has_items s.items ≡ true };
+}
+
+impl Set {
+    /// The set of one record.
+    fn alone(alloc: Global, rr: &Rr) -> Result<Set, AllocError>
+        ensures { IfOk result (λ set. set ≡ alone rr.now) }
+    {
+        let mut items = Sequence::new(alloc);
+        items.push(rr.rdata.clone()?)?;
+        let mut ttls = Vec::new(alloc);
+        ttls.push(rr.ttl)?;
+        Ok(Set {
+            owner: rr.owner.clone()?,
+            rtype: rr.rtype,
+            items,
+            ttls,
+        })
+    }
+
+    /// Whether a record is one of the set.
+    fn holds(&self, rr: &Rr) -> bool
+        ensures { result ≡ holds self.now rr.now }
+    {
+        self.rtype == rr.rtype && self.owner.same(&rr.owner)
+    }
+
+    /// Whether the set has some data.
+    fn has(&self, rdata: &[u8]) -> bool
+        ensures { result ≡ list_any (λ item. same_rdata self.now.rtype item rdata.now) self.now.items }
+    {
+        self.items
+            .iter()
+            .any(|item| same_rdata(self.rtype, item.as_slice(), rdata))
+    }
+
+    /// Takes one more record: its data where they are new, and its time to live in any case.
+    fn grow(&mut self, rr: &Rr) -> Result<(), AllocError>
+        ensures { OnOk result (self.new ≡ grown self.old rr.now) }
+    {
+        if !self.has(rr.rdata.as_slice()) {
+            self.items.push(rr.rdata.clone()?)?;
+        }
+        self.ttls.push(rr.ttl)?;
+        Ok(())
+    }
+}
+
+/// The place of the set that a record is one of.
+fn place_of(sets: &[Set], rr: &Rr) -> Option<usize>
+    ensures place { result ≡ position (λ set. holds set rr.now) sets.now }
+    ensures inside { IfSome result (λ place. place < length sets.now) }
+{
+    sets.iter().position(|set| set.holds(rr))
+}
+
+/// Puts a record into its set, or else into one of its own behind the others.
+fn put(alloc: Global, sets: &mut Vec<Set>, rr: &Rr) -> Result<(), AllocError>
+    ensures { OnOk result (sets.new.items ≡ with_record sets.old.items rr.now) }
+{
+    match place_of(sets.as_slice(), rr) {
+        Some(place) => sets[place].grow(rr)?,
+        None => sets.push(Set::alone(alloc, rr)?)?,
+    }
+    Ok(())
+}
+
+/// The sets of a section's records (RFC 2181 section 5), in order of their first records.
+pub(crate) fn sets_of(alloc: Global, records: &[Rr]) -> Result<Vec<Set>, AllocError>
+    ensures { IfOk result (λ sets. sets.items ≡ sets_of records.now) }
+{
+    let mut sets = Vec::new(alloc);
+    for rr in records {
+        put(alloc, &mut sets, rr)?;
+    }
+    Ok(sets)
+}

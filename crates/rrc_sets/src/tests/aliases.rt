@@ -1,0 +1,62 @@
+// How far a chain of aliases is followed.
+
+use crate::{Limits, offers};
+use rrc_history::Body;
+use rrc_name::{Name, Slot};
+use rrc_wire::read_message;
+use std::alloc::{AllocError, Global};
+use std::test::Fail;
+
+/// Puts `N.example.` behind other octets, N being a letter.
+fn push_name(message: &mut Vec<u8>, letter: u8) -> Result<(), AllocError> {
+    message.extend_from_slice(&[1, letter])?;
+    message.extend_from_slice(b"\x07example\x00")
+}
+
+/// An authoritative NXDOMAIN for `a.example.`, with so many aliases in its answer, `a.example.` to `b.example.` and so on, and the SOA
+/// record of `example.` with a MINIMUM of 300.
+fn chain(alloc: Global, aliases: u8) -> Result<Vec<u8>, AllocError> {
+    let mut message = Vec::from_slice(
+        alloc,
+        &[0x12, 0x34, 0x84, 0x03, 0, 1, 0, aliases, 0, 1, 0, 0],
+    )?;
+    push_name(&mut message, b'a')?;
+    message.extend_from_slice(&[0, 1, 0, 1])?;
+    for alias in 0..aliases {
+        push_name(&mut message, b'a'.saturating_add(alias))?;
+        message.extend_from_slice(&[0, 5, 0, 1, 0, 0, 0, 60, 0, 11])?;
+        push_name(&mut message, b'b'.saturating_add(alias))?;
+    }
+    message.extend_from_slice(b"\x07example\x00\x00\x06\x00\x01\x00\x00\x0e\x10\x00\x16\x00\x00")?;
+    message.extend_from_slice(&[0, 0, 0, 1, 0, 0, 0, 1, 0, 0, 0, 1, 0, 0, 0, 1, 0, 0, 1, 44])?;
+    Ok(message)
+}
+
+/// The name that such a message denies.
+fn denied(alloc: Global, aliases: u8) -> Result<Option<Name>, Fail> {
+    let octets = chain(alloc, aliases)?;
+    let message = read_message(alloc, octets.as_slice())?;
+    let limits = Limits::new(604_800, 10_800, 30).ok_or("within the ranges")?;
+    let zone = Name::from_text(alloc, "example.")?;
+    for offer in offers(alloc, &message, &zone, 100, &limits)? {
+        if offer.key.slot == Slot::Nx && matches!(&offer.body, Body::Negative { ttl: 300, .. }) {
+            return Ok(Some(offer.key.name));
+        }
+    }
+    Ok(None)
+}
+
+#[test]
+fn sixteen_aliases_are_followed(rt: HostRuntime) -> Result<(), Fail> {
+    let alloc = rt.alloc();
+    assert_eq!(rt;
+        denied(alloc, 1)?,
+        Some(Name::from_text(alloc, "b.example.")?)
+    );
+    assert_eq!(rt;
+        denied(alloc, 16)?,
+        Some(Name::from_text(alloc, "q.example.")?)
+    );
+    assert!(rt; denied(alloc, 17)?.is_none());
+    Ok(())
+}

@@ -1,0 +1,165 @@
+// What the messages that this repository's documents know by name offer for the zone `example.`.
+
+use crate::{Limits, offers};
+use rrc_history::{Body, Offer};
+use rrc_name::{Name, Octets, Slot};
+use rrc_wire::read_message;
+use std::alloc::{AllocError, Global};
+use std::test::Fail;
+
+/// Each message by its name: its octets in hexadecimal, where Q is the question `a.example.` of type A and class IN, and S the SOA
+/// record of `example.`; and its offers in order, each with its name, its slot, its rank, its ttl and its data, Z being the data of S.
+const NAMED: &str = "
+one_address: 1234 8400 0001 0001 0000 0000 Q c00c000100010000003c0004c0000201 = a.example. 1 rank 4 ttl 60 c0000201;
+two_addresses: 1234 8400 0001 0002 0000 0000 Q c00c000100010000003c0004c0000201 c00c000100010000001e0004c0000202 = a.example. 1 rank 4 ttl 30 c0000201 c0000202;
+two_addresses_from_elsewhere: 1234 8000 0001 0002 0000 0000 Q c00c000100010000003c0004c0000201 c00c000100010000001e0004c0000202 =
+nxdomain: 1234 8403 0001 0000 0001 0000 Q S = example. 6 rank 3 ttl 3600 Z; a.example. nx rank 4 ttl 300 example. Z;
+nxdomain_from_elsewhere: 1234 8003 0001 0000 0001 0000 Q S = example. 6 rank 1 ttl 3600 Z; a.example. nx rank 2 ttl 300 example. Z;
+nodata: 1234 8400 0001 0000 0001 0000 Q S = example. 6 rank 3 ttl 3600 Z; a.example. 1 rank 4 ttl 300 example. Z;
+alias_to_nxdomain: 1234 8403 0001 0001 0001 0000 Q c00c000500010000003c00040162c00e S = a.example. 5 rank 4 ttl 60 0162076578616d706c6500; example. 6 rank 3 ttl 3600 Z; b.example. nx rank 2 ttl 300 example. Z;
+alias_to_itself: 1234 8403 0001 0001 0001 0000 Q c00c000500010000003c0002c00c S = a.example. 5 rank 4 ttl 60 0161076578616d706c6500; example. 6 rank 3 ttl 3600 Z;
+ttl_of_all_ones: 1234 8400 0001 0001 0000 0000 Q c00c00010001ffffffff0004c0000201 = a.example. 1 rank 4 ttl 604800 c0000201;
+truncated: 1234 8600 0001 0001 0000 0000 Q c00c000100010000003c0004c0000201 =
+server_failure: 1234 8182 0001 0000 0000 0000 Q = a.example. failed1 ttl 30;
+referral: 1234 8000 0001 0000 0001 0001 Q c00e0002000100000e100005026e73c00e c027000100010000003c0004c0000209 = example. 2 rank 1 ttl 3600 026e73076578616d706c6500; ns.example. 1 rank 1 ttl 60 c0000209;
+servers_in_two_spellings: 1234 8400 0001 0000 0002 0000 Q c00e0002000100000e100005026e73c00e c00e00020001000007080005024e53c00e = example. 2 rank 3 ttl 1800 026e73076578616d706c6500;
+chaos_text: 1234 8400 0001 0001 0000 0000 0161076578616d706c650000100003 c00c001000030000003c00020141 =
+";
+
+const QUESTION: &str = "0161076578616d706c650000010001";
+
+const SOA: &str = "c00e0006000100000e100018c00ec00e0000000100000e100000025800093a800000012c";
+
+const SOA_DATA: &str =
+    "076578616d706c6500076578616d706c65000000000100000e100000025800093a800000012c";
+
+/// The value of a hexadecimal digit.
+fn digit_of(letter: u8) -> Option<u8> {
+    match letter {
+        b'0'..=b'9' => Some(letter - b'0'),
+        b'a'..=b'f' => Some(letter - b'a' + 10),
+        _ => None,
+    }
+}
+
+/// Puts the octets of a text in hexadecimal behind others. What is no digit is passed over.
+fn push_octets(octets: &mut Vec<u8>, text: &str) -> Result<(), AllocError> {
+    let mut high = None;
+    for &letter in text.as_bytes() {
+        if let Some(digit) = digit_of(letter) {
+            high = match high {
+                None => Some(digit),
+                Some(high_digit) => {
+                    octets.push(high_digit << 4 | digit)?;
+                    None
+                }
+            };
+        }
+    }
+    Ok(())
+}
+
+/// The octets of a line's words.
+fn octets_of(alloc: Global, words: &str) -> Result<Vec<u8>, AllocError> {
+    let mut octets = Vec::new(alloc);
+    for word in words.split(' ') {
+        let text = match word {
+            "Q" => QUESTION,
+            "S" => SOA,
+            _ => word,
+        };
+        push_octets(&mut octets, text)?;
+    }
+    Ok(octets)
+}
+
+fn push_data(text: &mut String, octets: &Octets) -> Result<(), AllocError> {
+    write!(text, " ")?;
+    for octet in octets.as_slice() {
+        write!(text, "{octet:02x}")?;
+    }
+    Ok(())
+}
+
+fn push_slot(text: &mut String, slot: Slot) -> Result<(), AllocError> {
+    match slot {
+        Slot::Set(rtype) => write!(text, " {rtype}"),
+        Slot::Nx => write!(text, " nx"),
+        Slot::Failed(rtype) => write!(text, " failed{rtype}"),
+    }
+}
+
+fn push_body(text: &mut String, body: &Body) -> Result<(), AllocError> {
+    match body {
+        Body::Positive {
+            items,
+            trust,
+            ttl,
+            ..
+        } => {
+            write!(text, " rank {} ttl {ttl}", *trust as u8)?;
+            for item in items.iter() {
+                push_data(text, item)?;
+            }
+            Ok(())
+        }
+        Body::Negative {
+            soa_owner,
+            soa,
+            trust,
+            ttl,
+        } => {
+            let owner = soa_owner.to_text()?;
+            write!(text, " rank {} ttl {ttl} {owner}", *trust as u8)?;
+            push_data(text, soa)
+        }
+        Body::Failure { ttl } => write!(text, " ttl {ttl}"),
+    }
+}
+
+/// Offers in words, all at one moment.
+fn shown(alloc: Global, offers: &[Offer], moment: u64) -> Result<String, Fail> {
+    let mut text = String::new(alloc);
+    for offer in offers {
+        if offer.moment != moment {
+            return Err("another moment")?;
+        }
+        let name = offer.key.name.to_text()?;
+        write!(&mut text, " {name}")?;
+        push_slot(&mut text, offer.key.slot)?;
+        push_body(&mut text, &offer.body)?;
+        write!(&mut text, ";")?;
+    }
+    Ok(text)
+}
+
+/// What the message of a line offers for a zone, in words, and what it is to offer for `example.`.
+fn of_line(alloc: Global, line: &str, zone: &str) -> Result<(String, String), Fail> {
+    let (_name, rest) = line.split_once(": ").ok_or("a line with no name")?;
+    let (octets, wanted) = rest.split_once(" =").ok_or("a line with no answer")?;
+    let octets = octets_of(alloc, octets)?;
+    let message = read_message(alloc, octets.as_slice())?;
+    let zone = Name::from_text(alloc, zone)?;
+    let limits = Limits::new(604_800, 10_800, 30).ok_or("within the ranges")?;
+    let offers = offers(alloc, &message, &zone, 100, &limits)?;
+    let wanted = wanted.replace(alloc, "Z", SOA_DATA)?;
+    Ok((shown(alloc, offers.as_slice(), 100)?, wanted))
+}
+
+#[test]
+fn messages_offer_as_told(rt: HostRuntime) -> Result<(), Fail> {
+    for line in NAMED.trim().lines() {
+        let (found, wanted) = of_line(rt.alloc(), line, "example.")?;
+        assert_eq!(rt; found.as_str(), wanted.as_str(), "{line}");
+    }
+    Ok(())
+}
+
+#[test]
+fn nothing_is_offered_to_another_zone(rt: HostRuntime) -> Result<(), Fail> {
+    for line in NAMED.trim().lines() {
+        let (found, _) = of_line(rt.alloc(), line, "test.")?;
+        assert_eq!(rt; found.as_str(), "", "{line}");
+    }
+    Ok(())
+}
