@@ -8,7 +8,7 @@
 //! fn addresses_in(alloc: Global, response: &[u8]) -> Result<Vec<Octets>, WireFault> {
 //!     let message = read_message(alloc, response)?;
 //!     let mut addresses = Vec::new(alloc);
-//!     for rr in message.answer.iter() {
+//!     for rr in &message.answer {
 //!         if rr.rtype == 1 {
 //!             addresses.push(rr.rdata.clone()?)?;
 //!         }

@@ -264,7 +264,7 @@ fn names_of_255_octets(rt: HostRuntime) -> Result<(), Fail> {
     let alloc = rt.alloc();
     let message = read_message(alloc, long_owner(alloc, 61)?.as_slice())?;
     assert_eq!(rt; message.answer.len(), 1);
-    for rr in message.answer.iter() {
+    for rr in &message.answer {
         assert_eq!(rt; rr.owner.wire.len(), 255);
     }
     assert_eq!(rt;
@@ -292,7 +292,7 @@ fn chain_of_pointers(rt: HostRuntime) -> Result<(), Fail> {
     let alloc = rt.alloc();
     let message = read_message(alloc, chain(alloc)?.as_slice())?;
     assert_eq!(rt; message.answer.len(), 2);
-    for rr in message.answer.iter() {
+    for rr in &message.answer {
         assert_eq!(rt; rr.owner.wire.as_slice(), [0].as_slice());
     }
     Ok(())
@@ -438,7 +438,7 @@ fn numbers_of_faults(rt: HostRuntime) {
 fn addresses_in(alloc: Global, response: &[u8]) -> Result<Vec<Octets>, WireFault> {
     let message = read_message(alloc, response)?;
     let mut addresses = Vec::new(alloc);
-    for rr in message.answer.iter() {
+    for rr in &message.answer {
         if rr.rtype == 1 {
             addresses.push(rr.rdata.clone()?)?;
         }
