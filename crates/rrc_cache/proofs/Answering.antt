@@ -1,5 +1,5 @@
 -- What a part keeps after an ask.
-use Rattle.std.proofs.Common.{◌≡◌, ℕ, ◌<◌, ◌≤◌, List, [], ◌∷◌, ◌++◌, length, reverse, Option, Some, None, ◌||◌, true, false, refl, sym, ap, subst, ◌∙◌, arith}
+use Rattle.std.proofs.Common.{◌≡◌, ℕ, ◌≤◌, List, [], ◌∷◌, ◌++◌, length, reverse, Option, Some, None, ◌||◌, true, false, refl, sym, ap, subst, ◌∙◌, arith}
 use Rattle.std.specs.Prelude.{IfSome}
 use Rattle.std.specs.List.{AllByRecursion}
 use Rattle.std.proofs.lemmas.List.{length-reverse}
@@ -49,16 +49,6 @@ timely_promoted key entries all = by (entry_at key entries) refl
 timely_answered_from : (key : Option KeyOf) (entries : List Entry) → AllByRecursion IsTimely entries → AllByRecursion IsTimely (answered_from key entries)
 timely_answered_from None entries all = all
 timely_answered_from (Some key) entries all = timely_promoted key entries all
-
--- the entry that answered stands within the entries
-placed-within : (entries : List Entry) (place : Option ℕ) (key : Option KeyOf) → ArePlaced entries place key → IfSome place (λ at. at < length entries)
-placed-within entries None key placed = tt
-placed-within entries (Some place) None placed = absurd placed
-placed-within entries (Some place) (Some key) placed = placed.stands.within
-
-pub answered-within : (stale : ℕ) (ask : AskOf) (entries : List Entry) (reply : Reply) (place : Option ℕ) → IsAnswered stale ask entries reply place → IfSome place (λ at. at < length entries)
-answered-within stale ask entries reply place answered =
-    placed-within entries place (key_in (answering (found_among (reverse entries) ask) ask reply)) answered.from
 
 pub ask_done : (part : PartOf) (entries : List Entry) (tag : Tag) (ask : AskOf) (reply : Reply) (place : Option ℕ) (kept : List Entry)
     → Keeps part entries → IsOpen part ask.moment → IsAnswered part.snapshot.rules.stale ask entries reply place

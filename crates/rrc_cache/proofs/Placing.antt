@@ -1,5 +1,5 @@
 -- The entry that answers has the ask's name, and stands where it was found.
-use Rattle.std.proofs.Common.{◌≡◌, ℕ, List, reverse, Option, Some, None, ◌⊎◌, inl, inr, Bool, true, false, refl, ap, sym, subst}
+use Rattle.std.proofs.Common.{◌≡◌, ℕ, ◌<◌, List, length, reverse, Option, Some, None, ◌⊎◌, inl, inr, Bool, true, false, refl, ap, sym, subst}
 use Rattle.std.specs.Prelude.{IfSome}
 use Rattle.rrc_name.specs.declared.slot.Slot.TheVariants.{Set, Nx}
 use Rattle.rrc_name.specs.Key.{KeyOf}
@@ -13,7 +13,7 @@ use Rattle.rrc_history.specs.Entries.{found_among}
 use Rattle.rrc_history.specs.lemmas.EntryLaws.{entry_at-key}
 use Rattle.rrc_history.specs.lemmas.TrustHolds.{governing-is_held}
 use Rattle.rrc_cache.specs.Found.{StandsAt}
-use Rattle.rrc_cache.specs.Taken.{HasName, ArePlaced}
+use Rattle.rrc_cache.specs.Taken.{HasName, ArePlaced, IsAnswered}
 
 -- the entry that answers is the set or the nx
 answering-held : (entries : List Entry) (ask : AskOf) (reply : Reply) (entry : Entry) → answering (found_among entries ask) ask reply ≡ Some entry
@@ -53,3 +53,13 @@ answering-placed kept ask reply set_place nx_place set nx entry is place of_set 
       | inl at ↦ found (key_at ask (Set ask.rtype)) set_place at set (of_set ask.rtype (slot (key_at ask (Set ask.rtype)) at))
       | inr at ↦ found (key_at ask Nx) nx_place at nx (of_nx (slot (key_at ask Nx) at))
     ]
+
+-- the entry that answered stands within the entries
+placed-within : (entries : List Entry) (place : Option ℕ) (key : Option KeyOf) → ArePlaced entries place key → IfSome place (λ at. at < length entries)
+placed-within entries None key placed = tt
+placed-within entries (Some place) None placed = absurd placed
+placed-within entries (Some place) (Some key) placed = placed.stands.within
+
+pub answered-within : (stale : ℕ) (ask : AskOf) (entries : List Entry) (reply : Reply) (place : Option ℕ) → IsAnswered stale ask entries reply place → IfSome place (λ at. at < length entries)
+answered-within stale ask entries reply place answered =
+    placed-within entries place (key_in (answering (found_among (reverse entries) ask) ask reply)) answered.from

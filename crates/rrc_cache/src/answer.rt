@@ -49,6 +49,7 @@ pub(crate) fn answer(
     requires stale { stale ≤ 604800 }
     requires timely { AllByRecursion IsTimely (reverse entries.now) }
     ensures answered { IfOk result (λ told. IsAnswered stale ask.now entries.now told.0 told.2) }
+    ensures within { IfOk result (λ told. IfSome told.2 (λ at. at < length entries.now)) }
     ensures asked { IfOk result (λ told. told.1 ≡ ask.now) }
 {
     let found = found::look_up(entries, ask);

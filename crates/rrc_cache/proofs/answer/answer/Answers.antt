@@ -10,7 +10,7 @@ use Rattle.rrc_history.specs.Past.{key_at}
 use Rattle.rrc_cache.specs.Found.{found_in, StandsAt}
 use Rattle.rrc_cache.specs.Reply.{reply_in}
 use Rattle.rrc_cache.proofs.Timely.{timely_found}
-use Rattle.rrc_cache.proofs.Placing.{answering-named, answering-placed}
+use Rattle.rrc_cache.proofs.Placing.{answering-named, answering-placed, answered-within}
 use Rattle.rrc_cache.proofs.answer.answer.Goals as goal
 use Rattle.rrc_cache.proofs.answer.answer.Goals.{in-Some, in-None}
 
@@ -50,3 +50,7 @@ returns-clause-answered c =
             rw (w.place-is, none) tt
       ];
     }
+
+pub returns-clause-within : goal.returns-clause-within
+returns-clause-within c =
+    answered-within c.args.stale c.args.ask.now c.args.entries.now c.in_ok-to_owned.field-0 c.match-answering.place (returns-clause-answered c)

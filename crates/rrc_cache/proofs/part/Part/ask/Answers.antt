@@ -6,19 +6,13 @@ use Rattle.rrc_history.specs.Past.{number_after}
 use Rattle.rrc_cache.specs.Part.{PartOf, past_of, IsOpen}
 use Rattle.rrc_cache.specs.Taken.{IsAnswered}
 use Rattle.rrc_cache.proofs.Keeping.{IsDone}
-use Rattle.rrc_cache.proofs.Answering.{answered-within, ask_done}
+use Rattle.rrc_cache.proofs.Answering.{ask_done}
 use Rattle.rrc_cache.proofs.part.Part.ask.Goals as goal
 
 pub touch-requires-clause-apart : goal.touch-requires-clause-apart
 touch-requires-clause-apart c =
     let part : PartOf = record { snapshot = c.self.inside.snapshot; events = c.self.inside.events.items } in
     falls_apart part.snapshot (past_of part) (number_after part.snapshot (past_of part)) (reverse c.self.inside.entries.items) c.self.invariant.contents.falling
-
-pub touch-requires-clause-within : goal.touch-requires-clause-within
-touch-requires-clause-within c =
-    let answered : IsAnswered c.self.inside.snapshot.rules.stale c.args.ask.now c.self.inside.entries.items c.in_ok-reply.reply c.in_ok-reply.place =
-    rw (← c.as_slice.ensures.value) (c.in_ok-reply.ensures.answered) in
-    answered-within c.self.inside.snapshot.rules.stale c.args.ask.now c.self.inside.entries.items c.in_ok-reply.reply c.in_ok-reply.place answered
 
 -- the part as it was, and as it is
 abbrev before : goal.After-push_reserved → PartOf
