@@ -1,5 +1,5 @@
 -- What a part keeps after an ask.
-use Rattle.std.proofs.Common.{◌≡◌, ◌≤◌, List, [], ◌∷◌, ◌++◌, length, reverse, Option, Some, None, ◌||◌, true, false, refl, sym, ap, subst, ◌∙◌, arith}
+use Rattle.std.proofs.Common.{◌≡◌, ℕ, ◌≤◌, List, [], ◌∷◌, ◌++◌, length, reverse, Option, Some, None, ◌||◌, true, false, refl, sym, ap, subst, ◌∙◌, arith}
 use Rattle.std.specs.Prelude.{IfSome}
 use Rattle.std.specs.List.{AllByRecursion}
 use Rattle.std.proofs.lemmas.List.{length-reverse}
@@ -12,14 +12,14 @@ use Rattle.rrc_history.specs.declared.event.Tag.{Tag}
 use Rattle.rrc_history.specs.declared.snapshot.Entry.{Entry}
 use Rattle.rrc_history.specs.Asked.{AskOf}
 use Rattle.rrc_history.specs.Lives.{IsTimely}
-use Rattle.rrc_history.specs.Judged.{reply_by}
+use Rattle.rrc_history.specs.Judged.{reply_by, answering, key_in}
 use Rattle.rrc_history.specs.Past.{entry_at, AreContents}
 use Rattle.rrc_history.specs.Right.{IsRight}
-use Rattle.rrc_history.specs.Entries.{goes, promoted, in_front, answered_from}
+use Rattle.rrc_history.specs.Entries.{goes, found_among, promoted, in_front, answered_from}
 use Rattle.rrc_history.specs.lemmas.OfferLaws.{length-staying_found}
 use Rattle.rrc_history.specs.lemmas.AskLaws.{found-contents, ask_contents}
 use Rattle.rrc_cache.specs.Part.{PartOf, past_of, IsOpen, Keeps}
-use Rattle.rrc_cache.specs.Taken.{IsAnswered}
+use Rattle.rrc_cache.specs.Taken.{IsAnswered, ArePlaced}
 use Rattle.rrc_cache.proofs.Timely.{timely_found, timely_staying}
 use Rattle.rrc_cache.proofs.Keeping.{IsDone, done_with, adds_keeps, number-of, fits_reversed}
 
@@ -50,11 +50,15 @@ timely_answered_from : (key : Option KeyOf) (entries : List Entry) → AllByRecu
 timely_answered_from None entries all = all
 timely_answered_from (Some key) entries all = timely_promoted key entries all
 
-pub ask_done : (part : PartOf) (entries : List Entry) (tag : Tag) (ask : AskOf) (reply : Reply) (key : Option KeyOf) (kept : List Entry)
-    → Keeps part entries → IsOpen part ask.moment → IsAnswered part.snapshot.rules.stale ask (reverse entries) reply key → reverse kept ≡ answered_from key (reverse entries)
+pub ask_done : (part : PartOf) (entries : List Entry) (tag : Tag) (ask : AskOf) (reply : Reply) (place : Option ℕ) (kept : List Entry)
+    → Keeps part entries → IsOpen part ask.moment → IsAnswered part.snapshot.rules.stale ask entries reply place
+    → ((key : Option KeyOf) → ArePlaced entries place key → reverse kept ≡ answered_from key (reverse entries))
     → IsDone part (record { snapshot = part.snapshot; events = part.events ++ Asked tag ask reply ∷ [] }) (Asked tag ask reply) kept
-ask_done part entries tag ask reply key kept keeps open' answered is =
+ask_done part entries tag ask reply place kept keeps open' answered touched =
     let event : Event = Asked tag ask reply in
+    let key : Option KeyOf = key_in (answering (found_among (reverse entries) ask) ask reply) in
+    let left : List Entry = answered_from key (reverse entries) in
+    let is : reverse kept ≡ left = touched key answered.from in
     let right : IsRight part.snapshot (past_of part) event = record {
       numbered = omega (arith, number-of part, open'.room.number);
       right = record {
@@ -62,10 +66,8 @@ ask_done part entries tag ask reply key kept keeps open' answered is =
         answered = answered.answered ∙ ap (λ f. reply_by part.snapshot.rules.stale f ask) (found-contents part.snapshot (past_of part) ask (reverse entries) keeps.contents);
       };
     } in
-    let left : List Entry = answered_from key (reverse entries) in
     let contents : AreContents part.snapshot (event ∷ past_of part) left =
-    let P : Option KeyOf → Type 0 = λ k. AreContents part.snapshot (event ∷ past_of part) (answered_from k (reverse entries)) in
-    subst P (sym answered.from) (ask_contents part.snapshot (past_of part) tag ask reply (reverse entries) keeps.contents) in
+    ask_contents part.snapshot (past_of part) tag ask reply (reverse entries) keeps.contents in
     done_with part event kept right
     (adds_keeps part event kept keeps.sound open'.room right
     (let P : List Entry → Type 0 = AreContents part.snapshot (event ∷ past_of part) in subst P (sym is) contents)

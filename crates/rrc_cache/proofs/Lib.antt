@@ -4,3 +4,5 @@ pub mod Promoting
 pub mod Keeping
 pub mod Answering
 pub mod Sweeping
+mod Standing
+mod Placing

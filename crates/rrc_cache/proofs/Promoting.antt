@@ -1,8 +1,6 @@
 -- An entry that is taken out and put at the end comes to the front.
-use Rattle.std.proofs.Common.{◌≡◌, ℕ, suc, ◌<◌, List, [], ◌∷◌, ◌++◌, length, reverse, take, drop, get_or, Bool, true, false, Some, None, refl, ap, sym, subst, ◌∙◌, arith, append_assoc}
-use Rattle.std.specs.Prelude.{find, position}
+use Rattle.std.proofs.Common.{◌≡◌, ℕ, suc, ◌<◌, List, [], ◌∷◌, ◌++◌, length, reverse, take, drop, get_or, true, ap, sym, subst, ◌∙◌, append_assoc}
 use Rattle.std.proofs.lemmas.List.{reverse-append, take-append-drop}
-use Rattle.std.proofs.lemmas.Bool.Decides.{nat_tests}
 use Rattle.std.proofs.Math.Seq.{drop-cons}
 use Rattle.rrc_name.specs.Key.{KeyOf, key_eq}
 use Rattle.rrc_name.specs.lemmas.KeyLaws.{key_eq-same}
@@ -32,29 +30,3 @@ promoted_at key entries i entry lt is same apart =
     ∙ (ap (λ es. entry ∷ es) (reverse-append front back)
     ∙ (sym (promoted-middle (reverse back) entry (reverse front) apart')
     ∙ (ap (λ es. promoted entry.key es) (sym turned) ∙ ap (λ k. promoted k (reverse entries)) (sym own))))
-
--- an entry that stands nowhere is not found
-pub find-append : {X : Type 0} (test : X → Bool) (xs ys : List X) → find test xs ≡ None → find test ys ≡ None → find test (xs ++ ys) ≡ None
-find-append test [] ys none none' = none'
-find-append test (x ∷ xs) ys none none' = by (test x) refl (λ h. find-append test xs ys h none')
-  where
-    by : (b : Bool) → test x ≡ b → (find test xs ≡ None → find test (xs ++ ys) ≡ None) → find test (x ∷ (xs ++ ys)) ≡ None
-    by true is rest = absurd (let bad : Some x ≡ None = rw is at none in cc)
-    by false is rest = rw is (rest (rw is at none))
-
-pub find-reverse : {X : Type 0} (test : X → Bool) (xs : List X) → find test xs ≡ None → find test (reverse xs) ≡ None
-find-reverse test [] none = refl
-find-reverse test (x ∷ xs) none = by (test x) refl (λ h. find-reverse test xs h)
-  where
-    by : (b : Bool) → test x ≡ b → (find test xs ≡ None → find test (reverse xs) ≡ None) → find test (reverse (x ∷ xs)) ≡ None
-    by true is rest = absurd (let bad : Some x ≡ None = rw is at none in cc)
-    by false is rest =
-        rw reverse-cons (find-append test (reverse xs) (x ∷ []) (rest (rw is at none)) (rw is refl))
-
-pub find-from_position : {X : Type 0} (test : X → Bool) (xs : List X) → position test xs ≡ None → find test xs ≡ None
-find-from_position test [] none = refl
-find-from_position test (x ∷ xs) none = by (test x) refl (λ h. find-from_position test xs h)
-  where
-    by : (b : Bool) → test x ≡ b → (position test xs ≡ None → find test xs ≡ None) → find test (x ∷ xs) ≡ None
-    by true is rest = absurd (grind (arith, nat_tests))
-    by false is rest = rw is (rest (grind (arith, nat_tests)))

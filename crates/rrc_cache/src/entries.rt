@@ -1,11 +1,11 @@
-ghost use Rattle.std.specs.Prelude.{◌≡◌, ◌≤◌, ◌<◌, ◌++◌, ◌∷◌, [], reverse, length, IfOk, IfErr, OnOk, OnErr, IsTrue, vec_len, vec_capacity, position};
+ghost use Rattle.std.specs.Prelude.{◌≡◌, ◌≤◌, ◌<◌, ◌++◌, ◌∷◌, [], reverse, length, IfOk, IfErr, OnOk, OnErr, IsTrue, vec_len, vec_capacity};
 ghost use Rattle.std.specs.Option.{option_copied};
 ghost use Rattle.rrc_history.specs.Past.{entry_of};
 ghost use Rattle.rrc_history.specs.Entries.{staying, AreApart, promoted, goes, kept_after};
 ghost use Rattle.rrc_history.specs.Right.{evicted_by};
 ghost use Rattle.rrc_history.specs.Past.{victim};
-ghost use Rattle.rrc_name.specs.Key.{key_eq};
-ghost use Rattle.rrc_cache.specs.Taken.{IsTaken};
+ghost use Rattle.rrc_name.specs.Key.{KeyOf};
+ghost use Rattle.rrc_cache.specs.Taken.{IsTaken, IsPlaceOf};
 
 use crate::refusal::Refusal;
 use crate::{found, judge};
@@ -109,22 +109,12 @@ fn keep(
     Ok(())
 }
 
-fn place_of(entries: &[Entry], key: &Key) -> Option<usize>
-    ensures { result ≡ position (λ entry. key_eq key.now entry.key) entries.now }
+/// Moves the entry at a place to the end, as the one touched last. It takes no memory.
+pub(crate) fn promote(entries: &mut Vec<Entry>, place: usize)
+    requires apart { AreApart (reverse entries.old.items) }
+    requires within { place < length entries.old.items }
+    ensures { (key : KeyOf) → IsPlaceOf entries.old.items place key → reverse entries.new.items ≡ promoted key (reverse entries.old.items) }
 {
-    entries.iter().position(|entry| *key == entry.key)
-}
-
-/// Moves the entry of a key to the end, as the one touched last. It takes no memory.
-pub(crate) fn promote(entries: &mut Vec<Entry>, key: &Key)
-    requires { AreApart (reverse entries.old.items) }
-    ensures { reverse entries.new.items ≡ promoted key.now (reverse entries.old.items) }
-{
-    match place_of(entries.as_slice(), key) {
-        Some(at) => {
-            let entry = entries.remove(at);
-            entries.push_reserved(entry);
-        }
-        None => {}
-    }
+    let entry = entries.remove(place);
+    entries.push_reserved(entry);
 }

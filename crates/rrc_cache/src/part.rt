@@ -122,14 +122,15 @@ impl Part {
         ensures due { IsDue self.old ask.now.moment result }
     {
         self.admit(ask.moment)?;
-        let (reply, key) = answer::answer(self.entries.as_slice(), ask, self.snapshot.rules.stale)?;
+        let stale = self.snapshot.rules.stale;
+        let (reply, asked, place) = answer::answer(self.entries.as_slice(), ask, stale)?;
         let event = Event::Asked {
             tag,
-            ask: ask.clone()?,
+            ask: asked,
             reply: reply.clone()?,
         };
         self.events.reserve(1)?;
-        answer::touch(&mut self.entries, key);
+        answer::touch(&mut self.entries, place);
         self.events.push_reserved(event);
         Ok(reply)
     }

@@ -9,8 +9,8 @@ use Rattle.rrc_cache.proofs.Keeping.{IsDone}
 use Rattle.rrc_cache.proofs.Answering.{ask_done}
 use Rattle.rrc_cache.proofs.part.Part.ask.Goals as goal
 
-pub touch-requires : goal.touch-requires
-touch-requires c =
+pub touch-requires-clause-apart : goal.touch-requires-clause-apart
+touch-requires-clause-apart c =
     let part : PartOf = record { snapshot = c.self.inside.snapshot; events = c.self.inside.events.items } in
     falls_apart part.snapshot (past_of part) (number_after part.snapshot (past_of part)) (reverse c.self.inside.entries.items) c.self.invariant.contents.falling
 
@@ -27,13 +27,13 @@ event c = Asked c.args.tag c.args.ask.now c.in_ok-reply.reply
 done : (c : goal.After-push_reserved) → IsDone (before c) (after c) (event c) c.touch.new.entries.items
 done c =
     let open' : IsOpen (before c) c.args.ask.now.moment = rw (c.self.view_is, ← c.ask.view_is) (c.in_ok-admit.ensures.due) in
-    let answered : IsAnswered c.self.inside.snapshot.rules.stale c.args.ask.now (reverse c.self.inside.entries.items) c.in_ok-reply.reply c.in_ok-reply.key =
-    rw (← c.as_slice.ensures.value) (c.in_ok-reply.ensures) in
+    let answered : IsAnswered c.self.inside.snapshot.rules.stale c.args.ask.now c.self.inside.entries.items c.in_ok-reply.reply c.in_ok-reply.place =
+    rw (← c.as_slice.ensures.value) (c.in_ok-reply.ensures.answered) in
     let written : c.push_reserved.new.self.items ≡ c.self.inside.events.items ++ event c ∷ [] =
-    c.push_reserved.ensures.items ∙ rw (c.reserve.ensures.items, c.in_ok-clone.ensures.cases, c.in_ok-clone-2.ensures.cases) refl in
+    c.push_reserved.ensures.items ∙ rw (c.reserve.ensures.items, c.in_ok-clone.ensures.cases, c.in_ok-reply.ensures.asked) refl in
     let P : List Event → Type 0 = λ events. IsDone (before c) (record { snapshot = c.self.inside.snapshot; events = events }) (event c) c.touch.new.entries.items in
     subst P (sym written)
-    (ask_done (before c) c.self.inside.entries.items c.args.tag c.args.ask.now c.in_ok-reply.reply c.in_ok-reply.key c.touch.new.entries.items c.self.invariant open' answered c.touch.ensures)
+    (ask_done (before c) c.self.inside.entries.items c.args.tag c.args.ask.now c.in_ok-reply.reply c.in_ok-reply.place c.touch.new.entries.items c.self.invariant open' answered c.touch.ensures)
 
 pub invariant_of-self-2 : goal.invariant_of-self-2
 invariant_of-self-2 c = (done c).keeps
