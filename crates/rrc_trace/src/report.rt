@@ -62,7 +62,7 @@ fn item_text(alloc: Global, item: &Octets) -> Result<String, AllocError>
 }
 
 /// Items with a comma between two.
-fn items_text(alloc: Global, items: &[Octets]) -> Result<String, AllocError>
+pub(crate) fn items_text(alloc: Global, items: &[Octets]) -> Result<String, AllocError>
     ensures { IfOk result (λ text. string_bytes text ≡ items_text items.now) }
 {
     let Some((first, others)) = items.split_first() else {
