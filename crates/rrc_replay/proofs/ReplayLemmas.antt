@@ -1,5 +1,5 @@
 -- A trace is replayed line by line.
-use Rattle.std.proofs.Common.{◌≡◌, ◌≢◌, ℕ, suc, ◌+◌, ◌<◌, ◌≤◌, ◌^◌, List, [], ◌∷◌, ◌++◌, length, reverse, take, Bool, true, false, refl, sym, ap, subst, ◌∙◌, arith, inl, inr, nat_le, nat_lt, min, length-append, length-take-le, get_or, nat_eq, Err, Option, Some, None, slice_get, ◌-◌}
+use Rattle.std.proofs.Common.{◌≡◌, ◌≢◌, ℕ, suc, ◌+◌, ◌<◌, ◌≤◌, ◌^◌, List, [], ◌∷◌, ◌++◌, length, reverse, take, true, refl, sym, ap, subst, ◌∙◌, arith, inl, inr, nat_lt, min, length-append, length-take-le, get_or, nat_eq, Err, Option, Some, None, slice_get, ◌-◌}
 use Rattle.std.specs.Cmp.Lexicographic.{pointwise}
 use Rattle.std.proofs.lemmas.Bool.Decides.{nat_tests}
 use Rattle.std.proofs.lemmas.List.{reverse-append, take_more}
@@ -22,7 +22,8 @@ use Rattle.rrc_trace.specs.declared.fault.ReplayFault.TheVariants as faults
 use Rattle.rrc_trace.specs.declared.line.Line.{Line}
 use Rattle.rrc_trace.specs.declared.line.Put.{Put}
 use Rattle.rrc_trace.specs.declared.answer.Answer.{Answer}
-use Rattle.rrc_replay.specs.Life.{life_of}
+use Rattle.rrc_sets.specs.Life.{life}
+use Rattle.rrc_replay.specs.Limits.{LIMITS}
 use Rattle.rrc_replay.specs.Replay.{offer_of, IsFaultOf, evicted_in, evicted_last}
 use Rattle.rrc_replay.specs.Answers.{IsEventOf, AreEventsOf, empty_under, AreAnswers, IsRefusal, Answers, Tells, IsRefusedAt}
 
@@ -32,12 +33,8 @@ slice_get-last [] x = refl
 slice_get-last (first ∷ xs) x = slice_get-last xs x
 
 -- a life is shorter than 2^31 seconds
-lives_short : (ttl : ℕ) → is_lifetime (life_of ttl) ≡ true
-lives_short ttl = by (nat_le (2 ^ 31) ttl) refl
-  where
-    by : (top : Bool) → nat_le (2 ^ 31) ttl ≡ top → is_lifetime (life_of ttl) ≡ true
-    by true is = rw is refl
-    by false is = let short : nat_lt (min ttl 604800) (2 ^ 31) ≡ true = grind (arith, nat_tests) in rw is short
+lives_short : (ttl : ℕ) → is_lifetime (life ttl LIMITS) ≡ true
+lives_short ttl = let short : nat_lt (min ttl 604800) (2 ^ 31) ≡ true = grind (arith, nat_tests) in rw short
 
 same_octets : (octets : List ℕ) → pointwise nat_eq octets octets ≡ true
 same_octets [] = refl

@@ -1,4 +1,4 @@
-pub mod Life
+pub mod Limits
 pub mod Replay
 pub mod Answers
 pub mod Run

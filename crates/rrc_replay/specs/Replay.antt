@@ -13,7 +13,8 @@ use Rattle.rrc_trace.specs.declared.fault.ReplayFault.{ReplayFault}
 use Rattle.rrc_trace.specs.declared.fault.ReplayFault.TheVariants as faults
 use Rattle.rrc_trace.specs.declared.line.Put.{Put}
 use Rattle.rrc_trace.specs.declared.line.Failed.{Failed}
-use Rattle.rrc_replay.specs.Life.{life_of}
+use Rattle.rrc_sets.specs.Life.{life}
+use Rattle.rrc_replay.specs.Limits.{LIMITS}
 
 -- the fault of a line whose call a part refused; no line's moment is too large
 abbrev pub IsFaultOf : ℕ → Refusal → ReplayFault → Type 0
@@ -21,25 +22,21 @@ IsFaultOf number refusals.HistoryFull fault = fault ≡ faults.Spent number
 IsFaultOf number refusals.MomentTooLarge fault = ⊥
 IsFaultOf number refusals.Memory fault = fault ≡ faults.Memory
 
--- the offer of a put: the data live for the life of the ttl written
+-- the offer of a put: the data live as long as a time to live that is written so (RFC 8767 4)
 abbrev pub offer_of : Put → OfferOf
 offer_of put =
     record {
       key = record { name = folded put.name; slot = slots.Set put.rtype };
-      body = Positive put.name put.items put.trust (life_of put.ttl);
+      body = Positive put.name put.items put.trust (life put.ttl LIMITS);
       moment = put.moment;
     }
-
--- for how many seconds a failure is remembered (RFC 8767 5)
-abbrev pub RECHECK : ℕ
-RECHECK = 30
 
 -- the offer of a failure
 abbrev pub failure_of : Failed → OfferOf
 failure_of failed =
     record {
       key = record { name = folded failed.name; slot = slots.Failed failed.rtype };
-      body = Failure RECHECK;
+      body = Failure LIMITS.recheck;
       moment = failed.moment;
     }
 

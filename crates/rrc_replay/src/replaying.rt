@@ -5,15 +5,13 @@ ghost use Rattle.rrc_replay.specs.Answers.{AreAnswers, IsRefusal, Answers, Tells
 ghost use Rattle.rrc_trace.specs.Lawful.{IsLawful};
 ghost use Rattle.rrc_replay.specs.Replay.{IsFaultOf, offer_of, failure_of, evicted_last};
 
-use crate::life::life;
+use crate::limits::limits;
 use rrc_cache::{Part, Refusal};
 use rrc_history::{Body, Event, Offer, Rules, Tag};
 use rrc_name::{Key, Sequence, Slot};
+use rrc_sets::life;
 use rrc_trace::{Answer, Failed, Line, Put, ReplayFault, Told, Trace};
 use std::alloc::{AllocError, Global};
-
-/// For how many seconds a failure is remembered (RFC 8767 section 5).
-const RECHECK: u32 = 30;
 
 /// The fault of a line whose call was refused. No line has a moment that is too large.
 fn fault_at(number: u64, refusal: Refusal) -> ReplayFault
@@ -27,7 +25,7 @@ fn fault_at(number: u64, refusal: Refusal) -> ReplayFault
     }
 }
 
-/// The offer of a put, whose ttl is the life of the one written.
+/// The offer of a put, which lives as long as a time to live that is written so.
 fn offer_at(put: &Put) -> Result<Offer, AllocError>
     requires { has_items put.now.items ≡ true }
     ensures { IfOk result (λ offer. offer ≡ offer_of put.now) }
@@ -37,7 +35,7 @@ fn offer_at(put: &Put) -> Result<Offer, AllocError>
         owner: put.name.clone()?,
         items: put.items.clone()?,
         trust: put.trust,
-        ttl: life(put.ttl),
+        ttl: life(put.ttl, &limits()),
     };
     match Offer::new(key, body, put.moment) {
         Ok(offer) => Ok(offer),
@@ -50,7 +48,10 @@ fn failure_at(failed: &Failed) -> Result<Offer, AllocError>
     ensures { IfOk result (λ offer. offer ≡ failure_of failed.now) }
 {
     let key = Key::of(&failed.name, Slot::Failed(failed.rtype))?;
-    match Offer::new(key, Body::Failure { ttl: RECHECK }, failed.moment) {
+    let body = Body::Failure {
+        ttl: limits().recheck,
+    };
+    match Offer::new(key, body, failed.moment) {
         Ok(offer) => Ok(offer),
         Err(_) => unreachable!(),
     }
