@@ -50,7 +50,7 @@ of_sweep : (number at : ℕ) (answer : Answer) (event : Event) → IsEventOf num
 of_sweep number at (answers.Put told) event is = absurd is
 of_sweep number at (answers.Ask reply) event is = absurd is
 of_sweep number at (answers.Fail told) event is = absurd is
-of_sweep number at (answers.Swept removed) (Offered tag offer outcome evicted) is = absurd is
+of_sweep number at (answers.Swept removed) (Offered outcome tag offer evicted) is = absurd is
 of_sweep number at (answers.Swept removed) (Asked tag ask reply) is = absurd is
 of_sweep number at (answers.Swept removed) (Swept tag moment gone) is = (gone, (ap answers.Swept (sym is.2), λ i. Swept (is.0 i) (is.1 i) gone))
 
@@ -78,17 +78,17 @@ same_call number (lines.Sweep at) answer other event also is also_is =
     alike event also (Swept (tag_of number) at one.0) (Swept (tag_of number) at two.0) one.1.1 two.1.1 (refl, refl)
 
 abbrev outcome_in : Event → Outcome
-outcome_in (Offered tag offer outcome evicted) = outcome
+outcome_in (Offered outcome tag offer evicted) = outcome
 outcome_in (Asked tag ask reply) = Kept
 outcome_in (Swept tag moment gone) = Kept
 
 abbrev reply_in : Reply → Event → Reply
-reply_in reply (Offered tag offer outcome evicted) = reply
+reply_in reply (Offered outcome tag offer evicted) = reply
 reply_in reply (Asked tag ask answered) = answered
 reply_in reply (Swept tag moment gone) = reply
 
 abbrev gone_in : Event → List KeyOf
-gone_in (Offered tag offer outcome evicted) = []
+gone_in (Offered outcome tag offer evicted) = []
 gone_in (Asked tag ask reply) = []
 gone_in (Swept tag moment gone) = gone
 

@@ -66,10 +66,10 @@ evicted_last-append events event =
 
 -- what became of an offer, where its event was written
 pub tells : (old new : PartOf) (tag : Tag) (offer : OfferOf) (outcome : Outcome) (evicted key : Option KeyOf) → HasRoom old
-    → Adds old new (Offered tag offer outcome evicted) → key ≡ evicted_last new.events → Tells old new tag offer (record { outcome = outcome; evicted = key })
+    → Adds old new (Offered outcome tag offer evicted) → key ≡ evicted_last new.events → Tells old new tag offer (record { outcome = outcome; evicted = key })
 tells old new tag offer outcome evicted key room adds is =
-    let same : key ≡ evicted = is ∙ ap evicted_last adds.written ∙ evicted_last-append old.events (Offered tag offer outcome evicted) in
-    record { room = room; adds = subst (λ k. Adds old new (Offered tag offer outcome k)) (sym same) adds }
+    let same : key ≡ evicted = is ∙ ap evicted_last adds.written ∙ evicted_last-append old.events (Offered outcome tag offer evicted) in
+    record { room = room; adds = subst (λ k. Adds old new (Offered outcome tag offer k)) (sym same) adds }
 
 -- one more line
 events_more : (number : ℕ) (lines : List Line) (answers : List Answer) (events : List Event) (line : Line) (answer : Answer) (event : Event)

@@ -24,7 +24,7 @@ tag_of number = record { line = number; place = 0 }
 
 -- the event of an offer, with what became of it
 abbrev pub told_as : Tag → OfferOf → Told → Event
-told_as tag offer told = Offered tag offer told.outcome told.evicted
+told_as tag offer told = Offered told.outcome tag offer told.evicted
 
 -- the event is the one call that the line makes, with this answer
 abbrev pub IsEventOf : ℕ → Line → Answer → Event → Type 0

@@ -27,7 +27,7 @@ abbrev pub offer_of : Put → OfferOf
 offer_of put =
     record {
       key = record { name = folded put.name; slot = slots.Set put.rtype };
-      body = Positive put.name put.items put.trust (life put.ttl LIMITS);
+      body = Positive put.trust (life put.ttl LIMITS) put.name put.items;
       moment = put.moment;
     }
 
@@ -42,7 +42,7 @@ failure_of failed =
 
 -- the key that an event evicted
 abbrev pub evicted_in : Event → Option KeyOf
-evicted_in (Offered tag offer outcome evicted) = evicted
+evicted_in (Offered outcome tag offer evicted) = evicted
 evicted_in (Asked tag ask reply) = None
 evicted_in (Swept tag moment gone) = None
 
