@@ -15,7 +15,8 @@ use Rattle.rrc_trace.specs.Names.{name_of}
 use Rattle.rrc_trace.specs.Numbers.{number_of, at_most, moment_of, ttl_of, trust_of, kept_type, rtype_of}
 use Rattle.rrc_trace.specs.Words.{form_of, purpose_of, mode_of}
 use Rattle.rrc_trace.specs.Items.{item_of, with_item, with_piece, items_behind, is_comma, items_of}
-use Rattle.rrc_trace.specs.Lines.{ended, put_of, ask_of, fail_of, sweep_of, line_of, before_last, without_cr, bounded, line_of_piece}
+use Rattle.rrc_trace.specs.Octets.{message_of}
+use Rattle.rrc_trace.specs.Lines.{ended, put_of, ask_of, fail_of, response_of, sweep_of, line_of, before_last, without_cr, bounded, line_of_piece}
 use Rattle.rrc_trace.specs.Lawful.{IsLawful}
 
 -- what is said before something that is said
@@ -169,6 +170,14 @@ fail-lawful octets line is =
     subst IsLawful (ended-says rtype.0.1 _ line rtype.1.1)
     (record { timely = moment-says octets moment.0.0 moment.0.1 moment.1.0; kept = rtype-says name.0.1 rtype.0.0 rtype.0.1 rtype.1.0 })
 
+response-lawful : (octets : List ℕ) (line : Line) → response_of octets ≡ Some line → IsLawful line
+unfolding response_of
+response-lawful octets line is =
+    let moment = said_first (said_at moment_of octets) _ line is in
+    let zone = said_first (said_at name_of moment.0.1) _ line moment.1.1 in
+    let message = said_first (said_at message_of zone.0.1) _ line zone.1.1 in
+    subst IsLawful (ended-says message.0.1 _ line message.1.1) (moment-says octets moment.0.0 moment.0.1 moment.1.0)
+
 sweep-lawful : (octets : List ℕ) (line : Line) → sweep_of octets ≡ Some line → IsLawful line
 unfolding sweep_of
 sweep-lawful octets line is =
@@ -178,10 +187,11 @@ sweep-lawful octets line is =
 line-lawful : (octets : List ℕ) (line : Line) → line_of octets ≡ Some line → IsLawful line
 line-lawful octets line is = let form = said_first (said_at form_of octets) _ line is in by form.0.0 form.0.1 form.1.1
   where
-    by : (form : Form) (rest : List ℕ) → elim form [ forms.Put ↦ put_of rest | forms.Ask ↦ ask_of rest | forms.Fail ↦ fail_of rest | forms.Sweep ↦ sweep_of rest ] ≡ Some line → IsLawful line
+    by : (form : Form) (rest : List ℕ) → elim form [ forms.Put ↦ put_of rest | forms.Ask ↦ ask_of rest | forms.Fail ↦ fail_of rest | forms.Response ↦ response_of rest | forms.Sweep ↦ sweep_of rest ] ≡ Some line → IsLawful line
     by forms.Put rest said = put-lawful rest line said
     by forms.Ask rest said = ask-lawful rest line said
     by forms.Fail rest said = fail-lawful rest line said
+    by forms.Response rest said = response-lawful rest line said
     by forms.Sweep rest said = sweep-lawful rest line said
 
 -- the line of a piece is lawful

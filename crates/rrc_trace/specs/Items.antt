@@ -1,20 +1,17 @@
 -- The data of a put: hexadecimal digits, with a comma between two items.
-use Rattle.std.specs.Prelude.{ℕ, List, Bool, option_map, [], ◌∷◌, ◌++◌, length, take, drop, position, ◌+◌, Option, Some, None, Ok, Err, ◌==◌, nat_le, nat_eq, bytes_eq, if◌then◌else◌}
+use Rattle.std.specs.Prelude.{ℕ, List, Bool, option_map, [], ◌∷◌, ◌++◌, length, take, drop, position, ◌+◌, Option, Some, None, ◌==◌, nat_le, nat_eq, if◌then◌else◌}
 use Rattle.std.specs.List.{slice_split, list_any}
 use Rattle.std.specs.Cmp.Lexicographic.{pointwise}
-use Rattle.hex.specs.Hex.{decode_of}
+use Rattle.rrc_trace.specs.Octets.{octets_of}
 use Rattle.rrc_trace.specs.Gives.{◌>>=◌}
 
 -- octets that an item may have (RFC 1035 3.2.1)
 abbrev pub short_enough : List ℕ → Option (List ℕ)
 short_enough octets = if nat_le (length octets) 65535 then Some octets else None
 
--- the octets of hexadecimal digits of either case, or none for a dash; no digits are no item
+-- an item in hexadecimal
 abbrev pub item_of : List ℕ → Option (List ℕ)
-item_of piece =
-    if bytes_eq piece (45 ∷ []) then Some []
-    else if length piece == 0 then None
-    else elim (decode_of piece) [ Ok octets ↦ short_enough octets | Err fault ↦ None ]
+item_of piece = octets_of piece >>= short_enough
 
 -- some items, and one more where it is not among them (RFC 2181 5)
 abbrev pub with_item : List (List ℕ) → List ℕ → List (List ℕ)

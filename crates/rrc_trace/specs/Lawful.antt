@@ -4,7 +4,7 @@ use Rattle.std.specs.List.{All}
 use Rattle.rrc_history.specs.Fits.{has_items}
 use Rattle.rrc_history.specs.Lives.{LAST_MOMENT}
 use Rattle.rrc_trace.specs.declared.line.Line.{Line}
-use Rattle.rrc_trace.specs.declared.line.Line.TheVariants.{Put, Ask, Fail, Sweep}
+use Rattle.rrc_trace.specs.declared.line.Line.TheVariants.{Put, Ask, Fail, Response, Sweep}
 use Rattle.rrc_trace.specs.declared.line.Put.{Put as PutLine}
 use Rattle.rrc_trace.specs.Numbers.{kept_type}
 use Rattle.rrc_trace.specs.Trace.{MOST_LINES}
@@ -24,6 +24,7 @@ abbrev pub IsLawful : Line → Type 0
 IsLawful (Put put) = IsLawfulPut put
 IsLawful (Ask ask) = IsTimelyQuestion ask.moment ask.rtype
 IsLawful (Fail failed) = IsTimelyQuestion failed.moment failed.rtype
+IsLawful (Response response) = response.moment ≤ LAST_MOMENT
 IsLawful (Sweep moment) = moment ≤ LAST_MOMENT
 
 -- a trace has a million lines at most

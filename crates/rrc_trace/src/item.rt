@@ -5,7 +5,7 @@ ghost use Rattle.rrc_trace.specs.Gives.{Gives};
 
 use crate::field::field_at;
 use crate::line_fault::LineFault;
-use hex::FromHexError;
+use crate::octets::octets_in;
 use rrc_name::{Octets, Sequence};
 use std::alloc::Global;
 
@@ -15,20 +15,15 @@ const MOST_OCTETS: usize = 65_535;
 /// The most items that a put may have.
 const MOST_ITEMS: usize = 256;
 
-/// The data that hexadecimal digits of either case spell, or a dash for no octets.
+/// An item in hexadecimal.
 fn item_in(alloc: Global, piece: &[u8]) -> Result<Octets, LineFault>
     ensures { Gives (λ item. item) result (item_of piece.now) }
 {
-    if piece == b"-".as_slice() {
-        return Ok(Octets::new(alloc));
-    }
-    if piece.is_empty() {
-        return Err(LineFault::NotOne);
-    }
-    match hex::decode(alloc, piece) {
-        Ok(octets) if octets.len() <= MOST_OCTETS => Ok(Octets::from_vec(octets)),
-        Err(FromHexError::OutOfMemory) => Err(LineFault::Memory),
-        _ => Err(LineFault::NotOne),
+    let item = octets_in(alloc, piece)?;
+    if item.len() <= MOST_OCTETS {
+        Ok(item)
+    } else {
+        Err(LineFault::NotOne)
     }
 }
 
