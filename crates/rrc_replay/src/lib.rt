@@ -1,6 +1,7 @@
 //! Replays traces: what the cache of one thread answers the lines of a trace, and a whole run from its trace to its report.
 #![tactic(auto)]
 
+mod calls;
 mod limits;
 mod replaying;
 mod running;
