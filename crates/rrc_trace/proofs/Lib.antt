@@ -4,5 +4,7 @@ pub mod NameLemmas
 pub mod WritingLemmas
 pub mod TraceLemmas
 pub mod TraceLaw
+pub mod SaidLemmas
+pub mod LawfulItems
 pub mod LawfulLemmas
 pub mod ReadingLemmas

@@ -24,7 +24,7 @@ put_of octets = do
   rtype ← said_at rtype_of name.1
   trust ← said_at trust_of rtype.1
   ttl ← said_at ttl_of trust.1
-  items ← said_at items_of ttl.1
+  items ← said_at (items_of rtype.0) ttl.1
   ended items.1 (lines.Put (record { moment = moment.0; name = name.0; rtype = rtype.0; trust = trust.0; ttl = ttl.0; items = items.0 }))
 
 -- the fields of an ask: its moment, name, type, purpose and mode

@@ -26,7 +26,7 @@ pub struct Put {
     pub trust: Trust,
     /// The time to live as written, in seconds.
     pub ttl: u32,
-    /// The data, each once.
+    /// The data in the order of the line, plain data of the type. Of the same data the first spelling stays.
     pub items: Shared<Sequence<Octets>>,
 }
 
@@ -70,7 +70,7 @@ fn put_in(alloc: Global, octets: &[u8]) -> Result<Line, LineFault>
     let (rtype, rest) = rtype_at(rest)?;
     let (trust, rest) = trust_at(rest)?;
     let (ttl, rest) = ttl_at(rest)?;
-    let (items, rest) = items_at(alloc, rest)?;
+    let (items, rest) = items_at(alloc, rtype, rest)?;
     if has_field(rest) {
         return Err(LineFault::NotOne);
     }

@@ -47,6 +47,97 @@ fn fields_of_lines(rt: HostRuntime) -> Result<(), Fail> {
 }
 
 #[test]
+fn types_of_lines(rt: HostRuntime) -> Result<(), Fail> {
+    let alloc = rt.alloc();
+    for rtype in [1, 2, 23, 25, 29, 31, 40, 42, 127, 256, 65_535] {
+        let text = format!(in alloc; "fail 1 . {rtype}")?;
+        let trace = read_trace(alloc, &mut text.as_bytes())?;
+        match trace.lines.iter().next() {
+            Some(Line::Fail(failed)) => assert_eq!(rt; failed.rtype, rtype),
+            _ => Err("the line is a failure")?,
+        }
+    }
+    for rtype in [0, 24, 30, 35, 41, 46, 128, 255, 65_536] {
+        let text = format!(in alloc; "fail 1 . {rtype}")?;
+        let ended = read_trace(alloc, &mut text.as_bytes());
+        assert_eq!(rt; ended.err(), Some(ReplayFault::BadLine(0)), "type {rtype}");
+    }
+    Ok(())
+}
+
+/// A type, the items of a put of that type, and what is read of them.
+const ITEMS: [(u16, &str, &str); 6] = [
+    // NS: the letters of a name are compared without case, and the first spelling stays
+    (2, "014100,016200,016100,014200", "014100,016200"),
+    // TXT and a type without a layout: octets
+    (16, "0161,0141,0161", "0161,0141"),
+    (65_535, "-,014100,016100,C000", "-,014100,016100,c000"),
+    // MX: a preference and a name
+    (
+        15,
+        "000a014100,000a016100,0014016100",
+        "000a014100,0014016100",
+    ),
+    // SRV: six octets and a name
+    (
+        33,
+        "414141414141014100,414141414141016100,616161616161016100",
+        "414141414141014100,616161616161016100",
+    ),
+    // SOA: two names and 20 octets
+    (
+        6,
+        "014100000000000000000000000000000000000000000000,016100000000000000000000000000000000000000000000",
+        "014100000000000000000000000000000000000000000000",
+    ),
+];
+
+#[test]
+fn items_of_types(rt: HostRuntime) -> Result<(), Fail> {
+    let alloc = rt.alloc();
+    for (rtype, items, wanted) in ITEMS {
+        let text = format!(in alloc; "put 1 . {rtype} 4 60 {items}")?;
+        let trace = read_trace(alloc, &mut text.as_bytes())?;
+        match trace.lines.iter().next() {
+            Some(Line::Put(put)) => {
+                let read = report::items_text(alloc, put.items.as_slice())?;
+                assert_eq!(rt; read.as_str(), wanted);
+            }
+            _ => Err("the line is a put")?,
+        }
+    }
+    Ok(())
+}
+
+/// Types, each with items of which one is no plain data.
+const NOT_PLAIN: [&str; 9] = [
+    // no octets, a pointer, a name that is cut, octets behind a name, reserved bits
+    "2 4 60 -",
+    "2 4 60 c000",
+    "5 4 60 0161",
+    "12 4 60 01610000",
+    "12 4 60 4161",
+    // a pointer behind a label
+    "15 4 60 000a0161c000",
+    // one octet too few before the name, one too many behind the names
+    "15 4 60 0a",
+    "6 4 60 0000000000000000000000000000000000000000000000",
+    // a good item and a bad one
+    "2 4 60 016100,c000",
+];
+
+#[test]
+fn items_that_are_not_plain(rt: HostRuntime) -> Result<(), Fail> {
+    let alloc = rt.alloc();
+    for rest in NOT_PLAIN {
+        let text = format!(in alloc; "put 1 . {rest}")?;
+        let ended = read_trace(alloc, &mut text.as_bytes());
+        assert_eq!(rt; ended.err(), Some(ReplayFault::BadLine(0)), "{rest}");
+    }
+    Ok(())
+}
+
+#[test]
 fn responses_of_lines(rt: HostRuntime) -> Result<(), Fail> {
     let text = "response 100 A.Example 00fF\nresponse 1 . -";
     let trace = read_trace(rt.alloc(), &mut text.as_bytes())?;
