@@ -3,3 +3,4 @@ pub mod Places
 pub mod Chains
 pub mod NameLemmas
 pub mod Fitting
+pub mod Unaliased

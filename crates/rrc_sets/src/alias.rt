@@ -62,7 +62,13 @@ pub(crate) fn final_name(alloc: Global, message: &Message) -> Result<Option<Name
     if question.qtype == CNAME || question.qtype == ANY {
         return Ok(Some(question.name.clone()?));
     }
-    match end_of_chain(message.answer.as_slice(), question.name.wire.as_slice()) {
+    let answer = message.answer.as_slice();
+    let name = question.name.wire.as_slice();
+    // Where there is no alias no new name is made.
+    if target_of(answer, name).is_none() {
+        return Ok(Some(question.name.clone()?));
+    }
+    match end_of_chain(answer, name) {
         Some(end) => name_in(alloc, end),
         None => Ok(None),
     }
