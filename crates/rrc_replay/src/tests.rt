@@ -12,6 +12,13 @@ const SWEEPS: &str =
 
 const SWEEPS_REPORT: &str = "0 put kept\n1 put kept\n2 put kept\n3 sweep 0\n4 sweep 3\n";
 
+/// A response with one address, one of no octets, and a question; and the report (RFC 1035 section 4.1).
+const RESPONSES: &str =
+    "response 200 example. 1234840000010001000000000161076578616d706c650000010001c00c000100010000003c0004c0000201\nresponse 201 example. -\nask 259 A.example. 1 answer none\n";
+
+const RESPONSES_REPORT: &str =
+    "0 response 1 kept\n1 response refused 1\n2 ask fresh 1 a.example. c0000201\n";
+
 fn usual() -> Option<Rules> {
     Rules::new(1024, 4096, 86_400)
 }
@@ -19,9 +26,11 @@ fn usual() -> Option<Rules> {
 #[test]
 fn a_run_writes_the_report(rt: HostRuntime) -> Result<(), Fail> {
     let rules = usual().ok_or("the rules are in range")?;
-    let mut written = Vec::new(rt.alloc());
-    run(rt.alloc(), &mut SWEEPS.as_bytes(), &mut written, &rules)?;
-    assert_eq!(rt; written.as_slice(), SWEEPS_REPORT.as_bytes());
+    for (trace, wanted) in [(SWEEPS, SWEEPS_REPORT), (RESPONSES, RESPONSES_REPORT)] {
+        let mut written = Vec::new(rt.alloc());
+        run(rt.alloc(), &mut trace.as_bytes(), &mut written, &rules)?;
+        assert_eq!(rt; written.as_slice(), wanted.as_bytes());
+    }
     Ok(())
 }
 
