@@ -69,7 +69,7 @@ timely_kept_after LessTrusted offer number evicted entries in_time all = all
 
 pub offer_is_right : (part : PartOf) (entries : List Entry) (tag : Tag) (offer : OfferOf) (outcome : Outcome) (evicted : Option KeyOf) (kept : List Entry)
     → Keeps part entries → IsOpen part offer.moment → IsTaken part.snapshot.rules.capacity (next_number part) offer (reverse entries) outcome evicted kept
-    → IsRight part.snapshot (past_of part) (Offered tag offer outcome evicted)
+    → IsRight part.snapshot (past_of part) (Offered outcome tag offer evicted)
 offer_is_right part entries tag offer outcome evicted kept keeps open' taken =
     let same = keeps.contents.agree offer.key in
     record {
@@ -85,9 +85,9 @@ offer_is_right part entries tag offer outcome evicted kept keeps open' taken =
 
 pub offer_keeps : (part : PartOf) (entries : List Entry) (tag : Tag) (offer : OfferOf) (outcome : Outcome) (evicted : Option KeyOf) (kept : List Entry)
     → Keeps part entries → IsOpen part offer.moment → IsTaken part.snapshot.rules.capacity (next_number part) offer (reverse entries) outcome evicted (reverse kept)
-    → Keeps (record { snapshot = part.snapshot; events = part.events ++ Offered tag offer outcome evicted ∷ [] }) kept
+    → Keeps (record { snapshot = part.snapshot; events = part.events ++ Offered outcome tag offer evicted ∷ [] }) kept
 offer_keeps part entries tag offer outcome evicted kept keeps open' taken =
-    let event : Event = Offered tag offer outcome evicted in
+    let event : Event = Offered outcome tag offer evicted in
     let after = offer_contents part.snapshot (past_of part) tag offer outcome evicted (reverse entries) keeps.contents in
     let left : List Entry = kept_after outcome offer (next_number part) evicted (reverse entries) in
     let contents : AreContents part.snapshot (event ∷ past_of part) left =
@@ -117,7 +117,7 @@ done_with part event kept right keeps = record {
 
 pub offer_done : (part : PartOf) (entries : List Entry) (tag : Tag) (offer : OfferOf) (outcome : Outcome) (evicted : Option KeyOf) (kept : List Entry)
     → Keeps part entries → IsOpen part offer.moment → IsTaken part.snapshot.rules.capacity (next_number part) offer (reverse entries) outcome evicted (reverse kept)
-    → IsDone part (record { snapshot = part.snapshot; events = part.events ++ Offered tag offer outcome evicted ∷ [] }) (Offered tag offer outcome evicted) kept
+    → IsDone part (record { snapshot = part.snapshot; events = part.events ++ Offered outcome tag offer evicted ∷ [] }) (Offered outcome tag offer evicted) kept
 offer_done part entries tag offer outcome evicted kept keeps open' taken =
-    done_with part (Offered tag offer outcome evicted) kept (offer_is_right part entries tag offer outcome evicted (reverse kept) keeps open' taken)
+    done_with part (Offered outcome tag offer evicted) kept (offer_is_right part entries tag offer outcome evicted (reverse kept) keeps open' taken)
     (offer_keeps part entries tag offer outcome evicted kept keeps open' taken)

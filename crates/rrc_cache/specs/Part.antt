@@ -67,7 +67,7 @@ pub record Adds (old new : PartOf) (event : Event) : Type 0 where
 
 -- an offer was written, with what became of it and what it evicted
 abbrev pub WritesOffer : PartOf → PartOf → Tag → OfferOf → Outcome → Type 0
-WritesOffer old new tag offer outcome = (evicted : Option KeyOf) × Adds old new (Offered tag offer outcome evicted)
+WritesOffer old new tag offer outcome = (evicted : Option KeyOf) × Adds old new (Offered outcome tag offer evicted)
 
 -- an ask was written, with its answer
 abbrev pub WritesAsk : PartOf → PartOf → Tag → AskOf → Reply → Type 0

@@ -1,8 +1,6 @@
 mod eviction;
 mod limits;
 mod negative;
-mod stale;
-mod trust;
 
 use crate::part::Part;
 use crate::refusal::Refusal;
@@ -12,10 +10,6 @@ use std::alloc::{AllocError, Global};
 use std::test::Fail;
 
 const AA: Trust = Trust::AuthoritativeAnswer;
-
-const ELSEWHERE: Trust = Trust::NonAuthoritativeAnswer;
-
-const GLUE: Trust = Trust::Additional;
 
 /// What a reply says, in short: the time left, and the last octet of its data.
 #[derive(Clone, Copy, Debug, PartialEq, Eq)]
@@ -28,8 +22,6 @@ enum Seen {
 }
 
 const KEPT: Result<Outcome, Refusal> = Ok(Outcome::Kept);
-
-const MISS: Result<Seen, Refusal> = Ok(Seen::Miss(None));
 
 /// A part for as many keys, in a chapter for as many events.
 fn part(alloc: Global, capacity: u64, chapter: u64) -> Result<Part, Fail> {
@@ -179,14 +171,6 @@ fn has_evicted(alloc: Global, part: &Part, name: &str) -> Result<bool, Fail> {
         ) => Ok(*evicted == gone),
         _ => Ok(false),
     }
-}
-
-/// Whether the last event is an offer that evicted nothing.
-fn has_evicted_nothing(part: &Part) -> bool {
-    matches!(
-        part.events().last(),
-        Some(Event::Offered { evicted: None, .. })
-    )
 }
 
 #[test]

@@ -35,7 +35,7 @@ is_lifetime ttl = nat_lt ttl (2 ^ 31)
 
 -- the body may stand under the key: a set under its own name, a negative answer under a set or a name, a failure under its own
 abbrev pub fits : KeyOf → Body → Bool
-fits key (Positive owner items trust ttl) =
+fits key (Positive trust ttl owner items) =
     is_set key.slot && (pointwise nat_eq (folded owner) key.name && (has_items items && is_lifetime ttl))
-fits key (Negative soa_owner soa trust ttl) = not (is_failed key.slot) && is_lifetime ttl
+fits key (Negative trust ttl soa_owner soa) = not (is_failed key.slot) && is_lifetime ttl
 fits key (Failure ttl) = is_failed key.slot && is_lifetime ttl

@@ -35,8 +35,8 @@ verdict_of_data held offer =
 
 -- what becomes of an offer where its key holds this; that asking failed is always kept
 abbrev pub verdict_by : Option Entry → OfferOf → Body → Outcome
-verdict_by held offer (Positive owner items trust ttl) = verdict_of_data held offer
-verdict_by held offer (Negative soa_owner soa trust ttl) = verdict_of_data held offer
+verdict_by held offer (Positive trust ttl owner items) = verdict_of_data held offer
+verdict_by held offer (Negative trust ttl soa_owner soa) = verdict_of_data held offer
 verdict_by held offer (Failure ttl) = Kept
 
 abbrev pub verdict : Option Entry → OfferOf → Outcome
@@ -109,9 +109,9 @@ reply_of_living_soa slot soa ttl age = if nat_lt age ttl then negative_reply slo
 
 -- the answer of an entry, if it has one
 abbrev pub reply_of_body : ℕ → Entry → Body → AskOf → Option Entry → Option Reply
-reply_of_body stale entry (Positive owner items trust ttl) ask failure =
+reply_of_body stale entry (Positive trust ttl owner items) ask failure =
     reply_of_living_set stale (record { owner = owner; items = items }) ttl (age entry ask.moment) (may_be_stale ask.mode failure)
-reply_of_body stale entry (Negative owner soa trust ttl) ask failure =
+reply_of_body stale entry (Negative trust ttl owner soa) ask failure =
     reply_of_living_soa entry.key.slot (record { owner = owner; octets = soa }) ttl (age entry ask.moment)
 reply_of_body stale entry (Failure ttl) ask failure = None
 

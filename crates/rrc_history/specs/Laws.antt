@@ -24,8 +24,8 @@ use Rattle.rrc_history.specs.Past.{held, key_at, entry_at, entry_of, number_afte
 
 -- the body is data, and no note that asking failed
 abbrev pub IsData : Body → Type 0
-IsData (Positive owner items trust ttl) = Unit {0}
-IsData (Negative soa_owner soa trust ttl) = Unit {0}
+IsData (Positive trust ttl owner items) = Unit {0}
+IsData (Negative trust ttl soa_owner soa) = Unit {0}
 IsData (Failure ttl) = ⊥
 
 -- the offer changed what its key holds
@@ -54,9 +54,9 @@ AnswersMostTrusted snapshot past ask entry =
 
 -- the event took from the key what it held
 abbrev pub Removes : Event → KeyOf → Type 0
-Removes (Offered tag offer Kept evicted) key = (key_eq key offer.key ≡ true) ⊎ (is_evicted key evicted ≡ true)
-Removes (Offered tag offer Cleared evicted) key = key_eq key offer.key ≡ true
-Removes (Offered tag offer LessTrusted evicted) key = ⊥
+Removes (Offered Kept tag offer evicted) key = (key_eq key offer.key ≡ true) ⊎ (is_evicted key evicted ≡ true)
+Removes (Offered Cleared tag offer evicted) key = key_eq key offer.key ≡ true
+Removes (Offered LessTrusted tag offer evicted) key = ⊥
 Removes (Asked tag ask reply) key = ⊥
 Removes (Swept tag moment gone) key = is_among key gone ≡ true
 
@@ -65,7 +65,7 @@ Removes (Swept tag moment gone) key = is_among key gone ≡ true
 -- an offer of these events stored the entry, or the snapshot has it
 abbrev pub IsStored : Snapshot → List Event → Entry → Type 0
 IsStored snapshot [] entry = entry_at entry.key snapshot.entries ≡ Some entry
-IsStored snapshot (Offered tag offer Kept evicted ∷ past) entry = (entry ≡ entry_of offer (number_after snapshot past)) ⊎ IsStored snapshot past entry
+IsStored snapshot (Offered Kept tag offer evicted ∷ past) entry = (entry ≡ entry_of offer (number_after snapshot past)) ⊎ IsStored snapshot past entry
 IsStored snapshot (event ∷ past) entry = IsStored snapshot past entry
 
 -- an answer lives no longer than its entry
@@ -76,8 +76,8 @@ pub record IsWithinLife (entry : Entry) (at left : ℕ) : Type 0 where
 
 -- only data of a set are ever stale
 abbrev pub IsSet : Body → Type 0
-IsSet (Positive owner items trust ttl) = Unit {0}
-IsSet (Negative soa_owner soa trust ttl) = ⊥
+IsSet (Positive trust ttl owner items) = Unit {0}
+IsSet (Negative trust ttl soa_owner soa) = ⊥
 IsSet (Failure ttl) = ⊥
 
 -- a stale answer is given past its time and within the limit
@@ -102,10 +102,10 @@ IsTrustedFor Answer body = 2 ≤ rank_of body
 
 -- the data of a reply are those of the body, whole
 abbrev pub HasDataOf : Body → Reply → Type 0
-HasDataOf (Positive owner items trust ttl) (Fresh set left) = set ≡ record { owner = owner; items = items }
-HasDataOf (Positive owner items trust ttl) (Stale set left) = set ≡ record { owner = owner; items = items }
-HasDataOf (Negative owner soa trust ttl) (NoData answered left) = answered ≡ record { owner = owner; octets = soa }
-HasDataOf (Negative owner soa trust ttl) (NxDomain answered left) = answered ≡ record { owner = owner; octets = soa }
+HasDataOf (Positive trust ttl owner items) (Fresh set left) = set ≡ record { owner = owner; items = items }
+HasDataOf (Positive trust ttl owner items) (Stale set left) = set ≡ record { owner = owner; items = items }
+HasDataOf (Negative trust ttl owner soa) (NoData answered left) = answered ≡ record { owner = owner; octets = soa }
+HasDataOf (Negative trust ttl owner soa) (NxDomain answered left) = answered ≡ record { owner = owner; octets = soa }
 HasDataOf body reply = ⊥
 
 -- what holds of the entry that answers
@@ -123,7 +123,7 @@ AnswersFromEntry snapshot past ask reply = (is_miss reply ≡ true) ⊎ ((entry 
 
 -- an offer replaces nothing that is trusted more, an answer is from the most trusted, within its time
 abbrev pub KeepsOrder : Snapshot → List Event → Event → Type 0
-KeepsOrder snapshot past (Offered tag offer outcome evicted) = ReplacesNoMoreTrusted snapshot past offer outcome
+KeepsOrder snapshot past (Offered outcome tag offer evicted) = ReplacesNoMoreTrusted snapshot past offer outcome
 KeepsOrder snapshot past (Asked tag ask reply) = AnswersFromEntry snapshot past ask reply
 KeepsOrder snapshot past (Swept tag moment gone) = Unit {0}
 

@@ -8,8 +8,8 @@ use Rattle.rrc_history.specs.declared.snapshot.Entry.{Entry}
 
 -- for how many seconds a body lives (RFC 1035 3.2.1)
 abbrev pub ttl_of : Body → ℕ
-ttl_of (Positive owner items trust ttl) = ttl
-ttl_of (Negative soa_owner soa trust ttl) = ttl
+ttl_of (Positive trust ttl owner items) = ttl
+ttl_of (Negative trust ttl soa_owner soa) = ttl
 ttl_of (Failure ttl) = ttl
 
 -- the ranks of trust, from low to high (RFC 2181 5.4.1)
@@ -21,8 +21,8 @@ rank AuthoritativeAnswer = 4
 
 -- the rank of a body; that asking failed is no data, and has none
 abbrev pub rank_of : Body → ℕ
-rank_of (Positive owner items trust ttl) = rank trust
-rank_of (Negative soa_owner soa trust ttl) = rank trust
+rank_of (Positive trust ttl owner items) = rank trust
+rank_of (Negative trust ttl soa_owner soa) = rank trust
 rank_of (Failure ttl) = 0
 
 -- how old an entry is at a moment; 0 where it was stored later
@@ -35,8 +35,8 @@ is_unexpired entry moment = nat_lt (age entry moment) (ttl_of entry.body)
 
 -- for how long an entry may answer: a set past its ttl as well, up to the stale limit (RFC 8767 4); nothing else is ever stale
 abbrev pub span : ℕ → Body → ℕ
-span stale (Positive owner items trust ttl) = ttl + stale
-span stale (Negative soa_owner soa trust ttl) = ttl
+span stale (Positive trust ttl owner items) = ttl + stale
+span stale (Negative trust ttl soa_owner soa) = ttl
 span stale (Failure ttl) = ttl
 
 -- the entry can answer no more

@@ -50,7 +50,7 @@ held_after_offer number offer LessTrusted evicted key before = before
 -- what a key holds: the last body that was kept under it, unless it was cleared, evicted or swept since
 unfoldable pub held : Snapshot → List Event → KeyOf → Option Entry
 held snapshot [] key = entry_at key snapshot.entries
-held snapshot (Offered tag offer outcome evicted ∷ past) key =
+held snapshot (Offered outcome tag offer evicted ∷ past) key =
     held_after_offer (number_after snapshot past) offer outcome evicted key (held snapshot past key)
 held snapshot (Asked tag ask reply ∷ past) key = held snapshot past key
 held snapshot (Swept tag moment gone ∷ past) key = if is_among key gone then None else held snapshot past key
@@ -77,7 +77,7 @@ touched_by_offer offer Kept = Some offer.key
 touched_by_offer offer outcome = None
 
 abbrev pub touched : Snapshot → List Event → Event → Option KeyOf
-touched snapshot past (Offered tag offer outcome evicted) = touched_by_offer offer outcome
+touched snapshot past (Offered outcome tag offer evicted) = touched_by_offer offer outcome
 touched snapshot past (Asked tag ask reply) = key_in (answering (found snapshot past ask) ask reply)
 touched snapshot past (Swept tag moment gone) = None
 

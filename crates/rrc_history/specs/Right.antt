@@ -47,7 +47,7 @@ pub record IsRightSweep (snapshot : Snapshot) (past : List Event) (at : ℕ) (go
 
 -- an event is right after those before it
 abbrev pub IsRightThen : Snapshot → List Event → Event → Type 0
-IsRightThen snapshot past (Offered tag offer outcome evicted) = IsRightOffer snapshot past offer outcome evicted
+IsRightThen snapshot past (Offered outcome tag offer evicted) = IsRightOffer snapshot past offer outcome evicted
 IsRightThen snapshot past (Asked tag ask reply) = IsRightAsk snapshot past ask reply
 IsRightThen snapshot past (Swept tag moment gone) = IsRightSweep snapshot past moment gone
 

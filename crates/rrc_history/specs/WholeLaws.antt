@@ -17,7 +17,7 @@ LegalKeepsLaws = (snapshot : Snapshot) (past : List Event) → IsLegal snapshot 
 
 -- the same call, whatever became of it
 abbrev pub IsSameCall : Event → Event → Type 0
-IsSameCall (Offered tag offer outcome evicted) (Offered other_tag other other_outcome other_evicted) = (tag ≡ other_tag) × (offer ≡ other)
+IsSameCall (Offered outcome tag offer evicted) (Offered other_outcome other_tag other other_evicted) = (tag ≡ other_tag) × (offer ≡ other)
 IsSameCall (Asked tag ask reply) (Asked other_tag other other_reply) = (tag ≡ other_tag) × (ask ≡ other)
 IsSameCall (Swept tag moment gone) (Swept other_tag other other_gone) = (tag ≡ other_tag) × (moment ≡ other)
 IsSameCall event other = ⊥

@@ -20,18 +20,18 @@ pub enum Trust {
 pub enum Body {
     /// The data of an RRset, one at least, under the spelling of its owner as received; for `ttl` seconds.
     Positive {
-        owner: Name,
-        items: Shared<Sequence<Octets>>,
         trust: Trust,
         ttl: u32,
+        owner: Name,
+        items: Shared<Sequence<Octets>>,
     },
     /// That the name or the type does not exist, with the SOA record that says so, its data expanded (RFC 2308 section 5);
     /// for `ttl` seconds.
     Negative {
-        soa_owner: Name,
-        soa: Shared<Octets>,
         trust: Trust,
         ttl: u32,
+        soa_owner: Name,
+        soa: Shared<Octets>,
     },
     /// That asking failed (RFC 8767 section 5); for `ttl` seconds.
     Failure {

@@ -54,9 +54,9 @@ pub struct Tag {
 #[derive(Debug, Drop)]
 pub enum Event {
     Offered {
+        outcome: Outcome,
         tag: Tag,
         offer: Offer,
-        outcome: Outcome,
         evicted: Option<Key>,
     },
     Asked {

@@ -43,6 +43,18 @@ pub enum WireNameFault {
     Memory = 5,
 }
 
+impl WireNameFault {
+    ghost use Rattle.std.specs.Prelude.{◌≡◌};
+    ghost use Rattle.rrc_name.specs.Fault.{wire_number_of};
+
+    /// The fault's number, 1 to 5, in the order of the variants.
+    pub fn number(&self) -> u8
+        ensures { result ≡ wire_number_of self.now }
+    {
+        *self as u8
+    }
+}
+
 impl From<AllocError> for NameFault {
     ghost use Rattle.std.specs.Prelude.{◌≡◌};
     ghost use Rattle.rrc_name.specs.declared.fault.NameFault.TheVariants.{Memory};

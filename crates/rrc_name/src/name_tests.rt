@@ -89,6 +89,16 @@ fn numbers_its_faults(rt: HostRuntime) -> Result<(), Fail> {
     for (fault, number) in faults.iter().zip(1..=5) {
         assert_eq!(rt; fault.number(), number);
     }
+    let faults = [
+        WireNameFault::Short,
+        WireNameFault::LabelTooLong,
+        WireNameFault::NameTooLong,
+        WireNameFault::LeftOver,
+        WireNameFault::Memory,
+    ];
+    for (fault, number) in faults.iter().zip(1..=5) {
+        assert_eq!(rt; fault.number(), number);
+    }
     Ok(())
 }
 

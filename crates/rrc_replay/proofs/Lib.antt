@@ -1,2 +1,4 @@
+pub mod OfferMoments
+pub mod CallLemmas
 pub mod ReplayLemmas
 pub mod AnswersLaw

@@ -1,99 +1,41 @@
 -- A trace is replayed line by line.
-use Rattle.std.proofs.Common.{◌≡◌, ◌≢◌, ℕ, suc, ◌+◌, ◌<◌, ◌≤◌, ◌^◌, List, [], ◌∷◌, ◌++◌, length, reverse, take, Bool, true, false, refl, sym, ap, subst, ◌∙◌, arith, inl, inr, nat_le, nat_lt, min, length-append, length-take-le, get_or, nat_eq, Err, Option, Some, None, slice_get, ◌-◌}
-use Rattle.std.specs.Cmp.Lexicographic.{pointwise}
-use Rattle.std.proofs.lemmas.Bool.Decides.{nat_tests}
-use Rattle.std.proofs.lemmas.List.{reverse-append, take_more}
-use Rattle.rrc_name.specs.Wire.{folded}
-use Rattle.rrc_name.specs.Key.{KeyOf}
+use Rattle.std.proofs.Common.{◌≡◌, ℕ, ◌+◌, ◌<◌, ◌≤◌, List, [], ◌∷◌, ◌++◌, length, reverse, take, refl, sym, ap, subst, ◌∙◌, arith, inl, inr, append_assoc, length-take-le, get_or, slice_get, Some}
+use Rattle.std.proofs.lemmas.List.{append-nil, take_more}
+use Rattle.std.proofs.lemmas.Option.{slice_get_read}
 use Rattle.rrc_history.specs.declared.event.Event.{Event}
-use Rattle.rrc_history.specs.declared.event.Event.TheVariants.{Offered}
-use Rattle.rrc_history.specs.declared.event.Outcome.{Outcome}
-use Rattle.rrc_history.specs.declared.event.Tag.{Tag}
 use Rattle.rrc_history.specs.declared.rules.Rules.{Rules}
-use Rattle.rrc_history.specs.Fits.{OfferOf, has_items, is_lifetime, fits}
-use Rattle.rrc_history.specs.Lives.{LAST_MOMENT}
-use Rattle.rrc_history.specs.Right.{IsRight, IsLegal}
+use Rattle.rrc_history.specs.Right.{IsLegal}
 use Rattle.rrc_history.specs.lemmas.LawsHold.{legal_keeps_laws}
-use Rattle.rrc_cache.specs.Part.{PartOf, HasRoom, IsDue, IsSpent, Adds, past_of}
-use Rattle.rrc_cache.specs.declared.refusal.Refusal.{Refusal}
-use Rattle.rrc_cache.specs.declared.refusal.Refusal.TheVariants as refusals
+use Rattle.rrc_cache.specs.Part.{PartOf, past_of}
 use Rattle.rrc_trace.specs.declared.fault.ReplayFault.{ReplayFault}
 use Rattle.rrc_trace.specs.declared.fault.ReplayFault.TheVariants as faults
 use Rattle.rrc_trace.specs.declared.line.Line.{Line}
-use Rattle.rrc_trace.specs.declared.line.Put.{Put}
 use Rattle.rrc_trace.specs.declared.answer.Answer.{Answer}
-use Rattle.rrc_replay.specs.Life.{life_of}
-use Rattle.rrc_replay.specs.Replay.{offer_of, IsFaultOf, evicted_in, evicted_last}
-use Rattle.rrc_replay.specs.Answers.{IsEventOf, AreEventsOf, empty_under, AreAnswers, IsRefusal, Answers, Tells, IsRefusedAt}
-
--- the element behind others
-slice_get-last : {X : Type 0} (xs : List X) (x : X) → slice_get (xs ++ x ∷ []) (length xs) ≡ Some x
-slice_get-last [] x = refl
-slice_get-last (first ∷ xs) x = slice_get-last xs x
-
--- a life is shorter than 2^31 seconds
-lives_short : (ttl : ℕ) → is_lifetime (life_of ttl) ≡ true
-lives_short ttl = by (nat_le (2 ^ 31) ttl) refl
-  where
-    by : (top : Bool) → nat_le (2 ^ 31) ttl ≡ top → is_lifetime (life_of ttl) ≡ true
-    by true is = rw is refl
-    by false is = let short : nat_lt (min ttl 604800) (2 ^ 31) ≡ true = grind (arith, nat_tests) in rw is short
-
-same_octets : (octets : List ℕ) → pointwise nat_eq octets octets ≡ true
-same_octets [] = refl
-same_octets (octet ∷ octets) = let same : nat_eq octet octet ≡ true = grind (arith, nat_tests) in rw same (same_octets octets)
-
--- the offer of a put that has data fits
-pub offer_fits : (put : Put) → has_items put.items ≡ true → fits (offer_of put).key (offer_of put).body ≡ true
-offer_fits put some = let same = same_octets (folded put.name) in let short = lives_short put.ttl in rw (same, some, short) refl
-
--- a refusal at a moment that a part takes
-pub not_too_large : (part : PartOf) (moment : ℕ) (refusal : Refusal) → moment ≤ LAST_MOMENT → IsDue {A = ℕ} part moment (Err refusal) → refusal ≢ refusals.MomentTooLarge
-not_too_large part moment refusals.HistoryFull few due = λ e. absurd cc
-not_too_large part moment refusals.MomentTooLarge few due = λ e. absurd (omega (arith, few, due.1))
-not_too_large part moment refusals.Memory few due = λ e. absurd cc
-
-pub refused_at : (part : PartOf) (moment number : ℕ) (refusal : Refusal) (fault : ReplayFault) → IsDue {A = ℕ} part moment (Err refusal)
-    → IsFaultOf number refusal fault → IsRefusedAt part number fault
-refused_at part moment number refusals.HistoryFull fault due is = rw is (refl, due)
-refused_at part moment number refusals.MomentTooLarge fault due is = absurd is
-refused_at part moment number refusals.Memory fault due is = rw is tt
-
--- the key that the last event evicted
-evicted_last-append : (events : List Event) (event : Event) → evicted_last (events ++ event ∷ []) ≡ evicted_in event
-evicted_last-append events event =
-    let count : length (events ++ event ∷ []) ≡ length events + 1 = length-append events (event ∷ []) in
-    let place : length (events ++ event ∷ []) - 1 ≡ length events = omega (arith, count) in
-    let at : slice_get (events ++ event ∷ []) (length events) ≡ Some event = slice_get-last events event in
-    ap (λ found. elim found [ Some last ↦ evicted_in last | None ↦ None ]) (ap (slice_get (events ++ event ∷ [])) place ∙ at)
-
--- what became of an offer, where its event was written
-pub tells : (old new : PartOf) (tag : Tag) (offer : OfferOf) (outcome : Outcome) (evicted key : Option KeyOf) → HasRoom old
-    → Adds old new (Offered tag offer outcome evicted) → key ≡ evicted_last new.events → Tells old new tag offer (record { outcome = outcome; evicted = key })
-tells old new tag offer outcome evicted key room adds is =
-    let same : key ≡ evicted = is ∙ ap evicted_last adds.written ∙ evicted_last-append old.events (Offered tag offer outcome evicted) in
-    record { room = room; adds = subst (λ k. Adds old new (Offered tag offer outcome k)) (sym same) adds }
+use Rattle.rrc_replay.specs.Answers.{AreEventsOfLine, AreEventsOf, empty_under, AreAnswers, IsRefusal}
+use Rattle.rrc_replay.specs.Calls.{Writes, Answers, LacksRoom, IsRefusedAt}
 
 -- one more line
-events_more : (number : ℕ) (lines : List Line) (answers : List Answer) (events : List Event) (line : Line) (answer : Answer) (event : Event)
-    → AreEventsOf number lines answers events → IsEventOf (number + length lines) line answer event
-    → AreEventsOf number (lines ++ line ∷ []) (answers ++ answer ∷ []) (events ++ event ∷ [])
-events_more number [] [] [] line answer event are is = (subst (λ n. IsEventOf n line answer event) (omega arith) is, tt)
-events_more number (l ∷ lines) (a ∷ answers) (e ∷ events) line answer event are is =
-    (are.0, events_more (number + 1) lines answers events line answer event are.1 (subst (λ n. IsEventOf n line answer event) (omega arith) is))
-events_more number [] [] (e ∷ events) line answer event are is = absurd are
-events_more number [] (a ∷ answers) events line answer event are is = absurd are
-events_more number (l ∷ lines) [] events line answer event are is = absurd are
-events_more number (l ∷ lines) (a ∷ answers) [] line answer event are is = absurd are
-
--- as many events as lines
-events_count : (number : ℕ) (lines : List Line) (answers : List Answer) (events : List Event) → AreEventsOf number lines answers events → length events ≡ length lines
-events_count number [] [] [] are = refl
-events_count number (l ∷ lines) (a ∷ answers) (e ∷ events) are = ap suc (events_count (number + 1) lines answers events are.1)
-events_count number [] [] (e ∷ events) are = absurd are
-events_count number [] (a ∷ answers) events are = absurd are
-events_count number (l ∷ lines) [] events are = absurd are
-events_count number (l ∷ lines) (a ∷ answers) [] are = absurd are
+events_more : (number : ℕ) (lines : List Line) (answers : List Answer) (events : List Event) (line : Line) (answer : Answer) (own : List Event)
+    → AreEventsOf number lines answers events → AreEventsOfLine (number + length lines) line answer own
+    → AreEventsOf number (lines ++ line ∷ []) (answers ++ answer ∷ []) (events ++ own)
+events_more number [] [] events line answer own are is =
+    record {
+      own = own;
+      behind = [];
+      first = subst (λ n. AreEventsOfLine n line answer own) (omega arith) is;
+      others = refl;
+      joined = ap (λ es. es ++ own) are ∙ sym (append-nil own);
+    }
+events_more number (l ∷ lines) (a ∷ answers) events line answer own are is =
+    record {
+      own = are.own;
+      behind = are.behind ++ own;
+      first = are.first;
+      others = events_more (number + 1) lines answers are.behind line answer own are.others (subst (λ n. AreEventsOfLine n line answer own) (omega arith) is);
+      joined = ap (λ es. es ++ own) are.joined ∙ append_assoc are.own are.behind own;
+    }
+events_more number [] (a ∷ answers) events line answer own are is = absurd are
+events_more number (l ∷ lines) [] events line answer own are is = absurd are
 
 -- the part answered these lines
 pub record HasAnswered (rules : Rules) (part : PartOf) (lines : List Line) (answers : List Answer) : Type 0 where
@@ -102,24 +44,16 @@ pub record HasAnswered (rules : Rules) (part : PartOf) (lines : List Line) (answ
   pub few : length part.events ≤ rules.chapter
   pub legal : IsLegal (empty_under rules) (reverse part.events)
 
--- a part's past, with one more event
-past_more : (old new : PartOf) (event : Event) → Adds old new event → past_of new ≡ event ∷ past_of old
-past_more old new event adds = ap reverse adds.written ∙ reverse-append old.events (event ∷ [])
-
 pub answered_more : (rules : Rules) (old new : PartOf) (lines : List Line) (answers : List Answer) (line : Line) (answer : Answer)
     → HasAnswered rules old lines answers → Answers old new (length lines) line answer → HasAnswered rules new (lines ++ line ∷ []) (answers ++ answer ∷ [])
 answered_more rules old new lines answers line answer has more =
-    let adds : Adds old new more.event = more.adds in
-    let is : IsEventOf (0 + length lines) line answer more.event = subst (λ n. IsEventOf n line answer more.event) (omega arith) more.is in
-    let past : past_of new ≡ more.event ∷ past_of old = past_more old new more.event adds in
-    let right : IsRight (empty_under rules) (past_of old) more.event = subst (λ s. IsRight s (past_of old) more.event) has.snapshot adds.right in
-    let count : length new.events ≡ length old.events + 1 = ap length adds.written ∙ length-append old.events (more.event ∷ []) in
-    let chapter : old.snapshot.rules.chapter ≡ rules.chapter = ap (λ s. s.rules.chapter) has.snapshot in
+    let writes : Writes old new more.events = more.writes in
+    let are : AreEventsOfLine (0 + length lines) line answer more.events = subst (λ n. AreEventsOfLine n line answer more.events) (omega arith) more.are in
     record {
-      snapshot = adds.snapshot ∙ has.snapshot;
-      calls = subst (AreEventsOf 0 (lines ++ line ∷ []) (answers ++ answer ∷ [])) (sym adds.written) (events_more 0 lines answers old.events line answer more.event has.calls is);
-      few = omega (arith, count, chapter, more.room.chapter);
-      legal = subst (IsLegal (empty_under rules)) (sym past) (right, has.legal);
+      snapshot = writes.snapshot ∙ has.snapshot;
+      calls = subst (AreEventsOf 0 (lines ++ line ∷ []) (answers ++ answer ∷ [])) (sym writes.written) (events_more 0 lines answers old.events line answer more.events has.calls are);
+      few = subst (λ s. length new.events ≤ s.rules.chapter) has.snapshot (writes.few (subst (λ s. length old.events ≤ s.rules.chapter) (sym has.snapshot) has.few));
+      legal = subst (λ s. IsLegal s (past_of new)) has.snapshot (writes.legal (subst (λ s. IsLegal s (past_of old)) (sym has.snapshot) has.legal));
     }
 
 -- what a part has answered is what the cache of one thread answers
@@ -127,39 +61,46 @@ pub are_answers : (rules : Rules) (part : PartOf) (lines : List Line) (answers :
 are_answers rules part lines answers has =
     record { events = part.events; calls = has.calls; few = has.few; legal = has.legal; laws = legal_keeps_laws (empty_under rules) (reverse part.events) has.legal }
 
--- a part that is spent has as many events as a chapter may
-spent_full : (rules : Rules) (part : PartOf) (lines : List Line) (answers : List Answer) → HasAnswered rules part lines answers → IsSpent part → length part.events ≡ rules.chapter
-spent_full rules part lines answers has (inl full) =
-    let chapter : part.snapshot.rules.chapter ≡ rules.chapter = ap (λ s. s.rules.chapter) has.snapshot in omega (arith, chapter, full, has.few)
-spent_full rules part lines answers has (inr spent) =
+-- a part that has no room for so many events would have more of them than a chapter may have
+lacks_full : (rules : Rules) (part : PartOf) (lines : List Line) (answers : List Answer) (count : ℕ) → HasAnswered rules part lines answers → LacksRoom part count
+    → rules.chapter < length part.events + count
+lacks_full rules part lines answers count has (inl full) =
+    let chapter : part.snapshot.rules.chapter ≡ rules.chapter = ap (λ s. s.rules.chapter) has.snapshot in omega (arith, chapter, full)
+lacks_full rules part lines answers count has (inr spent) =
     let first : part.snapshot.first ≡ 0 = ap (λ s. s.first) has.snapshot in
-    absurd (omega (arith, first, spent, has.few, rules.chapter_within))
+    omega (arith, first, spent, rules.chapter_within)
 
-pub first_spent : (rules : Rules) (part : PartOf) (lines : List Line) (answers : List Answer) (number : ℕ) (fault : ReplayFault)
-    → HasAnswered rules part (take number lines) answers → number < length lines → IsRefusedAt part number fault → IsRefusal rules lines fault
-first_spent rules part lines answers number (faults.BadLine bad) has within is = absurd is
-first_spent rules part lines answers number faults.TooManyLines has within is = absurd is
-first_spent rules part lines answers number faults.Read has within is = absurd is
-first_spent rules part lines answers number faults.Write has within is = absurd is
-first_spent rules part lines answers number faults.Memory has within is = tt
-first_spent rules part lines answers number (faults.Spent bad) has within is =
-    let count : length part.events ≡ length (take number lines) = events_count 0 (take number lines) answers part.events has.calls in
-    let some : length (take number lines) ≡ number = length-take-le number lines (omega (arith, within)) in
+pub first_spent : (rules : Rules) (part : PartOf) (lines : List Line) (answers : List Answer) (number : ℕ) (line : Line) (fault : ReplayFault)
+    → HasAnswered rules part (take number lines) answers → slice_get lines number ≡ Some line → IsRefusedAt part number line fault → IsRefusal rules lines fault
+unfolding are_answers
+first_spent rules part lines answers number line (faults.BadLine bad) has here is = absurd is
+first_spent rules part lines answers number line faults.TooManyLines has here is = absurd is
+first_spent rules part lines answers number line faults.Read has here is = absurd is
+first_spent rules part lines answers number line faults.Write has here is = absurd is
+first_spent rules part lines answers number line faults.Memory has here is = tt
+first_spent rules part lines answers number line (faults.Spent bad) has here is =
     rw is.0 (record {
-      within = within;
-      full = sym (count ∙ some) ∙ spent_full rules part (take number lines) answers has is.1;
+      line = line;
+      here = here;
       before = answers;
       answered = are_answers rules part (take number lines) answers has;
+      operations = is.1.0;
+      has = is.1.1.0;
+      full = lacks_full rules part (take number lines) answers is.1.0 has is.1.1.1;
     })
 
 -- a new part has answered nothing
 pub answered_none : (rules : Rules) (part : PartOf) → part.snapshot ≡ empty_under rules → part.events ≡ [] → HasAnswered rules part [] []
 answered_none rules part is none = record {
   snapshot = is;
-  calls = subst (AreEventsOf 0 [] []) (sym none) tt;
+  calls = none;
   few = rw none (omega arith);
   legal = rw none tt;
 }
+
+-- a line of a trace, whose lines are these items
+pub line_here : (trace items : List Line) (number : ℕ) (line : Line) → items ≡ trace → number < length items → line ≡ get_or items number line → slice_get trace number ≡ Some line
+line_here trace items number line are within at = subst (λ ls. slice_get ls number ≡ Some line) are (slice_get_read items (length items) number line refl within at)
 
 -- one more line of a trace, whose lines are these items
 pub answered_line : (rules : Rules) (old new : PartOf) (trace items : List Line) (answers after : List Answer) (number : ℕ) (line : Line) (answer : Answer)

@@ -1,5 +1,6 @@
 -- What the lines of a trace get from the cache of one thread.
-use Rattle.std.specs.Prelude.{◌≡◌, ℕ, ◌+◌, ◌<◌, ◌≤◌, List, [], ◌∷◌, length, reverse, take}
+use Rattle.std.specs.Prelude.{◌≡◌, ℕ, ◌+◌, ◌<◌, ◌≤◌, List, [], ◌∷◌, ◌++◌, length, reverse, take, slice_get, Some}
+use Rattle.rrc_name.specs.Key.{KeyOf}
 use Rattle.rrc_history.specs.declared.event.Event.{Event}
 use Rattle.rrc_history.specs.declared.event.Event.TheVariants.{Offered, Asked, Swept}
 use Rattle.rrc_history.specs.declared.event.Tag.{Tag}
@@ -8,7 +9,7 @@ use Rattle.rrc_history.specs.declared.snapshot.Snapshot.{Snapshot}
 use Rattle.rrc_history.specs.Fits.{OfferOf}
 use Rattle.rrc_history.specs.WholeLaws.{AllKeepLaws}
 use Rattle.rrc_history.specs.Right.{IsLegal}
-use Rattle.rrc_cache.specs.Part.{PartOf, HasRoom, Adds, IsSpent}
+use Rattle.rrc_wire.specs.Message.{FirstFault}
 use Rattle.rrc_trace.specs.declared.fault.ReplayFault.{ReplayFault}
 use Rattle.rrc_trace.specs.declared.fault.ReplayFault.TheVariants.{BadLine, TooManyLines, Read, Write, Memory, Spent}
 use Rattle.rrc_trace.specs.declared.line.Line.{Line}
@@ -16,30 +17,48 @@ use Rattle.rrc_trace.specs.declared.line.Line.TheVariants as lines
 use Rattle.rrc_trace.specs.declared.answer.Answer.{Answer}
 use Rattle.rrc_trace.specs.declared.answer.Answer.TheVariants as answers
 use Rattle.rrc_trace.specs.declared.answer.Told.{Told}
-use Rattle.rrc_replay.specs.Replay.{offer_of, failure_of}
+use Rattle.rrc_replay.specs.Replay.{offer_of, failure_of, Brings, HasOperations}
 
--- the tag of the call that a line makes
-abbrev pub tag_of : ℕ → Tag
-tag_of number = record { line = number; place = 0 }
+-- the tag of an operation: the number of its line, and its place among the operations of the line
+abbrev pub tag_at : ℕ → ℕ → Tag
+tag_at number place = record { line = number; place = place }
 
 -- the event of an offer, with what became of it
 abbrev pub told_as : Tag → OfferOf → Told → Event
-told_as tag offer told = Offered tag offer told.outcome told.evicted
+told_as tag offer told = Offered told.outcome tag offer told.evicted
 
--- the event is the one call that the line makes, with this answer
-abbrev pub IsEventOf : ℕ → Line → Answer → Event → Type 0
-IsEventOf number (lines.Put put) (answers.Put told) event = event ≡ told_as (tag_of number) (offer_of put) told
-IsEventOf number (lines.Fail failed) (answers.Fail told) event = event ≡ told_as (tag_of number) (failure_of failed) told
-IsEventOf number (lines.Ask ask) (answers.Ask reply) event = event ≡ Asked (tag_of number) ask reply
-IsEventOf number (lines.Sweep at) (answers.Swept removed) (Swept tag moment gone) =
-    (tag ≡ tag_of number) × (moment ≡ at) × (length gone ≡ removed)
-IsEventOf number line answer event = ⊥
+-- offers, the first of which has this place, make one event each, in order, with what became of them
+abbrev pub AreTold : ℕ → ℕ → List OfferOf → List Told → List Event → Type 0
+AreTold number place [] [] [] = Unit {0}
+AreTold number place (offer ∷ offers) (told ∷ later) (event ∷ events) =
+    (event ≡ told_as (tag_at number place) offer told) × AreTold number (place + 1) offers later events
+AreTold number place offers told events = ⊥
 
--- each line, the first of which has this number, makes one call, in order, with its answer
+-- the events are those of a line, in order, with this answer
+abbrev pub AreEventsOfLine : ℕ → Line → Answer → List Event → Type 0
+AreEventsOfLine number (lines.Put put) (answers.Put told) events = events ≡ told_as (tag_at number 0) (offer_of put) told ∷ []
+AreEventsOfLine number (lines.Ask ask) (answers.Ask reply) events = events ≡ Asked (tag_at number 0) ask reply ∷ []
+AreEventsOfLine number (lines.Fail failed) (answers.Fail told) events = events ≡ told_as (tag_at number 0) (failure_of failed) told ∷ []
+AreEventsOfLine number (lines.Response response) (answers.Response told) events =
+    (offers : List OfferOf) × (Brings response offers × AreTold number 0 offers told events)
+AreEventsOfLine number (lines.Response response) (answers.Refused fault) events = FirstFault response.octets fault × (events ≡ [])
+AreEventsOfLine number (lines.Sweep at) (answers.Swept removed) events =
+    (gone : List KeyOf) × ((length gone ≡ removed) × (events ≡ Swept (tag_at number 0) at gone ∷ []))
+AreEventsOfLine number line answer events = ⊥
+
+-- the events are those of one thing and then those of others, end to end
+pub record EndToEnd (First Others : List Event → Type 0) (events : List Event) : Type 0 where
+  pub own : List Event
+  pub behind : List Event
+  pub first : First own
+  pub others : Others behind
+  pub joined : events ≡ own ++ behind
+
+-- the events are those of the lines, the first of which has this number, end to end, in order
 abbrev pub AreEventsOf : ℕ → List Line → List Answer → List Event → Type 0
-AreEventsOf number [] [] [] = Unit {0}
-AreEventsOf number (line ∷ lines) (answer ∷ answers) (event ∷ events) =
-    IsEventOf number line answer event × AreEventsOf (number + 1) lines answers events
+AreEventsOf number [] [] events = events ≡ []
+AreEventsOf number (line ∷ lines) (answer ∷ answers) events =
+    EndToEnd (AreEventsOfLine number line answer) (AreEventsOf (number + 1) lines answers) events
 AreEventsOf number lines answers events = ⊥
 
 -- the snapshot of a new cache, which holds nothing
@@ -55,12 +74,16 @@ pub record AreAnswers (rules : Rules) (lines : List Line) (answers : List Answer
   pub legal : IsLegal (empty_under rules) (reverse events)
   pub laws : AllKeepLaws (empty_under rules) (reverse events)
 
--- the line is the first that finds the chapter full: those before it were answered, and are as many as a chapter may have
+-- the line is the first that finds the chapter full: those before it were answered, and their events and its operations are together
+-- more than a chapter may have
 pub record IsFirstSpent (rules : Rules) (lines : List Line) (number : ℕ) : Type 0 where
-  pub within : number < length lines
-  pub full : number ≡ rules.chapter
+  pub line : Line
+  pub here : slice_get lines number ≡ Some line
   pub before : List Answer
   pub answered : AreAnswers rules (take number lines) before
+  pub operations : ℕ
+  pub has : HasOperations line operations
+  pub full : rules.chapter < length answered.events + operations
 
 -- a replay is refused where memory is, or at the first line that finds the chapter full
 abbrev pub IsRefusal : Rules → List Line → ReplayFault → Type 0
@@ -70,27 +93,6 @@ IsRefusal rules lines Read = ⊥
 IsRefusal rules lines Write = ⊥
 IsRefusal rules lines Memory = Unit {0}
 IsRefusal rules lines (Spent number) = IsFirstSpent rules lines number
-
--- a part that had room answered a line by one more event
-pub record Answers (old new : PartOf) (number : ℕ) (line : Line) (answer : Answer) : Type 0 where
-  pub event : Event
-  pub is : IsEventOf number line answer event
-  pub room : HasRoom old
-  pub adds : Adds old new event
-
--- a part that had room told what became of an offer, in one more event
-pub record Tells (old new : PartOf) (tag : Tag) (offer : OfferOf) (told : Told) : Type 0 where
-  pub room : HasRoom old
-  pub adds : Adds old new (told_as tag offer told)
-
--- a line's call is refused where memory is, or the part is spent
-abbrev pub IsRefusedAt : PartOf → ℕ → ReplayFault → Type 0
-IsRefusedAt part number (BadLine bad) = ⊥
-IsRefusedAt part number TooManyLines = ⊥
-IsRefusedAt part number Read = ⊥
-IsRefusedAt part number Write = ⊥
-IsRefusedAt part number Memory = Unit {0}
-IsRefusedAt part number (Spent line) = (line ≡ number) × IsSpent part
 
 -- the cache of one thread has one list of answers to a trace
 abbrev pub OneListOfAnswers : Type 0

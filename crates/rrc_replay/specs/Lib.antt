@@ -1,4 +1,5 @@
-pub mod Life
+pub mod Limits
 pub mod Replay
 pub mod Answers
+pub mod Calls
 pub mod Run

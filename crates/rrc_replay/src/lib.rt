@@ -1,7 +1,8 @@
 //! Replays traces: what the cache of one thread answers the lines of a trace, and a whole run from its trace to its report.
 #![tactic(auto)]
 
-mod life;
+mod calls;
+mod limits;
 mod replaying;
 mod running;
 #[cfg(test)]

@@ -1,97 +1,52 @@
-ghost use Rattle.std.specs.Prelude.{◌≡◌, ◌≢◌, ◌≤◌, true, IfOk, IfErr};
-ghost use Rattle.rrc_history.specs.Fits.{has_items};
+ghost use Rattle.std.specs.Prelude.{◌≤◌, IfOk, IfErr};
 ghost use Rattle.rrc_history.specs.Lives.{LAST_MOMENT};
-ghost use Rattle.rrc_replay.specs.Answers.{AreAnswers, IsRefusal, Answers, Tells, IsRefusedAt, OneListOfAnswers};
+ghost use Rattle.rrc_replay.specs.Answers.{AreAnswers, IsRefusal, OneListOfAnswers};
+ghost use Rattle.rrc_replay.specs.Calls.{Answers, IsRefusedAt};
 ghost use Rattle.rrc_trace.specs.Lawful.{IsLawful};
-ghost use Rattle.rrc_replay.specs.Replay.{IsFaultOf, offer_of, failure_of, evicted_last};
 
-use crate::life::life;
-use rrc_cache::{Part, Refusal};
-use rrc_history::{Body, Event, Offer, Rules, Tag};
-use rrc_name::{Key, Sequence, Slot};
-use rrc_trace::{Answer, Failed, Line, Put, ReplayFault, Told, Trace};
-use std::alloc::{AllocError, Global};
+use crate::calls::{failure_at, fault_at, offer_at, tell, tell_all};
+use crate::limits::limits;
+use rrc_cache::Part;
+use rrc_history::{Rules, Tag};
+use rrc_name::Sequence;
+use rrc_sets::offers;
+use rrc_trace::{Answer, Line, ReplayFault, Response, Trace};
+use rrc_wire::{WireFault, one_message_or_fault, read_message};
+use std::alloc::Global;
 
-/// For how many seconds a failure is remembered (RFC 8767 section 5).
-const RECHECK: u32 = 30;
-
-/// The fault of a line whose call was refused. No line has a moment that is too large.
-fn fault_at(number: u64, refusal: Refusal) -> ReplayFault
-    requires { refusal ≢ Refusal.MomentTooLarge }
-    ensures { IsFaultOf number refusal result }
+/// Offers what a response offers, in order, and answers what became of each, or the first fault of its octets.
+fn respond(
+    alloc: Global,
+    part: &mut Part,
+    number: u64,
+    response: &Response,
+) -> Result<Answer, ReplayFault>
+    requires { response.now.moment ≤ LAST_MOMENT }
+    ensures ok { IfOk result (Answers part.old part.new number (Line.Response response.now)) }
+    ensures err { IfErr result (IsRefusedAt part.old number (Line.Response response.now)) }
 {
-    match refusal {
-        Refusal::HistoryFull => ReplayFault::Spent(number),
-        Refusal::MomentTooLarge => unreachable!(),
-        Refusal::Memory => ReplayFault::Memory,
-    }
-}
-
-/// The offer of a put, whose ttl is the life of the one written.
-fn offer_at(put: &Put) -> Result<Offer, AllocError>
-    requires { has_items put.now.items ≡ true }
-    ensures { IfOk result (λ offer. offer ≡ offer_of put.now) }
-{
-    let key = Key::of(&put.name, Slot::Set(put.rtype))?;
-    let body = Body::Positive {
-        owner: put.name.clone()?,
-        items: put.items.clone()?,
-        trust: put.trust,
-        ttl: life(put.ttl),
+    let message = match read_message(alloc, response.octets.as_slice()) {
+        Ok(message) => message,
+        Err(WireFault::Memory) => return Err(ReplayFault::Memory),
+        Err(fault) => return Ok(Answer::Refused(fault)),
     };
-    match Offer::new(key, body, put.moment) {
-        Ok(offer) => Ok(offer),
-        Err(_) => unreachable!(),
-    }
-}
-
-/// The offer of a failure.
-fn failure_at(failed: &Failed) -> Result<Offer, AllocError>
-    ensures { IfOk result (λ offer. offer ≡ failure_of failed.now) }
-{
-    let key = Key::of(&failed.name, Slot::Failed(failed.rtype))?;
-    match Offer::new(key, Body::Failure { ttl: RECHECK }, failed.moment) {
-        Ok(offer) => Ok(offer),
-        Err(_) => unreachable!(),
-    }
-}
-
-/// The key that the last event evicted, which no call answers.
-fn evicted_last(events: &[Event]) -> Result<Option<Key>, AllocError>
-    ensures { IfOk result (λ key. key ≡ evicted_last events.now) }
-{
-    match events.last() {
-        Some(
-            Event::Offered {
-                evicted: Some(key),
-                ..
-            },
-        ) => Ok(Some(key.clone()?)),
-        _ => Ok(None),
-    }
-}
-
-/// Makes the call of an offer, and tells what became of it.
-fn tell(part: &mut Part, tag: Tag, offer: Offer) -> Result<Told, ReplayFault>
-    requires { offer.moment ≤ LAST_MOMENT }
-    ensures ok { IfOk result (Tells part.old part.new tag offer) }
-    ensures err { IfErr result (IsRefusedAt part.old tag.line) }
-{
-    let outcome = match part.offer(tag, offer) {
-        Ok(outcome) => outcome,
-        Err(refusal) => return Err(fault_at(tag.line, refusal)),
+    let zone = &response.zone;
+    let Ok(offers) = offers(alloc, &message, zone, response.moment, &limits()) else {
+        return Err(ReplayFault::Memory);
     };
-    Ok(Told {
-        outcome,
-        evicted: evicted_last(part.events())?,
-    })
+    Ok(Answer::Response(tell_all(alloc, part, number, offers)?))
 }
 
-/// Makes a line's call, and answers what it got, as the event tells it.
-fn answer_at(part: &mut Part, number: u64, line: &Line) -> Result<Answer, ReplayFault>
+/// Makes a line's calls, and answers what they got, as their events tell it.
+fn answer_at(
+    alloc: Global,
+    part: &mut Part,
+    number: u64,
+    line: &Line,
+) -> Result<Answer, ReplayFault>
     requires { IsLawful line.now }
     ensures ok { IfOk result (Answers part.old part.new number line.now) }
-    ensures err { IfErr result (IsRefusedAt part.old number) }
+    ensures err { IfErr result (IsRefusedAt part.old number line.now) }
 {
     let tag = Tag {
         line: number,
@@ -100,6 +55,7 @@ fn answer_at(part: &mut Part, number: u64, line: &Line) -> Result<Answer, Replay
     match line {
         Line::Put(put) => Ok(Answer::Put(tell(part, tag, offer_at(put)?)?)),
         Line::Fail(failed) => Ok(Answer::Fail(tell(part, tag, failure_at(failed)?)?)),
+        Line::Response(response) => respond(alloc, part, number, response),
         Line::Ask(ask) => match part.ask(tag, ask) {
             Ok(reply) => Ok(Answer::Ask(reply)),
             Err(refusal) => Err(fault_at(number, refusal)),
@@ -111,8 +67,9 @@ fn answer_at(part: &mut Part, number: u64, line: &Line) -> Result<Answer, Replay
     }
 }
 
-/// What the cache of one thread with these rules answers the lines of a trace, in order. Each line makes one call on a part that
-/// is empty at first; the history of these calls is legal, and keeps the laws of trust and of life.
+/// What the cache of one thread with these rules answers the lines of a trace, in order. Each line makes its calls on a part that
+/// is empty at first: a response one for each of its offers, any other line one. The history of these calls is legal, and keeps the
+/// laws of trust and of life.
 ///
 /// `Spent(n)` where line n is the first that finds the part's chapter full, `Memory` where memory was refused.
 pub fn replay(alloc: Global, trace: &Trace, rules: &Rules) -> Result<Sequence<Answer>, ReplayFault>
@@ -124,7 +81,7 @@ pub fn replay(alloc: Global, trace: &Trace, rules: &Rules) -> Result<Sequence<An
     };
     let mut answers = Sequence::new(alloc);
     for (number, line) in trace.lines.as_slice().iter().enumerate() {
-        answers.push(answer_at(&mut part, number as u64, line)?)?;
+        answers.push(answer_at(alloc, &mut part, number as u64, line)?)?;
     }
     Ok(answers)
 }
@@ -133,4 +90,6 @@ pub fn replay(alloc: Global, trace: &Trace, rules: &Rules) -> Result<Sequence<An
 /// function does nothing; its contract is the law.
 pub fn one_list_of_answers()
     ensures { OneListOfAnswers }
-{}
+{
+    one_message_or_fault();
+}

@@ -48,7 +48,7 @@ negative_life limits soa = min (min (life soa.ttl limits) (life (minimum_of soa.
 -- that a name does not exist or has no such type, as a SOA record says; an alias on the way is ranked as another owner is (ours)
 abbrev pub denial : Message → Limits → List ℕ → Rr → Body
 denial message limits name soa =
-    Negative soa.owner soa.rdata (rank_of Answer message.aa (same_name name message.question.name)) (negative_life limits soa)
+    Negative (rank_of Answer message.aa (same_name name message.question.name)) (negative_life limits soa) soa.owner soa.rdata
 
 infixl 10 ◌>>=◌
 abbrev ◌>>=◌ : {A B : Type 0} → Option A → (A → Option B) → Option B

@@ -23,7 +23,7 @@ abbrev pub living_offer : Section → Message → ℕ → SetOf → ℕ → Offe
 living_offer section message moment set ttl =
     record {
       key = record { name = folded set.owner; slot = slots.Set set.rtype };
-      body = Positive set.owner set.items (rank_of section message.aa (same_name set.owner message.question.name)) ttl;
+      body = Positive (rank_of section message.aa (same_name set.owner message.question.name)) ttl set.owner set.items;
       moment = moment;
     }
 

@@ -1,8 +1,10 @@
 pub mod NumberLemmas
 pub mod ItemLemmas
+pub mod SaidLemmas
 pub mod NameLemmas
 pub mod WritingLemmas
 pub mod TraceLemmas
 pub mod TraceLaw
+pub mod LawfulItems
 pub mod LawfulLemmas
 pub mod ReadingLemmas

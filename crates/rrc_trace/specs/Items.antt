@@ -1,33 +1,31 @@
 -- The data of a put: hexadecimal digits, with a comma between two items.
-use Rattle.std.specs.Prelude.{ℕ, List, Bool, option_map, [], ◌∷◌, ◌++◌, length, take, drop, position, ◌+◌, Option, Some, None, Ok, Err, ◌==◌, nat_le, nat_eq, bytes_eq, if◌then◌else◌}
+use Rattle.std.specs.Prelude.{ℕ, List, Bool, option_map, [], ◌∷◌, ◌++◌, length, take, drop, position, ◌+◌, Option, Some, None, ◌==◌, nat_le, if◌then◌else◌}
 use Rattle.std.specs.List.{slice_split, list_any}
-use Rattle.std.specs.Cmp.Lexicographic.{pointwise}
-use Rattle.hex.specs.Hex.{decode_of}
+use Rattle.rrc_wire.specs.Plain.{is_plain}
+use Rattle.rrc_wire.specs.Same.{same_rdata}
+use Rattle.rrc_trace.specs.Octets.{octets_of}
 use Rattle.rrc_trace.specs.Gives.{◌>>=◌}
 
--- octets that an item may have (RFC 1035 3.2.1)
-abbrev pub short_enough : List ℕ → Option (List ℕ)
-short_enough octets = if nat_le (length octets) 65535 then Some octets else None
+-- octets where they are plain data of a type: they fill its layout, with no pointer in their names (RFC 1035 3.3, RFC 3597 4)
+abbrev pub plain_of : ℕ → List ℕ → Option (List ℕ)
+plain_of rtype octets = if is_plain rtype octets then Some octets else None
 
--- the octets of hexadecimal digits of either case, or none for a dash; no digits are no item
-abbrev pub item_of : List ℕ → Option (List ℕ)
-item_of piece =
-    if bytes_eq piece (45 ∷ []) then Some []
-    else if length piece == 0 then None
-    else elim (decode_of piece) [ Ok octets ↦ short_enough octets | Err fault ↦ None ]
+-- plain data of a type in hexadecimal
+abbrev pub item_of : ℕ → List ℕ → Option (List ℕ)
+item_of rtype piece = octets_of piece >>= plain_of rtype
 
--- some items, and one more where it is not among them (RFC 2181 5)
-abbrev pub with_item : List (List ℕ) → List ℕ → List (List ℕ)
-with_item items item = if list_any (λ kept. pointwise nat_eq kept item) items then items else items ++ item ∷ []
+-- some items, and one more where none of them is the same (RFC 2181 5, RFC 3597 6)
+abbrev pub with_item : ℕ → List (List ℕ) → List ℕ → List (List ℕ)
+with_item rtype items item = if list_any (same_rdata rtype item) items then items else items ++ item ∷ []
 
 -- some items, and the one of a piece
-abbrev pub with_piece : List (List ℕ) → List ℕ → Option (List (List ℕ))
-with_piece items piece = option_map (λ item. with_item items item) (item_of piece)
+abbrev pub with_piece : ℕ → List (List ℕ) → List ℕ → Option (List (List ℕ))
+with_piece rtype items piece = option_map (with_item rtype items) (item_of rtype piece)
 
--- some items, and those of pieces, a repeat dropped
-abbrev pub items_behind : List (List ℕ) → List (List ℕ) → Option (List (List ℕ))
-items_behind items [] = Some items
-items_behind items (piece ∷ pieces) = with_piece items piece >>= λ more. items_behind more pieces
+-- some items, and those of pieces: of the same data the first spelling stays
+abbrev pub items_behind : ℕ → List (List ℕ) → List (List ℕ) → Option (List (List ℕ))
+items_behind rtype items [] = Some items
+items_behind rtype items (piece ∷ pieces) = with_piece rtype items piece >>= λ more. items_behind rtype more pieces
 
 abbrev pub is_comma : ℕ → Bool
 is_comma octet = octet == 44
@@ -40,8 +38,8 @@ cut_round octets place = (take place octets, drop (place + 1) octets)
 abbrev pub cut_at_comma : List ℕ → Option (List ℕ × List ℕ)
 cut_at_comma octets = option_map (cut_round octets) (position is_comma octets)
 
--- at most 256 items, repeats counted
-abbrev pub items_of : List ℕ → Option (List (List ℕ))
-items_of field =
+-- at most 256 items of a type, repeats counted
+abbrev pub items_of : ℕ → List ℕ → Option (List (List ℕ))
+items_of rtype field =
     let pieces = slice_split is_comma field in
-    if nat_le (length pieces) 256 then items_behind [] pieces else None
+    if nat_le (length pieces) 256 then items_behind rtype [] pieces else None

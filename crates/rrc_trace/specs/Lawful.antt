@@ -1,29 +1,34 @@
 -- What holds of every line of a trace.
-use Rattle.std.specs.Prelude.{◌≡◌, ℕ, ◌≤◌, List, length, true, Some}
-use Rattle.std.specs.List.{All}
+use Rattle.std.specs.Prelude.{◌≡◌, ℕ, ◌≤◌, List, length, true}
+use Rattle.std.specs.List.{All, IsDistinct}
 use Rattle.rrc_history.specs.Fits.{has_items}
 use Rattle.rrc_history.specs.Lives.{LAST_MOMENT}
+use Rattle.rrc_wire.specs.Layout.{is_kept}
+use Rattle.rrc_wire.specs.Plain.{IsPlain}
+use Rattle.rrc_wire.specs.Same.{same_rdata}
 use Rattle.rrc_trace.specs.declared.line.Line.{Line}
-use Rattle.rrc_trace.specs.declared.line.Line.TheVariants.{Put, Ask, Fail, Sweep}
+use Rattle.rrc_trace.specs.declared.line.Line.TheVariants.{Put, Ask, Fail, Response, Sweep}
 use Rattle.rrc_trace.specs.declared.line.Put.{Put as PutLine}
-use Rattle.rrc_trace.specs.Numbers.{kept_type}
 use Rattle.rrc_trace.specs.Trace.{MOST_LINES}
 
 -- a question is about a type that is kept, at a moment that a part takes
 pub record IsTimelyQuestion (moment rtype : ℕ) : Type 0 where
   pub timely : moment ≤ LAST_MOMENT
-  pub kept : kept_type rtype ≡ Some rtype
+  pub kept : is_kept rtype ≡ true
 
--- a put has 1 to 256 items
+-- a put has 1 to 256 items, each of them plain data of its type, and no two of them the same (RFC 2181 5)
 pub record IsLawfulPut (put : PutLine) : Type 0 where
   pub question : IsTimelyQuestion put.moment put.rtype
   pub some : has_items put.items ≡ true
   pub few : length put.items ≤ 256
+  pub plain : All (IsPlain put.rtype) put.items
+  pub distinct : IsDistinct (same_rdata put.rtype) put.items
 
 abbrev pub IsLawful : Line → Type 0
 IsLawful (Put put) = IsLawfulPut put
 IsLawful (Ask ask) = IsTimelyQuestion ask.moment ask.rtype
 IsLawful (Fail failed) = IsTimelyQuestion failed.moment failed.rtype
+IsLawful (Response response) = response.moment ≤ LAST_MOMENT
 IsLawful (Sweep moment) = moment ≤ LAST_MOMENT
 
 -- a trace has a million lines at most

@@ -3,6 +3,7 @@ pub mod Fields
 pub mod Numbers
 pub mod Names
 pub mod Words
+pub mod Octets
 pub mod Items
 pub mod Lines
 pub mod Trace

@@ -9,6 +9,7 @@ use Rattle.rrc_trace.specs.Fields.{said_at, has_field}
 use Rattle.rrc_trace.specs.Numbers.{moment_of, rtype_of, trust_of, ttl_of}
 use Rattle.rrc_trace.specs.Names.{name_of}
 use Rattle.rrc_trace.specs.Items.{items_of}
+use Rattle.rrc_trace.specs.Octets.{message_of}
 use Rattle.rrc_trace.specs.Words.{form_of, purpose_of, mode_of}
 
 -- a line behind whose last field no other stands
@@ -23,7 +24,7 @@ put_of octets = do
   rtype ← said_at rtype_of name.1
   trust ← said_at trust_of rtype.1
   ttl ← said_at ttl_of trust.1
-  items ← said_at items_of ttl.1
+  items ← said_at (items_of rtype.0) ttl.1
   ended items.1 (lines.Put (record { moment = moment.0; name = name.0; rtype = rtype.0; trust = trust.0; ttl = ttl.0; items = items.0 }))
 
 -- the fields of an ask: its moment, name, type, purpose and mode
@@ -44,6 +45,14 @@ fail_of octets = do
   rtype ← said_at rtype_of name.1
   ended rtype.1 (lines.Fail (record { moment = moment.0; name = name.0; rtype = rtype.0 }))
 
+-- the fields of a response: its moment, zone and message
+unfoldable pub response_of : List ℕ → Option Line
+response_of octets = do
+  moment ← said_at moment_of octets
+  zone ← said_at name_of moment.1
+  message ← said_at message_of zone.1
+  ended message.1 (lines.Response (record { moment = moment.0; zone = zone.0; octets = message.0 }))
+
 -- the field of a sweep: its moment
 unfoldable pub sweep_of : List ℕ → Option Line
 sweep_of octets = do
@@ -58,6 +67,7 @@ line_of octets = do
     | forms.Put ↦ put_of form.1
     | forms.Ask ↦ ask_of form.1
     | forms.Fail ↦ fail_of form.1
+    | forms.Response ↦ response_of form.1
     | forms.Sweep ↦ sweep_of form.1
   ]
 

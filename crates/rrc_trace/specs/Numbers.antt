@@ -1,7 +1,8 @@
 -- The numbers of a line of a trace: decimal digits, with zeros in front or none, and no sign.
-use Rattle.std.specs.Prelude.{ℕ, ◌+◌, ◌-◌, ◌*◌, ◌^◌, List, [], ◌∷◌, Option, Some, None, option_and_then, ◌==◌, ◌||◌, nat_le, if◌then◌else◌}
+use Rattle.std.specs.Prelude.{ℕ, ◌+◌, ◌-◌, ◌*◌, ◌^◌, List, [], ◌∷◌, Option, Some, None, option_and_then, ◌==◌, nat_le, if◌then◌else◌}
 use Rattle.std.specs.Char.{is_ascii_digit}
 use Rattle.rrc_history.specs.Lives.{LAST_MOMENT}
+use Rattle.rrc_wire.specs.Layout.{is_kept}
 use Rattle.rrc_history.specs.declared.body.Trust.{Trust}
 use Rattle.rrc_history.specs.declared.body.Trust.TheVariants.{Additional, NonAuthoritativeAnswer, Authority, AuthoritativeAnswer}
 
@@ -26,9 +27,9 @@ moment_of field = at_most LAST_MOMENT (number_of field)
 abbrev pub ttl_of : List ℕ → Option ℕ
 ttl_of field = at_most (2 ^ 32 - 1) (number_of field)
 
--- the types whose data are opaque octets: A, TXT and AAAA (RFC 1035 3.2.2, RFC 3596 2.1)
+-- a type whose data are kept
 abbrev pub kept_type : ℕ → Option ℕ
-kept_type rtype = if rtype == 1 || rtype == 16 || rtype == 28 then Some rtype else None
+kept_type rtype = if is_kept rtype then Some rtype else None
 
 abbrev pub rtype_of : List ℕ → Option ℕ
 rtype_of field = option_and_then kept_type (at_most (2 ^ 16 - 1) (number_of field))

@@ -1,5 +1,5 @@
 -- The text of a report: one line for each line of the trace.
-use Rattle.std.specs.Prelude.{ℕ, ◌+◌, List, [], ◌∷◌, ◌++◌, Option, Some, None, codes}
+use Rattle.std.specs.Prelude.{ℕ, ◌+◌, List, [], ◌∷◌, ◌++◌, length, Option, Some, None, codes}
 use Rattle.std.specs.Fmt.{decimal}
 use Rattle.hex.specs.Hex.{encode_lower}
 use Rattle.rrc_name.specs.Text.{text_of}
@@ -10,6 +10,7 @@ use Rattle.rrc_history.specs.declared.event.Reply.{Reply}
 use Rattle.rrc_history.specs.declared.event.Reply.TheVariants.{Fresh, Stale, NoData, NxDomain, Miss}
 use Rattle.rrc_history.specs.declared.event.Soa.{Soa}
 use Rattle.rrc_name.specs.Key.{KeyOf}
+use Rattle.rrc_wire.specs.Fault.{number_of}
 use Rattle.rrc_name.specs.declared.slot.Slot.{Slot}
 use Rattle.rrc_name.specs.declared.slot.Slot.TheVariants.{Set, Nx, Failed}
 use Rattle.rrc_trace.specs.declared.answer.Told.{Told}
@@ -70,10 +71,21 @@ reply_text (NxDomain soa left) = codes "nxdomain " ++ soa_text soa left
 reply_text (Miss None) = codes "miss"
 reply_text (Miss (Some moment)) = codes "miss " ++ decimal moment
 
+-- what became of offers, each behind a space
+abbrev pub outcomes_text : List Told → List ℕ
+outcomes_text [] = []
+outcomes_text (told ∷ others) = 32 ∷ (told_text told ++ outcomes_text others)
+
+-- how many offers there were, and what became of each
+abbrev pub offers_text : List Told → List ℕ
+offers_text offers = decimal (length offers) ++ outcomes_text offers
+
 abbrev pub answer_text : Answer → List ℕ
 answer_text (answers.Put told) = codes "put " ++ told_text told
 answer_text (answers.Ask reply) = codes "ask " ++ reply_text reply
 answer_text (answers.Fail told) = codes "fail " ++ told_text told
+answer_text (answers.Response offers) = codes "response " ++ offers_text offers
+answer_text (answers.Refused fault) = codes "response refused " ++ decimal (number_of fault)
 answer_text (answers.Swept removed) = codes "sweep " ++ decimal removed
 
 -- the number of a line, and what it got

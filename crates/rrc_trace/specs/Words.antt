@@ -13,6 +13,7 @@ form_of word =
     if bytes_eq word (codes "put") then Some forms.Put
     else if bytes_eq word (codes "ask") then Some forms.Ask
     else if bytes_eq word (codes "fail") then Some forms.Fail
+    else if bytes_eq word (codes "response") then Some forms.Response
     else if bytes_eq word (codes "sweep") then Some forms.Sweep
     else None
 

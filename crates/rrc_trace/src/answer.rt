@@ -1,5 +1,6 @@
 use rrc_history::{Outcome, Reply};
-use rrc_name::Key;
+use rrc_name::{Key, Sequence};
+use rrc_wire::WireFault;
 
 /// What became of an offer, and the key that it evicted.
 #[derive(Debug, Drop)]
@@ -14,6 +15,10 @@ pub enum Answer {
     Put(Told),
     Ask(Reply),
     Fail(Told),
+    /// What became of the offers of a response, in order.
+    Response(Sequence<Told>),
+    /// The first fault of a response that was no message.
+    Refused(WireFault),
     /// How many keys a sweep removed.
     Swept(usize),
 }

@@ -1,35 +1,39 @@
 ghost use Rattle.std.specs.Prelude.{◌≡◌, ◌==◌, ◌<◌, length, position, option_map, IfSome};
+ghost use Rattle.std.specs.List.{list_any};
+ghost use Rattle.rrc_wire.specs.Same.{same_rdata};
 ghost use Rattle.rrc_trace.specs.Items.{is_comma, cut_at_comma, item_of, with_piece, items_of};
 ghost use Rattle.rrc_trace.specs.Fields.{said_at};
 ghost use Rattle.rrc_trace.specs.Gives.{Gives};
 
 use crate::field::field_at;
 use crate::line_fault::LineFault;
-use hex::FromHexError;
+use crate::octets::octets_in;
 use rrc_name::{Octets, Sequence};
+use rrc_wire::{WireFault, plain_rdata, same_rdata};
 use std::alloc::Global;
-
-/// The most octets that an item may have (RFC 1035 section 3.2.1).
-const MOST_OCTETS: usize = 65_535;
 
 /// The most items that a put may have.
 const MOST_ITEMS: usize = 256;
 
-/// The data that hexadecimal digits of either case spell, or a dash for no octets.
-fn item_in(alloc: Global, piece: &[u8]) -> Result<Octets, LineFault>
-    ensures { Gives (λ item. item) result (item_of piece.now) }
+/// An item in hexadecimal: plain data of a type.
+fn item_in(alloc: Global, rtype: u16, piece: &[u8]) -> Result<Octets, LineFault>
+    ensures { Gives (λ item. item) result (item_of rtype piece.now) }
 {
-    if piece == b"-".as_slice() {
-        return Ok(Octets::new(alloc));
+    let octets = octets_in(alloc, piece)?;
+    match plain_rdata(alloc, rtype, octets.as_slice()) {
+        Ok(item) => Ok(item),
+        Err(WireFault::Memory) => Err(LineFault::Memory),
+        Err(_) => Err(LineFault::NotOne),
     }
-    if piece.is_empty() {
-        return Err(LineFault::NotOne);
-    }
-    match hex::decode(alloc, piece) {
-        Ok(octets) if octets.len() <= MOST_OCTETS => Ok(Octets::from_vec(octets)),
-        Err(FromHexError::OutOfMemory) => Err(LineFault::Memory),
-        _ => Err(LineFault::NotOne),
-    }
+}
+
+/// Whether one of some items is the same as this one.
+fn has_same(rtype: u16, items: &[Octets], item: &[u8]) -> bool
+    ensures { result ≡ list_any (same_rdata rtype item.now) items.now }
+{
+    items
+        .iter()
+        .any(|other| same_rdata(rtype, item, other.as_slice()))
 }
 
 fn first_comma(octets: &[u8]) -> Option<usize>
@@ -47,31 +51,36 @@ fn cut_at_comma(octets: &[u8]) -> Option<(&[u8], &[u8])>
     Some((&octets[..end], &octets[end + 1..]))
 }
 
-/// Puts the item of a piece behind the others, where it is not among them.
-fn add_item(alloc: Global, items: &mut Sequence<Octets>, piece: &[u8]) -> Result<(), LineFault>
-    ensures { Gives (λ _. items.new) result (with_piece items.old piece.now) }
+/// Puts the item of a piece behind the others, where none of them is the same.
+fn add_item(
+    alloc: Global,
+    rtype: u16,
+    items: &mut Sequence<Octets>,
+    piece: &[u8],
+) -> Result<(), LineFault>
+    ensures { Gives (λ _. items.new) result (with_piece rtype items.old piece.now) }
 {
-    let item = item_in(alloc, piece)?;
-    if !items.as_slice().contains(&item) {
+    let item = item_in(alloc, rtype, piece)?;
+    if !has_same(rtype, items.as_slice(), item.as_slice()) {
         items.push(item)?;
     }
     Ok(())
 }
 
-/// The items that a field spells, 256 at most with repeats, which are dropped.
-fn items_in(alloc: Global, field: &[u8]) -> Result<Sequence<Octets>, LineFault>
-    ensures { Gives (λ items. items) result (items_of field.now) }
+/// The items of a type that a field spells, 256 at most with repeats. Of the same data the first spelling stays.
+fn items_in(alloc: Global, rtype: u16, field: &[u8]) -> Result<Sequence<Octets>, LineFault>
+    ensures { Gives (λ items. items) result (items_of rtype field.now) }
 {
     let mut items = Sequence::new(alloc);
     let mut rest = field;
     for _seen in 0..MOST_ITEMS {
         match cut_at_comma(rest) {
             Some((piece, more)) => {
-                add_item(alloc, &mut items, piece)?;
+                add_item(alloc, rtype, &mut items, piece)?;
                 rest = more;
             }
             None => {
-                add_item(alloc, &mut items, rest)?;
+                add_item(alloc, rtype, &mut items, rest)?;
                 return Ok(items);
             }
         }
@@ -79,10 +88,14 @@ fn items_in(alloc: Global, field: &[u8]) -> Result<Sequence<Octets>, LineFault>
     Err(LineFault::NotOne)
 }
 
-/// The items that the first field spells, and the octets behind it.
-pub(crate) fn items_at(alloc: Global, octets: &[u8]) -> Result<(Sequence<Octets>, &[u8]), LineFault>
-    ensures { Gives (λ found. (found.0, found.1.now)) result (said_at items_of octets.now) }
+/// The items of a type that the first field spells, and the octets behind it.
+pub(crate) fn items_at(
+    alloc: Global,
+    rtype: u16,
+    octets: &[u8],
+) -> Result<(Sequence<Octets>, &[u8]), LineFault>
+    ensures { Gives (λ found. (found.0, found.1.now)) result (said_at (items_of rtype) octets.now) }
 {
     let (field, rest) = field_at(octets)?;
-    Ok((items_in(alloc, field)?, rest))
+    Ok((items_in(alloc, rtype, field)?, rest))
 }

@@ -9,6 +9,7 @@ mod line;
 mod line_fault;
 mod name;
 mod number;
+mod octets;
 mod reading;
 mod report;
 #[cfg(test)]
@@ -19,7 +20,8 @@ mod writing;
 
 pub use answer::{Answer, Told};
 pub use fault::ReplayFault;
-pub use line::{Failed, Line, Put};
+pub use line::{Failed, Line, Put, Response};
+pub use name::names_are_spelled;
 pub use reading::{one_trace_or_fault, read_trace};
 pub use report::report_text;
 pub use trace::Trace;

@@ -1,12 +1,13 @@
 ghost use Rattle.std.specs.Prelude.{◌≡◌, option_map};
 ghost use Rattle.rrc_trace.specs.Gives.{Gives};
-ghost use Rattle.rrc_trace.specs.Lines.{put_of, ask_of, fail_of, sweep_of, line_of, before_last, without_cr, bounded, line_of_piece};
+ghost use Rattle.rrc_trace.specs.Lines.{put_of, ask_of, fail_of, response_of, sweep_of, line_of, before_last, without_cr, bounded, line_of_piece};
 
 use crate::field::has_field;
 use crate::item::items_at;
 use crate::line_fault::LineFault;
 use crate::name::name_at;
 use crate::number::{moment_at, rtype_at, trust_at, ttl_at};
+use crate::octets::message_at;
 use crate::word::{Form, form_at, mode_at, purpose_at};
 use rrc_history::{Ask, Trust};
 use rrc_name::{Name, Octets, Sequence, Shared};
@@ -25,7 +26,7 @@ pub struct Put {
     pub trust: Trust,
     /// The time to live as written, in seconds.
     pub ttl: u32,
-    /// The data, each once.
+    /// The data in the order of the line, plain data of the type. Of the same data the first spelling stays.
     pub items: Shared<Sequence<Octets>>,
 }
 
@@ -38,12 +39,23 @@ pub struct Failed {
     pub rtype: u16,
 }
 
+/// A response that a resolver got from servers of a zone, at a moment in seconds.
+#[derive(Debug, Drop)]
+pub struct Response {
+    pub moment: u64,
+    /// The zone, in the spelling of the line.
+    pub zone: Name,
+    /// The octets of the message, which may be none.
+    pub octets: Octets,
+}
+
 /// A line of a trace.
 #[derive(Debug, Drop)]
 pub enum Line {
     Put(Put),
     Ask(Ask),
     Fail(Failed),
+    Response(Response),
     /// A sweep of what is dead at this moment, in seconds.
     Sweep(u64),
 }
@@ -58,7 +70,7 @@ fn put_in(alloc: Global, octets: &[u8]) -> Result<Line, LineFault>
     let (rtype, rest) = rtype_at(rest)?;
     let (trust, rest) = trust_at(rest)?;
     let (ttl, rest) = ttl_at(rest)?;
-    let (items, rest) = items_at(alloc, rest)?;
+    let (items, rest) = items_at(alloc, rtype, rest)?;
     if has_field(rest) {
         return Err(LineFault::NotOne);
     }
@@ -112,6 +124,24 @@ fn fail_in(alloc: Global, octets: &[u8]) -> Result<Line, LineFault>
     }))
 }
 
+/// The line whose first word was `response`.
+#[tactic(auto, unfolding(crate::specs::Lines::response_of))]
+fn response_in(alloc: Global, octets: &[u8]) -> Result<Line, LineFault>
+    ensures { Gives (λ line. line) result (response_of octets.now) }
+{
+    let (moment, rest) = moment_at(octets)?;
+    let (zone, rest) = name_at(alloc, rest)?;
+    let (octets, rest) = message_at(alloc, rest)?;
+    if has_field(rest) {
+        return Err(LineFault::NotOne);
+    }
+    Ok(Line::Response(Response {
+        moment,
+        zone,
+        octets,
+    }))
+}
+
 /// The line whose first word was `sweep`.
 #[tactic(auto, unfolding(crate::specs::Lines::sweep_of))]
 fn sweep_in(octets: &[u8]) -> Result<Line, LineFault>
@@ -133,6 +163,7 @@ fn line_in(alloc: Global, octets: &[u8]) -> Result<Line, LineFault>
         Form::Put => put_in(alloc, rest),
         Form::Ask => ask_in(alloc, rest),
         Form::Fail => fail_in(alloc, rest),
+        Form::Response => response_in(alloc, rest),
         Form::Sweep => sweep_in(rest),
     }
 }

@@ -1,7 +1,7 @@
 ghost use Rattle.std.specs.Prelude.{◌≡◌};
 ghost use Rattle.rrc_trace.specs.Fields.{said_at};
 ghost use Rattle.rrc_trace.specs.Gives.{Gives};
-ghost use Rattle.rrc_trace.specs.Names.{name_of};
+ghost use Rattle.rrc_trace.specs.Names.{name_of, SaysWhatIsSpelled};
 
 use crate::field::field_at;
 use crate::line_fault::LineFault;
@@ -33,3 +33,9 @@ pub(crate) fn name_at(alloc: Global, octets: &[u8]) -> Result<(Name, &[u8]), Lin
     let (field, rest) = field_at(octets)?;
     Ok((name_in(alloc, field)?, rest))
 }
+
+/// A field says the name that it spells, and where it spells none it says none (RFC 1035 section 5.1). The function does nothing; its
+/// contract is the law.
+pub fn names_are_spelled()
+    ensures { SaysWhatIsSpelled }
+{}

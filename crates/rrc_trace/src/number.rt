@@ -6,6 +6,7 @@ ghost use Rattle.rrc_trace.specs.Numbers.{number_of, at_most, moment_of, ttl_of,
 use crate::field::field_at;
 use crate::line_fault::LineFault;
 use rrc_history::{LAST_MOMENT, Trust};
+use rrc_wire::is_kept;
 
 /// The number that decimal digits spell, where it is at most `most`. Zeros may stand in front.
 fn number_in(digits: &[u8], most: u64) -> Result<u64, LineFault>
@@ -52,10 +53,8 @@ pub(crate) fn rtype_at(octets: &[u8]) -> Result<(u16, &[u8]), LineFault>
     ensures { Gives (λ found. (found.0, found.1.now)) result (said_at rtype_of octets.now) }
 {
     let (field, rest) = field_at(octets)?;
-    match number_in(field, u64::from(u16::MAX))? {
-        1 => Ok((1, rest)),
-        16 => Ok((16, rest)),
-        28 => Ok((28, rest)),
+    match u16::try_from(number_in(field, u64::from(u16::MAX))?) {
+        Ok(rtype) if is_kept(rtype) => Ok((rtype, rest)),
         _ => Err(LineFault::NotOne),
     }
 }

@@ -1,6 +1,6 @@
 ghost use Rattle.std.specs.Prelude.{◌≡◌, IfOk};
 ghost use Rattle.std.specs.String.{string_bytes};
-ghost use Rattle.rrc_trace.specs.Report.{outcome_text, item_text, items_text, set_text, soa_text, slot_text, key_text, told_text, reply_text, answer_text, line_text, report_text};
+ghost use Rattle.rrc_trace.specs.Report.{outcome_text, item_text, items_text, set_text, soa_text, slot_text, key_text, told_text, outcomes_text, offers_text, reply_text, answer_text, line_text, report_text};
 
 use crate::answer::{Answer, Told};
 use rrc_history::{Outcome, Reply, RrSet, Soa};
@@ -62,7 +62,7 @@ fn item_text(alloc: Global, item: &Octets) -> Result<String, AllocError>
 }
 
 /// Items with a comma between two.
-fn items_text(alloc: Global, items: &[Octets]) -> Result<String, AllocError>
+pub(crate) fn items_text(alloc: Global, items: &[Octets]) -> Result<String, AllocError>
     ensures { IfOk result (λ text. string_bytes text ≡ items_text items.now) }
 {
     let Some((first, others)) = items.split_first() else {
@@ -121,6 +121,27 @@ fn reply_text(alloc: Global, reply: &Reply) -> Result<String, AllocError>
     }
 }
 
+/// What became of offers, each behind a space.
+fn outcomes_text(alloc: Global, offers: &[Told]) -> Result<String, AllocError>
+    ensures { IfOk result (λ text. string_bytes text ≡ outcomes_text offers.now) }
+{
+    let mut text = String::new(alloc);
+    for told in offers {
+        text.push_str(" ")?;
+        text.push_str(told_text(alloc, told)?.as_str())?;
+    }
+    Ok(text)
+}
+
+/// How many offers there were, and what became of each.
+fn offers_text(alloc: Global, offers: &[Told]) -> Result<String, AllocError>
+    ensures { IfOk result (λ text. string_bytes text ≡ offers_text offers.now) }
+{
+    let count = offers.len();
+    let outcomes = outcomes_text(alloc, offers)?;
+    format!(in alloc; "{count}{outcomes}")
+}
+
 fn answer_text(alloc: Global, answer: &Answer) -> Result<String, AllocError>
     ensures { IfOk result (λ text. string_bytes text ≡ answer_text answer.now) }
 {
@@ -132,6 +153,14 @@ fn answer_text(alloc: Global, answer: &Answer) -> Result<String, AllocError>
         Answer::Fail(told) => {
             let told = told_text(alloc, told)?;
             format!(in alloc; "fail {told}")
+        }
+        Answer::Response(offers) => {
+            let offers = offers_text(alloc, offers.as_slice())?;
+            format!(in alloc; "response {offers}")
+        }
+        Answer::Refused(fault) => {
+            let number = fault.number();
+            format!(in alloc; "response refused {number}")
         }
         Answer::Swept(removed) => {
             let removed = *removed;

@@ -4,6 +4,7 @@ use super::*;
 use fakes::{Endless, FailsOnce, Stumble, Stumbling};
 use rrc_history::{Mode, Outcome, Purpose, Reply, RrSet, Soa, Trust};
 use rrc_name::{Key, Name, Octets, Sequence, Shared, Slot};
+use rrc_wire::WireFault;
 use std::alloc::Global;
 use std::test::Fail;
 
@@ -42,6 +43,129 @@ fn fields_of_lines(rt: HostRuntime) -> Result<(), Fail> {
     }
     assert!(rt; matches!(lines.next(), Some(Line::Sweep(1_099_511_627_776))));
     assert!(rt; lines.next().is_none());
+    Ok(())
+}
+
+#[test]
+fn types_of_lines(rt: HostRuntime) -> Result<(), Fail> {
+    let alloc = rt.alloc();
+    for rtype in [1, 2, 23, 25, 29, 31, 40, 42, 127, 256, 65_535] {
+        let text = format!(in alloc; "fail 1 . {rtype}")?;
+        let trace = read_trace(alloc, &mut text.as_bytes())?;
+        match trace.lines.iter().next() {
+            Some(Line::Fail(failed)) => assert_eq!(rt; failed.rtype, rtype),
+            _ => Err("the line is a failure")?,
+        }
+    }
+    for rtype in [0, 24, 30, 35, 41, 46, 128, 255, 65_536] {
+        let text = format!(in alloc; "fail 1 . {rtype}")?;
+        let ended = read_trace(alloc, &mut text.as_bytes());
+        assert_eq!(rt; ended.err(), Some(ReplayFault::BadLine(0)), "type {rtype}");
+    }
+    Ok(())
+}
+
+/// A type, the items of a put of that type, and what is read of them.
+const ITEMS: [(u16, &str, &str); 6] = [
+    // NS: the letters of a name are compared without case, and the first spelling stays
+    (2, "014100,016200,016100,014200", "014100,016200"),
+    // TXT and a type without a layout: octets
+    (16, "0161,0141,0161", "0161,0141"),
+    (65_535, "-,014100,016100,C000", "-,014100,016100,c000"),
+    // MX: a preference and a name
+    (
+        15,
+        "000a014100,000a016100,0014016100",
+        "000a014100,0014016100",
+    ),
+    // SRV: six octets and a name
+    (
+        33,
+        "414141414141014100,414141414141016100,616161616161016100",
+        "414141414141014100,616161616161016100",
+    ),
+    // SOA: two names and 20 octets
+    (
+        6,
+        "014100000000000000000000000000000000000000000000,016100000000000000000000000000000000000000000000",
+        "014100000000000000000000000000000000000000000000",
+    ),
+];
+
+#[test]
+fn items_of_types(rt: HostRuntime) -> Result<(), Fail> {
+    let alloc = rt.alloc();
+    for (rtype, items, wanted) in ITEMS {
+        let text = format!(in alloc; "put 1 . {rtype} 4 60 {items}")?;
+        let trace = read_trace(alloc, &mut text.as_bytes())?;
+        match trace.lines.iter().next() {
+            Some(Line::Put(put)) => {
+                let read = report::items_text(alloc, put.items.as_slice())?;
+                assert_eq!(rt; read.as_str(), wanted);
+            }
+            _ => Err("the line is a put")?,
+        }
+    }
+    Ok(())
+}
+
+/// Types, each with items of which one is no plain data.
+const NOT_PLAIN: [&str; 9] = [
+    // no octets, a pointer, a name that is cut, octets behind a name, reserved bits
+    "2 4 60 -",
+    "2 4 60 c000",
+    "5 4 60 0161",
+    "12 4 60 01610000",
+    "12 4 60 4161",
+    // a pointer behind a label
+    "15 4 60 000a0161c000",
+    // one octet too few before the name, one too many behind the names
+    "15 4 60 0a",
+    "6 4 60 0000000000000000000000000000000000000000000000",
+    // a good item and a bad one
+    "2 4 60 016100,c000",
+];
+
+#[test]
+fn items_that_are_not_plain(rt: HostRuntime) -> Result<(), Fail> {
+    let alloc = rt.alloc();
+    for rest in NOT_PLAIN {
+        let text = format!(in alloc; "put 1 . {rest}")?;
+        let ended = read_trace(alloc, &mut text.as_bytes());
+        assert_eq!(rt; ended.err(), Some(ReplayFault::BadLine(0)), "{rest}");
+    }
+    Ok(())
+}
+
+#[test]
+fn responses_of_lines(rt: HostRuntime) -> Result<(), Fail> {
+    let text = "response 100 A.Example 00fF\nresponse 1 . -";
+    let trace = read_trace(rt.alloc(), &mut text.as_bytes())?;
+    let wanted = [
+        (100, "A.Example.", [0, 255].as_slice()),
+        (1, ".", [].as_slice()),
+    ];
+    assert_eq!(rt; trace.lines.len(), wanted.len());
+    for (line, (moment, zone, octets)) in trace.lines.iter().zip(wanted) {
+        match line {
+            Line::Response(response) => {
+                assert_eq!(rt; response.moment, moment);
+                assert_eq!(rt; response.zone.to_text()?.as_str(), zone);
+                assert_eq!(rt; response.octets.as_slice(), octets);
+            }
+            _ => Err("each line is a response")?,
+        }
+    }
+    // An item has at most 65535 octets, a message any number that a line has room for.
+    let mut long = String::from_str(rt.alloc(), "response 1 . ")?;
+    for _ in 0..=65_535 {
+        long.push_str("00")?;
+    }
+    let trace = read_trace(rt.alloc(), &mut long.as_bytes())?;
+    match trace.lines.iter().next() {
+        Some(Line::Response(response)) => assert_eq!(rt; response.octets.len(), 65_536),
+        _ => Err("the line is a response")?,
+    }
     Ok(())
 }
 
@@ -160,6 +284,30 @@ fn texts_of_answers(rt: HostRuntime) -> Result<(), Fail> {
     answers.push(Answer::Swept(3))?;
     let wanted =
         "0 put kept\n1 put cleared\n2 put less\n3 fail kept-out:b.example./1\n4 fail kept-out:b.example./nx\n5 fail kept-out:b.example./failed28\n6 ask fresh 59 A.example. c00002fe,-\n7 ask stale 30 A.example. c00002fe,-\n8 ask nodata 300 Example. 000aff\n9 ask nxdomain 300 Example. 000aff\n10 ask miss\n11 ask miss 330\n12 sweep 3\n";
+    assert_eq!(rt; report_text(alloc, answers.as_slice())?.as_str(), wanted);
+    Ok(())
+}
+
+fn told(outcome: Outcome, evicted: Option<Key>) -> Told {
+    Told { outcome, evicted }
+}
+
+#[test]
+fn texts_of_responses(rt: HostRuntime) -> Result<(), Fail> {
+    let alloc = rt.alloc();
+    let evicted = Key::of(&Name::from_text(alloc, "B.example.")?, Slot::Set(1))?;
+    let mut offers = Sequence::new(alloc);
+    offers.push(told(Outcome::Kept, Some(evicted)))?;
+    offers.push(told(Outcome::Cleared, None))?;
+    offers.push(told(Outcome::LessTrusted, None))?;
+    let answers = [
+        Answer::Response(offers),
+        Answer::Response(Sequence::new(alloc)),
+        Answer::Refused(WireFault::Short),
+        Answer::Refused(WireFault::TooLong),
+    ];
+    let wanted =
+        "0 response 3 kept-out:b.example./1 cleared less\n1 response 0\n2 response refused 1\n3 response refused 8\n";
     assert_eq!(rt; report_text(alloc, answers.as_slice())?.as_str(), wanted);
     Ok(())
 }

@@ -12,6 +12,7 @@ pub(crate) enum Form {
     Put,
     Ask,
     Fail,
+    Response,
     Sweep,
 }
 
@@ -26,6 +27,8 @@ pub(crate) fn form_at(octets: &[u8]) -> Result<(Form, &[u8]), LineFault>
         Ok((Form::Ask, rest))
     } else if field == b"fail".as_slice() {
         Ok((Form::Fail, rest))
+    } else if field == b"response".as_slice() {
+        Ok((Form::Response, rest))
     } else if field == b"sweep".as_slice() {
         Ok((Form::Sweep, rest))
     } else {

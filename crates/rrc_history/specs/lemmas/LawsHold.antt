@@ -79,7 +79,7 @@ answers_from_entry snapshot past ask reply right =
 
 -- the laws of trust and of life hold of the answers and of what offers replace
 keeps_order : (snapshot : Snapshot) (past : List Event) (event : Event) → IsRightThen snapshot past event → KeepsOrder snapshot past event
-keeps_order snapshot past (Offered tag offer outcome evicted) right = replaces_no_more_trusted snapshot past offer outcome evicted right
+keeps_order snapshot past (Offered outcome tag offer evicted) right = replaces_no_more_trusted snapshot past offer outcome evicted right
 keeps_order snapshot past (Asked tag ask reply) right = answers_from_entry snapshot past ask reply right
 keeps_order snapshot past (Swept tag moment gone) right = tt
 

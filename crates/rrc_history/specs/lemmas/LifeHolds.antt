@@ -47,12 +47,12 @@ before_out false before entry h = h
 pub held-is_stored : (snapshot : Snapshot) (past : List Event) (key : KeyOf) (entry : Entry) → held snapshot past key ≡ Some entry → IsStored snapshot past entry
 unfolding held
 held-is_stored snapshot [] key entry h = subst (λ (k : KeyOf). entry_at k snapshot.entries ≡ Some entry) (entry_at-key key snapshot.entries entry h) h
-held-is_stored snapshot (Offered tag offer Kept evicted ∷ past) key entry h =
+held-is_stored snapshot (Offered Kept tag offer evicted ∷ past) key entry h =
     elim (kept_or_before (number_after snapshot past) offer evicted key (held snapshot past key) entry h)
     [ inl stored ↦ inl stored | inr was ↦ inr (held-is_stored snapshot past key entry was) ]
-held-is_stored snapshot (Offered tag offer Cleared evicted ∷ past) key entry h =
+held-is_stored snapshot (Offered Cleared tag offer evicted ∷ past) key entry h =
     held-is_stored snapshot past key entry (before_out (key_eq key offer.key) (held snapshot past key) entry h)
-held-is_stored snapshot (Offered tag offer LessTrusted evicted ∷ past) key entry h = held-is_stored snapshot past key entry h
+held-is_stored snapshot (Offered LessTrusted tag offer evicted ∷ past) key entry h = held-is_stored snapshot past key entry h
 held-is_stored snapshot (Asked tag ask reply ∷ past) key entry h = held-is_stored snapshot past key entry h
 held-is_stored snapshot (Swept tag moment gone ∷ past) key entry h =
     held-is_stored snapshot past key entry (before_out (is_among key gone) (held snapshot past key) entry h)
@@ -118,10 +118,10 @@ entry_with key body moment number = record { key = key; body = body; moment = mo
 -- the answer of an entry, by its body
 body_in_time : (stale : ℕ) (key : KeyOf) (body : Body) (moment number : ℕ) (ask : AskOf) (failure : Option Entry) (reply : Reply)
     → reply_of_body stale (entry_with key body moment number) body ask failure ≡ Some reply → IsInTime stale (entry_with key body moment number) ask reply
-body_in_time stale key (Positive owner items trust ttl) moment number ask failure reply h =
-    set_in_time stale (entry_with key (Positive owner items trust ttl) moment number) ask (record { owner = owner; items = items }) (may_be_stale ask.mode failure) reply tt h
-body_in_time stale key (Negative owner soa trust ttl) moment number ask failure reply h =
-    soa_in_time stale (entry_with key (Negative owner soa trust ttl) moment number) ask key.slot (record { owner = owner; octets = soa }) reply h
+body_in_time stale key (Positive trust ttl owner items) moment number ask failure reply h =
+    set_in_time stale (entry_with key (Positive trust ttl owner items) moment number) ask (record { owner = owner; items = items }) (may_be_stale ask.mode failure) reply tt h
+body_in_time stale key (Negative trust ttl owner soa) moment number ask failure reply h =
+    soa_in_time stale (entry_with key (Negative trust ttl owner soa) moment number) ask key.slot (record { owner = owner; octets = soa }) reply h
 body_in_time stale key (Failure ttl) moment number ask failure reply h = absurd cc
 
 -- the answer of an entry keeps to its time

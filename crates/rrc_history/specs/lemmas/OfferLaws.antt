@@ -26,10 +26,10 @@ stays_apart key evicted other h = by (key_eq key other) refl
     by false is = key_eq-laws.symm other key ∙ is
 
 pub offer_contents : (snapshot : Snapshot) (past : List Event) (tag : Tag) (offer : OfferOf) (outcome : Outcome) (evicted : Option KeyOf) (entries : List Entry)
-    → AreContents snapshot past entries → AreContents snapshot (Offered tag offer outcome evicted ∷ past) (kept_after outcome offer (number_after snapshot past) evicted entries)
+    → AreContents snapshot past entries → AreContents snapshot (Offered outcome tag offer evicted ∷ past) (kept_after outcome offer (number_after snapshot past) evicted entries)
 unfolding held
 offer_contents snapshot past tag offer Kept evicted entries are =
-    contents_touched snapshot past (Offered tag offer Kept evicted) (goes offer.key evicted) entries (entry_of offer (number_after snapshot past)) are
+    contents_touched snapshot past (Offered Kept tag offer evicted) (goes offer.key evicted) entries (entry_of offer (number_after snapshot past)) are
     (key_eq-laws.refl offer.key) (λ key stays. stays_apart offer.key evicted key stays) (λ key. leaves key (key_eq key offer.key) refl)
   where
     leaves : (key : KeyOf) (same : Bool) → key_eq key offer.key ≡ same
@@ -40,7 +40,7 @@ offer_contents snapshot past tag offer Kept evicted entries are =
         let apart : key_eq offer.key key ≡ false = key_eq-laws.symm offer.key key ∙ is in
         ap (λ b. if b || is_evicted key evicted then None else held snapshot past key) (sym apart)
 offer_contents snapshot past tag offer Cleared evicted entries are =
-    contents_staying snapshot past (Offered tag offer Cleared evicted) (goes offer.key None) entries are (λ key stays. refl) leaves
+    contents_staying snapshot past (Offered Cleared tag offer evicted) (goes offer.key None) entries are (λ key stays. refl) leaves
   where
     leaves : (key : KeyOf) → (if key_eq key offer.key then None else held snapshot past key) ≡ (if goes offer.key None key then None else held snapshot past key)
     leaves key = let same : key_eq key offer.key ≡ (key_eq offer.key key || false) = key_eq-laws.symm key offer.key ∙ or_false (key_eq offer.key key) in
@@ -50,7 +50,7 @@ offer_contents snapshot past tag offer Cleared evicted entries are =
         or_false true = refl
         or_false false = refl
 offer_contents snapshot past tag offer LessTrusted evicted entries are =
-    contents_same snapshot past (Offered tag offer LessTrusted evicted) entries are refl (λ key. refl)
+    contents_same snapshot past (Offered LessTrusted tag offer evicted) entries are refl (λ key. refl)
 
 -- ---- how many are left
 

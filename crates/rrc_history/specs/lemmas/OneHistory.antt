@@ -197,10 +197,10 @@ one_offer snapshot past offer outcome other evicted other_evicted right also =
 
 -- what is right after a past is right in one way
 one_event : (snapshot : Snapshot) (past : List Event) (event other : Event) → IsRightThen snapshot past event → IsRightThen snapshot past other → IsSameCall event other → event ≡ other
-one_event snapshot past (Offered tag offer outcome evicted) (Offered other_tag other other_outcome other_evicted) right also same =
+one_event snapshot past (Offered outcome tag offer evicted) (Offered other_outcome other_tag other other_evicted) right also same =
     let same_offer : IsRightOffer snapshot past offer other_outcome other_evicted = subst (λ o. IsRightOffer snapshot past o other_outcome other_evicted) (sym same.1) also in
     let told = one_offer snapshot past offer outcome other_outcome evicted other_evicted right same_offer in
-    λ i. Offered (same.0 i) (same.1 i) (told.0 i) (told.1 i)
+    λ i. Offered (told.0 i) (same.0 i) (same.1 i) (told.1 i)
 one_event snapshot past (Asked tag ask reply) (Asked other_tag other other_reply) right also same =
     let same_ask : IsRightAsk snapshot past ask other_reply = subst (λ a. IsRightAsk snapshot past a other_reply) (sym same.1) also in
     let told : reply ≡ other_reply = right.answered ∙ sym same_ask.answered in
@@ -209,11 +209,11 @@ one_event snapshot past (Swept tag moment gone) (Swept other_tag other other_gon
     let same_sweep : IsRightSweep snapshot past moment other_gone = subst (λ m. IsRightSweep snapshot past m other_gone) (sym same.1) also in
     let told : gone ≡ other_gone = same_keys gone other_gone right.sorted same_sweep.sorted (λ key. right.dead key ∙ sym (same_sweep.dead key)) in
     λ i. Swept (same.0 i) (same.1 i) (told i)
-one_event snapshot past (Offered tag offer outcome evicted) (Asked other_tag other other_reply) right also same = absurd same
-one_event snapshot past (Offered tag offer outcome evicted) (Swept other_tag other other_gone) right also same = absurd same
-one_event snapshot past (Asked tag ask reply) (Offered other_tag other other_outcome other_evicted) right also same = absurd same
+one_event snapshot past (Offered outcome tag offer evicted) (Asked other_tag other other_reply) right also same = absurd same
+one_event snapshot past (Offered outcome tag offer evicted) (Swept other_tag other other_gone) right also same = absurd same
+one_event snapshot past (Asked tag ask reply) (Offered other_outcome other_tag other other_evicted) right also same = absurd same
 one_event snapshot past (Asked tag ask reply) (Swept other_tag other other_gone) right also same = absurd same
-one_event snapshot past (Swept tag moment gone) (Offered other_tag other other_outcome other_evicted) right also same = absurd same
+one_event snapshot past (Swept tag moment gone) (Offered other_outcome other_tag other other_evicted) right also same = absurd same
 one_event snapshot past (Swept tag moment gone) (Asked other_tag other other_reply) right also same = absurd same
 
 pub calls_determine : CallsDetermineHistory

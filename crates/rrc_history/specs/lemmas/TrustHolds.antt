@@ -33,9 +33,9 @@ taken_by true offered held otherwise outcome is taken lives = by (nat_lt offered
 -- an offer of data that was taken is ranked no lower than the unexpired data that it met
 replaces : (before : Entry) (offer : OfferOf) (body : Body) (outcome : Outcome) → outcome ≡ verdict_by (Some before) offer body → IsTaken outcome → IsData body
     → is_unexpired before offer.moment ≡ true → rank_of before.body ≤ rank_of offer.body
-replaces before offer (Positive owner items trust ttl) outcome is taken some lives =
+replaces before offer (Positive trust ttl owner items) outcome is taken some lives =
     taken_by (is_unexpired before offer.moment) (rank_of offer.body) (rank_of before.body) (if ttl_of offer.body == 0 then Cleared else Kept) outcome is taken lives
-replaces before offer (Negative soa_owner soa trust ttl) outcome is taken some lives =
+replaces before offer (Negative trust ttl soa_owner soa) outcome is taken some lives =
     taken_by (is_unexpired before offer.moment) (rank_of offer.body) (rank_of before.body) (if ttl_of offer.body == 0 then Cleared else Kept) outcome is taken lives
 replaces before offer (Failure ttl) outcome is taken some lives = absurd some
 
@@ -135,8 +135,8 @@ stops_out false before entry was = inl was
 -- a key stops holding its entry only by an offer, an eviction or a sweep
 pub stops_holding : (snapshot : Snapshot) (past : List Event) (event : Event) → StopsHolding snapshot past event
 unfolding held
-stops_holding snapshot past (Offered tag offer Kept evicted) = λ key entry was. stops_kept (number_after snapshot past) offer evicted key (held snapshot past key) entry was
-stops_holding snapshot past (Offered tag offer Cleared evicted) = λ key entry was. stops_out (key_eq key offer.key) (held snapshot past key) entry was
-stops_holding snapshot past (Offered tag offer LessTrusted evicted) = λ key entry was. inl was
+stops_holding snapshot past (Offered Kept tag offer evicted) = λ key entry was. stops_kept (number_after snapshot past) offer evicted key (held snapshot past key) entry was
+stops_holding snapshot past (Offered Cleared tag offer evicted) = λ key entry was. stops_out (key_eq key offer.key) (held snapshot past key) entry was
+stops_holding snapshot past (Offered LessTrusted tag offer evicted) = λ key entry was. inl was
 stops_holding snapshot past (Asked tag ask reply) = λ key entry was. inl was
 stops_holding snapshot past (Swept tag moment gone) = λ key entry was. stops_out (is_among key gone) (held snapshot past key) entry was

@@ -14,7 +14,7 @@ abbrev after : goal.After-push_reserved → PartOf
 after c = record { snapshot = c.self.inside.snapshot; events = c.push_reserved.new.self.items }
 
 abbrev event : goal.After-push_reserved → Event
-event c = Offered c.args.tag c.args.offer c.in_ok-outcome.outcome c.in_ok-outcome.evicted
+event c = Offered c.in_ok-outcome.outcome c.args.tag c.args.offer c.in_ok-outcome.evicted
 
 done : (c : goal.After-push_reserved) → IsDone (before c) (after c) (event c) c.take.new.entries.items
 done c =

@@ -1,7 +1,7 @@
 use Rattle.std.proofs.Common.{ap, ◌∙◌}
 use Rattle.rrc_replay.specs.Replay.{evicted_last}
-use Rattle.rrc_replay.proofs.ReplayLemmas.{tells}
-use Rattle.rrc_replay.proofs.replaying.tell.Goals as goal
+use Rattle.rrc_replay.proofs.CallLemmas.{tells}
+use Rattle.rrc_replay.proofs.calls.tell.Goals as goal
 
 pub returns-clause-ok : goal.returns-clause-ok
 returns-clause-ok c =

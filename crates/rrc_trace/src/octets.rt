@@ -1,0 +1,34 @@
+ghost use Rattle.rrc_trace.specs.Fields.{said_at};
+ghost use Rattle.rrc_trace.specs.Gives.{Gives};
+ghost use Rattle.rrc_trace.specs.Octets.{octets_of, message_of};
+
+use crate::field::field_at;
+use crate::line_fault::LineFault;
+use hex::FromHexError;
+use rrc_name::Octets;
+use std::alloc::Global;
+
+/// The octets that hexadecimal digits of either case spell, or a dash for none.
+pub(crate) fn octets_in(alloc: Global, digits: &[u8]) -> Result<Octets, LineFault>
+    ensures { Gives (λ octets. octets) result (octets_of digits.now) }
+{
+    if digits == b"-".as_slice() {
+        return Ok(Octets::new(alloc));
+    }
+    if digits.is_empty() {
+        return Err(LineFault::NotOne);
+    }
+    match hex::decode(alloc, digits) {
+        Ok(octets) => Ok(Octets::from_vec(octets)),
+        Err(FromHexError::OutOfMemory) => Err(LineFault::Memory),
+        Err(_) => Err(LineFault::NotOne),
+    }
+}
+
+/// The octets of a message, of any length, and the octets of the line behind them.
+pub(crate) fn message_at(alloc: Global, octets: &[u8]) -> Result<(Octets, &[u8]), LineFault>
+    ensures { Gives (λ found. (found.0, found.1.now)) result (said_at message_of octets.now) }
+{
+    let (field, rest) = field_at(octets)?;
+    Ok((octets_in(alloc, field)?, rest))
+}
