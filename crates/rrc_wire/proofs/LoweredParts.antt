@@ -4,7 +4,7 @@ use Rattle.std.specs.Prelude.{⊤, nat_eq}
 use Rattle.std.specs.Cmp.Lexicographic.{pointwise, bytes_decides}
 use Rattle.std.specs.List.{AllByRecursion, concat}
 use Rattle.std.proofs.lemmas.Bool.Decides.{Decides-like, Decides-at, same_from_decides}
-use Rattle.std.proofs.lemmas.List.{take_at, drop_at, length-map, map-append}
+use Rattle.std.proofs.lemmas.List.{take_at, drop_at, length-map, length-drop, map-append}
 use Rattle.std.specs.Char.{to_ascii_lowercase}
 use Rattle.rrc_name.specs.Wire.{IsWireForm, folded}
 use Rattle.rrc_name.proofs.WireForms.{folded-IsWireForm}
@@ -84,6 +84,9 @@ stays_plain (Some layout) octets fills =
       fills = record { parts = lowered_parts fills.parts; are_parts = lowered-AreParts layout fills.parts fills.are_parts; whole = sym low };
     }
 
+pub length-lowered_by : (layout : LayoutOf) (octets : List ℕ) → Fills layout octets → length (lowered_by (Some layout) octets) ≡ length octets
+length-lowered_by layout octets fills = (stays_plain (Some layout) octets fills).size
+
 lowered_where : (b : Bool) (rtype : ℕ) (octets : List ℕ) → is_plain rtype octets ≡ b → lowered_rdata rtype octets ≡ cond b (lowered_by (layout_of rtype) octets) octets
 unfolding lowered_rdata
 lowered_where b rtype octets is = ap (λ t. cond t (lowered_by (layout_of rtype) octets) octets) is
@@ -125,10 +128,19 @@ lowered-opaque : (layout : Option LayoutOf) (b : Bool) (octets : List ℕ) → l
 lowered-opaque layout false octets is = refl
 lowered-opaque layout true octets is = ap (λ (l : Option LayoutOf). lowered_by l octets) is
 
+pub lowered-no_layout : (rtype : ℕ) (octets : List ℕ) → layout_of rtype ≡ None → lowered_rdata rtype octets ≡ octets
+lowered-no_layout rtype octets is = lowered_where (is_plain rtype octets) rtype octets refl ∙ lowered-opaque (layout_of rtype) (is_plain rtype octets) octets is
+
+pub lowered-not_plain : (rtype : ℕ) (octets : List ℕ) → is_plain rtype octets ≡ false → lowered_rdata rtype octets ≡ octets
+lowered-not_plain rtype octets is = lowered_where false rtype octets is
+
+pub lowered-plain : (rtype : ℕ) (layout : LayoutOf) (octets : List ℕ) → layout_of rtype ≡ Some layout → is_plain rtype octets ≡ true
+    → lowered_rdata rtype octets ≡ lowered_by (Some layout) octets
+lowered-plain rtype layout octets is plain = lowered_where true rtype octets plain ∙ ap (λ (l : Option LayoutOf). lowered_by l octets) is
+
 pub opaque-Decides : (rtype : ℕ) (a b : List ℕ) → layout_of rtype ≡ None → (r : Bool) → Decides r (a ≡ b) → Decides r (IsSameRdata rtype a b)
 opaque-Decides rtype a b is r decides =
-    let low : (octets : List ℕ) → lowered_rdata rtype octets ≡ octets =
-    λ octets. lowered_where (is_plain rtype octets) rtype octets refl ∙ lowered-opaque (layout_of rtype) (is_plain rtype octets) octets is in
+    let low : (octets : List ℕ) → lowered_rdata rtype octets ≡ octets = λ octets. lowered-no_layout rtype octets is in
     Decides-like r (λ same. ap (lowered_rdata rtype) same) (λ same. sym (low a) ∙ (same ∙ low b)) decides
 
 -- plain data of a layout are the same where their lowered parts are
@@ -136,7 +148,7 @@ pub plain-Decides : (rtype : ℕ) (layout : LayoutOf) (a b : List ℕ) → layou
     → (r : Bool) → Decides r (lowered_by (Some layout) a ≡ lowered_by (Some layout) b) → Decides r (IsSameRdata rtype a b)
 plain-Decides rtype layout a b is plain plain_other r decides =
     let low : (octets : List ℕ) → is_plain rtype octets ≡ true → lowered_rdata rtype octets ≡ lowered_by (Some layout) octets =
-    λ octets h. lowered_where true rtype octets h ∙ ap (λ (l : Option LayoutOf). lowered_by l octets) is in
+    λ octets h. lowered-plain rtype layout octets is h in
     Decides-like r (λ same. low a plain ∙ (same ∙ sym (low b plain_other))) (λ same. sym (low a plain) ∙ (same ∙ low b plain_other)) decides
 
 -- plain data of a type with a layout fill it
@@ -171,6 +183,21 @@ split_of layout octets fills =
       last = ap (drop (length (drop layout.before octets) - layout.behind)) rest ∙ (drop_at names p.behind (length (drop layout.before octets) - layout.behind) left
           ∙ ap (λ (parts : Parts). parts.behind) (sym found));
     }
+
+-- the octets with the slice of their names lowered are the data with their names lowered
+pub lowered_slice : (layout : LayoutOf) (octets : List ℕ) → Fills layout octets → (before behind : ℕ) → before ≡ layout.before → behind ≡ layout.behind
+    → take before octets ++ (folded (take (length octets - behind - before) (drop before octets)) ++ drop (length octets - behind - before) (drop before octets))
+    ≡ octets_of (lowered_parts (parts_in layout octets))
+lowered_slice layout octets fills before behind from till =
+    let p = parts_in layout octets in
+    let split = split_of layout octets fills in
+    let rest = drop layout.before octets in
+    let size : length octets - behind - before ≡ length rest - layout.behind = omega (arith, from, till, length-drop layout.before octets) in
+    ap (λ at. take at octets ++ (folded (take (length octets - behind - before) (drop at octets)) ++ drop (length octets - behind - before) (drop at octets))) from
+    ∙ (ap (λ many. take layout.before octets ++ (folded (take many rest) ++ drop many rest)) size
+    ∙ (ap (λ names. take layout.before octets ++ (folded names ++ drop (length rest - layout.behind) rest)) split.names
+    ∙ (ap (λ behind. take layout.before octets ++ (folded (concat p.names) ++ behind)) split.last
+    ∙ ap (λ names. take layout.before octets ++ (names ++ p.behind)) (sym (concat-folded p.names)))))
 
 -- the tests of a chain, from the first on
 

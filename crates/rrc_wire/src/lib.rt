@@ -41,7 +41,7 @@ pub use plain::{plain_rdata, read_data_are_plain};
 pub use question::Question;
 pub use record::Rr;
 pub use rrc_name::{Name, NameFault, Octets, Sequence};
-pub use same::{laws_of_sameness, same_rdata};
+pub use same::{laws_of_sameness, lowered_rdata, same_rdata};
 
 #[cfg(test)]
 mod tests;

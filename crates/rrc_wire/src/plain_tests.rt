@@ -1,7 +1,7 @@
-// Data by hand, in hexadecimal behind their type: which are plain, and which are the same.
+// Data by hand, in hexadecimal behind their type: which are plain, which are the same, and what they are lowered to.
 
 use crate::tests::push_octets;
-use crate::{WireFault, plain_rdata, same_rdata};
+use crate::{WireFault, lowered_rdata, plain_rdata, same_rdata};
 use std::alloc::{AllocError, Global};
 use std::process::Abort;
 use std::test::Fail;
@@ -107,6 +107,33 @@ fn same_data(rt: HostRuntime) -> Result<(), Fail> {
     }
     for line in DIFFERENT.trim().lines() {
         are_same(&rt, rt.alloc(), line, false)?;
+    }
+    Ok(())
+}
+
+/// Data, each with what they are lowered to: letters of names alone (RFC 4343 section 3), and none of opaque data (RFC 3597 section 6).
+const LOWERED: &str = "
+a name: 2 0141 074558414d504c45 00 = 0161 076578616d706c65 00
+no letters: 2 025b40 00 = 025b40 00
+both names of a SOA: 6 014100 014200 4142434445464748494a4b4c4d4e4f5051525354 = 016100 016200 4142434445464748494a4b4c4d4e4f5051525354
+a name behind letters: 15 4142 014100 = 4142 016100
+opaque octets: 16 0141 = 0141
+a type that is not known: 258 014100 = 014100
+a name that is cut: 2 0141 = 0141
+a name with a pointer: 2 0141c00c = 0141c00c
+no octets: 16  =
+";
+
+#[test]
+fn lowered_data(rt: HostRuntime) -> Result<(), Fail> {
+    for line in LOWERED.trim().lines() {
+        let (_name, text) = line.split_once(": ").ok_or("a line with no name")?;
+        let (text, digits) = text.split_once(" =").ok_or("a line with one datum")?;
+        let (rtype, octets) = data_of(rt.alloc(), text)?;
+        let mut wanted = Vec::new(rt.alloc());
+        push_octets(&mut wanted, digits)?;
+        let lowered = lowered_rdata(rt.alloc(), rtype, octets.as_slice())?;
+        assert_eq!(rt; lowered.as_slice(), wanted.as_slice(), "{line}");
     }
     Ok(())
 }

@@ -1,4 +1,4 @@
-ghost use Rattle.std.specs.Prelude.{◌≡◌, ◌↔◌, ℕ, List, Some, IsTrue};
+ghost use Rattle.std.specs.Prelude.{◌≡◌, ◌↔◌, ℕ, List, Some, IsTrue, IfOk};
 ghost use Rattle.std.specs.Cmp.{IsEquivalence};
 ghost use Rattle.std.specs.List.{concat};
 ghost use Rattle.rrc_wire.specs.Plain.{Fills, parts_in, IsPlain, is_plain};
@@ -7,6 +7,8 @@ ghost use Rattle.rrc_wire.specs.Same.{lowered_by, lowered_rdata, LowersNames, Is
 
 use crate::layout::{Layout, layout_of};
 use crate::plain::is_plain;
+use rrc_name::Octets;
+use std::alloc::{AllocError, Global};
 
 /// What data of a layout are made of: fixed octets, names end to end, fixed octets.
 fn parts_of(layout: Layout, octets: &[u8]) -> (&[u8], &[u8], &[u8])
@@ -40,6 +42,37 @@ pub fn same_rdata(rtype: u16, a: &[u8], b: &[u8]) -> bool
     match layout_of(rtype) {
         Some(layout) if is_plain(rtype, a) && is_plain(rtype, b) => has_same_parts(layout, a, b),
         _ => a == b,
+    }
+}
+
+/// Lowers the letters A to Z of the names in data of a layout.
+fn lower_names(layout: Layout, octets: &mut [u8])
+    requires { Fills (as_layout layout) octets.old }
+    ensures { octets.new ≡ lowered_by (Some (as_layout layout)) octets.old }
+{
+    let end = octets.len() - usize::from(layout.behind);
+    octets[usize::from(layout.before)..end].make_ascii_lowercase();
+}
+
+/// A copy of data of a layout with the letters A to Z of their names as a to z.
+fn lowered_by(alloc: Global, layout: Layout, octets: &[u8]) -> Result<Octets, AllocError>
+    requires { Fills (as_layout layout) octets.now }
+    ensures { IfOk result (λ lowered. lowered ≡ lowered_by (Some (as_layout layout)) octets.now) }
+{
+    let mut lowered = Vec::from_slice(alloc, octets)?;
+    lower_names(layout, lowered.as_mut_slice());
+    Ok(Octets::from_vec(lowered))
+}
+
+/// The data with the letters A to Z of their names as a to z (RFC 4343 section 3), where they are plain, as `plain_rdata` takes them;
+/// all others stay as they are (RFC 3597 section 6). Data of a type are the same, as `same_rdata` has it, exactly where they are
+/// lowered to the same octets.
+pub fn lowered_rdata(alloc: Global, rtype: u16, octets: &[u8]) -> Result<Octets, AllocError>
+    ensures { IfOk result (λ lowered. lowered ≡ lowered_rdata rtype octets.now) }
+{
+    match layout_of(rtype) {
+        Some(layout) if is_plain(rtype, octets) => lowered_by(alloc, layout, octets),
+        _ => Octets::from_slice(alloc, octets),
     }
 }
 
