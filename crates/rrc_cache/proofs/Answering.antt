@@ -1,8 +1,7 @@
 -- What a part keeps after an ask.
-use Rattle.std.proofs.Common.{◌≡◌, ℕ, ◌≤◌, List, [], ◌∷◌, ◌++◌, length, reverse, Option, Some, None, ◌||◌, true, false, refl, sym, ap, subst, ◌∙◌, arith}
+use Rattle.std.proofs.Common.{◌≡◌, ℕ, ◌≤◌, List, [], ◌∷◌, ◌++◌, length, Option, Some, None, ◌||◌, true, false, ◌⊎◌, inl, inr, Bool, refl, sym, ap, subst, ◌∙◌, arith}
 use Rattle.std.specs.Prelude.{IfSome}
 use Rattle.std.specs.List.{AllByRecursion}
-use Rattle.std.proofs.lemmas.List.{length-reverse}
 use Rattle.rrc_name.specs.Key.{KeyOf, key_eq}
 use Rattle.rrc_name.specs.lemmas.KeyLaws.{key_eq-laws}
 use Rattle.rrc_history.specs.declared.event.Event.{Event}
@@ -12,16 +11,21 @@ use Rattle.rrc_history.specs.declared.event.Tag.{Tag}
 use Rattle.rrc_history.specs.declared.snapshot.Entry.{Entry}
 use Rattle.rrc_history.specs.Asked.{AskOf}
 use Rattle.rrc_history.specs.Lives.{IsTimely}
-use Rattle.rrc_history.specs.Judged.{reply_by, answering, key_in}
-use Rattle.rrc_history.specs.Past.{entry_at, AreContents}
+use Rattle.rrc_history.specs.Judged.{reply_by, answering, is_miss, key_in}
+use Rattle.rrc_history.specs.Past.{entry_at, key_at, AreContents}
+use Rattle.rrc_name.specs.declared.slot.Slot.{Slot}
+use Rattle.rrc_name.specs.declared.slot.Slot.TheVariants.{Set, Nx}
+use Rattle.rrc_history.specs.lemmas.EntryLaws.{entry_at-key}
+use Rattle.rrc_history.specs.lemmas.TrustHolds.{governing-is_held}
+use Rattle.std.specs.Option.{option_map}
 use Rattle.rrc_history.specs.Right.{IsRight}
 use Rattle.rrc_history.specs.Entries.{goes, found_among, promoted, in_front, answered_from}
 use Rattle.rrc_history.specs.lemmas.OfferLaws.{length-staying_found}
 use Rattle.rrc_history.specs.lemmas.AskLaws.{found-contents, ask_contents}
 use Rattle.rrc_cache.specs.Part.{PartOf, past_of, IsOpen, Keeps}
-use Rattle.rrc_cache.specs.Taken.{IsAnswered, ArePlaced}
+use Rattle.rrc_cache.specs.Taken.{HasName, IsAnswered}
 use Rattle.rrc_cache.proofs.Timely.{timely_found, timely_staying}
-use Rattle.rrc_cache.proofs.Keeping.{IsDone, done_with, adds_keeps, number-of, fits_reversed}
+use Rattle.rrc_cache.proofs.Keeping.{IsDone, done_with, adds_keeps, number-of}
 
 -- an answer leaves as many entries as there were, or fewer
 length-promoted : (key : KeyOf) (entries : List Entry) → length (promoted key entries) ≤ length entries
@@ -50,26 +54,53 @@ timely_answered_from : (key : Option KeyOf) (entries : List Entry) → AllByRecu
 timely_answered_from None entries all = all
 timely_answered_from (Some key) entries all = timely_promoted key entries all
 
-pub ask_done : (part : PartOf) (entries : List Entry) (tag : Tag) (ask : AskOf) (reply : Reply) (place : Option ℕ) (kept : List Entry)
-    → Keeps part entries → IsOpen part ask.moment → IsAnswered part.snapshot.rules.stale ask entries reply place
-    → ((key : Option KeyOf) → ArePlaced entries place key → reverse kept ≡ answered_from key (reverse entries))
+pub ask_done : (part : PartOf) (entries : List Entry) (tag : Tag) (ask : AskOf) (reply : Reply) (slot : Option Slot) (kept : List Entry)
+    → Keeps part entries → IsOpen part ask.moment → IsAnswered part.snapshot.rules.stale ask entries reply slot
+    → kept ≡ answered_from (option_map (key_at ask) slot) entries
     → IsDone part (record { snapshot = part.snapshot; events = part.events ++ Asked tag ask reply ∷ [] }) (Asked tag ask reply) kept
-ask_done part entries tag ask reply place kept keeps open' answered touched =
+ask_done part entries tag ask reply slot kept keeps open' answered touched =
     let event : Event = Asked tag ask reply in
-    let key : Option KeyOf = key_in (answering (found_among (reverse entries) ask) ask reply) in
-    let left : List Entry = answered_from key (reverse entries) in
-    let is : reverse kept ≡ left = touched key answered.from in
+    let key : Option KeyOf = key_in (answering (found_among entries ask) ask reply) in
+    let left : List Entry = answered_from key entries in
+    let is : kept ≡ left = touched ∙ ap (λ k. answered_from k entries) answered.from in
     let right : IsRight part.snapshot (past_of part) event = record {
       numbered = omega (arith, number-of part, open'.room.number);
       right = record {
         timely = open'.moment;
-        answered = answered.answered ∙ ap (λ f. reply_by part.snapshot.rules.stale f ask) (found-contents part.snapshot (past_of part) ask (reverse entries) keeps.contents);
+        answered = answered.answered ∙ ap (λ f. reply_by part.snapshot.rules.stale f ask) (found-contents part.snapshot (past_of part) ask entries keeps.contents);
       };
     } in
-    let contents : AreContents part.snapshot (event ∷ past_of part) left =
-    ask_contents part.snapshot (past_of part) tag ask reply (reverse entries) keeps.contents in
+    let contents : AreContents part.snapshot (event ∷ past_of part) left = ask_contents part.snapshot (past_of part) tag ask reply entries keeps.contents in
+    let few : length left ≤ part.snapshot.rules.capacity = omega (arith, length-answered_from key entries, keeps.room) in
     done_with part event kept right
     (adds_keeps part event kept keeps.sound open'.room right
     (let P : List Entry → Type 0 = AreContents part.snapshot (event ∷ past_of part) in subst P (sym is) contents)
-    (fits_reversed part.snapshot.rules.capacity kept left is (omega (arith, length-answered_from key (reverse entries), length-reverse entries, keeps.room)))
-    (let P : List Entry → Type 0 = AllByRecursion IsTimely in subst P (sym is) (timely_answered_from key (reverse entries) keeps.timely)))
+    (let P : List Entry → Type 0 = λ es. length es ≤ part.snapshot.rules.capacity in subst P (sym is) few)
+    (let P : List Entry → Type 0 = AllByRecursion IsTimely in subst P (sym is) (timely_answered_from key entries keeps.timely)))
+
+-- ---- the entry that answers
+
+-- the entry that answers is the set or the nx
+answering-held : (entries : List Entry) (ask : AskOf) (reply : Reply) (entry : Entry) → answering (found_among entries ask) ask reply ≡ Some entry
+    → (entry_at (key_at ask (Set ask.rtype)) entries ≡ Some entry) ⊎ (entry_at (key_at ask Nx) entries ≡ Some entry)
+answering-held entries ask reply entry h = by (is_miss reply) refl
+  where
+    by : (b : Bool) → is_miss reply ≡ b → (entry_at (key_at ask (Set ask.rtype)) entries ≡ Some entry) ⊎ (entry_at (key_at ask Nx) entries ≡ Some entry)
+    by true is = let bad : None ≡ Some entry = rw is at h in absurd cc
+    by false is = governing-is_held (entry_at (key_at ask (Set ask.rtype)) entries) (entry_at (key_at ask Nx) entries) ask.moment entry (rw is at h)
+
+-- it has the ask's name
+pub answering-named : (entries : List Entry) (ask : AskOf) (reply : Reply) (a : Option Entry) → a ≡ answering (found_among entries ask) ask reply → IfSome a (HasName ask.name)
+answering-named entries ask reply None is = tt
+answering-named entries ask reply (Some entry) is =
+    elim (answering-held entries ask reply entry (sym is)) [
+      | inl at ↦ ap (λ (k : KeyOf). k.name) (sym (entry_at-key (key_at ask (Set ask.rtype)) entries entry at))
+      | inr at ↦ ap (λ (k : KeyOf). k.name) (sym (entry_at-key (key_at ask Nx) entries entry at))
+    ]
+
+-- so its key is that of the ask's name and its slot
+pub answering-keyed : (ask : AskOf) (a : Option Entry) → IfSome a (HasName ask.name) → option_map (λ (entry : Entry). key_at ask entry.key.slot) a ≡ key_in a
+answering-keyed ask None named = refl
+answering-keyed ask (Some entry) named =
+    let keyed : List ℕ → Option KeyOf = λ name. Some (record { name = name; slot = entry.key.slot }) in
+    ap keyed (sym named)

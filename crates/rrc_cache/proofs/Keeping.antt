@@ -1,5 +1,5 @@
 -- What a part keeps is what its history says, through every event.
-use Rattle.std.proofs.Common.{◌≡◌, ℕ, ◌+◌, ◌≤◌, List, [], ◌∷◌, ◌++◌, length, reverse, Option, None, refl, sym, ap, subst, ◌∙◌, arith}
+use Rattle.std.proofs.Common.{◌≡◌, ℕ, ◌+◌, ◌≤◌, List, [], ◌∷◌, ◌++◌, length, Option, None, refl, sym, ap, subst, ◌∙◌, arith}
 use Rattle.rrc_history.specs.declared.rules.Rules.{Rules}
 use Rattle.rrc_history.specs.declared.event.Event.{Event}
 use Rattle.rrc_history.specs.declared.snapshot.Entry.{Entry}
@@ -41,7 +41,7 @@ number-of part = ap (λ n. part.snapshot.first + n) (length-reverse part.events)
 
 -- one more right event
 pub adds_keeps : (part : PartOf) (event : Event) (entries : List Entry) → IsSound part → HasRoom part → IsRight part.snapshot (past_of part) event
-    → AreContents part.snapshot (event ∷ past_of part) (reverse entries) → length entries ≤ part.snapshot.rules.capacity → AllByRecursion IsTimely (reverse entries)
+    → AreContents part.snapshot (event ∷ past_of part) entries → length entries ≤ part.snapshot.rules.capacity → AllByRecursion IsTimely entries
     → Keeps (record { snapshot = part.snapshot; events = part.events ++ event ∷ [] }) entries
 adds_keeps part event entries sound room right contents few timely =
     let past = sym (past-more part event) in
@@ -52,14 +52,10 @@ adds_keeps part event entries sound room right contents few timely =
         few = omega (arith, room.chapter);
         numbered = omega (arith, room.number);
       };
-      contents = let P : List Event → Type 0 = λ p. AreContents part.snapshot p (reverse entries) in subst P past contents;
+      contents = let P : List Event → Type 0 = λ p. AreContents part.snapshot p entries in subst P past contents;
       room = few;
       timely = timely;
     }
-
--- how many there are is the same from either end
-pub fits_reversed : (capacity : ℕ) (entries kept : List Entry) → reverse entries ≡ kept → length kept ≤ capacity → length entries ≤ capacity
-fits_reversed capacity entries kept is le = omega (arith, sym (length-reverse entries) ∙ ap length is)
 
 pub timely_kept_after : (outcome : Outcome) (offer : OfferOf) (number : ℕ) (evicted : Option KeyOf) (entries : List Entry) → offer.moment ≤ LAST_MOMENT
     → AllByRecursion IsTimely entries → AllByRecursion IsTimely (kept_after outcome offer number evicted entries)
@@ -68,7 +64,7 @@ timely_kept_after Cleared offer number evicted entries in_time all = timely_stay
 timely_kept_after LessTrusted offer number evicted entries in_time all = all
 
 pub offer_is_right : (part : PartOf) (entries : List Entry) (tag : Tag) (offer : OfferOf) (outcome : Outcome) (evicted : Option KeyOf) (kept : List Entry)
-    → Keeps part entries → IsOpen part offer.moment → IsTaken part.snapshot.rules.capacity (next_number part) offer (reverse entries) outcome evicted kept
+    → Keeps part entries → IsOpen part offer.moment → IsTaken part.snapshot.rules.capacity (next_number part) offer entries outcome evicted kept
     → IsRight part.snapshot (past_of part) (Offered outcome tag offer evicted)
 offer_is_right part entries tag offer outcome evicted kept keeps open' taken =
     let same = keeps.contents.agree offer.key in
@@ -77,30 +73,30 @@ offer_is_right part entries tag offer outcome evicted kept keeps open' taken =
       right = record {
         timely = open'.moment;
         judged = taken.judged ∙ ap (λ h. verdict h offer) same;
-        entries = reverse entries;
+        entries = entries;
         contents = keeps.contents;
-        evicts = taken.evicts ∙ ap (λ h. evicted_by part.snapshot.rules.capacity (reverse entries) h outcome) same;
+        evicts = taken.evicts ∙ ap (λ h. evicted_by part.snapshot.rules.capacity entries h outcome) same;
       };
     }
 
 pub offer_keeps : (part : PartOf) (entries : List Entry) (tag : Tag) (offer : OfferOf) (outcome : Outcome) (evicted : Option KeyOf) (kept : List Entry)
-    → Keeps part entries → IsOpen part offer.moment → IsTaken part.snapshot.rules.capacity (next_number part) offer (reverse entries) outcome evicted (reverse kept)
+    → Keeps part entries → IsOpen part offer.moment → IsTaken part.snapshot.rules.capacity (next_number part) offer entries outcome evicted kept
     → Keeps (record { snapshot = part.snapshot; events = part.events ++ Offered outcome tag offer evicted ∷ [] }) kept
 offer_keeps part entries tag offer outcome evicted kept keeps open' taken =
     let event : Event = Offered outcome tag offer evicted in
-    let after = offer_contents part.snapshot (past_of part) tag offer outcome evicted (reverse entries) keeps.contents in
-    let left : List Entry = kept_after outcome offer (next_number part) evicted (reverse entries) in
+    let after = offer_contents part.snapshot (past_of part) tag offer outcome evicted entries keeps.contents in
+    let left : List Entry = kept_after outcome offer (next_number part) evicted entries in
     let contents : AreContents part.snapshot (event ∷ past_of part) left =
-    let P : ℕ → Type 0 = λ n. AreContents part.snapshot (event ∷ past_of part) (kept_after outcome offer n evicted (reverse entries)) in subst P (number-of part) after in
-    let few : length (kept_after outcome offer (next_number part) (evicted_by part.snapshot.rules.capacity (reverse entries) (entry_at offer.key (reverse entries)) outcome) (reverse entries)) ≤ part.snapshot.rules.capacity =
-    length-kept_after part.snapshot.rules.capacity (entry_at offer.key (reverse entries)) outcome offer (next_number part) (reverse entries)
-    part.snapshot.rules.some_capacity (omega (arith, length-reverse entries, keeps.room)) refl in
+    let P : ℕ → Type 0 = λ n. AreContents part.snapshot (event ∷ past_of part) (kept_after outcome offer n evicted entries) in subst P (number-of part) after in
+    let few : length (kept_after outcome offer (next_number part) (evicted_by part.snapshot.rules.capacity entries (entry_at offer.key entries) outcome) entries) ≤ part.snapshot.rules.capacity =
+    length-kept_after part.snapshot.rules.capacity (entry_at offer.key entries) outcome offer (next_number part) entries
+    part.snapshot.rules.some_capacity keeps.room refl in
     let few' : length left ≤ part.snapshot.rules.capacity =
-    let P : Option KeyOf → Type 0 = λ e. length (kept_after outcome offer (next_number part) e (reverse entries)) ≤ part.snapshot.rules.capacity in subst P (sym taken.evicts) few in
-    adds_keeps part event kept keeps.sound open'.room (offer_is_right part entries tag offer outcome evicted (reverse kept) keeps open' taken)
+    let P : Option KeyOf → Type 0 = λ e. length (kept_after outcome offer (next_number part) e entries) ≤ part.snapshot.rules.capacity in subst P (sym taken.evicts) few in
+    adds_keeps part event kept keeps.sound open'.room (offer_is_right part entries tag offer outcome evicted kept keeps open' taken)
     (let P : List Entry → Type 0 = AreContents part.snapshot (event ∷ past_of part) in subst P (sym taken.left) contents)
-    (fits_reversed part.snapshot.rules.capacity kept left taken.left few')
-    (let P : List Entry → Type 0 = AllByRecursion IsTimely in subst P (sym taken.left) (timely_kept_after outcome offer (next_number part) evicted (reverse entries) open'.moment keeps.timely))
+    (let P : List Entry → Type 0 = λ es. length es ≤ part.snapshot.rules.capacity in subst P (sym taken.left) few')
+    (let P : List Entry → Type 0 = AllByRecursion IsTimely in subst P (sym taken.left) (timely_kept_after outcome offer (next_number part) evicted entries open'.moment keeps.timely))
 
 -- what an event that was written says, and what the part keeps after it
 pub record IsDone (part new : PartOf) (event : Event) (kept : List Entry) : Type 0 where
@@ -116,8 +112,8 @@ done_with part event kept right keeps = record {
 }
 
 pub offer_done : (part : PartOf) (entries : List Entry) (tag : Tag) (offer : OfferOf) (outcome : Outcome) (evicted : Option KeyOf) (kept : List Entry)
-    → Keeps part entries → IsOpen part offer.moment → IsTaken part.snapshot.rules.capacity (next_number part) offer (reverse entries) outcome evicted (reverse kept)
+    → Keeps part entries → IsOpen part offer.moment → IsTaken part.snapshot.rules.capacity (next_number part) offer entries outcome evicted kept
     → IsDone part (record { snapshot = part.snapshot; events = part.events ++ Offered outcome tag offer evicted ∷ [] }) (Offered outcome tag offer evicted) kept
 offer_done part entries tag offer outcome evicted kept keeps open' taken =
-    done_with part (Offered outcome tag offer evicted) kept (offer_is_right part entries tag offer outcome evicted (reverse kept) keeps open' taken)
+    done_with part (Offered outcome tag offer evicted) kept (offer_is_right part entries tag offer outcome evicted kept keeps open' taken)
     (offer_keeps part entries tag offer outcome evicted kept keeps open' taken)

@@ -1,8 +1,7 @@
+pub mod Paired
 pub mod Turned
 pub mod Timely
-pub mod Promoting
+pub mod Placing
 pub mod Keeping
 pub mod Answering
 pub mod Sweeping
-mod Standing
-mod Placing

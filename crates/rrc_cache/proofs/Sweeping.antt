@@ -1,10 +1,8 @@
 -- What a part keeps after a sweep.
-use Rattle.std.proofs.Common.{◌≡◌, ℕ, List, [], ◌∷◌, ◌++◌, reverse, Bool, true, false, not, refl, sym, ap, subst, ◌∙◌, arith}
-use Rattle.std.specs.Prelude.{map, filter}
+use Rattle.std.proofs.Common.{◌≡◌, ℕ, List, [], ◌∷◌, ◌++◌, length, ◌≤◌, ◌||◌, None, Bool, true, false, refl, sym, ap, subst, ◌∙◌, arith}
+use Rattle.std.specs.Prelude.{filter}
 use Rattle.std.specs.List.{AllByRecursion, dedup}
-use Rattle.std.proofs.lemmas.List.{length-reverse}
 use Rattle.std.proofs.lemmas.List.Kept.{Contains-dedup, Contains-from_dedup}
-use Rattle.std.proofs.lemmas.List.Sorted.{IsPermutation-reverse, IsPermutation-map, list_any-IsPermutation}
 use Rattle.std.proofs.lemmas.Map.Views.{Contains-from_any, list_any-from_Contains}
 use Rattle.rrc_name.specs.Key.{KeyOf, key_eq}
 use Rattle.rrc_name.specs.lemmas.KeyLaws.{key_eq-laws, key_eq-same}
@@ -12,18 +10,17 @@ use Rattle.rrc_history.specs.declared.event.Event.{Event}
 use Rattle.rrc_history.specs.declared.event.Event.TheVariants.{Swept}
 use Rattle.rrc_history.specs.declared.event.Tag.{Tag}
 use Rattle.rrc_history.specs.declared.snapshot.Entry.{Entry}
-use Rattle.rrc_history.specs.Lives.{IsTimely, is_dead}
+use Rattle.rrc_history.specs.Lives.{IsTimely}
 use Rattle.rrc_history.specs.Past.{entry_at, is_among, number_after, AreContents}
 use Rattle.rrc_history.specs.Right.{IsRight, is_swept}
-use Rattle.rrc_history.specs.Entries.{staying, AreApart, living, keys_of_dead}
+use Rattle.rrc_history.specs.Entries.{staying, goes, AreApart, living}
 use Rattle.rrc_history.specs.lemmas.OfferLaws.{length-staying_le}
 use Rattle.rrc_history.specs.lemmas.Apart.{falls_apart}
 use Rattle.rrc_history.specs.lemmas.SweepLaws.{keys_of_dead-found, living-staying, sweep_contents}
 use Rattle.rrc_cache.specs.Part.{PartOf, past_of, IsOpen, Keeps}
 use Rattle.rrc_cache.specs.Taken.{AreDeadKeys}
 use Rattle.rrc_cache.proofs.Timely.{timely_staying}
-use Rattle.rrc_cache.proofs.Turned.{filter-reverse}
-use Rattle.rrc_cache.proofs.Keeping.{IsDone, done_with, adds_keeps, number-of, fits_reversed}
+use Rattle.rrc_cache.proofs.Keeping.{IsDone, done_with, adds_keeps, number-of}
 
 -- ---- the keys
 
@@ -43,30 +40,50 @@ among-dedup key keys = by (is_among key keys) refl (is_among key (dedup key_eq k
         sym stood ∙ was
     by false was false is = refl
 
--- the same keys are dead from either end
-pub keys_of_dead-reverse : (stale moment : ℕ) (key : KeyOf) (entries : List Entry)
-    → is_among key (keys_of_dead stale moment entries) ≡ is_among key (keys_of_dead stale moment (reverse entries))
-keys_of_dead-reverse stale moment key entries =
-    let dead : List Entry = filter (λ (entry : Entry). is_dead stale entry moment) entries in
-    list_any-IsPermutation (key_eq key) (map (λ (entry : Entry). entry.key) dead) (map (λ (entry : Entry). entry.key) (reverse dead))
-    (IsPermutation-map (λ (entry : Entry). entry.key) dead (reverse dead) (IsPermutation-reverse dead))
-    ∙ ap (λ es. is_among key (map (λ (entry : Entry). entry.key) es)) (sym (filter-reverse (λ (entry : Entry). is_dead stale entry moment) entries))
+-- ---- the entries
+
+-- the entries that stay where one more key goes
+pub staying_more : (gone : List KeyOf) (key : KeyOf) (entries : List Entry)
+    → staying (goes key None) (staying (λ k. is_among k gone) entries) ≡ staying (λ k. is_among k (gone ++ key ∷ [])) entries
+staying_more gone key [] = refl
+staying_more gone key (entry ∷ entries) =
+    by (is_among entry.key gone) refl (key_eq key entry.key) refl (more gone) (staying_more gone key entries)
+  where
+    more : (keys : List KeyOf) → is_among entry.key (keys ++ key ∷ []) ≡ (is_among entry.key keys || key_eq key entry.key)
+    more [] = or_false (key_eq entry.key key) ∙ key_eq-laws.symm entry.key key
+      where
+        or_false : (b : Bool) → (b || false) ≡ b
+        or_false true = refl
+        or_false false = refl
+    more (first ∷ keys) = ap (λ b. key_eq entry.key first || b) (more keys) ∙ or_assoc (key_eq entry.key first) (is_among entry.key keys) (key_eq key entry.key)
+      where
+        or_assoc : (a b c : Bool) → (a || (b || c)) ≡ ((a || b) || c)
+        or_assoc true b c = refl
+        or_assoc false b c = refl
+
+    by : (was : Bool) → is_among entry.key gone ≡ was → (same : Bool) → key_eq key entry.key ≡ same
+        → is_among entry.key (gone ++ key ∷ []) ≡ (is_among entry.key gone || key_eq key entry.key)
+        → staying (goes key None) (staying (λ k. is_among k gone) entries) ≡ staying (λ k. is_among k (gone ++ key ∷ [])) entries
+        → staying (goes key None) (staying (λ k. is_among k gone) (entry ∷ entries)) ≡ staying (λ k. is_among k (gone ++ key ∷ [])) (entry ∷ entries)
+    by true is same at both rest = let now : is_among entry.key (gone ++ key ∷ []) ≡ true = both ∙ ap (λ b. b || key_eq key entry.key) is in rw (is, now) rest
+    by false is true at both rest =
+        let now : is_among entry.key (gone ++ key ∷ []) ≡ true = both ∙ (ap (λ b. b || key_eq key entry.key) is ∙ at) in
+        rw (is, now, filter) (rw at rest)
+    by false is false at both rest =
+        let now : is_among entry.key (gone ++ key ∷ []) ≡ false = both ∙ (ap (λ b. b || key_eq key entry.key) is ∙ at) in
+        rw (is, now, filter) (rw at (ap (λ es. entry ∷ es) rest))
 
 -- ---- the part
 
-pub living-reverse : (stale moment : ℕ) (entries : List Entry) → reverse (living stale moment entries) ≡ living stale moment (reverse entries)
-living-reverse stale moment entries = sym (filter-reverse (λ (entry : Entry). not (is_dead stale entry moment)) entries)
-
 pub sweep_done : (part : PartOf) (entries : List Entry) (tag : Tag) (moment : ℕ) (gone : List KeyOf) (kept : List Entry)
-    → Keeps part entries → IsOpen part moment → AreDeadKeys part.snapshot.rules.stale moment entries gone → kept ≡ living part.snapshot.rules.stale moment entries
+    → Keeps part entries → IsOpen part moment → AreDeadKeys part.snapshot.rules.stale moment entries gone → kept ≡ staying (λ key. is_among key gone) entries
     → IsDone part (record { snapshot = part.snapshot; events = part.events ++ Swept tag moment gone ∷ [] }) (Swept tag moment gone) kept
 sweep_done part entries tag moment gone kept keeps open' dead is =
     let event : Event = Swept tag moment gone in
     let stale : ℕ = part.snapshot.rules.stale in
     let out : KeyOf → Bool = λ key. is_among key gone in
-    let apart : AreApart (reverse entries) = falls_apart part.snapshot (past_of part) (number_after part.snapshot (past_of part)) (reverse entries) keeps.contents.falling in
-    let listed : (key : KeyOf) → is_among key gone ≡ is_swept stale (entry_at key (reverse entries)) moment =
-    λ key. dead.dead key ∙ (keys_of_dead-reverse stale moment key entries ∙ keys_of_dead-found stale moment key (reverse entries) apart) in
+    let apart : AreApart entries = falls_apart part.snapshot (past_of part) (number_after part.snapshot (past_of part)) entries keeps.contents.falling in
+    let listed : (key : KeyOf) → is_among key gone ≡ is_swept stale (entry_at key entries) moment = λ key. dead.dead key ∙ keys_of_dead-found stale moment key entries apart in
     let right : IsRight part.snapshot (past_of part) event = record {
       numbered = omega (arith, number-of part, open'.room.number);
       right = record {
@@ -75,12 +92,11 @@ sweep_done part entries tag moment gone kept keeps open' dead is =
         dead = λ key. listed key ∙ ap (λ found. is_swept stale found moment) (keeps.contents.agree key);
       };
     } in
-    let left : List Entry = living stale moment (reverse entries) in
-    let turned : reverse kept ≡ left = ap reverse is ∙ living-reverse stale moment entries in
-    let stays : reverse kept ≡ staying out (reverse entries) = turned ∙ living-staying stale moment out (reverse entries) apart listed in
+    let lives : kept ≡ living stale moment entries = is ∙ sym (living-staying stale moment out entries apart listed) in
+    let few : length (staying out entries) ≤ part.snapshot.rules.capacity = omega (arith, length-staying_le out entries, keeps.room) in
     done_with part event kept right
     (adds_keeps part event kept keeps.sound open'.room right
     (let P : List Entry → Type 0 = AreContents part.snapshot (event ∷ past_of part) in
-    subst P (sym turned) (sweep_contents part.snapshot (past_of part) tag moment gone (reverse entries) keeps.contents apart listed))
-    (fits_reversed part.snapshot.rules.capacity kept (staying out (reverse entries)) stays (omega (arith, length-staying_le out (reverse entries), length-reverse entries, keeps.room)))
-    (let P : List Entry → Type 0 = AllByRecursion IsTimely in subst P (sym stays) (timely_staying out (reverse entries) keeps.timely)))
+    subst P (sym lives) (sweep_contents part.snapshot (past_of part) tag moment gone entries keeps.contents apart listed))
+    (let P : List Entry → Type 0 = λ es. length es ≤ part.snapshot.rules.capacity in subst P (sym is) few)
+    (let P : List Entry → Type 0 = AllByRecursion IsTimely in subst P (sym is) (timely_staying out entries keeps.timely)))

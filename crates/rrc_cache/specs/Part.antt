@@ -83,9 +83,9 @@ pub record IsSound (part : PartOf) : Type 0 where
   pub few : length part.events ≤ part.snapshot.rules.chapter
   pub numbered : next_number part ≤ 2 ^ 62
 
--- a part keeps what its history says, the key touched last at the end
+-- a part keeps what its history says, the key touched last first
 pub record Keeps (part : PartOf) (entries : List Entry) : Type 0 where
   pub sound : IsSound part
-  pub contents : AreContents part.snapshot (past_of part) (reverse entries)
+  pub contents : AreContents part.snapshot (past_of part) entries
   pub room : length entries ≤ part.snapshot.rules.capacity
-  pub timely : AllByRecursion IsTimely (reverse entries)
+  pub timely : AllByRecursion IsTimely entries

@@ -2,8 +2,9 @@ ghost use Rattle.std.specs.Prelude.{◌≡◌, ◌<◌, ◌≤◌, ◌↔◌, �
 
 use crate::refusal::Refusal;
 use crate::reply::ReplyRef;
+use crate::store::Store;
 use crate::{answer, entries, found, judge, sweep};
-use rrc_history::{Ask, Entry, Event, LAST_MOMENT, Offer, Outcome, Reply, Rules, Snapshot, Tag};
+use rrc_history::{Ask, Event, LAST_MOMENT, Offer, Outcome, Reply, Rules, Snapshot, Tag};
 use rrc_name::Sequence;
 use std::alloc::Global;
 use std::marker::Model;
@@ -17,8 +18,8 @@ const SPENT: u64 = 1 << 62;
 pub struct Part {
     snapshot: Snapshot,
     events: Vec<Event>,
-    /// What is kept, the key touched last at the end.
-    entries: Vec<Entry>,
+    /// What is kept, the key touched last first.
+    store: Store,
 }
 
 impl Model for Part {
@@ -28,7 +29,7 @@ impl Model for Part {
 
     ghost view = { λ p. record { snapshot = p.snapshot; events = p.events.items } };
 
-    ghost invariant = { λ p. Keeps (record { snapshot = p.snapshot; events = p.events.items }) p.entries.items };
+    ghost invariant = { λ p. Keeps (record { snapshot = p.snapshot; events = p.events.items }) p.store };
 }
 
 impl Part {
@@ -49,7 +50,7 @@ impl Part {
                 entries: Sequence::new(alloc),
             },
             events: Vec::new(alloc),
-            entries: Vec::new(alloc),
+            store: Store::new(alloc)?,
         })
     }
 
@@ -82,7 +83,7 @@ impl Part {
         ensures { reply_in result ≡ reply_to self.now.snapshot (past_of self.now) ask.now }
     {
         judge::judge(
-            found::look_up(self.entries.as_slice(), ask),
+            found::look_up(&self.store, ask),
             ask,
             self.snapshot.rules.stale,
         )
@@ -101,7 +102,7 @@ impl Part {
         let number = self.next_number();
         self.events.reserve(1)?;
         let (outcome, evicted) = entries::take(
-            &mut self.entries,
+            &mut self.store,
             &offer,
             number,
             self.snapshot.rules.capacity,
@@ -123,14 +124,14 @@ impl Part {
     {
         self.admit(ask.moment)?;
         let stale = self.snapshot.rules.stale;
-        let (reply, asked, place) = answer::answer(self.entries.as_slice(), ask, stale)?;
+        let (reply, asked, slot) = answer::answer(&self.store, ask, stale)?;
         let event = Event::Asked {
             tag,
             ask: asked,
             reply: reply.clone()?,
         };
         self.events.reserve(1)?;
-        answer::touch(&mut self.entries, place);
+        answer::touch(&mut self.store, ask, slot);
         self.events.push_reserved(event);
         Ok(reply)
     }
@@ -144,14 +145,9 @@ impl Part {
     {
         self.admit(moment)?;
         let stale = self.snapshot.rules.stale;
-        let gone = sweep::dead_keys(
-            *self.entries.allocator(),
-            self.entries.as_slice(),
-            stale,
-            moment,
-        )?;
+        let gone = sweep::dead_keys(*self.events.allocator(), &self.store, stale, moment)?;
         self.events.reserve(1)?;
-        sweep::remove_dead(&mut self.entries, stale, moment);
+        sweep::remove(&mut self.store, gone.as_slice());
         let removed = gone.len();
         self.events.push_reserved(Event::Swept {
             tag,

@@ -2,32 +2,12 @@ ghost use Rattle.std.specs.Prelude.{◌≡◌, ◌≤◌, IfOk};
 ghost use Rattle.std.specs.List.Sorted.{IsStrictlySortedBy};
 ghost use Rattle.rrc_name.specs.Key.{KeyOf, key_order};
 ghost use Rattle.rrc_history.specs.Past.{is_among};
-ghost use Rattle.rrc_history.specs.Entries.{living, keys_of_dead};
+ghost use Rattle.rrc_history.specs.Entries.{staying};
 ghost use Rattle.rrc_cache.specs.Taken.{AreDeadKeys};
 
-use crate::judge;
-use rrc_history::Entry;
-use rrc_name::Key;
+use crate::store::Store;
+use rrc_name::{Key, KeyRef};
 use std::alloc::{AllocError, Global};
-
-/// The keys of the dead entries, as these stand.
-fn keys_of_dead(
-    alloc: Global,
-    entries: &[Entry],
-    stale: u64,
-    moment: u64,
-) -> Result<Vec<Key>, AllocError>
-    requires { stale ≤ 604800 }
-    ensures { IfOk result (λ keys. keys.items ≡ keys_of_dead stale moment entries.now) }
-{
-    let mut keys = Vec::new(alloc);
-    for entry in entries {
-        if judge::is_dead(entry, stale, moment) {
-            keys.push(entry.key.clone()?)?;
-        }
-    }
-    Ok(keys)
-}
 
 /// Puts keys into their order, each once. It takes no memory.
 fn put_in_order(keys: &mut Vec<Key>)
@@ -41,24 +21,25 @@ fn put_in_order(keys: &mut Vec<Key>)
 /// The keys of the dead entries, in the order of keys.
 pub(crate) fn dead_keys(
     alloc: Global,
-    entries: &[Entry],
+    store: &Store,
     stale: u64,
     moment: u64,
 ) -> Result<Vec<Key>, AllocError>
     requires { stale ≤ 604800 }
-    ensures { IfOk result (λ keys. AreDeadKeys stale moment entries.now keys.items) }
+    ensures { IfOk result (λ keys. AreDeadKeys stale moment store.now keys.items) }
 {
-    let mut keys = keys_of_dead(alloc, entries, stale, moment)?;
+    let mut keys = store.keys_of_dead(alloc, stale, moment)?;
     put_in_order(&mut keys);
     Ok(keys)
 }
 
-/// Removes the dead entries. It takes no memory.
-pub(crate) fn remove_dead(entries: &mut Vec<Entry>, stale: u64, moment: u64)
-    requires { stale ≤ 604800 }
-    ensures { entries.new.items ≡ living stale moment entries.old.items }
+/// Removes the entries of keys. It takes no memory.
+pub(crate) fn remove(store: &mut Store, keys: &[Key])
+    ensures { store.new ≡ staying (λ key. is_among key keys.now) store.old }
 {
-    entries.retain(|entry| !judge::is_dead(entry, stale, moment));
+    for key in keys {
+        store.remove(KeyRef::of(key));
+    }
 }
 
 #[cfg(test)]

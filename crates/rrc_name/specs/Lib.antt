@@ -5,4 +5,5 @@ pub mod Text
 pub mod Reading
 pub mod WireFault
 pub mod Key
+pub mod KeyRef
 pub mod lemmas

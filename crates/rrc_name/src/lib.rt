@@ -3,6 +3,7 @@
 
 mod fault;
 mod key;
+mod key_ref;
 mod label;
 mod laws;
 mod name;
@@ -25,6 +26,7 @@ mod wire;
 
 pub use fault::{NameFault, WireNameFault};
 pub use key::Key;
+pub use key_ref::KeyRef;
 pub use laws::{one_name_or_fault, one_wire_form_or_fault, reading_undoes_printing};
 pub use name::Name;
 pub use octets::Octets;

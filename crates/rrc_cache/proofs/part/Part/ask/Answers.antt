@@ -1,18 +1,11 @@
-use Rattle.std.proofs.Common.{refl, ◌≡◌, sym, ◌∙◌, subst, ◌++◌, ◌∷◌, [], List, reverse}
+use Rattle.std.proofs.Common.{refl, ◌≡◌, sym, ◌∙◌, subst, ◌++◌, ◌∷◌, [], List}
 use Rattle.rrc_history.specs.declared.event.Event.{Event}
 use Rattle.rrc_history.specs.declared.event.Event.TheVariants.{Asked}
-use Rattle.rrc_history.specs.lemmas.Apart.{falls_apart}
-use Rattle.rrc_history.specs.Past.{number_after}
-use Rattle.rrc_cache.specs.Part.{PartOf, past_of, IsOpen}
+use Rattle.rrc_cache.specs.Part.{PartOf, IsOpen}
 use Rattle.rrc_cache.specs.Taken.{IsAnswered}
 use Rattle.rrc_cache.proofs.Keeping.{IsDone}
 use Rattle.rrc_cache.proofs.Answering.{ask_done}
 use Rattle.rrc_cache.proofs.part.Part.ask.Goals as goal
-
-pub touch-requires-clause-apart : goal.touch-requires-clause-apart
-touch-requires-clause-apart c =
-    let part : PartOf = record { snapshot = c.self.inside.snapshot; events = c.self.inside.events.items } in
-    falls_apart part.snapshot (past_of part) (number_after part.snapshot (past_of part)) (reverse c.self.inside.entries.items) c.self.invariant.contents.falling
 
 -- the part as it was, and as it is
 abbrev before : goal.After-push_reserved → PartOf
@@ -24,16 +17,15 @@ after c = record { snapshot = c.self.inside.snapshot; events = c.push_reserved.n
 abbrev event : goal.After-push_reserved → Event
 event c = Asked c.args.tag c.args.ask.now c.in_ok-reply.reply
 
-done : (c : goal.After-push_reserved) → IsDone (before c) (after c) (event c) c.touch.new.entries.items
+done : (c : goal.After-push_reserved) → IsDone (before c) (after c) (event c) c.touch.new.store
 done c =
     let open' : IsOpen (before c) c.args.ask.now.moment = rw (c.self.view_is, ← c.ask.view_is) (c.in_ok-admit.ensures.due) in
-    let answered : IsAnswered c.self.inside.snapshot.rules.stale c.args.ask.now c.self.inside.entries.items c.in_ok-reply.reply c.in_ok-reply.place =
-    rw (← c.as_slice.ensures.value) (c.in_ok-reply.ensures.answered) in
+    let answered : IsAnswered c.self.inside.snapshot.rules.stale c.args.ask.now c.self.inside.store c.in_ok-reply.reply c.in_ok-reply.slot = c.in_ok-reply.ensures.answered in
     let written : c.push_reserved.new.self.items ≡ c.self.inside.events.items ++ event c ∷ [] =
     c.push_reserved.ensures.items ∙ rw (c.reserve.ensures.items, c.in_ok-clone.ensures.cases, c.in_ok-reply.ensures.asked) refl in
-    let P : List Event → Type 0 = λ events. IsDone (before c) (record { snapshot = c.self.inside.snapshot; events = events }) (event c) c.touch.new.entries.items in
+    let P : List Event → Type 0 = λ events. IsDone (before c) (record { snapshot = c.self.inside.snapshot; events = events }) (event c) c.touch.new.store in
     subst P (sym written)
-    (ask_done (before c) c.self.inside.entries.items c.args.tag c.args.ask.now c.in_ok-reply.reply c.in_ok-reply.place c.touch.new.entries.items c.self.invariant open' answered c.touch.ensures)
+    (ask_done (before c) c.self.inside.store c.args.tag c.args.ask.now c.in_ok-reply.reply c.in_ok-reply.slot c.touch.new.store c.self.invariant open' answered c.touch.ensures)
 
 pub invariant_of-self-2 : goal.invariant_of-self-2
 invariant_of-self-2 c = (done c).keeps

@@ -2,4 +2,4 @@ use Rattle.rrc_cache.proofs.Keeping.{empty_keeps}
 use Rattle.rrc_cache.proofs.part.Part.new.Goals as goal
 
 pub invariant_of-result : goal.invariant_of-result
-invariant_of-result c = rw (c.new.ensures, c.new-2.ensures.items, c.new-3.ensures.items) (empty_keeps c.args.rules)
+invariant_of-result c = rw (c.new.ensures, c.new-2.ensures.items, c.in_ok-new.ensures) (empty_keeps c.args.rules)

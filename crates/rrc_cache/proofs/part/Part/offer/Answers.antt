@@ -1,4 +1,4 @@
-use Rattle.std.proofs.Common.{◌≡◌, ℕ, sym, ap, ◌∙◌, subst, ◌++◌, ◌∷◌, [], List, reverse}
+use Rattle.std.proofs.Common.{◌≡◌, ℕ, sym, ap, ◌∙◌, subst, ◌++◌, ◌∷◌, [], List}
 use Rattle.rrc_history.specs.declared.event.Event.{Event}
 use Rattle.rrc_history.specs.declared.event.Event.TheVariants.{Offered}
 use Rattle.rrc_cache.specs.Part.{PartOf, next_number, IsOpen}
@@ -16,18 +16,18 @@ after c = record { snapshot = c.self.inside.snapshot; events = c.push_reserved.n
 abbrev event : goal.After-push_reserved → Event
 event c = Offered c.in_ok-outcome.outcome c.args.tag c.args.offer c.in_ok-outcome.evicted
 
-done : (c : goal.After-push_reserved) → IsDone (before c) (after c) (event c) c.take.new.entries.items
+done : (c : goal.After-push_reserved) → IsDone (before c) (after c) (event c) c.take.new.store
 done c =
     let open' : IsOpen (before c) c.args.offer.moment = rw (c.self.view_is, ← c.offer.view_is) (c.in_ok-admit.ensures.due) in
     let number : c.next_number-number.result ≡ next_number (before c) = c.next_number-number.ensures ∙ ap next_number (sym c.self.view_is) in
     let T : ℕ → Type 0 =
-    λ n. IsTaken c.self.inside.snapshot.rules.capacity n c.args.offer (reverse c.self.inside.entries.items) c.in_ok-outcome.outcome c.in_ok-outcome.evicted (reverse c.take.new.entries.items) in
+    λ n. IsTaken c.self.inside.snapshot.rules.capacity n c.args.offer c.self.inside.store c.in_ok-outcome.outcome c.in_ok-outcome.evicted c.take.new.store in
     let taken : T (next_number (before c)) = subst T number (c.in_ok-outcome.ensures.ok) in
     let written : c.push_reserved.new.self.items ≡ c.self.inside.events.items ++ event c ∷ [] =
     c.push_reserved.ensures.items ∙ ap (λ events. events ++ event c ∷ []) c.reserve.ensures.items in
-    let P : List Event → Type 0 = λ events. IsDone (before c) (record { snapshot = c.self.inside.snapshot; events = events }) (event c) c.take.new.entries.items in
+    let P : List Event → Type 0 = λ events. IsDone (before c) (record { snapshot = c.self.inside.snapshot; events = events }) (event c) c.take.new.store in
     subst P (sym written)
-    (offer_done (before c) c.self.inside.entries.items c.args.tag c.args.offer c.in_ok-outcome.outcome c.in_ok-outcome.evicted c.take.new.entries.items c.self.invariant open' taken)
+    (offer_done (before c) c.self.inside.store c.args.tag c.args.offer c.in_ok-outcome.outcome c.in_ok-outcome.evicted c.take.new.store c.self.invariant open' taken)
 
 pub invariant_of-self-2 : goal.invariant_of-self-2
 invariant_of-self-2 c = (done c).keeps

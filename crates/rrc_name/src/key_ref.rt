@@ -1,0 +1,126 @@
+use crate::key::Key;
+use crate::name::Name;
+use crate::slot::Slot;
+use std::alloc::AllocError;
+use std::collections::hash_map::Equivalent;
+use std::hash::{Hash, Hasher};
+
+/// A key that is looked up: a folded name that belongs to somebody else, and a slot of it. It finds what is kept under the
+/// key in a map, without a key of its own.
+#[derive(Debug)]
+pub struct KeyRef<'a> {
+    pub name: &'a Name,
+    pub slot: Slot,
+}
+
+impl<'a> KeyRef<'a> {
+    ghost use Rattle.std.specs.Prelude.{◌≡◌};
+    ghost use Rattle.rrc_name.specs.KeyRef.{key_of};
+
+    /// The key itself, to look up with.
+    pub fn of(key: &'a Key) -> KeyRef<'a>
+        ensures value { key_of result ≡ key.now }
+    {
+        KeyRef {
+            name: &key.name,
+            slot: key.slot,
+        }
+    }
+}
+
+impl Clone for KeyRef<'_> {
+    ghost use Rattle.std.specs.Prelude.{◌≡◌, ⊤};
+
+    ghost is_clone = { λ a b. b ≡ a };
+
+    ghost is_infallible = { λ _. ⊤ };
+
+    fn clone(&self) -> Result<Self, AllocError> {
+        Ok(*self)
+    }
+}
+
+impl Copy for KeyRef<'_> {}
+
+impl PartialEq for KeyRef<'_> {
+    ghost use Rattle.rrc_name.specs.Key.{key_eq};
+    ghost use Rattle.rrc_name.specs.KeyRef.{key_of};
+    ghost use Rattle.rrc_name.specs.lemmas.KeyLaws.{key_eq-laws};
+    ghost use Rattle.std.specs.Cmp.{partial_equiv_from_equiv, on_equiv};
+
+    ghost eq = { λ a b. key_eq (key_of a) (key_of b) };
+
+    ghost laws = { partial_equiv_from_equiv (on_equiv key_of key_eq-laws) };
+
+    fn eq(&self, other: &Self) -> bool {
+        *self.name == *other.name && self.slot == other.slot
+    }
+}
+
+impl Eq for KeyRef<'_> {
+    ghost use Rattle.rrc_name.specs.KeyRef.{key_of};
+    ghost use Rattle.rrc_name.specs.lemmas.KeyLaws.{key_eq-laws};
+    ghost use Rattle.std.specs.Cmp.{on_equiv};
+
+    ghost laws = { on_equiv key_of key_eq-laws };
+}
+
+impl Hash for KeyRef<'_> {
+    ghost use Rattle.rrc_name.specs.Key.{key_hash};
+    ghost use Rattle.rrc_name.specs.KeyRef.{key_of};
+    ghost use Rattle.rrc_name.specs.lemmas.KeyLaws.{key_hash-alike};
+
+    ghost hash_input = { λ k. key_hash (key_of k) };
+
+    ghost respects_eq = { λ a b. key_hash-alike.fed (key_of a) (key_of b) };
+
+    fn hash<H: Hasher>(&self, state: &mut H) {
+        self.name.hash(state);
+        self.slot.hash(state);
+    }
+}
+
+impl Equivalent<Key> for KeyRef<'_> {
+    ghost use Rattle.rrc_name.specs.Key.{key_eq};
+    ghost use Rattle.rrc_name.specs.KeyRef.{key_of};
+    ghost use Rattle.rrc_name.specs.lemmas.KeyLaws.{key_eq-laws, key_hash-alike};
+
+    ghost equivalent = { λ wanted key. key_eq (key_of wanted) key };
+
+    ghost respects_hash = { λ wanted key. key_hash-alike.fed (key_of wanted) key };
+
+    ghost respects_eq = { λ wanted a b. key_eq-laws.congr (key_of wanted) a b };
+
+    fn equivalent(&self, key: &Key) -> bool {
+        *self.name == key.name && self.slot == key.slot
+    }
+}
+
+#[cfg(test)]
+mod tests {
+    use super::*;
+    use lru::LruCache;
+    use std::num::NonZeroUsize;
+    use std::test::Fail;
+
+    #[test]
+    fn finds_what_its_key_finds(rt: HostRuntime) -> Result<(), Fail> {
+        let (low, other) = (
+            Name::from_text(rt.alloc(), "a.example")?,
+            Name::from_text(rt.alloc(), "b.example")?,
+        );
+        let key = Key::of(&Name::from_text(rt.alloc(), "A.example")?, Slot::Nx)?;
+        let room = NonZeroUsize::new(2).ok_or("no room")?;
+        let mut cache = LruCache::new(rt.alloc(), room)?;
+        cache.put(key.clone()?, 1)?;
+        for (name, slot, held) in [
+            (&low, Slot::Nx, Some(1)),
+            (&low, Slot::Set(0), None),
+            (&other, Slot::Nx, None),
+        ] {
+            assert_eq!(rt; cache.peek(KeyRef { name, slot }).copied(), held);
+        }
+        assert_eq!(rt; cache.peek(KeyRef::of(&key)).copied(), Some(1));
+        Ok(())
+    }
+}
