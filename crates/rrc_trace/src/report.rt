@@ -1,10 +1,11 @@
-ghost use Rattle.std.specs.Prelude.{◌≡◌, IfOk};
+ghost use Rattle.std.specs.Prelude.{◌≡◌, ◌++◌, IfOk, OnOk};
 ghost use Rattle.std.specs.String.{string_bytes};
+ghost use Rattle.rrc_name.specs.Text.{text_of};
 ghost use Rattle.rrc_trace.specs.Report.{outcome_text, item_text, items_text, set_text, soa_text, slot_text, key_text, told_text, outcomes_text, offers_text, reply_text, answer_text, line_text, report_text};
 
 use crate::answer::{Answer, Told};
 use rrc_history::{Outcome, Reply, RrSet, Soa};
-use rrc_name::{Key, Octets, Slot};
+use rrc_name::{Key, Name, Octets, Slot};
 use std::alloc::{AllocError, Global};
 
 fn outcome_word(outcome: Outcome) -> &'static str
@@ -17,167 +18,175 @@ fn outcome_word(outcome: Outcome) -> &'static str
     }
 }
 
-fn slot_text(alloc: Global, slot: Slot) -> Result<String, AllocError>
-    ensures { IfOk result (λ text. string_bytes text ≡ slot_text slot) }
+fn push_name(text: &mut String, name: &Name) -> Result<(), AllocError>
+    ensures { OnOk result (string_bytes text.new ≡ string_bytes text.old ++ text_of name.now) }
+{
+    text.push_str(name.to_text()?.as_str())
+}
+
+fn push_slot(text: &mut String, slot: Slot) -> Result<(), AllocError>
+    ensures { OnOk result (string_bytes text.new ≡ string_bytes text.old ++ slot_text slot) }
 {
     match slot {
-        Slot::Set(rtype) => format!(in alloc; "{rtype}"),
-        Slot::Nx => String::from_str(alloc, "nx"),
-        Slot::Failed(rtype) => format!(in alloc; "failed{rtype}"),
+        Slot::Set(rtype) => write!(text, "{rtype}"),
+        Slot::Nx => text.push_str("nx"),
+        Slot::Failed(rtype) => write!(text, "failed{rtype}"),
     }
 }
 
 /// A key: its name and its slot.
-fn key_text(alloc: Global, key: &Key) -> Result<String, AllocError>
-    ensures { IfOk result (λ text. string_bytes text ≡ key_text key.now) }
+fn push_key(text: &mut String, key: &Key) -> Result<(), AllocError>
+    ensures { OnOk result (string_bytes text.new ≡ string_bytes text.old ++ key_text key.now) }
 {
-    let name = key.name.to_text()?;
-    let slot = slot_text(alloc, key.slot)?;
-    format!(in alloc; "{name}/{slot}")
+    push_name(text, &key.name)?;
+    text.push('/')?;
+    push_slot(text, key.slot)
 }
 
 /// What became of an offer, and the key that it evicted.
-fn told_text(alloc: Global, told: &Told) -> Result<String, AllocError>
-    ensures { IfOk result (λ text. string_bytes text ≡ told_text told.now) }
+fn push_told(text: &mut String, told: &Told) -> Result<(), AllocError>
+    ensures { OnOk result (string_bytes text.new ≡ string_bytes text.old ++ told_text told.now) }
 {
-    let word = outcome_word(told.outcome);
+    text.push_str(outcome_word(told.outcome))?;
     match &told.evicted {
-        None => String::from_str(alloc, word),
+        None => Ok(()),
         Some(key) => {
-            let key = key_text(alloc, key)?;
-            format!(in alloc; "{word}-out:{key}")
+            text.push_str("-out:")?;
+            push_key(text, key)
         }
     }
 }
 
 /// Octets in hexadecimal, or a dash for none.
-fn item_text(alloc: Global, item: &Octets) -> Result<String, AllocError>
-    ensures { IfOk result (λ text. string_bytes text ≡ item_text item.now) }
+fn push_item(text: &mut String, item: &Octets) -> Result<(), AllocError>
+    ensures { OnOk result (string_bytes text.new ≡ string_bytes text.old ++ item_text item.now) }
 {
     if item.is_empty() {
-        String::from_str(alloc, "-")
+        text.push('-')
     } else {
-        hex::encode(alloc, item.as_slice())
+        text.push_str(hex::encode(item.alloc(), item.as_slice())?.as_str())
     }
 }
 
 /// Items with a comma between two.
-pub(crate) fn items_text(alloc: Global, items: &[Octets]) -> Result<String, AllocError>
-    ensures { IfOk result (λ text. string_bytes text ≡ items_text items.now) }
+pub(crate) fn push_items(text: &mut String, items: &[Octets]) -> Result<(), AllocError>
+    ensures { OnOk result (string_bytes text.new ≡ string_bytes text.old ++ items_text items.now) }
 {
     let Some((first, others)) = items.split_first() else {
-        return Ok(String::new(alloc));
+        return Ok(());
     };
-    let mut text = item_text(alloc, first)?;
+    push_item(text, first)?;
     for item in others {
-        text.push_str(",")?;
-        text.push_str(item_text(alloc, item)?.as_str())?;
+        text.push(',')?;
+        push_item(text, item)?;
     }
-    Ok(text)
+    Ok(())
 }
 
 /// The time that a set has to live, its owner and its data.
-fn set_text(alloc: Global, set: &RrSet, left: u32) -> Result<String, AllocError>
-    ensures { IfOk result (λ text. string_bytes text ≡ set_text set.now left) }
+fn push_set(text: &mut String, set: &RrSet, left: u32) -> Result<(), AllocError>
+    ensures { OnOk result (string_bytes text.new ≡ string_bytes text.old ++ set_text set.now left) }
 {
-    let owner = set.owner.to_text()?;
-    let items = items_text(alloc, set.items.as_slice())?;
-    format!(in alloc; "{left} {owner} {items}")
+    write!(text, "{left} ")?;
+    push_name(text, &set.owner)?;
+    text.push(' ')?;
+    push_items(text, set.items.as_slice())
 }
 
 /// The time that a negative answer has to live, and the owner and the data of its SOA record.
-fn soa_text(alloc: Global, soa: &Soa, left: u32) -> Result<String, AllocError>
-    ensures { IfOk result (λ text. string_bytes text ≡ soa_text soa.now left) }
+fn push_soa(text: &mut String, soa: &Soa, left: u32) -> Result<(), AllocError>
+    ensures { OnOk result (string_bytes text.new ≡ string_bytes text.old ++ soa_text soa.now left) }
 {
-    let owner = soa.owner.to_text()?;
-    let octets = item_text(alloc, &soa.octets)?;
-    format!(in alloc; "{left} {owner} {octets}")
+    write!(text, "{left} ")?;
+    push_name(text, &soa.owner)?;
+    text.push(' ')?;
+    push_item(text, &soa.octets)
 }
 
-fn reply_text(alloc: Global, reply: &Reply) -> Result<String, AllocError>
-    ensures { IfOk result (λ text. string_bytes text ≡ reply_text reply.now) }
+fn push_reply(text: &mut String, reply: &Reply) -> Result<(), AllocError>
+    ensures { OnOk result (string_bytes text.new ≡ string_bytes text.old ++ reply_text reply.now) }
 {
     match reply {
         Reply::Fresh { set, left } => {
-            let set = set_text(alloc, set, *left)?;
-            format!(in alloc; "fresh {set}")
+            text.push_str("fresh ")?;
+            push_set(text, set, *left)
         }
         Reply::Stale { set, left } => {
-            let set = set_text(alloc, set, *left)?;
-            format!(in alloc; "stale {set}")
+            text.push_str("stale ")?;
+            push_set(text, set, *left)
         }
         Reply::NoData { soa, left } => {
-            let soa = soa_text(alloc, soa, *left)?;
-            format!(in alloc; "nodata {soa}")
+            text.push_str("nodata ")?;
+            push_soa(text, soa, *left)
         }
         Reply::NxDomain { soa, left } => {
-            let soa = soa_text(alloc, soa, *left)?;
-            format!(in alloc; "nxdomain {soa}")
+            text.push_str("nxdomain ")?;
+            push_soa(text, soa, *left)
         }
-        Reply::Miss { retry_from: None } => String::from_str(alloc, "miss"),
+        Reply::Miss { retry_from: None } => text.push_str("miss"),
         Reply::Miss {
             retry_from: Some(moment),
-        } => format!(in alloc; "miss {moment}"),
+        } => write!(text, "miss {moment}"),
     }
 }
 
 /// What became of offers, each behind a space.
-fn outcomes_text(alloc: Global, offers: &[Told]) -> Result<String, AllocError>
-    ensures { IfOk result (λ text. string_bytes text ≡ outcomes_text offers.now) }
+fn push_outcomes(text: &mut String, offers: &[Told]) -> Result<(), AllocError>
+    ensures { OnOk result (string_bytes text.new ≡ string_bytes text.old ++ outcomes_text offers.now) }
 {
-    let mut text = String::new(alloc);
     for told in offers {
-        text.push_str(" ")?;
-        text.push_str(told_text(alloc, told)?.as_str())?;
+        text.push(' ')?;
+        push_told(text, told)?;
     }
-    Ok(text)
+    Ok(())
 }
 
 /// How many offers there were, and what became of each.
-fn offers_text(alloc: Global, offers: &[Told]) -> Result<String, AllocError>
-    ensures { IfOk result (λ text. string_bytes text ≡ offers_text offers.now) }
+fn push_offers(text: &mut String, offers: &[Told]) -> Result<(), AllocError>
+    ensures { OnOk result (string_bytes text.new ≡ string_bytes text.old ++ offers_text offers.now) }
 {
     let count = offers.len();
-    let outcomes = outcomes_text(alloc, offers)?;
-    format!(in alloc; "{count}{outcomes}")
+    write!(text, "{count}")?;
+    push_outcomes(text, offers)
 }
 
-fn answer_text(alloc: Global, answer: &Answer) -> Result<String, AllocError>
-    ensures { IfOk result (λ text. string_bytes text ≡ answer_text answer.now) }
+fn push_answer(text: &mut String, answer: &Answer) -> Result<(), AllocError>
+    ensures { OnOk result (string_bytes text.new ≡ string_bytes text.old ++ answer_text answer.now) }
 {
     match answer {
         Answer::Put(told) => {
-            let told = told_text(alloc, told)?;
-            format!(in alloc; "put {told}")
+            text.push_str("put ")?;
+            push_told(text, told)
         }
         Answer::Fail(told) => {
-            let told = told_text(alloc, told)?;
-            format!(in alloc; "fail {told}")
+            text.push_str("fail ")?;
+            push_told(text, told)
         }
         Answer::Response(offers) => {
-            let offers = offers_text(alloc, offers.as_slice())?;
-            format!(in alloc; "response {offers}")
+            text.push_str("response ")?;
+            push_offers(text, offers.as_slice())
         }
         Answer::Refused(fault) => {
             let number = fault.number();
-            format!(in alloc; "response refused {number}")
+            write!(text, "response refused {number}")
         }
         Answer::Swept(removed) => {
             let removed = *removed;
-            format!(in alloc; "sweep {removed}")
+            write!(text, "sweep {removed}")
         }
         Answer::Ask(reply) => {
-            let reply = reply_text(alloc, reply)?;
-            format!(in alloc; "ask {reply}")
+            text.push_str("ask ")?;
+            push_reply(text, reply)
         }
     }
 }
 
-fn line_text(alloc: Global, number: u64, answer: &Answer) -> Result<String, AllocError>
-    ensures { IfOk result (λ text. string_bytes text ≡ line_text number answer.now) }
+fn push_line(text: &mut String, number: u64, answer: &Answer) -> Result<(), AllocError>
+    ensures { OnOk result (string_bytes text.new ≡ string_bytes text.old ++ line_text number answer.now) }
 {
-    let answer = answer_text(alloc, answer)?;
-    format!(in alloc; "{number} {answer}\n")
+    write!(text, "{number} ")?;
+    push_answer(text, answer)?;
+    text.push('\n')
 }
 
 /// The text of a report: a line for each answer, numbered from 0.
@@ -186,7 +195,7 @@ pub fn report_text(alloc: Global, answers: &[Answer]) -> Result<String, AllocErr
 {
     let mut text = String::new(alloc);
     for (number, answer) in answers.iter().enumerate() {
-        text.push_str(line_text(alloc, number as u64, answer)?.as_str())?;
+        push_line(&mut text, number as u64, answer)?;
     }
     Ok(text)
 }

@@ -100,7 +100,8 @@ fn items_of_types(rt: HostRuntime) -> Result<(), Fail> {
         let trace = read_trace(alloc, &mut text.as_bytes())?;
         match trace.lines.iter().next() {
             Some(Line::Put(put)) => {
-                let read = report::items_text(alloc, put.items.as_slice())?;
+                let mut read = String::new(alloc);
+                report::push_items(&mut read, put.items.as_slice())?;
                 assert_eq!(rt; read.as_str(), wanted);
             }
             _ => Err("the line is a put")?,
