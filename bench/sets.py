@@ -1,0 +1,174 @@
+#!/usr/bin/env python3
+"""Times what a message offers: usual messages, and hostile ones of growing size, whose sets and data are made to be sought for long.
+
+Build the program first, by `rt run` in crates/bench_sets. Each number is the least of RUNS runs, since all else that runs only adds to it, in
+microseconds of processor time for the offers of one message, which is read beforehand. Behind each time of a hostile message stands how
+many times that of half its size it is, and last how many times on the mean; the exit status is 1 where one such mean is more than MOST.
+"""
+import argparse
+import pathlib
+import struct
+import subprocess
+import sys
+import tempfile
+
+PROGRAM = pathlib.Path(__file__).resolve().parent.parent / "crates" / "bench_sets" / "out" / "bench_sets"
+QUESTION = bytes.fromhex("0161076578616d706c650000010001")
+# The names of the question, a.example., and of its zone, as pointers to them.
+ASKED, ZONE = bytes.fromhex("c00c"), bytes.fromhex("c00e")
+A, NS, CNAME, SOA, PTR, MINFO = 1, 2, 5, 6, 12, 14
+# A name of 251 octets, so that one more label of three letters before it makes one of 255, and the question for it.
+LONG = b"".join(bytes([size]) + size * b"x" for size in (63, 63, 63, 57)) + bytes(1)
+LONG_QUESTION = LONG + bytes.fromhex("00010001")
+LETTERS = "abcdefghijklmnopqrstuvwxyz0123456789"
+
+
+def record(owner, rtype, rdata):
+    """A record of class IN that lives for a minute."""
+    return owner + struct.pack(">HHIH", rtype, 1, 60, len(rdata)) + rdata
+
+
+def label(text):
+    return bytes([len(text)]) + text.encode()
+
+
+def numbered(number):
+    """A label of three letters and digits for each number."""
+    return label(LETTERS[number // 1296 % 36] + LETTERS[number // 36 % 36] + LETTERS[number % 36])
+
+
+def address(number):
+    return struct.pack(">I", 0x0A000000 + number)
+
+
+def message(answer, authority=(), additional=(), rcode=0, question=QUESTION):
+    counts = [len(section) for section in (answer, authority, additional)]
+    records = b"".join([*answer, *authority, *additional])
+    return struct.pack(">6H", 0x1234, 0x8400 + rcode, 1, *counts) + question + records
+
+
+def one():
+    """One address."""
+    return message([record(ASKED, A, address(1))])
+
+
+def ten():
+    """Ten addresses of one name."""
+    return message([record(ASKED, A, address(number)) for number in range(10)])
+
+
+def referral():
+    """Two name servers, with two addresses each."""
+    servers = [label(f"ns{number}") + ZONE for number in (1, 2)]
+    glue = [record(server, A, address(number)) for server in servers for number in (1, 2)]
+    return message([], [record(ZONE, NS, server) for server in servers], glue)
+
+
+def nxdomain():
+    """That there is no such name, with the SOA record."""
+    numbers = struct.pack(">5I", 1, 3600, 600, 604800, 300)
+    return message([], [record(ZONE, SOA, ZONE + ZONE + numbers)], rcode=3)
+
+
+def filled(size, make, question=QUESTION):
+    """A message of no more than `size` octets with as many records as it holds, each made of its number."""
+    records = []
+    left = size - 12 - len(question)
+    while left >= len(made := make(len(records))):
+        records.append(made)
+        left -= len(made)
+    return message(records, question=question)
+
+
+def addresses(size):
+    """Addresses of one name: one set of many data."""
+    return filled(size, lambda number: record(ASKED, A, address(number)))
+
+
+def owners(size):
+    """A set of one address for each of many names."""
+    return filled(size, lambda number: record(numbered(number) + ZONE, A, address(1)))
+
+
+def long_owners(size):
+    """The same, with names of 255 octets that differ in their first label alone."""
+    return filled(size, lambda number: record(numbered(number) + ASKED, A, address(1)), LONG_QUESTION)
+
+
+def types(size):
+    """A set of no octets for each of many types of one name."""
+    return filled(size, lambda number: record(ASKED, 256 + number, b""))
+
+
+def spellings(size):
+    """Name servers of one name whose data differ in the case of letters alone: one set with one datum."""
+
+    def spelled(number):
+        return "".join(letter.upper() if number >> place & 1 else letter for place, letter in enumerate("abcdefghijklmnop"))
+
+    return filled(size, lambda number: record(ASKED, NS, label(spelled(number)) + ZONE))
+
+
+def pointers(size):
+    """Names that one name points to: one set of many data of a name each."""
+    return filled(size, lambda number: record(ASKED, PTR, numbered(number) + ZONE))
+
+
+def mailboxes(size):
+    """The same of two names each, with 506 octets or so: the first name is one for all of them."""
+    return filled(size, lambda number: record(ASKED, MINFO, ASKED + numbered(number) + ASKED), LONG_QUESTION)
+
+
+def chain(size):
+    """A chain of aliases, each to the next one."""
+    return filled(size, lambda number: record(numbered(number) + ZONE, CNAME, numbered(number + 1) + ZONE))
+
+
+def aliases(size):
+    """Aliases of one name, each to another one."""
+    return filled(size, lambda number: record(ASKED, CNAME, numbered(number) + ZONE))
+
+
+def nanoseconds(path, passes):
+    """Runs the program once, and answers how long it took for one message."""
+    done = subprocess.run([PROGRAM, str(passes), path], capture_output=True, text=True, check=True)
+    return int(done.stderr) / passes
+
+
+def microseconds(octets, runs, enough):
+    """The least of some runs, each of as many passes as take long enough."""
+    with tempfile.TemporaryDirectory() as folder:
+        path = pathlib.Path(folder) / "message"
+        path.write_text(octets.hex() + "\n")
+        passes = max(1, int(enough * 1e9 / max(nanoseconds(path, 1), 100)))
+        return min(nanoseconds(path, passes) for _ in range(runs)) / 1000
+
+
+def main():
+    parser = argparse.ArgumentParser(description=__doc__.splitlines()[0])
+    parser.add_argument("--runs", type=int, default=9, help="runs of each (default 9)")
+    parser.add_argument("--seconds", type=float, default=0.05, help="seconds of a run, about (default 0.05)")
+    parser.add_argument("--most", type=float, default=2.6, help="the most that a time may grow by for twice the octets, on the mean (default 2.6)")
+    parser.add_argument("--sizes", type=int, nargs="+", default=[8192, 16384, 32768, 65535], help="octets of the hostile messages, two sizes at least and each twice the one before")
+    args = parser.parse_args()
+    if not PROGRAM.exists():
+        sys.exit("build the program first: `rt run` in crates/bench_sets")
+    for make in (one, ten, referral, nxdomain):
+        print(f"{make.__name__:12}{microseconds(make(), args.runs, args.seconds):10.2f}")
+    print(" " * 12 + "".join(f"{size:>10,}{'':8}" for size in args.sizes) + "  mean")
+    worst = 0
+    for make in (addresses, owners, long_owners, types, spellings, pointers, mailboxes, chain, aliases):
+        line, times = f"{make.__name__:12}", []
+        for size in args.sizes:
+            times.append(microseconds(make(size), args.runs, args.seconds))
+            line += f"{times[-1]:10,.0f}" + (f" ({times[-1] / times[-2]:4.2f})" if times[1:] else "").ljust(8)
+        grown = (times[-1] / times[0]) ** (1 / (len(times) - 1))
+        worst = max(worst, grown)
+        print(f"{line}{grown:6.2f}", flush=True)
+    print(f"for twice the octets {worst:.2f} times as long, at most")
+    if worst > args.most:
+        sys.exit(f"that is more than {args.most} times")
+
+
+if __name__ == "__main__":
+    main()
