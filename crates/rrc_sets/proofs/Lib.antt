@@ -1,5 +1,6 @@
 pub mod Growing
 pub mod Places
+pub mod Finding
 pub mod Chains
 pub mod NameLemmas
 pub mod Fitting

@@ -10,7 +10,7 @@ use Rattle.rrc_sets.specs.Gathering.{holds, alone, grown, with_record}
 abbrev pub takes : Rr → SetOf → Bool
 takes rr set = holds set rr
 
-at_place : (rr : Rr) (sets : List SetOf) (d : SetOf) → position_or_len (takes rr) sets < length sets
+pub at_place : (rr : Rr) (sets : List SetOf) (d : SetOf) → position_or_len (takes rr) sets < length sets
     → with_record sets rr ≡ slice_set sets (position_or_len (takes rr) sets) (grown (get_or sets (position_or_len (takes rr) sets) d) rr)
 unfolding with_record
 at_place rr [] d inside = absurd (omega arith)
@@ -25,7 +25,7 @@ at_place rr (set ∷ sets) d inside =
           rw one (ap (λ more. set ∷ more) (further (omega arith)))
     ] inside
 
-no_place : (rr : Rr) (sets : List SetOf) → length sets ≤ position_or_len (takes rr) sets → with_record sets rr ≡ sets ++ alone rr ∷ []
+pub no_place : (rr : Rr) (sets : List SetOf) → length sets ≤ position_or_len (takes rr) sets → with_record sets rr ≡ sets ++ alone rr ∷ []
 unfolding with_record
 no_place rr [] past = refl
 no_place rr (set ∷ sets) past =

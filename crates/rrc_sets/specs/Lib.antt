@@ -9,3 +9,4 @@ pub mod Denials
 pub mod Offers
 pub mod Gathering
 pub mod Same
+pub mod Trees

@@ -9,8 +9,11 @@ mod name;
 mod parts;
 mod rank;
 mod reply;
+mod section;
 mod set;
 mod times;
+mod trees;
+mod walks;
 
 pub use fault::SetsFault;
 pub use limits::Limits;

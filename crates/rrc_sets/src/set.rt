@@ -1,8 +1,7 @@
-ghost use Rattle.std.specs.Prelude.{◌≡◌, ◌++◌, ◌<◌, OnOk, IfOk, IfSome, position, length};
+ghost use Rattle.std.specs.Prelude.{◌≡◌, OnOk, IfOk, not};
 ghost use Rattle.std.specs.List.{list_any};
 ghost use Rattle.rrc_wire.specs.Same.{same_rdata};
-ghost use Rattle.rrc_sets.specs.Sets.{sets_of};
-ghost use Rattle.rrc_sets.specs.Gathering.{holds, alone, grown, with_record};
+ghost use Rattle.rrc_sets.specs.Gathering.{holds, alone, grown};
 
 use rrc_name::{Name, Octets, Sequence};
 use rrc_wire::{Rr, same_rdata};
@@ -33,7 +32,7 @@ impl Model for Set {
 
 impl Set {
     /// The set of one record.
-    fn alone(alloc: Global, rr: &Rr) -> Result<Set, AllocError>
+    pub(crate) fn alone(alloc: Global, rr: &Rr) -> Result<Set, AllocError>
         ensures { IfOk result (λ set. set ≡ alone rr.now) }
     {
         let mut items = Sequence::new(alloc);
@@ -49,7 +48,7 @@ impl Set {
     }
 
     /// Whether a record is one of the set.
-    fn holds(&self, rr: &Rr) -> bool
+    pub(crate) fn holds(&self, rr: &Rr) -> bool
         ensures { result ≡ holds self.now rr.now }
     {
         self.rtype == rr.rtype && self.owner.same(&rr.owner)
@@ -64,44 +63,23 @@ impl Set {
             .any(|item| same_rdata(self.rtype, item.as_slice(), rdata))
     }
 
-    /// Takes one more record: its data where they are new, and its time to live in any case.
-    fn grow(&mut self, rr: &Rr) -> Result<(), AllocError>
+    /// Takes one more record, of which is known whether its data are new: these where they are, and its time to live in any case.
+    pub(crate) fn take(&mut self, rr: &Rr, is_new: bool) -> Result<(), AllocError>
+        requires { is_new ≡ not (list_any (λ item. same_rdata self.old.rtype item rr.now.rdata) self.old.items) }
         ensures { OnOk result (self.new ≡ grown self.old rr.now) }
     {
-        if !self.has(rr.rdata.as_slice()) {
+        if is_new {
             self.items.push(rr.rdata.clone()?)?;
         }
         self.ttls.push(rr.ttl)?;
         Ok(())
     }
-}
 
-/// The place of the set that a record is one of.
-fn place_of(sets: &[Set], rr: &Rr) -> Option<usize>
-    ensures place { result ≡ position (λ set. holds set rr.now) sets.now }
-    ensures inside { IfSome result (λ place. place < length sets.now) }
-{
-    sets.iter().position(|set| set.holds(rr))
-}
-
-/// Puts a record into its set, or else into one of its own behind the others.
-fn put(alloc: Global, sets: &mut Vec<Set>, rr: &Rr) -> Result<(), AllocError>
-    ensures { OnOk result (sets.new.items ≡ with_record sets.old.items rr.now) }
-{
-    match place_of(sets.as_slice(), rr) {
-        Some(place) => sets[place].grow(rr)?,
-        None => sets.push(Set::alone(alloc, rr)?)?,
+    /// Takes one more record, of which is not known whether its data are new.
+    pub(crate) fn grow(&mut self, rr: &Rr) -> Result<(), AllocError>
+        ensures { OnOk result (self.new ≡ grown self.old rr.now) }
+    {
+        let is_new = !self.has(rr.rdata.as_slice());
+        self.take(rr, is_new)
     }
-    Ok(())
-}
-
-/// The sets of a section's records (RFC 2181 section 5), in order of their first records.
-pub(crate) fn sets_of(alloc: Global, records: &[Rr]) -> Result<Vec<Set>, AllocError>
-    ensures { IfOk result (λ sets. sets.items ≡ sets_of records.now) }
-{
-    let mut sets = Vec::new(alloc);
-    for rr in records {
-        put(alloc, &mut sets, rr)?;
-    }
-    Ok(sets)
 }

@@ -2,7 +2,7 @@ use Rattle.std.proofs.Common.{◌≡◌, ◌++◌, [], ◌∷◌, Some, None, po
 use Rattle.std.specs.List.{slice_set}
 use Rattle.rrc_sets.specs.Gathering.{grown}
 use Rattle.rrc_sets.proofs.Places.{takes, with_record-Some, with_record-None}
-use Rattle.rrc_sets.proofs.set.put.Goals as goal
+use Rattle.rrc_sets.proofs.walks.put.Goals as goal
 
 pub returns-in_ok-grow-in-Some : goal.returns-in_ok-grow-in-Some
 returns-in_ok-grow-in-Some c =
