@@ -74,9 +74,9 @@ def filled(size, make, question=QUESTION):
     """A message of no more than `size` octets with as many records as it holds, each made of its number."""
     records = []
     left = size - 12 - len(question)
-    while left >= len(one := make(len(records))):
-        records.append(one)
-        left -= len(one)
+    while left >= len(made := make(len(records))):
+        records.append(made)
+        left -= len(made)
     return message(records, question=question)
 
 
