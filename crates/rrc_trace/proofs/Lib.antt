@@ -1,3 +1,5 @@
+pub mod CutLemmas
+pub mod AheadLemmas
 pub mod NumberLemmas
 pub mod ItemLemmas
 pub mod SaidLemmas

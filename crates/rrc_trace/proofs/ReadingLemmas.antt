@@ -2,7 +2,7 @@
 use Rattle.std.proofs.Common.{◌≡◌, ◌≢◌, ℕ, suc, ◌+◌, ◌-◌, ◌<◌, ◌≤◌, List, [], ◌∷◌, ◌++◌, length, take, get_or, Option, Some, None, Result, Ok, Err, true, false, refl, sym, ap, subst, ◌∙◌, arith, append_assoc, length-append, length-take, nat_le, ◌==◌, Bool, cond, slice_index, zero}
 use Rattle.std.specs.Prelude.{⊤}
 use Rattle.std.specs.List.{All}
-use Rattle.std.specs.Io.KnownBytes.{IsAtEnd, Consumes}
+use Rattle.std.specs.Io.KnownBytes.{IsAtEnd, Keeps, prepend_known}
 use Rattle.std.proofs.lemmas.Bool.Decides.{nat_tests}
 use Rattle.std.proofs.lemmas.List.{append-nil}
 use Rattle.std.proofs.lemmas.List.Elements.{All-nil, All-push}
@@ -98,7 +98,7 @@ reads_last (Some octets) (Some rest) (octet ∷ piece) read some =
     let whole : octets ≡ octet ∷ piece = read.0 ∙ ap (λ r. (octet ∷ piece) ++ r) read.1.1 ∙ append-nil (octet ∷ piece) in
     ap pieces_of whole ∙ pieces_of-last octet piece read.1.0 ∙ ap (λ ps. (octet ∷ piece) ∷ ps) (sym (ap pieces_of read.1.1))
 
-pub IsReadTo-none : (all : Option (List ℕ)) → IsReadTo all all [] 0
+pub IsReadTo-none : (all : Option (List ℕ)) → IsReadTo all (prepend_known [] all) [] 0
 IsReadTo-none None = tt
 IsReadTo-none (Some all) =
     elim (trace_of all) as (λ said. lines_behind [] said ≡ said) [ Ok lines ↦ refl | Err fault ↦ refl ]
@@ -145,21 +145,23 @@ ends (Some all) None lines number read end few = absurd read
 ends (Some all) (Some rest) lines number read end few =
     trace_of-says all lines (sym read ∙ ap (λ r. lines_behind lines (lines_from number (pieces_of r))) end ∙ ap wrapped (append-nil lines))
 
--- an octet is left behind the last line that a trace may have
-pub goes_on : (all old new : Option (List ℕ)) (octet : ℕ) (lines : List Line) (number : ℕ) → MOST_LINES ≤ number → IsReadTo all old lines number
-    → Consumes old new (octet ∷ []) → IsFaultOfTrace all faults.TooManyLines
-goes_on None old new octet lines number many read took = tt
-goes_on (Some all) None new octet lines number many read took = absurd read
-goes_on (Some all) (Some octets) None octet lines number many read took = absurd took
-goes_on (Some all) (Some octets) (Some rest) octet lines number many read took =
-    trace_of-many all (sym read ∙ ap (λ o. lines_behind lines (lines_from number (pieces_of o))) took ∙ too_many lines number octet rest many)
+-- octets are left behind the last line that a trace may have
+pub goes_on : (all old known : Option (List ℕ)) (ahead : List ℕ) (lines : List Line) (number : ℕ) → MOST_LINES ≤ number → IsReadTo all old lines number
+    → Keeps old (prepend_known ahead known) → 0 < length ahead → IsFaultOfTrace all faults.TooManyLines
+goes_on None old known ahead lines number many read kept some = tt
+goes_on (Some all) None known ahead lines number many read kept some = absurd read
+goes_on (Some all) (Some octets) None ahead lines number many read kept some = absurd kept
+goes_on (Some all) (Some octets) (Some rest) [] lines number many read kept some = absurd (omega arith)
+goes_on (Some all) (Some octets) (Some rest) (octet ∷ ahead) lines number many read kept some =
+    trace_of-many all
+    (sym read ∙ ap (λ o. lines_behind lines (lines_from number (pieces_of o))) (sym kept) ∙ too_many lines number octet (ahead ++ rest) many)
 
--- no octet is left
-pub no_octet : (all old new : Option (List ℕ)) (lines : List Line) (number : ℕ) → IsReadTo all old lines number → Consumes old new [] → IsReadTo all new lines number
-no_octet None old new lines number read took = tt
-no_octet (Some all) None new lines number read took = absurd read
-no_octet (Some all) (Some octets) None lines number read took = absurd took
-no_octet (Some all) (Some octets) (Some rest) lines number read took = ap (λ o. lines_behind lines (lines_from number (pieces_of o))) (sym took) ∙ read
+-- what is left to read stays
+pub stays : (all old new : Option (List ℕ)) (lines : List Line) (number : ℕ) → IsReadTo all old lines number → Keeps old new → IsReadTo all new lines number
+stays None old new lines number read kept = tt
+stays (Some all) None new lines number read kept = absurd read
+stays (Some all) (Some octets) None lines number read kept = absurd kept
+stays (Some all) (Some octets) (Some rest) lines number read kept = ap (λ o. lines_behind lines (lines_from number (pieces_of o))) kept ∙ read
 
 -- an octet of an unended piece
 unended-at : (piece : List ℕ) (place : ℕ) → IsUnended piece → place < length piece → get_or piece place 0 ≢ 10
@@ -252,7 +254,7 @@ pub record IsReadSoFar (all now : Option (List ℕ)) (lines : List Line) (number
   pub lawful : All IsLawful lines
   pub count : length lines ≡ number
 
-pub so_far_none : (all : Option (List ℕ)) → IsReadSoFar all all [] 0
+pub so_far_none : (all : Option (List ℕ)) → IsReadSoFar all (prepend_known [] all) [] 0
 so_far_none all = record { read = IsReadTo-none all; lawful = All-nil IsLawful; count = refl }
 
 pub so_far_more : (all old new : Option (List ℕ)) (lines : List Line) (number : ℕ) (piece : List ℕ) (line : Line) → number < MOST_LINES

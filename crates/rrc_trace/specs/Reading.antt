@@ -1,5 +1,5 @@
--- Reading a trace, octet by octet.
-use Rattle.std.specs.Prelude.{◌≡◌, ◌≢◌, ◌<◌, ℕ, List, [], ◌∷◌, ◌++◌, length, ⊤, Option, Some, None, IfSome, Result, Ok, Err}
+-- Reading a trace, piece by piece.
+use Rattle.std.specs.Prelude.{◌≡◌, ◌≢◌, ◌<◌, ◌≤◌, ℕ, Bool, true, false, List, [], ◌∷◌, ◌++◌, length, ⊤, Option, Some, None, IfSome, Result, Ok, Err}
 use Rattle.std.specs.Io.KnownBytes.{IsAtEnd}
 use Rattle.std.specs.List.{AllByRecursion}
 use Rattle.rrc_trace.specs.declared.fault.ReplayFault.{ReplayFault}
@@ -12,6 +12,20 @@ use Rattle.rrc_trace.specs.Trace.{TraceOf, IsFirstFault}
 -- no octet ends a line
 abbrev pub IsUnended : List ℕ → Type 0
 IsUnended octets = AllByRecursion (λ octet. octet ≢ 10) octets
+
+-- octets cut behind an LF, or with none
+abbrev pub IsCut : Bool → List ℕ → Type 0
+IsCut true octets = (front : List ℕ) × IsUnended front × (octets ≡ front ++ 10 ∷ [])
+IsCut false octets = IsUnended octets
+
+-- octets in front of those ahead went behind those of a piece, and are cut behind an LF or have none
+pub record MovesPart (ahead left piece longer : List ℕ) (ended : Bool) : Type 0 where
+  pub part : List ℕ
+  pub taken : ahead ≡ part ++ left
+  pub moved : longer ≡ piece ++ part
+  pub some : 0 < length part
+  pub few : length longer ≤ 140001
+  pub cut : IsCut ended part
 
 -- how the piece ends: with its LF, with the trace, or nowhere as far as a line may go
 abbrev pub IsEndOf : Ending → List ℕ → List ℕ → Type 0

@@ -1,6 +1,7 @@
 //! Traces of cache operations and reports of their answers: reading the one, and writing the text of the other.
 #![tactic(auto)]
 
+mod ahead;
 mod answer;
 mod fault;
 mod field;

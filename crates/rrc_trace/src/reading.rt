@@ -1,33 +1,20 @@
-ghost use Rattle.std.specs.Prelude.{◌≡◌, Err, IfOk, IfErr, IfSome, IfNone, OnOk, OnErr, option_to_list};
-ghost use Rattle.std.specs.Io.KnownBytes.{Consumes, IsAtEnd};
+ghost use Rattle.std.specs.Prelude.{◌≡◌, ◌==◌, ◌<◌, ◌≤◌, length, position, take, vec_len, IfOk, IfErr, IfSome, OnOk};
+ghost use Rattle.std.specs.Io.KnownBytes.{IsAtEnd, prepend_known};
 ghost use Rattle.rrc_trace.specs.Lines.{line_of_piece};
 ghost use Rattle.rrc_trace.specs.Trace.{OneTraceOrFault};
-ghost use Rattle.rrc_trace.specs.Reading.{ReadsPiece, LeavesNothing, IsOfReading, GivesLine, IsTraceFrom, IsFaultOfTrace};
+ghost use Rattle.rrc_trace.specs.Reading.{IsCut, MovesPart, ReadsPiece, LeavesNothing, IsOfReading, GivesLine, IsTraceFrom, IsFaultOfTrace};
 
+use crate::ahead::Ahead;
 use crate::fault::ReplayFault;
 use crate::line::{Line, MOST_OCTETS, line_of_piece};
 use crate::line_fault::LineFault;
 use crate::trace::Trace;
 use rrc_name::Sequence;
-use std::alloc::Global;
+use std::alloc::{AllocError, Global};
 use std::io::Read;
 
 /// The most lines of a trace.
 const MOST_LINES: u64 = 1_000_000;
-
-/// The next octet, or nothing at the end. No read that failed is tried again.
-fn octet_from<R: Read>(reader: &mut R) -> Result<Option<u8>, ReplayFault>
-    ensures taken { IfOk result (λ octet. Consumes (R.remaining reader.old) (R.remaining reader.new) (option_to_list octet)) }
-    ensures end { IfOk result (λ octet. IfNone octet (IsAtEnd (R.remaining reader.new))) }
-    ensures err { OnErr result (result ≡ Err ReplayFault.Read) }
-{
-    let mut buffer = [0u8];
-    match reader.read(&mut buffer) {
-        Ok(0) => Ok(None),
-        Ok(_) => Ok(Some(buffer[0])),
-        Err(_) => Err(ReplayFault::Read),
-    }
-}
 
 /// How a piece of a trace ends.
 #[derive(Clone, Copy)]
@@ -40,22 +27,59 @@ pub(crate) enum Ending {
     Endless,
 }
 
+fn first_lf(octets: &[u8]) -> Option<usize>
+    ensures place { result ≡ position (λ octet. octet == 10) octets.now }
+    ensures inside { IfSome result (λ place. place < length octets.now) }
+{
+    octets.iter().position(|&octet| octet == b'\n')
+}
+
+/// The octets to the first LF and with it, or all where there is none, and whether there is one.
+fn cut(octets: &[u8]) -> (&[u8], bool)
+    ensures front { result.0.now ≡ take (length result.0.now) octets.now }
+    ensures cut { IsCut result.1 result.0.now }
+    ensures some { 0 < length octets.now → 0 < length result.0.now }
+    ensures inside { length result.0.now ≤ length octets.now }
+{
+    match first_lf(octets) {
+        Some(place) => (&octets[..=place], true),
+        None => (octets, false),
+    }
+}
+
+/// Moves octets from those ahead to a piece: to the first LF and with it, or all, but no more than one octet more than a line may
+/// have. Whether the LF came.
+fn move_part(ahead: &mut Ahead, piece: &mut Vec<u8>) -> Result<bool, AllocError>
+    requires some { 0 < length ahead.old }
+    requires room { vec_len piece.old ≤ 140000 }
+    ensures { IfOk result (MovesPart ahead.old ahead.new piece.old.items piece.new.items) }
+{
+    let octets = ahead.as_slice();
+    let room = MOST_OCTETS + 1 - piece.len();
+    let (part, ended) = cut(&octets[..octets.len().min(room)]);
+    piece.extend_from_slice(part)?;
+    let count = part.len();
+    ahead.take(count);
+    Ok(ended)
+}
+
 /// Reads the next piece into a buffer: with its LF, or to the end, or one octet more than a line may have.
-fn piece_from<R: Read>(reader: &mut R, piece: &mut Vec<u8>) -> Result<Ending, ReplayFault>
-    ensures ok { IfOk result (ReadsPiece (R.remaining reader.old) (R.remaining reader.new) piece.new.items) }
-    ensures last { IfOk result (LeavesNothing (R.remaining reader.new)) }
+fn piece_from<R: Read>(
+    reader: &mut R,
+    ahead: &mut Ahead,
+    piece: &mut Vec<u8>,
+) -> Result<Ending, ReplayFault>
+    ensures ok { IfOk result (ReadsPiece (prepend_known ahead.old (R.remaining reader.old)) (prepend_known ahead.new (R.remaining reader.new)) piece.new.items) }
+    ensures last { IfOk result (LeavesNothing (prepend_known ahead.new (R.remaining reader.new))) }
     ensures err { IfErr result IsOfReading }
 {
     piece.clear();
-    for _ in 0..=MOST_OCTETS {
-        match octet_from(reader)? {
-            Some(octet) => {
-                piece.push(octet)?;
-                if octet == b'\n' {
-                    return Ok(Ending::Lf);
-                }
-            }
-            None => return Ok(Ending::Last),
+    while piece.len() <= MOST_OCTETS {
+        if !ahead.has_more(reader)? {
+            return Ok(Ending::Last);
+        }
+        if move_part(ahead, piece)? {
+            return Ok(Ending::Lf);
         }
     }
     Ok(Ending::Endless)
@@ -72,19 +96,21 @@ fn line_at(alloc: Global, number: u64, piece: &[u8]) -> Result<Line, ReplayFault
     }
 }
 
-/// The trace that a reader gives, octet by octet, to its end.
+/// The trace that a reader gives, to its end.
 ///
 /// `BadLine(n)` where line n, from 0 on, is none; `TooManyLines` where an octet follows the millionth line, and the lines
-/// before it are lines; `Read` where a read failed before a fault of the text was met. The first fault is answered.
+/// before it are lines; `Read` where a read failed before a fault of the text was met. The first fault is answered. Octets behind a
+/// fault may have been read too.
 pub fn read_trace<R: Read>(alloc: Global, reader: &mut R) -> Result<Trace, ReplayFault>
     ensures ok { IfOk result (IsTraceFrom (R.remaining reader.old)) }
     ensures whole { OnOk result (IsAtEnd (R.remaining reader.new)) }
     ensures err { IfErr result (IsFaultOfTrace (R.remaining reader.old)) }
 {
     let mut lines = Sequence::new(alloc);
+    let mut ahead = Ahead::new(alloc)?;
     let mut piece = Vec::new(alloc);
     for number in 0..MOST_LINES {
-        match piece_from(reader, &mut piece)? {
+        match piece_from(reader, &mut ahead, &mut piece)? {
             Ending::Lf => lines.push(line_at(alloc, number, piece.as_slice())?)?,
             Ending::Last => {
                 let octets = piece.as_slice();
@@ -97,9 +123,10 @@ pub fn read_trace<R: Read>(alloc: Global, reader: &mut R) -> Result<Trace, Repla
             Ending::Endless => return Err(ReplayFault::BadLine(number)),
         }
     }
-    match octet_from(reader)? {
-        Some(_) => Err(ReplayFault::TooManyLines),
-        None => Ok(Trace { lines }),
+    if ahead.has_more(reader)? {
+        Err(ReplayFault::TooManyLines)
+    } else {
+        Ok(Trace { lines })
     }
 }
 

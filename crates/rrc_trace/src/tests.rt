@@ -197,6 +197,7 @@ fn readers_that_fail_once(rt: HostRuntime) -> Result<(), Fail> {
     for reads in 0..=text.len() {
         let mut reader = FailsOnce {
             octets: text,
+            most: 1,
             reads: Some(reads),
         };
         assert_eq!(rt;
@@ -210,12 +211,45 @@ fn readers_that_fail_once(rt: HostRuntime) -> Result<(), Fail> {
     // A bad line that was read comes before a later fault of reading.
     let mut reader = FailsOnce {
         octets: b"ask\nask 1",
+        most: 1,
         reads: Some(6),
     };
     assert_eq!(rt;
         read_trace(rt.alloc(), &mut reader).err(),
         Some(ReplayFault::BadLine(0))
     );
+    Ok(())
+}
+
+#[test]
+fn readers_of_any_chunk(rt: HostRuntime) -> Result<(), Fail> {
+    let text = b"sweep 10\r\nask 11 a 1 any none\nsweep 12";
+    for most in 1..=text.len() {
+        let mut reader = FailsOnce {
+            octets: text,
+            most,
+            reads: None,
+        };
+        let trace = read_trace(rt.alloc(), &mut reader)?;
+        assert_eq!(rt; trace.lines.len(), 3, "by {most}");
+    }
+    // A bad line that the first read gave whole comes before the fault of the second.
+    for (most, fault) in [
+        (3, ReplayFault::Read),
+        (4, ReplayFault::BadLine(0)),
+        (8, ReplayFault::BadLine(0)),
+    ] {
+        let mut reader = FailsOnce {
+            octets: b"ask\nask 1",
+            most,
+            reads: Some(1),
+        };
+        assert_eq!(rt;
+            read_trace(rt.alloc(), &mut reader).err(),
+            Some(fault),
+            "by {most}"
+        );
+    }
     Ok(())
 }
 

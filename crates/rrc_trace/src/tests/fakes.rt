@@ -22,10 +22,12 @@ impl Read for Endless {
     }
 }
 
-/// Gives octets one by one. One read fails, and those behind it go on.
+/// Gives octets a few at a time. One read fails, and those behind it go on.
 #[derive(Drop)]
 pub(super) struct FailsOnce<'a> {
     pub(super) octets: &'a [u8],
+    /// How many octets a read gives at most.
+    pub(super) most: usize,
     /// How many reads come before the one that fails, while that is to come.
     pub(super) reads: Option<usize>,
 }
@@ -37,15 +39,11 @@ impl Read for FailsOnce<'_> {
         if fails {
             return Err(io::Error::from(ErrorKind::Interrupted));
         }
-        let Some((first, others)) = self.octets.split_first() else {
-            return Ok(0);
-        };
-        if buf.is_empty() {
-            return Ok(0);
-        }
-        buf[0] = *first;
-        self.octets = others;
-        Ok(1)
+        let count = self.most.min(buf.len()).min(self.octets.len());
+        let (front, behind) = self.octets.split_at(count);
+        buf[..count].copy_from_slice(front);
+        self.octets = behind;
+        Ok(count)
     }
 }
 

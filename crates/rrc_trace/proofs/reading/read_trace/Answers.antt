@@ -1,14 +1,16 @@
 use Rattle.std.proofs.Common.{◌≡◌, ◌+◌, [], ◌∷◌, ◌++◌, sym, ◌∙◌, arith}
+use Rattle.std.specs.Io.KnownBytes.{prepend_known}
+use Rattle.rrc_trace.proofs.CutLemmas.{reader_at_end, at_end}
 use Rattle.std.proofs.lemmas.Result.{err_from_is_err_and}
-use Rattle.rrc_trace.proofs.ReadingLemmas.{so_far_none, so_far_more, are_lawful, reads_lf, reads_last, stops, ends, endless, goes_on, nothing, no_octet, no_octets, some_octets}
+use Rattle.rrc_trace.proofs.ReadingLemmas.{so_far_none, so_far_more, are_lawful, reads_lf, reads_last, stops, ends, endless, goes_on, nothing, no_octets, stays, some_octets}
 use Rattle.rrc_trace.proofs.reading.read_trace.Goals as goal
 
 pub returns-in_err-line_at-in-Lf-clause-err : goal.returns-in_err-line_at-in-Lf-clause-err
 returns-in_err-line_at-in-Lf-clause-err g c =
     let known = g.R.Read.remaining in
     let all = known c.args.reader.now in
-    let old = known c.loop-number.reader in
-    let new = known c.piece_from.new.reader in
+    let old = prepend_known c.loop-number.ahead (known c.loop-number.reader) in
+    let new = prepend_known c.piece_from.new.ahead (known c.piece_from.new.reader) in
     let piece = c.piece_from.new.piece.items in
     let was = rw c.in-Lf.is at c.in_ok-piece_from.ensures.ok in
     let given = rw c.as_slice.ensures.value at c.in_err-line_at-in-Lf.ensures in
@@ -19,8 +21,8 @@ pub loop-number-preserved : goal.loop-number-preserved
 loop-number-preserved g c =
     let known = g.R.Read.remaining in
     let all = known c.args.reader.now in
-    let old = known c.loop-number.reader in
-    let new = known c.piece_from.new.reader in
+    let old = prepend_known c.loop-number.ahead (known c.loop-number.reader) in
+    let new = prepend_known c.piece_from.new.ahead (known c.piece_from.new.reader) in
     let piece = c.piece_from.new.piece.items in
     let was = rw c.in-Lf.is at c.in_ok-piece_from.ensures.ok in
     let given = rw c.as_slice.ensures.value at c.in_ok-line_at-in-Lf.ensures in
@@ -31,15 +33,15 @@ pub returns-in-Endless-clause-err : goal.returns-in-Endless-clause-err
 returns-in-Endless-clause-err g c =
     let known = g.R.Read.remaining in
     let was = rw c.in-Endless.is at c.in_ok-piece_from.ensures.ok in
-    endless (known c.args.reader.now) (known c.loop-number.reader) (known c.piece_from.new.reader) c.loop-number.lines c.loop-number.number
+    endless (known c.args.reader.now) (prepend_known c.loop-number.ahead (known c.loop-number.reader)) (prepend_known c.piece_from.new.ahead (known c.piece_from.new.reader)) c.loop-number.lines c.loop-number.number
     c.piece_from.new.piece.items (omega arith) c.loop-number.invariant.read was
 
 pub returns-in_err-line_at-in-Last-clause-err : goal.returns-in_err-line_at-in-Last-clause-err
 returns-in_err-line_at-in-Last-clause-err g c =
     let known = g.R.Read.remaining in
     let all = known c.args.reader.now in
-    let old = known c.loop-number.reader in
-    let new = known c.piece_from.new.reader in
+    let old = prepend_known c.loop-number.ahead (known c.loop-number.reader) in
+    let new = prepend_known c.piece_from.new.ahead (known c.piece_from.new.reader) in
     let piece = c.piece_from.new.piece.items in
     let was = rw c.in-Last.is at c.in_ok-piece_from.ensures.ok in
     let some = some_octets piece (rw c.as_slice-octets.ensures.value at (sym c.is_empty.ensures ∙ c.if-is_empty.false)) in
@@ -48,12 +50,12 @@ returns-in_err-line_at-in-Last-clause-err g c =
     rw (p.1, p.2) (stops c.in_err-line_at-in-Last.field-0.0 all old new c.loop-number.lines c.loop-number.number piece (omega arith) c.loop-number.invariant.read (reads_last old new piece was some) given)
 
 pub loop-number-init : goal.loop-number-init
-loop-number-init g c = rw c.new-lines.ensures (so_far_none (g.R.Read.remaining c.args.reader.now))
+loop-number-init g c = rw (c.new-lines.ensures, c.in_ok-ahead.ensures) (so_far_none (g.R.Read.remaining c.args.reader.now))
 
 pub invariant_of-result : goal.invariant_of-result
 invariant_of-result g c =
     let known = g.R.Read.remaining in
-    are_lawful (known c.args.reader.now) (known c.loop-number.reader) c.loop-number.lines c.loop-number.number c.loop-number.invariant (omega arith)
+    are_lawful (known c.args.reader.now) (prepend_known c.loop-number.ahead (known c.loop-number.reader)) c.loop-number.lines c.loop-number.number c.loop-number.invariant (omega arith)
 
 pub returns-then-is_empty-clause-ok : goal.returns-then-is_empty-clause-ok
 returns-then-is_empty-clause-ok g c =
@@ -62,16 +64,16 @@ returns-then-is_empty-clause-ok g c =
     let empty : piece ≡ [] = no_octets piece (rw c.as_slice-octets.ensures.value at (sym c.is_empty.ensures ∙ c.if-is_empty.true)) in
     let was = rw (c.in-Last.is, empty) at c.in_ok-piece_from.ensures.ok in
     let last = rw c.in-Last.is at c.in_ok-piece_from.ensures.last in
-    ends (known c.args.reader.now) (known c.piece_from.new.reader) c.loop-number.lines c.loop-number.number
-    (nothing (known c.args.reader.now) (known c.loop-number.reader) (known c.piece_from.new.reader) c.loop-number.lines c.loop-number.number c.loop-number.invariant.read was)
+    ends (known c.args.reader.now) (prepend_known c.piece_from.new.ahead (known c.piece_from.new.reader)) c.loop-number.lines c.loop-number.number
+    (nothing (known c.args.reader.now) (prepend_known c.loop-number.ahead (known c.loop-number.reader)) (prepend_known c.piece_from.new.ahead (known c.piece_from.new.reader)) c.loop-number.lines c.loop-number.number c.loop-number.invariant.read was)
     last (omega arith)
 
 pub invariant_of-result-in-Last : goal.invariant_of-result-in-Last
 invariant_of-result-in-Last g c =
     let known = g.R.Read.remaining in
     let all = known c.args.reader.now in
-    let old = known c.loop-number.reader in
-    let new = known c.piece_from.new.reader in
+    let old = prepend_known c.loop-number.ahead (known c.loop-number.reader) in
+    let new = prepend_known c.piece_from.new.ahead (known c.piece_from.new.reader) in
     let piece = c.piece_from.new.piece.items in
     let line = c.in_ok-line_at-in-Last.field-0 in
     let was = rw c.in-Last.is at c.in_ok-piece_from.ensures.ok in
@@ -84,8 +86,8 @@ pub returns-in-Last-clause-ok : goal.returns-in-Last-clause-ok
 returns-in-Last-clause-ok g c =
     let known = g.R.Read.remaining in
     let all = known c.args.reader.now in
-    let old = known c.loop-number.reader in
-    let new = known c.piece_from.new.reader in
+    let old = prepend_known c.loop-number.ahead (known c.loop-number.reader) in
+    let new = prepend_known c.piece_from.new.ahead (known c.piece_from.new.reader) in
     let piece = c.piece_from.new.piece.items in
     let line = c.in_ok-line_at-in-Last.field-0 in
     let was = rw c.in-Last.is at c.in_ok-piece_from.ensures.ok in
@@ -95,24 +97,31 @@ returns-in-Last-clause-ok g c =
     let last = rw c.in-Last.is at c.in_ok-piece_from.ensures.last in
     rw c.in_ok-push-in-Last.ensures.ok (ends all new (c.loop-number.lines ++ line ∷ []) (c.loop-number.number + 1) far.read last (omega arith))
 
-pub invariant_of-result-in-None : goal.invariant_of-result-in-None
-invariant_of-result-in-None g c =
+pub invariant_of-result-else-branch : goal.invariant_of-result-else-branch
+invariant_of-result-else-branch g c =
     let known = g.R.Read.remaining in
-    are_lawful (known c.args.reader.now) (known c.loop-number.reader) c.loop-number.lines c.loop-number.number c.loop-number.invariant (omega arith)
+    are_lawful (known c.args.reader.now) (prepend_known c.loop-number.ahead (known c.loop-number.reader)) c.loop-number.lines c.loop-number.number
+    c.loop-number.invariant (omega arith)
 
-pub returns-in-Some-clause-err : goal.returns-in-Some-clause-err
-returns-in-Some-clause-err g c =
+pub returns-in-Last-clause-whole : goal.returns-in-Last-clause-whole
+returns-in-Last-clause-whole g c =
+    let last = rw c.in-Last.is at c.in_ok-piece_from.ensures.last in
+    reader_at_end c.piece_from.new.ahead (g.R.Read.remaining c.piece_from.new.reader) last
+
+pub returns-then-branch-clause-err : goal.returns-then-branch-clause-err
+returns-then-branch-clause-err g c =
     let known = g.R.Read.remaining in
-    let took = rw c.in-Some.is at c.in_ok-octet_from.ensures.taken in
+    goes_on (known c.args.reader.now) (prepend_known c.loop-number.ahead (known c.loop-number.reader)) (known c.has_more.new.reader)
+    c.has_more.new.self c.loop-number.lines c.loop-number.number (omega arith) c.loop-number.invariant.read c.in_ok-has_more.ensures.kept
+    (c.in_ok-has_more.ensures.more c.if-branch.true)
+
+pub returns-else-branch-clause-ok : goal.returns-else-branch-clause-ok
+returns-else-branch-clause-ok g c =
+    let known = g.R.Read.remaining in
     let all = known c.args.reader.now in
-    let old = known c.loop-number.reader in
-    goes_on all old (known c.octet_from.new.reader) c.in-Some.field-0 c.loop-number.lines c.loop-number.number (omega arith) c.loop-number.invariant.read took
-
-pub returns-in-None-clause-ok : goal.returns-in-None-clause-ok
-returns-in-None-clause-ok g c =
-    let known = g.R.Read.remaining in
-    let took = rw c.in-None.is at c.in_ok-octet_from.ensures.taken in
-    let end = rw c.in-None.is at c.in_ok-octet_from.ensures.end in
-    ends (known c.args.reader.now) (known c.octet_from.new.reader) c.loop-number.lines c.loop-number.number
-    (no_octet (known c.args.reader.now) (known c.loop-number.reader) (known c.octet_from.new.reader) c.loop-number.lines c.loop-number.number c.loop-number.invariant.read took)
-    end (omega arith)
+    let old = prepend_known c.loop-number.ahead (known c.loop-number.reader) in
+    let new = prepend_known c.has_more.new.self (known c.has_more.new.reader) in
+    let ended = c.in_ok-has_more.ensures.end c.if-branch.false in
+    ends all new c.loop-number.lines c.loop-number.number
+    (stays all old new c.loop-number.lines c.loop-number.number c.loop-number.invariant.read c.in_ok-has_more.ensures.kept)
+    (at_end c.has_more.new.self (known c.has_more.new.reader) ended.0 ended.1) (omega arith)
