@@ -8,6 +8,7 @@ mod judge;
 mod part;
 mod refusal;
 mod reply;
+mod seeded;
 mod store;
 mod sweep;
 #[cfg(test)]

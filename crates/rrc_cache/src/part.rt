@@ -12,6 +12,9 @@ use std::marker::Model;
 /// The number that no event has any more.
 const SPENT: u64 = 1 << 62;
 
+/// The seed of a part that is given none, so that tests and replays take the same time twice.
+const KNOWN_SEED: [u8; 16] = [0; 16];
+
 /// A part of the cache. Contracts see the chapter of its history that is open: the snapshot that it began with, and the
 /// events since.
 #[derive(Debug, Drop)]
@@ -37,8 +40,19 @@ impl Part {
     ghost use Rattle.rrc_cache.specs.Reply.{reply_in};
     ghost use Rattle.rrc_history.specs.Past.{reply_to};
 
-    /// An empty part in the first chapter of its history.
+    /// An empty part in the first chapter of its history. Its seed is `KNOWN_SEED`: for names that anyone may send, `seeded`
+    /// takes one that nobody knows.
     pub fn new(alloc: Global, rules: Rules) -> Result<Part, Refusal>
+        ensures empty { IfOk result (λ part. part.events ≡ []) }
+        ensures snapshot { IfOk result (λ part. part.snapshot ≡ record { rules = rules; first = 0; entries = [] }) }
+        ensures memory { OnErr result (result ≡ Err Refusal.Memory) }
+    {
+        Part::seeded(alloc, rules, KNOWN_SEED)
+    }
+
+    /// An empty part in the first chapter of its history, whose keys are hashed behind a seed. Under a seed that nobody can
+    /// foresee nobody can pick names that make it slow. No reply depends on the seed.
+    pub fn seeded(alloc: Global, rules: Rules, seed: [u8; 16]) -> Result<Part, Refusal>
         ensures empty { IfOk result (λ part. part.events ≡ []) }
         ensures snapshot { IfOk result (λ part. part.snapshot ≡ record { rules = rules; first = 0; entries = [] }) }
         ensures memory { OnErr result (result ≡ Err Refusal.Memory) }
@@ -50,7 +64,7 @@ impl Part {
                 entries: Sequence::new(alloc),
             },
             events: Vec::new(alloc),
-            store: Store::new(alloc)?,
+            store: Store::new(alloc, seed)?,
         })
     }
 

@@ -5,6 +5,7 @@ ghost use Rattle.rrc_history.specs.Past.{entry_at, last_key};
 ghost use Rattle.rrc_history.specs.Entries.{AreApart, goes, keys_of_dead, promoted, staying};
 
 use crate::judge;
+use crate::seeded::Seeded;
 use lru::LruCache;
 use rrc_history::Entry;
 use rrc_name::{Key, KeyRef};
@@ -15,7 +16,7 @@ use std::marker::Model;
 /// `iter` takes about as long in a large store as in a small one.
 #[derive(Debug, Drop)]
 pub struct Store {
-    cache: LruCache<Key, Entry>,
+    cache: LruCache<Key, Entry, Seeded>,
 }
 
 impl Model for Store {
@@ -31,12 +32,12 @@ impl Model for Store {
 }
 
 impl Store {
-    /// No entries.
-    pub(crate) fn new(alloc: Global) -> Result<Store, AllocError>
+    /// No entries. Keys are hashed behind the seed.
+    pub(crate) fn new(alloc: Global, seed: [u8; 16]) -> Result<Store, AllocError>
         ensures { IfOk result (λ store. store ≡ []) }
     {
         Ok(Store {
-            cache: LruCache::unbounded(alloc)?,
+            cache: LruCache::unbounded_with_hasher(alloc, Seeded::new(seed))?,
         })
     }
 

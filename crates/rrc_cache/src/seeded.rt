@@ -1,0 +1,51 @@
+use std::hash::{BuildHasher, FoldHasher, Hasher};
+
+/// Makes hashers that have been fed a seed. Whoever does not know the seed cannot foresee which keys have hashes alike.
+#[derive(Clone, Copy)]
+pub struct Seeded {
+    fed: FoldHasher,
+}
+
+impl Seeded {
+    pub(crate) fn new(seed: [u8; 16]) -> Seeded {
+        let mut fed = FoldHasher::default();
+        fed.write(seed.as_slice());
+        Seeded { fed }
+    }
+}
+
+impl BuildHasher for Seeded {
+    type Hasher = FoldHasher;
+
+    ghost build_hasher = { λ s. s.fed };
+
+    fn build_hasher(&self) -> FoldHasher {
+        self.fed
+    }
+}
+
+#[cfg(test)]
+mod tests {
+    use super::*;
+    use rrc_name::{Key, KeyRef, Name, Slot};
+    use std::test::Fail;
+
+    #[test]
+    fn another_seed_parts_keys_that_were_picked(rt: HostRuntime) -> Result<(), Fail> {
+        let (known, secret) = (Seeded::new([0; 16]), Seeded::new([7; 16]));
+        let (mut picked, mut alike) = (0, 0);
+        for number in 0..2048u64 {
+            let text = format!(in rt.alloc(); "{number}.example")?;
+            let key = Key::of(&Name::from_text(rt.alloc(), text.as_str())?, Slot::Set(1))?;
+            if known.hash_one(KeyRef::of(&key)) % 64 == 0 {
+                picked += 1;
+                if secret.hash_one(KeyRef::of(&key)) % 64 == 0 {
+                    alike += 1;
+                }
+            }
+        }
+        assert!(rt; picked > 16, "{picked} picked");
+        assert!(rt; alike < 8, "{alike} of {picked} still alike");
+        Ok(())
+    }
+}
