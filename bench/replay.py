@@ -2,8 +2,8 @@
 """Times the program on traces: lines that put addresses, and responses that bring the same ones.
 
 Build the program first, by `rt run` in crates/rrcache. Each number is the least of RUNS runs, in seconds of processor time of the whole program, for LINES
-lines over a few names. A response is one as servers send it for the name: its question, one A record, whose owner is a pointer to it, and
-an OPT record. Last comes how many times as long the responses take.
+lines over a few names, each of which brings so many addresses, and last one, two, four and ten by turns. A response is one as servers send it for
+the name: its question, the A records, whose owners are pointers to it, and an OPT record.
 """
 import argparse
 import os
@@ -21,27 +21,30 @@ def wire(labels):
     return b"".join(bytes([len(label)]) + label.encode() for label in labels) + b"\0"
 
 
-def message(name, address):
-    """An authoritative response with one address."""
-    header = bytes.fromhex("123484000001000100000001")
+def message(name, addresses):
+    """An authoritative response with some addresses."""
+    header = bytes.fromhex("123484000001") + len(addresses).to_bytes(2, "big") + bytes.fromhex("00000001")
     question = wire(name) + bytes.fromhex("00010001")
-    answer = bytes.fromhex("c00c00010001") + TTL.to_bytes(4, "big") + bytes([0, 4]) + address
+    owner = bytes.fromhex("c00c00010001") + TTL.to_bytes(4, "big") + bytes([0, 4])
+    answer = b"".join(owner + address for address in addresses)
     return header + question + answer + bytes.fromhex("0000291000000000000000")
 
 
-def put_lines(lines):
-    for line in range(lines):
-        yield f"put {line} www{line % NAMES}.example. 1 4 {TTL} {address_of(line).hex()}\n"
+def addresses_of(line, counts):
+    """The addresses of a line, no two the same."""
+    return [bytes([192, 0, line % 200, host]) for host in range(counts[line % len(counts)])]
 
 
-def response_lines(lines):
+def put_lines(lines, counts):
     for line in range(lines):
-        octets = message([f"www{line % NAMES}", "example"], address_of(line))
+        items = ",".join(address.hex() for address in addresses_of(line, counts))
+        yield f"put {line} www{line % NAMES}.example. 1 4 {TTL} {items}\n"
+
+
+def response_lines(lines, counts):
+    for line in range(lines):
+        octets = message([f"www{line % NAMES}", "example"], addresses_of(line, counts))
         yield f"response {line} example. {octets.hex()}\n"
-
-
-def address_of(line):
-    return bytes([192, 0, 2, line % 200])
 
 
 def seconds(path, lines):
@@ -56,6 +59,18 @@ def seconds(path, lines):
     return used.ru_utime + used.ru_stime
 
 
+def least_seconds(counts, lines, runs):
+    """How long the lines take as puts and as responses."""
+    least = [float("inf")] * 2
+    with tempfile.TemporaryDirectory() as folder:
+        paths = [pathlib.Path(folder, name) for name in ("put", "response")]
+        for path, made in zip(paths, (put_lines, response_lines)):
+            path.write_text("".join(made(lines, counts)))
+        for _ in range(runs):
+            least = [min(best, seconds(path, lines)) for best, path in zip(least, paths)]
+    return least
+
+
 def main():
     parser = argparse.ArgumentParser(description=__doc__.splitlines()[0])
     parser.add_argument("--lines", type=int, default=100_000, help="lines of each trace (default 100,000)")
@@ -63,18 +78,10 @@ def main():
     args = parser.parse_args()
     if not PROGRAM.exists():
         sys.exit("build the program first: `rt run` in crates/rrcache")
-    least = {}
-    with tempfile.TemporaryDirectory() as folder:
-        traces = {"put": put_lines, "response": response_lines}
-        for name, made in traces.items():
-            pathlib.Path(folder, name).write_text("".join(made(args.lines)))
-        for _ in range(args.runs):
-            for name in traces:
-                took = seconds(f"{folder}/{name}", args.lines)
-                least[name] = min(least.get(name, took), took)
-    for name, took in least.items():
-        print(f"{args.lines} lines of {name}: {took:.3f} s")
-    print(f"a response takes {least['response'] / least['put']:.2f} times as long as a put")
+    for counts in ((1,), (2,), (4,), (10,), (1, 2, 4, 10)):
+        put, response = least_seconds(counts, args.lines, args.runs)
+        what = ", ".join(str(count) for count in counts)
+        print(f"{args.lines} lines with {what} addresses: put {put:.3f} s, response {response:.3f} s, {response / put:.2f} times as long")
 
 
 if __name__ == "__main__":
