@@ -1,6 +1,6 @@
 use super::{AA, KEPT, Seen, has_evicted, part, put, would};
 use crate::part::Part;
-use rrc_history::{Mode, Purpose};
+use rrc_history::{Mode, Purpose, Rules};
 use std::alloc::Global;
 use std::test::Fail;
 
@@ -24,5 +24,23 @@ fn would_answer_touches_nothing(rt: HostRuntime) -> Result<(), Fail> {
     let third = put(alloc, &mut part, 2, (13, "c.example.", AA, 60, 3))?;
     assert_eq!(rt; third, KEPT);
     assert!(rt; has_evicted(alloc, &part, "a.example.")?);
+    Ok(())
+}
+
+#[test]
+fn a_seed_changes_no_reply(rt: HostRuntime) -> Result<(), Fail> {
+    let alloc = rt.alloc();
+    let rules = Rules::new(2, 4096, 86_400).ok_or("no rules")?;
+    let mut part = Part::seeded(alloc, rules, [7; 16])?;
+    for (line, name) in ["a.example.", "b.example.", "c.example."]
+        .iter()
+        .enumerate()
+    {
+        let kept = put(alloc, &mut part, line as u64, (10, *name, AA, 60, 1))?;
+        assert_eq!(rt; kept, KEPT);
+    }
+    assert!(rt; has_evicted(alloc, &part, "a.example.")?);
+    let asked = (12, "b.example.", Purpose::Answer, Mode::NoStale);
+    assert_eq!(rt; would(alloc, &part, asked)?, Seen::Fresh(58, 1));
     Ok(())
 }
