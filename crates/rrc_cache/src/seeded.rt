@@ -1,6 +1,6 @@
 use std::hash::{BuildHasher, FoldHasher, Hasher};
 
-/// Makes hashers that have been fed a seed. Whoever does not know the seed cannot foresee which keys have hashes alike.
+/// Makes hashers that have been fed a seed, on which it depends which keys have hashes alike. They are fast, and no cryptographic ones.
 #[derive(Clone, Copy)]
 pub struct Seeded {
     fed: FoldHasher,
