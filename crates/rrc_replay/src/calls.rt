@@ -100,7 +100,8 @@ pub(crate) fn tell_all(
     ensures ok { IfOk result (TellsAll part.old part.new number offers.items) }
     ensures err { IfErr result (AreRefused part.old number (length offers.items)) }
 {
-    let mut told = Sequence::new(alloc);
+    // No room to spare: a trace may have as many of these lists as lines.
+    let mut told = Sequence::from_vec(Vec::with_capacity(alloc, offers.len())?);
     for offer in offers {
         let tag = Tag {
             line: number,
