@@ -35,9 +35,10 @@ impl Set {
     pub(crate) fn alone(alloc: Global, rr: &Rr) -> Result<Set, AllocError>
         ensures { IfOk result (λ set. set ≡ alone rr.now) }
     {
-        let mut items = Sequence::new(alloc);
+        // Most sets have one record, and an event keeps the data as long as it stands.
+        let mut items = Sequence::from_vec(Vec::with_capacity(alloc, 1)?);
         items.push(rr.rdata.clone()?)?;
-        let mut ttls = Vec::new(alloc);
+        let mut ttls = Vec::with_capacity(alloc, 1)?;
         ttls.push(rr.ttl)?;
         Ok(Set {
             owner: rr.owner.clone()?,
