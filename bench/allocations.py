@@ -35,6 +35,7 @@ CALLS = (
     ("bench_cache", ("miss", "16"), "an ask that misses", False),
     ("bench_cache", ("replace", "16"), "making an offer, and a put that replaces", False),
     ("bench_cache", ("evict", "16"), "making an offer, and a put that evicts", False),
+    ("bench_cache", ("sweep", "10"), "making an offer, a put, and a sweep that removes it", False),
     ("bench_marks", ("draws", "1"), "draw", True),
     ("bench_marks", ("pairs", "1"), "begin and finish", True),
     ("bench_marks", ("shares", "1"), "split and join", True),

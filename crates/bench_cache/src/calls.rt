@@ -1,8 +1,10 @@
 // The calls whose time is taken.
 
-use anyhow::Result;
+use crate::made::{PickedAsk, PickedOffer, offer_a_tenth};
+use anyhow::{Context, Result};
 use rrc_cache::{Part, ReplyRef};
-use rrc_history::{Ask, Event, Offer, Outcome, Reply, Tag};
+use rrc_history::{Event, Outcome, Reply, Tag};
+use std::alloc::Global;
 use std::time::{CpuClock, Duration};
 
 /// The tag of each event, which tells nothing here.
@@ -15,6 +17,7 @@ pub struct Counts {
     pub misses: u64,
     pub kept: u64,
     pub evicted: u64,
+    pub swept: u64,
 }
 
 const NONE: Counts = Counts {
@@ -22,6 +25,7 @@ const NONE: Counts = Counts {
     misses: 0,
     kept: 0,
     evicted: 0,
+    swept: 0,
 };
 
 /// What came of the calls, and the processor time that they took.
@@ -41,49 +45,98 @@ impl Counts {
     }
 }
 
-pub fn ask_all<R: CpuClock>(rt: &R, part: &mut Part, asks: &[&Ask]) -> Result<Done> {
+pub fn ask_all<R: CpuClock>(rt: &R, parts: &mut [Part], asks: &[PickedAsk<'_>]) -> Result<Done> {
     let mut counts = NONE;
     let before = rt.thread_cpu_time()?;
-    for ask in asks {
-        let reply = part.ask(TAG, ask)?;
+    for picked in asks {
+        let part = parts.get_mut(picked.part).context("no such part")?;
+        let reply = part.ask(TAG, picked.ask)?;
         counts.count(!matches!(reply, Reply::Miss { .. }));
     }
     let time = rt.thread_cpu_time()?.saturating_sub(before);
     Ok(Done { counts, time })
 }
 
-pub fn would_answer_all<R: CpuClock>(rt: &R, part: &Part, asks: &[&Ask]) -> Result<Done> {
+pub fn would_answer_all<R: CpuClock>(
+    rt: &R,
+    parts: &[Part],
+    asks: &[PickedAsk<'_>],
+) -> Result<Done> {
     let mut counts = NONE;
     let before = rt.thread_cpu_time()?;
-    for ask in asks {
-        let reply = part.would_answer(ask);
+    for picked in asks {
+        let part = parts.get(picked.part).context("no such part")?;
+        let reply = part.would_answer(picked.ask);
         counts.count(!matches!(reply, ReplyRef::Miss { .. }));
     }
     let time = rt.thread_cpu_time()?.saturating_sub(before);
     Ok(Done { counts, time })
 }
 
-/// Asks so often whether there is room, and counts a yes as a hit.
-pub fn has_room_all<R: CpuClock>(rt: &R, part: &Part, calls: u32) -> Result<Done> {
+/// Asks each part in turn so often whether there is room, and counts a yes as a hit.
+pub fn has_room_all<R: CpuClock>(rt: &R, parts: &[Part], calls: u32) -> Result<Done> {
     let mut counts = NONE;
     let before = rt.thread_cpu_time()?;
-    for _ in 0..calls {
-        counts.count(part.has_room());
+    for part in parts {
+        for _ in 0..calls {
+            counts.count(part.has_room());
+        }
     }
     let time = rt.thread_cpu_time()?.saturating_sub(before);
     Ok(Done { counts, time })
 }
 
-pub fn offer_all<R: CpuClock>(rt: &R, part: &mut Part, offers: Vec<Offer>) -> Result<Done> {
+pub fn offer_all<R: CpuClock>(
+    rt: &R,
+    parts: &mut [Part],
+    offers: Vec<PickedOffer>,
+) -> Result<Done> {
     let mut counts = NONE;
     let before = rt.thread_cpu_time()?;
-    for offer in offers {
-        if part.offer(TAG, offer)? == Outcome::Kept {
+    for picked in offers {
+        let part = parts.get_mut(picked.part).context("no such part")?;
+        if part.offer(TAG, picked.offer)? == Outcome::Kept {
             counts.kept = counts.kept.wrapping_add(1);
         }
     }
     let time = rt.thread_cpu_time()?.saturating_sub(before);
-    counts.evicted = evicted_in(part.events());
+    for part in parts.iter() {
+        counts.evicted = counts.evicted.wrapping_add(evicted_in(part.events()));
+    }
+    Ok(Done { counts, time })
+}
+
+/// So often puts a tenth of the part's keys for one second, and sweeps when they are dead. The time is that of the sweeps.
+pub fn sweep_all<R: CpuClock>(
+    rt: &R,
+    alloc: Global,
+    part: &mut Part,
+    keys: u32,
+    calls: u32,
+) -> Result<Done> {
+    let mut counts = NONE;
+    let mut time = Duration::ZERO;
+    for call in 0..calls {
+        let moment = u64::from(call).saturating_mul(2);
+        offer_a_tenth(alloc, part, keys, moment)?;
+        let before = rt.thread_cpu_time()?;
+        let removed = part.sweep(TAG, moment.saturating_add(1))?;
+        time = time.saturating_add(rt.thread_cpu_time()?.saturating_sub(before));
+        counts.swept = counts.swept.wrapping_add(removed as u64);
+    }
+    Ok(Done { counts, time })
+}
+
+/// Follows places, each of which holds the next, so often: what a load from memory costs that no other can begin before.
+pub fn load_all<R: CpuClock>(rt: &R, places: &[u32], calls: u32) -> Result<Done> {
+    let mut counts = NONE;
+    let mut place = 0;
+    let before = rt.thread_cpu_time()?;
+    for _ in 0..calls {
+        place = *places.get(place as usize).context("no such place")?;
+        counts.count((place as usize) < places.len());
+    }
+    let time = rt.thread_cpu_time()?.saturating_sub(before);
     Ok(Done { counts, time })
 }
 

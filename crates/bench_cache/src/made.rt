@@ -11,8 +11,25 @@ use std::alloc::Global;
 /// How many events the chapter has room for.
 const CHAPTER: u64 = 1 << 20;
 
-/// How long each set lives, in seconds. All is asked at the second 1.
+/// How long each set lives, in seconds, but for those that are to be swept. All is asked at the second 1.
 const TTL: u32 = 86_400;
+
+/// How many places of four octets 8 MiB have.
+const PLACES: u32 = 1 << 21;
+
+/// A question, and the part that it is asked.
+#[derive(Drop)]
+pub struct PickedAsk<'a> {
+    pub part: usize,
+    pub ask: &'a Ask,
+}
+
+/// An offer, and the part that it is made to.
+#[derive(Drop)]
+pub struct PickedOffer {
+    pub part: usize,
+    pub offer: Offer,
+}
 
 fn key(alloc: Global, number: u64) -> Result<Key> {
     let text = format!(in alloc; "www{}.zone{}.example.", number % 7, number)?;
@@ -21,7 +38,7 @@ fn key(alloc: Global, number: u64) -> Result<Key> {
 }
 
 /// An offer of one address.
-fn offer(alloc: Global, number: u64, moment: u64) -> Result<Offer> {
+fn offer(alloc: Global, number: u64, moment: u64, ttl: u32) -> Result<Offer> {
     let key = key(alloc, number)?;
     let mut items = Sequence::new(alloc);
     items.push(Octets::from_slice(alloc, &[192, 0, 2, 1])?)?;
@@ -29,28 +46,39 @@ fn offer(alloc: Global, number: u64, moment: u64) -> Result<Offer> {
         owner: key.name().clone()?,
         items: Shared::new(alloc, items)?,
         trust: Trust::AuthoritativeAnswer,
-        ttl: TTL,
+        ttl,
     };
     Ok(Offer::new(key, body, moment)?)
 }
 
-/// A part that holds the keys of the numbers below `keys`, and has room for no other.
-pub fn filled(alloc: Global, keys: u32) -> Result<Part> {
+/// The part of a number, of so many.
+fn part_of(number: u64, parts: u32) -> Result<usize> {
+    let part = number.checked_rem(u64::from(parts));
+    Ok(part.context("there are no parts")? as usize)
+}
+
+/// Parts that each hold so many keys, and have room for no other: the numbers by turns.
+pub fn filled(alloc: Global, parts: u32, keys: u32) -> Result<Vec<Part>> {
     let rules = Rules::new(u64::from(keys), CHAPTER, 0).context("there are 1 to 65,536 keys")?;
-    let mut part = Part::new(alloc, rules)?;
-    for number in 0..keys {
-        part.offer(TAG, offer(alloc, u64::from(number), 0)?)?;
+    let mut filled = Vec::new(alloc);
+    for place in 0..parts {
+        let mut part = Part::new(alloc, rules)?;
+        for turn in 0..keys {
+            let number = u64::from(turn) * u64::from(parts);
+            let offer = offer(alloc, number.saturating_add(u64::from(place)), 0, TTL)?;
+            part.offer(TAG, offer)?;
+        }
+        filled.push(part)?;
     }
-    Ok(part)
+    Ok(filled)
 }
 
 /// A question for each of `count` numbers, from `first` on.
-pub fn asks(alloc: Global, first: u32, count: u32) -> Result<Vec<Ask>> {
+pub fn asks(alloc: Global, first: u64, count: u64) -> Result<Vec<Ask>> {
     let mut asks = Vec::new(alloc);
     for place in 0..count {
-        let number = u64::from(first) + u64::from(place);
         asks.push(Ask {
-            name: key(alloc, number)?.name().clone()?,
+            name: key(alloc, first.saturating_add(place))?.name().clone()?,
             rtype: 1,
             moment: 1,
             purpose: Purpose::Answer,
@@ -60,34 +88,83 @@ pub fn asks(alloc: Global, first: u32, count: u32) -> Result<Vec<Ask>> {
     Ok(asks)
 }
 
-/// So many of these questions, in no order that shows.
-pub fn picked<'a>(alloc: Global, asks: &'a [Ask], calls: u32) -> Result<Vec<&'a Ask>> {
+/// So many of these questions, in no order that shows, each with its part.
+pub fn picked<'a>(
+    alloc: Global,
+    asks: &'a [Ask],
+    parts: u32,
+    calls: u32,
+) -> Result<Vec<PickedAsk<'a>>> {
     let mut numbers = Numbers::new();
     let mut picked = Vec::new(alloc);
     for _ in 0..calls {
         let place = numbers.below(asks.len() as u64).context("no questions")?;
-        picked.push(asks.get(place as usize).context("no such question")?)?;
+        picked.push(PickedAsk {
+            part: part_of(place, parts)?,
+            ask: asks.get(place as usize).context("no such question")?,
+        })?;
     }
     Ok(picked)
 }
 
-/// So many offers of numbers below `keys`, in no order that shows.
-pub fn offers_of_held(alloc: Global, keys: u32, calls: u32) -> Result<Vec<Offer>> {
+/// So many offers of numbers below `held`, in no order that shows.
+pub fn offers_of_held(
+    alloc: Global,
+    parts: u32,
+    held: u64,
+    calls: u32,
+) -> Result<Vec<PickedOffer>> {
     let mut numbers = Numbers::new();
     let mut offers = Vec::new(alloc);
     for _ in 0..calls {
-        let number = numbers.below(u64::from(keys)).context("no keys")?;
-        offers.push(offer(alloc, number, 1)?)?;
+        let number = numbers.below(held).context("no keys")?;
+        offers.push(PickedOffer {
+            part: part_of(number, parts)?,
+            offer: offer(alloc, number, 1, TTL)?,
+        })?;
     }
     Ok(offers)
 }
 
-/// So many offers of numbers from `keys` on, each once.
-pub fn offers_of_absent(alloc: Global, keys: u32, calls: u32) -> Result<Vec<Offer>> {
+/// So many offers of numbers from `held` on, each once.
+pub fn offers_of_absent(
+    alloc: Global,
+    parts: u32,
+    held: u64,
+    calls: u32,
+) -> Result<Vec<PickedOffer>> {
     let mut offers = Vec::new(alloc);
     for call in 0..calls {
-        let number = u64::from(keys) + u64::from(call);
-        offers.push(offer(alloc, number, 1)?)?;
+        let number = held.saturating_add(u64::from(call));
+        offers.push(PickedOffer {
+            part: part_of(number, parts)?,
+            offer: offer(alloc, number, 1, TTL)?,
+        })?;
     }
     Ok(offers)
+}
+
+/// Puts a tenth of the numbers below `keys`, for one second.
+pub fn offer_a_tenth(alloc: Global, part: &mut Part, keys: u32, moment: u64) -> Result<()> {
+    for tenth in 0..keys / 10 {
+        part.offer(TAG, offer(alloc, u64::from(tenth) * 10, moment, 1)?)?;
+    }
+    Ok(())
+}
+
+/// 8 MiB of places, each of which holds the next one of a way through them all that shows no order.
+pub fn places(alloc: Global) -> Result<Vec<u32>> {
+    let mut places = Vec::new(alloc);
+    for place in 0..PLACES {
+        places.push(place)?;
+    }
+    let mut numbers = Numbers::new();
+    // Each place changes with one before it, never with itself, so there is one way round (Sattolo).
+    for place in (1..places.len()).rev() {
+        let other = numbers.below(place as u64).context("no place before")? as usize;
+        if other < place {
+            places.as_mut_slice().swap(place, other);
+        }
+    }
+    Ok(places)
 }

@@ -1,80 +1,133 @@
-//! Calls a part of the cache many times and prints what it counted, and on standard error the nanoseconds of processor time that the calls took, for a script that compares: `bench_cache TASK KEYS CALLS`, where TASK is `hit`, `miss`, `would`, `room`, `replace` or `evict`. Without arguments it does a few of each.
+//! Calls parts of the cache many times and prints what it counted, and on standard error the nanoseconds of processor time that
+//! the calls took, for a script that compares: `bench_cache TASK KEYS CALLS [PARTS]`, where TASK is `hit`, `miss`, `would`, `room`,
+//! `replace`, `evict`, `sweep` or `load`. KEYS is how many each part holds. A call of `sweep` is one of the first part, after a
+//! tenth of its keys died; of `load`, one load from a random place of 8 MiB. Without arguments it does a few of each.
 #![tactic(auto)]
 
 mod calls;
 mod made;
 mod numbers;
 
-use crate::calls::{Counts, Done, ask_all, has_room_all, offer_all, would_answer_all};
-use crate::made::{asks, filled, offers_of_absent, offers_of_held, picked};
+use crate::calls::{
+    Counts, Done, ask_all, has_room_all, load_all, offer_all, sweep_all, would_answer_all,
+};
+use crate::made::{asks, filled, offers_of_absent, offers_of_held, picked, places};
 use anyhow::{Context, Result, bail};
 use std::alloc::Global;
 use std::env;
 use std::rt::Env;
 use std::time::CpuClock;
 
-/// Asks or offers so often, of a part that holds so many keys and has room for no other. All that is asked and offered is made beforehand.
-fn done<R: CpuClock>(rt: &R, alloc: Global, task: &str, keys: u32, calls: u32) -> Result<Done> {
-    let mut part = filled(alloc, keys)?;
-    match task {
-        "hit" => {
-            let asks = asks(alloc, 0, keys)?;
-            ask_all(
-                rt,
-                &mut part,
-                picked(alloc, asks.as_slice(), calls)?.as_slice(),
-            )
-        }
-        "miss" => {
-            let asks = asks(alloc, keys, keys)?;
-            ask_all(
-                rt,
-                &mut part,
-                picked(alloc, asks.as_slice(), calls)?.as_slice(),
-            )
-        }
-        "would" => {
-            let asks = asks(alloc, 0, keys)?;
-            would_answer_all(rt, &part, picked(alloc, asks.as_slice(), calls)?.as_slice())
-        }
-        "room" => has_room_all(rt, &part, calls),
-        "replace" => offer_all(rt, &mut part, offers_of_held(alloc, keys, calls)?),
-        "evict" => offer_all(rt, &mut part, offers_of_absent(alloc, keys, calls)?),
-        _ => bail!("it does hit, miss, would, room, replace or evict"),
+const USAGE: &str = "TASK KEYS CALLS [PARTS]";
+
+/// What is called, and how often.
+#[derive(Clone, Copy)]
+struct Task<'a> {
+    name: &'a str,
+    keys: u32,
+    calls: u32,
+    parts: u32,
+}
+
+impl Task<'_> {
+    /// The keys of all parts.
+    fn held(&self) -> u64 {
+        u64::from(self.keys) * u64::from(self.parts)
     }
 }
 
-fn report<R: Print + Eprint + Alloc<A = Global> + CpuClock>(
-    rt: &R,
-    task: &str,
-    keys: u32,
-    calls: u32,
-) -> Result<()> {
-    let done = done(rt, rt.alloc(), task, keys, calls)?;
+/// Asks so often, of parts that hold the numbers below those that are held.
+fn asked<R: CpuClock>(rt: &R, alloc: Global, task: &Task<'_>, first: u64) -> Result<Done> {
+    let mut parts = filled(alloc, task.parts, task.keys)?;
+    let asks = asks(alloc, first, task.held())?;
+    let picked = picked(alloc, asks.as_slice(), task.parts, task.calls)?;
+    match task.name {
+        "would" => would_answer_all(rt, parts.as_slice(), picked.as_slice()),
+        _ => ask_all(rt, parts.as_mut_slice(), picked.as_slice()),
+    }
+}
+
+/// Offers so often, to parts that have room for no other key. The offers are made beforehand.
+fn offered<R: CpuClock>(rt: &R, alloc: Global, task: &Task<'_>) -> Result<Done> {
+    let mut parts = filled(alloc, task.parts, task.keys)?;
+    let offers = match task.name {
+        "replace" => offers_of_held(alloc, task.parts, task.held(), task.calls)?,
+        _ => offers_of_absent(alloc, task.parts, task.held(), task.calls)?,
+    };
+    offer_all(rt, parts.as_mut_slice(), offers)
+}
+
+fn swept<R: CpuClock>(rt: &R, alloc: Global, task: &Task<'_>) -> Result<Done> {
+    let mut parts = filled(alloc, 1, task.keys)?;
+    let part = parts.as_mut_slice().get_mut(0).context("no part")?;
+    sweep_all(rt, alloc, part, task.keys, task.calls)
+}
+
+fn done<R: CpuClock>(rt: &R, alloc: Global, task: &Task<'_>) -> Result<Done> {
+    match task.name {
+        "hit" | "would" => asked(rt, alloc, task, 0),
+        "miss" => asked(rt, alloc, task, task.held()),
+        "room" => has_room_all(
+            rt,
+            filled(alloc, task.parts, task.keys)?.as_slice(),
+            task.calls,
+        ),
+        "replace" | "evict" => offered(rt, alloc, task),
+        "sweep" => swept(rt, alloc, task),
+        "load" => load_all(rt, places(alloc)?.as_slice(), task.calls),
+        _ => bail!("it does hit, miss, would, room, replace, evict, sweep or load"),
+    }
+}
+
+fn report<R: Print + Eprint + Alloc<A = Global> + CpuClock>(rt: &R, task: &Task<'_>) -> Result<()> {
+    let done = done(rt, rt.alloc(), task)?;
     let Counts {
         hits,
         misses,
         kept,
         evicted,
+        swept,
     } = done.counts;
-    println!(rt; "{task}: {hits} hits, {misses} misses, {kept} kept, {evicted} evicted")?;
+    println!(rt;
+        "{}: {hits} hits, {misses} misses, {kept} kept, {evicted} evicted, {swept} swept",
+        task.name
+    )?;
     eprintln!(rt; "{}", done.time.as_nanos())?;
     Ok(())
+}
+
+/// A number that an argument tells.
+fn number(word: String) -> Result<u32> {
+    Ok(word.as_str().parse::<u32>()?)
 }
 
 fn run<R: Env + Print + Eprint + Alloc<A = Global> + CpuClock>(rt: &R) -> Result<()> {
     let mut args = env::args(rt)?;
     let _program = args.next();
-    let Some(task) = args.next() else {
-        for task in ["hit", "miss", "would", "room", "replace", "evict"] {
-            report(rt, task, 16, 1000)?;
+    let Some(name) = args.next() else {
+        for name in [
+            "hit", "miss", "would", "room", "replace", "evict", "sweep", "load",
+        ] {
+            let task = Task {
+                name,
+                keys: 16,
+                calls: 1000,
+                parts: 2,
+            };
+            report(rt, &task)?;
         }
         return Ok(());
     };
-    let keys = args.next().context("how many keys?")?;
-    let calls = args.next().context("how many calls?")?;
-    let keys = keys.as_str().parse::<u32>()?;
-    report(rt, task.as_str(), keys, calls.as_str().parse::<u32>()?)
+    let task = Task {
+        name: name.as_str(),
+        keys: number(args.next().context(USAGE)?)?,
+        calls: number(args.next().context(USAGE)?)?,
+        parts: match args.next() {
+            Some(word) => number(word)?,
+            None => 1,
+        },
+    };
+    report(rt, &task)
 }
 
 fn main(rt: HostRuntime) -> Result<()> {

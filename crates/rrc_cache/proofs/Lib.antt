@@ -1,5 +1,7 @@
 pub mod Paired
 pub mod Turned
+pub mod Due
+pub mod Timed
 pub mod Timely
 pub mod Placing
 pub mod Keeping

@@ -1,18 +1,28 @@
 -- What the calls of a map of entries by their keys leave of the entries, in the words of a history.
-use Rattle.std.proofs.Common.{◌≡◌, ℕ, zero, suc, ◌+◌, ◌-◌, ◌<◌, List, [], ◌∷◌, length, take, Bool, true, false, ◌||◌, Option, Some, None, refl, sym, ap, subst, ◌∙◌, arith}
+use Rattle.std.proofs.Common.{◌≡◌, ℕ, zero, suc, ◌+◌, ◌-◌, ◌<◌, List, [], ◌∷◌, ◌++◌, length, take, Bool, true, false, ◌||◌, Option, Some, None, refl, sym, ap, subst, ◌∙◌, arith}
 use Rattle.std.specs.Prelude.{cond}
 use Rattle.std.specs.List.{AllByRecursion, IsDistinct, slice_get}
 use Rattle.std.specs.Option.{option_map, option_map_or}
 use Rattle.std.specs.Map.{keys_of, lookup, lookup_entry, remove_entry}
-use Rattle.std.proofs.lemmas.List.{take-map}
+use Rattle.std.proofs.lemmas.List.{append-nil, take-map}
 use Rattle.lru.specs.LruCache as lru
 use Rattle.rrc_name.specs.Key.{KeyOf, key_eq}
 use Rattle.rrc_name.specs.lemmas.KeyLaws.{key_eq-same}
 use Rattle.rrc_history.specs.declared.snapshot.Entry.{Entry}
 use Rattle.rrc_history.specs.Past.{entry_at, last_key}
 use Rattle.rrc_history.specs.Entries.{LacksKey, AreApart, goes, in_front, promoted, staying}
-use Rattle.rrc_history.specs.lemmas.Apart.{staying-lacks}
-use Rattle.rrc_cache.specs.Pairs.{entries_in, AreOwn}
+use Rattle.rrc_history.specs.lemmas.Apart.{entry_at-middle, staying-lacks, staying-middle}
+use Rattle.rrc_cache.specs.Pairs.{entries_in, AreOwn, StoreOf}
+
+-- ---- the view
+
+abbrev pub seen : ℕ → List Entry → StoreOf
+seen stale entries = record { stale = stale; entries = entries }
+
+-- an edit of the entries, as callers see it
+pub edited : (edit : List Entry → List Entry) (stale : ℕ) (before after : List Entry) (now : StoreOf) → after ≡ edit before → seen stale before ≡ now
+    → seen stale after ≡ seen now.stale (edit now.entries)
+edited edit stale before after now is view = ap (seen stale) is ∙ ap (λ (store : StoreOf). seen store.stale (edit store.entries)) view
 
 -- ---- look-ups
 
@@ -165,6 +175,41 @@ last_in (pair ∷ []) own = ap Some (sym own.0)
 last_in (pair ∷ next ∷ pairs) own =
     let behind : length (pair ∷ next ∷ pairs) - 1 ≡ suc (length (next ∷ pairs) - 1) = omega arith in
     ap (λ i. option_map (λ (p : KeyOf × Entry). p.0) (slice_get (pair ∷ next ∷ pairs) i)) behind ∙ last_in (next ∷ pairs) own.1
+
+-- where there is no last one, there is none
+pub none_taken : (pairs : List (KeyOf × Entry)) → lru.last_entry pairs ≡ None → pairs ≡ take (length pairs - 1) pairs
+none_taken [] is = refl
+none_taken (pair ∷ []) is = absurd cc
+none_taken (first ∷ next ∷ pairs) is =
+    let behind : length (first ∷ next ∷ pairs) - 1 ≡ suc (length (next ∷ pairs) - 1) = omega arith in
+    ap (λ ps. first ∷ ps) (none_taken (next ∷ pairs) (sym (ap (slice_get (first ∷ next ∷ pairs)) behind) ∙ is))
+    ∙ ap (λ n. take n (first ∷ next ∷ pairs)) (sym behind)
+
+-- the last entry stands behind the others
+last_behind : (pairs : List (KeyOf × Entry)) (pair : KeyOf × Entry) → lru.last_entry pairs ≡ Some pair
+    → entries_in pairs ≡ entries_in (take (length pairs - 1) pairs) ++ pair.1 ∷ []
+last_behind [] pair is = absurd cc
+last_behind (first ∷ []) pair is = let same : first ≡ pair = cc in ap (λ (p : KeyOf × Entry). p.1 ∷ []) same
+last_behind (first ∷ next ∷ pairs) pair is =
+    let behind : length (first ∷ next ∷ pairs) - 1 ≡ suc (length (next ∷ pairs) - 1) = omega arith in
+    ap (λ es. first.1 ∷ es) (last_behind (next ∷ pairs) pair (sym (ap (slice_get (first ∷ next ∷ pairs)) behind) ∙ is))
+    ∙ ap (λ n. entries_in (take n (first ∷ next ∷ pairs)) ++ pair.1 ∷ []) (sym behind)
+
+-- the last entry is the one that is found under its key
+pub last_found : (pairs : List (KeyOf × Entry)) (pair : KeyOf × Entry) → AreApart (entries_in pairs) → lru.last_entry pairs ≡ Some pair
+    → entry_at pair.1.key (entries_in pairs) ≡ Some pair.1
+last_found pairs pair apart is =
+    let front : List Entry = entries_in (take (length pairs - 1) pairs) in
+    let split : entries_in pairs ≡ front ++ pair.1 ∷ [] = last_behind pairs pair is in
+    ap (entry_at pair.1.key) split ∙ entry_at-middle front pair.1 [] (subst AreApart split apart)
+
+-- and goes alone
+pub last_gone : (pairs : List (KeyOf × Entry)) (pair : KeyOf × Entry) → AreApart (entries_in pairs) → lru.last_entry pairs ≡ Some pair
+    → staying (goes pair.1.key None) (entries_in pairs) ≡ entries_in (take (length pairs - 1) pairs)
+last_gone pairs pair apart is =
+    let front : List Entry = entries_in (take (length pairs - 1) pairs) in
+    let split : entries_in pairs ≡ front ++ pair.1 ∷ [] = last_behind pairs pair is in
+    ap (staying (goes pair.1.key None)) split ∙ (staying-middle front pair.1 [] (subst AreApart split apart) ∙ append-nil front)
 
 pub taken_in : (pairs : List (KeyOf × Entry)) → entries_in (take (length pairs - 1) pairs) ≡ take (length (entries_in pairs) - 1) (entries_in pairs)
 taken_in pairs = sym (take-map (λ pair. pair.1) (length pairs - 1) pairs) ∙ ap (λ n. take (n - 1) (entries_in pairs)) (sym (length_in pairs))

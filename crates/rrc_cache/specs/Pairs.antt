@@ -1,9 +1,11 @@
 -- Entries that are kept by key.
-use Rattle.std.specs.Prelude.{◌≡◌, ◌-◌, ◌^◌, List, map}
+use Rattle.std.specs.Prelude.{◌≡◌, ℕ, ◌-◌, ◌^◌, ◌≤◌, List, map}
 use Rattle.std.specs.List.{AllByRecursion}
 use Rattle.lru.specs.LruCache.{LruCache}
 use Rattle.rrc_name.specs.Key.{KeyOf}
 use Rattle.rrc_history.specs.declared.snapshot.Entry.{Entry}
+use Rattle.rrc_cache.specs.declared.deaths.Death.{Death}
+use Rattle.rrc_cache.specs.Deaths.{AreDeaths}
 
 -- the entries of a map, in its order
 abbrev pub entries_in : List (KeyOf × Entry) → List Entry
@@ -13,7 +15,14 @@ entries_in pairs = map (λ pair. pair.1) pairs
 abbrev pub AreOwn : List (KeyOf × Entry) → Type 0
 AreOwn pairs = AllByRecursion (λ pair. pair.1.key ≡ pair.0) pairs
 
--- a map of entries by their keys, which lets none go by itself
-pub record IsStore (cache : LruCache KeyOf Entry) : Type 0 where
+-- for how many seconds a set may be stale, and the entries, the key touched last first
+pub record StoreOf : Type 0 where
+  pub stale : ℕ
+  pub entries : List Entry
+
+-- a map of entries by their keys, which lets none go by itself, and the times at which they die
+pub record IsStore (stale : ℕ) (cache : LruCache KeyOf Entry) (deaths : List Death) : Type 0 where
   pub own : AreOwn cache.entries
   pub wide : cache.cap ≡ 2 ^ 64 - 1
+  pub limit : stale ≤ 604800
+  pub timed : AreDeaths stale (entries_in cache.entries) deaths

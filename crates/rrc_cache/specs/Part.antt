@@ -15,6 +15,7 @@ use Rattle.rrc_history.specs.Right.{IsRight, IsLegal}
 use Rattle.rrc_history.specs.declared.event.Event.{Event}
 use Rattle.rrc_history.specs.declared.snapshot.Entry.{Entry}
 use Rattle.rrc_history.specs.declared.snapshot.Snapshot.{Snapshot}
+use Rattle.rrc_cache.specs.Pairs.{StoreOf}
 use Rattle.rrc_cache.specs.declared.refusal.Refusal.{Refusal}
 use Rattle.rrc_cache.specs.declared.refusal.Refusal.TheVariants.{HistoryFull, MomentTooLarge, Memory}
 
@@ -89,3 +90,8 @@ pub record Keeps (part : PartOf) (entries : List Entry) : Type 0 where
   pub contents : AreContents part.snapshot (past_of part) entries
   pub room : length entries ≤ part.snapshot.rules.capacity
   pub timely : AllByRecursion IsTimely entries
+
+-- a part keeps its entries in a store that knows its stale limit
+pub record Holds (part : PartOf) (store : StoreOf) : Type 0 where
+  pub keeps : Keeps part store.entries
+  pub stale : store.stale ≡ part.snapshot.rules.stale

@@ -36,12 +36,11 @@ pub(crate) fn answer(
     stale: u64,
 ) -> Result<(Reply, Ask, Option<Slot>), AllocError>
     requires stale { stale ≤ 604800 }
-    requires timely { AllByRecursion IsTimely store.now }
-    ensures answered { IfOk result (λ told. IsAnswered stale ask.now store.now told.0 told.2) }
+    requires timely { AllByRecursion IsTimely store.now.entries }
+    ensures answered { IfOk result (λ told. IsAnswered stale ask.now store.now.entries told.0 told.2) }
     ensures asked { IfOk result (λ told. told.1 ≡ ask.now) }
 {
-    let found = found::look_up(store, ask);
-    let (reply, answering) = judge::judge(found, ask, stale);
+    let (reply, answering) = judge::judge(store, ask, stale);
     let slot = match answering {
         Some(entry) => Some(entry.key.slot),
         None => None,
@@ -51,7 +50,7 @@ pub(crate) fn answer(
 
 /// Moves the entry that gave an answer to the front. It takes no memory.
 pub(crate) fn touch(store: &mut Store, ask: &Ask, slot: Option<Slot>)
-    ensures { store.new ≡ answered_from (option_map (key_at ask.now) slot) store.old }
+    ensures { store.new ≡ record store.old { entries = answered_from (option_map (key_at ask.now) slot) store.old.entries } }
 {
     if let Some(slot) = slot {
         store.promote(found::key_at(ask, slot));

@@ -25,8 +25,9 @@ fn entry_of(offer: &Offer, number: u64) -> Result<Entry, AllocError>
 /// leaves the entries as they were.
 fn place(store: &mut Store, entry: Entry, capacity: u64) -> Result<Option<Key>, AllocError>
     requires some { 1 ≤ capacity }
-    requires room { length store.old ≤ capacity }
-    ensures ok { IfOk result (λ evicted. IsPlaced capacity entry store.old evicted store.new) }
+    requires room { length store.old.entries ≤ capacity }
+    ensures ok { IfOk result (λ evicted. IsPlaced capacity entry store.old.entries evicted store.new.entries) }
+    ensures stale { store.new.stale ≡ store.old.stale }
     ensures err { OnErr result (store.new ≡ store.old) }
 {
     // The length is read for what it tells: no two entries have the same key.
@@ -47,8 +48,9 @@ pub(crate) fn take(
     capacity: u64,
 ) -> Result<(Outcome, Option<Key>), Refusal>
     requires some { 1 ≤ capacity }
-    requires room { length store.old ≤ capacity }
-    ensures ok { IfOk result (λ told. IsTaken capacity number offer.now store.old told.0 told.1 store.new) }
+    requires room { length store.old.entries ≤ capacity }
+    ensures ok { IfOk result (λ told. IsTaken capacity number offer.now store.old.entries told.0 told.1 store.new.entries) }
+    ensures stale { store.new.stale ≡ store.old.stale }
     ensures err { IfErr result (λ refusal. (refusal ≡ Refusal.Memory) × (store.new ≡ store.old)) }
 {
     let key = KeyRef::of(&offer.key);

@@ -1,10 +1,7 @@
 ghost use Rattle.std.specs.Prelude.{◌≡◌};
 ghost use Rattle.rrc_name.specs.KeyRef.{key_of};
 ghost use Rattle.rrc_history.specs.Past.{key_at};
-ghost use Rattle.rrc_history.specs.Entries.{found_among};
-ghost use Rattle.rrc_cache.specs.Found.{found_in};
 
-use crate::store::Store;
 use rrc_history::{Ask, Entry};
 use rrc_name::{KeyRef, Slot};
 
@@ -23,16 +20,5 @@ pub(crate) fn key_at(ask: &Ask, slot: Slot) -> KeyRef<'_>
     KeyRef {
         name: &ask.name,
         slot,
-    }
-}
-
-/// What the keys of an ask hold.
-pub(crate) fn look_up<'a>(store: &'a Store, ask: &Ask) -> Found<'a>
-    ensures { found_in result ≡ found_among store.now ask.now }
-{
-    Found {
-        set: store.get(key_at(ask, Slot::Set(ask.rtype))),
-        nx: store.get(key_at(ask, Slot::Nx)),
-        failed: store.get(key_at(ask, Slot::Failed(ask.rtype))),
     }
 }

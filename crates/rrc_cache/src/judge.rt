@@ -1,12 +1,16 @@
 ghost use Rattle.std.specs.Prelude.{◌≡◌, ◌+◌, ◌<◌, ◌≤◌, ◌^◌, IfSome};
 ghost use Rattle.std.specs.Option.{option_copied, option_map};
-ghost use Rattle.rrc_history.specs.Lives.{ttl_of, rank, rank_of, is_unexpired, is_dead, IsTimely};
-ghost use Rattle.rrc_history.specs.Judged.{outranks, verdict, later_governs, governing, is_before, recent_failure, retry_from, may_be_stale, may_serve, reply_of_living_set, reply_of_living_soa, reply_of_entry, reply_by, answering};
+ghost use Rattle.std.specs.List.{AllByRecursion};
+ghost use Rattle.rrc_history.specs.Entries.{found_among};
+ghost use Rattle.rrc_history.specs.Lives.{ttl_of, rank, rank_of, is_unexpired, span, IsTimely};
+ghost use Rattle.rrc_history.specs.Judged.{outranks, verdict, later_governs, governing, is_before, recent_failure, retry_from, may_be_stale, may_serve, reply_of_living_set, reply_of_living_soa, reply_of_entry, reply_of, reply_by, answering};
+ghost use Rattle.rrc_cache.specs.Dying.{time_of_death};
 ghost use Rattle.rrc_cache.specs.Found.{found_in};
 ghost use Rattle.rrc_cache.specs.Reply.{reply_in};
 
-use crate::found::Found;
+use crate::found::{Found, key_at};
 use crate::reply::{ReplyRef, SetRef, SoaRef};
+use crate::store::Store;
 use rrc_history::{Ask, Body, Entry, Mode, Offer, Outcome, Purpose, Trust};
 use rrc_name::Slot;
 
@@ -41,22 +45,33 @@ fn ttl_of(body: &Body) -> u32
     }
 }
 
+/// For how many seconds a body may answer: a set past its ttl as well, up to the stale limit (RFC 8767 section 4).
+fn span(body: &Body, stale: u64) -> u64
+    requires { stale ≤ 604800 }
+    ensures { result ≡ span stale body.now }
+{
+    match body {
+        Body::Positive { ttl, .. } => u64::from(*ttl) + stale,
+        Body::Negative { ttl, .. } | Body::Failure { ttl } => u64::from(*ttl),
+    }
+}
+
+/// The moment from which on an entry can answer no more. One that may not answer for a second is dead at every moment, also before
+/// its own.
+pub(crate) fn time_of_death(entry: &Entry, stale: u64) -> u64
+    requires { stale ≤ 604800 }
+    ensures { result ≡ time_of_death stale entry.now }
+{
+    match span(&entry.body, stale) {
+        0 => 0,
+        span => entry.moment.saturating_add(span),
+    }
+}
+
 fn is_unexpired(entry: &Entry, moment: u64) -> bool
     ensures { result ≡ is_unexpired entry.now moment }
 {
     moment.saturating_sub(entry.moment) < u64::from(ttl_of(&entry.body))
-}
-
-/// Whether an entry can answer no more.
-pub(crate) fn is_dead(entry: &Entry, stale: u64, moment: u64) -> bool
-    requires { stale ≤ 604800 }
-    ensures { result ≡ is_dead stale entry.now moment }
-{
-    let span = match &entry.body {
-        Body::Positive { ttl, .. } => u64::from(*ttl) + stale,
-        Body::Negative { ttl, .. } | Body::Failure { ttl } => u64::from(*ttl),
-    };
-    span <= moment.saturating_sub(entry.moment)
 }
 
 fn outranks(entry: &Entry, moment: u64, body: &Body) -> bool
@@ -239,25 +254,49 @@ fn reply_of_entry<'a>(
     }
 }
 
-/// What an ask is answered where its keys hold this, and the entry that answers.
+/// The answer of the entry that governs, if there is one that may serve.
+fn reply_of<'a>(
+    governing: Option<&'a Entry>,
+    ask: &Ask,
+    stale: u64,
+    failure: Option<&Entry>,
+) -> Option<ReplyRef<'a>>
+    requires { stale ≤ 604800 }
+    ensures { option_map reply_in result ≡ reply_of stale (option_copied governing.entry) (option_copied failure.entry) ask.now }
+{
+    let entry = governing?;
+    if may_serve(ask.purpose, &entry.body) {
+        reply_of_entry(entry, ask, stale, failure)
+    } else {
+        None
+    }
+}
+
+/// What an ask is answered from what is kept, and the entry that answers. Whether asking failed is looked up only where no
+/// entry answers without it.
 pub(crate) fn judge<'a>(
-    found: Found<'a>,
+    store: &'a Store,
     ask: &Ask,
     stale: u64,
 ) -> (ReplyRef<'a>, Option<&'a Entry>)
     requires stale { stale ≤ 604800 }
-    requires timely { IfSome (option_copied found.failed) IsTimely }
-    ensures reply { reply_in result.0 ≡ reply_by stale (found_in found.entry) ask.now }
-    ensures answering { option_copied result.1 ≡ answering (found_in found.entry) ask.now (reply_in result.0) }
+    requires timely { AllByRecursion IsTimely store.now.entries }
+    ensures reply { reply_in result.0 ≡ reply_by stale (found_among store.now.entries ask.now) ask.now }
+    ensures answering { option_copied result.1 ≡ answering (found_among store.now.entries ask.now) ask.now (reply_in result.0) }
 {
-    let failure = recent_failure(found, ask.moment);
-    if let Some(entry) = governing(found.set, found.nx, ask.moment) {
-        if may_serve(ask.purpose, &entry.body) {
-            if let Some(reply) = reply_of_entry(entry, ask, stale, failure) {
-                return (reply, Some(entry));
-            }
+    let set = store.get(key_at(ask, Slot::Set(ask.rtype)));
+    let nx = store.get(key_at(ask, Slot::Nx));
+    let governing = governing(set, nx, ask.moment);
+    if let Some(reply) = reply_of(governing, ask, stale, None) {
+        return (reply, governing);
+    }
+    let failed = store.get(key_at(ask, Slot::Failed(ask.rtype)));
+    let failure = recent_failure(Found { set, nx, failed }, ask.moment);
+    match reply_of(governing, ask, stale, failure) {
+        Some(reply) => (reply, governing),
+        None => {
+            let retry_from = retry_from(failure);
+            (ReplyRef::Miss { retry_from }, None)
         }
     }
-    let retry_from = retry_from(failure);
-    (ReplyRef::Miss { retry_from }, None)
 }

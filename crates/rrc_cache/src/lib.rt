@@ -2,6 +2,7 @@
 #![tactic(auto)]
 
 mod answer;
+mod deaths;
 mod entries;
 mod found;
 mod judge;

@@ -3,7 +3,7 @@ ghost use Rattle.std.specs.Prelude.{◌≡◌, ◌<◌, ◌≤◌, ◌↔◌, �
 use crate::refusal::Refusal;
 use crate::reply::ReplyRef;
 use crate::store::Store;
-use crate::{answer, entries, found, judge, sweep};
+use crate::{answer, entries, judge, sweep};
 use rrc_history::{Ask, Event, LAST_MOMENT, Offer, Outcome, Reply, Rules, Snapshot, Tag};
 use rrc_name::Sequence;
 use std::alloc::Global;
@@ -26,13 +26,13 @@ pub struct Part {
 }
 
 impl Model for Part {
-    ghost use Rattle.rrc_cache.specs.Part.{PartOf, Keeps};
+    ghost use Rattle.rrc_cache.specs.Part.{PartOf, Holds};
 
     ghost Value = { PartOf };
 
     ghost view = { λ p. record { snapshot = p.snapshot; events = p.events.items } };
 
-    ghost invariant = { λ p. Keeps (record { snapshot = p.snapshot; events = p.events.items }) p.store };
+    ghost invariant = { λ p. Holds (record { snapshot = p.snapshot; events = p.events.items }) p.store };
 }
 
 impl Part {
@@ -64,7 +64,7 @@ impl Part {
                 entries: Sequence::new(alloc),
             },
             events: Vec::new(alloc),
-            store: Store::new(alloc, seed)?,
+            store: Store::new(alloc, seed, rules.stale)?,
         })
     }
 
@@ -88,7 +88,7 @@ impl Part {
     pub fn has_room(&self) -> bool
         ensures { IsTrue result ↔ HasRoom self.now }
     {
-        (self.events.len() as u64) < self.snapshot.rules.chapter && self.next_number() < SPENT
+        (self.events.len() as u64) < self.snapshot.rules().chapter && self.next_number() < SPENT
     }
 
     /// The reply that `ask` would give to this ask now. It comes whatever the ask's moment is, also above the last one, and in a
@@ -96,12 +96,7 @@ impl Part {
     pub fn would_answer(&self, ask: &Ask) -> ReplyRef<'_>
         ensures { reply_in result ≡ reply_to self.now.snapshot (past_of self.now) ask.now }
     {
-        judge::judge(
-            found::look_up(&self.store, ask),
-            ask,
-            self.snapshot.rules.stale,
-        )
-        .0
+        judge::judge(&self.store, ask, self.snapshot.rules().stale).0
     }
 
     /// Keeps the body of an offer under its key, or says why not, and appends one event that tells it.
@@ -119,7 +114,7 @@ impl Part {
             &mut self.store,
             &offer,
             number,
-            self.snapshot.rules.capacity,
+            self.snapshot.rules().capacity,
         )?;
         self.events.push_reserved(Event::Offered {
             tag,
@@ -137,7 +132,7 @@ impl Part {
         ensures due { IsDue self.old ask.now.moment result }
     {
         self.admit(ask.moment)?;
-        let stale = self.snapshot.rules.stale;
+        let stale = self.snapshot.rules().stale;
         let (reply, asked, slot) = answer::answer(&self.store, ask, stale)?;
         let event = Event::Asked {
             tag,
@@ -158,8 +153,7 @@ impl Part {
         ensures due { IsDue self.old moment result }
     {
         self.admit(moment)?;
-        let stale = self.snapshot.rules.stale;
-        let gone = sweep::dead_keys(*self.events.allocator(), &self.store, stale, moment)?;
+        let gone = sweep::dead_keys(*self.events.allocator(), &self.store, moment)?;
         self.events.reserve(1)?;
         sweep::remove(&mut self.store, gone.as_slice());
         let removed = gone.len();

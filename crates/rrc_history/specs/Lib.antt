@@ -3,10 +3,15 @@ pub mod Faults
 pub mod Asked
 pub mod Limits
 pub mod Lives
+pub mod Snapshots
 pub mod Judged
 pub mod Past
 pub mod Right
+pub mod Entries
+pub mod Sound
+pub mod Same
+pub mod Chapters
+pub mod Chains
 pub mod Laws
 pub mod WholeLaws
-pub mod Entries
 pub mod lemmas

@@ -10,3 +10,7 @@ pub mod LifeHolds
 pub mod DataHolds
 pub mod LawsHold
 pub mod OneHistory
+pub mod Chained
+pub mod SameLaws
+pub mod SnapshotLaws
+pub mod Openings

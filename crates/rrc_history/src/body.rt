@@ -16,7 +16,7 @@ pub enum Trust {
 }
 
 /// What a key may hold.
-#[derive(Debug, Drop, PartialEq, Eq)]
+#[derive(Debug, Drop)]
 pub enum Body {
     /// The data of an RRset, one at least, under the spelling of its owner as received; for `ttl` seconds.
     Positive {
@@ -71,4 +71,65 @@ impl Clone for Body {
             Body::Failure { ttl } => Ok(Body::Failure { ttl: *ttl }),
         }
     }
+}
+
+impl PartialEq for Body {
+    ghost use Rattle.rrc_history.specs.Same.{body_eq};
+    ghost use Rattle.rrc_history.specs.lemmas.SameLaws.{body_eq-laws};
+    ghost use Rattle.std.specs.Cmp.{partial_equiv_from_equiv};
+
+    ghost eq = { body_eq };
+
+    ghost laws = { partial_equiv_from_equiv body_eq-laws };
+
+    fn eq(&self, other: &Body) -> bool {
+        match (self, other) {
+            (
+                Body::Positive {
+                    trust,
+                    ttl,
+                    owner,
+                    items,
+                },
+                Body::Positive {
+                    trust: other_trust,
+                    ttl: other_ttl,
+                    owner: other_owner,
+                    items: other_items,
+                },
+            ) => {
+                *trust as u8 == *other_trust as u8
+                    && ttl == other_ttl
+                    && owner == other_owner
+                    && items == other_items
+            }
+            (
+                Body::Negative {
+                    trust,
+                    ttl,
+                    soa_owner,
+                    soa,
+                },
+                Body::Negative {
+                    trust: other_trust,
+                    ttl: other_ttl,
+                    soa_owner: other_owner,
+                    soa: other_soa,
+                },
+            ) => {
+                *trust as u8 == *other_trust as u8
+                    && ttl == other_ttl
+                    && soa_owner == other_owner
+                    && soa == other_soa
+            }
+            (Body::Failure { ttl }, Body::Failure { ttl: other_ttl }) => ttl == other_ttl,
+            _ => false,
+        }
+    }
+}
+
+impl Eq for Body {
+    ghost use Rattle.rrc_history.specs.lemmas.SameLaws.{body_eq-laws};
+
+    ghost laws = { body_eq-laws };
 }

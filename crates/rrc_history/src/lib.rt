@@ -3,6 +3,8 @@
 
 mod ask;
 mod body;
+mod chains;
+mod chapter;
 mod event;
 mod laws;
 mod offer;
@@ -13,9 +15,14 @@ mod tests;
 
 pub use ask::{Ask, Mode, Purpose};
 pub use body::{Body, Trust};
+pub use chains::{ChainFault, Whole, chain};
+pub use chapter::Chapter;
 pub use event::{Event, Outcome, Reply, RrSet, Soa, Tag};
-pub use laws::{calls_determine_the_history, legal_histories_keep_the_laws};
+pub use laws::{
+    calls_determine_the_history, legal_histories_keep_the_laws, same_snapshots_are_one,
+    snapshots_lead_to_themselves, sound_entries_have_no_fault,
+};
 pub use offer::{Offer, OfferFault};
 pub use rrc_name as name;
 pub use rules::{LAST_MOMENT, Rules};
-pub use snapshot::{Entry, Snapshot};
+pub use snapshot::{Entry, Snapshot, SnapshotFault};

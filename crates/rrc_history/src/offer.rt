@@ -49,7 +49,8 @@ impl OfferFault {
     }
 }
 
-fn is_fit(key: &Key, body: &Body) -> bool
+/// Whether a body may stand under a key.
+pub(crate) fn is_fit(key: &Key, body: &Body) -> bool
     ensures { result ≡ fits key.now body.now }
 {
     match body {

@@ -1,6 +1,13 @@
+ghost use Rattle.std.specs.Prelude.{◌≡◌, Some, None, IfOk, IfErr, OnOk};
+ghost use Rattle.rrc_history.specs.Snapshots.{has_key, has_number, entry_fault, snapshot_fault};
+ghost use Rattle.rrc_history.specs.Same.{rules_eq};
+
 use crate::body::Body;
-use crate::rules::Rules;
+use crate::offer;
+use crate::rules::{LAST_MOMENT, Rules};
 use rrc_name::{Key, Sequence};
+use std::marker::Model;
+use thiserror::Error;
 
 /// What a key holds: a body, the moment of its offer, and the number of the event that stored it.
 #[derive(Debug, Drop)]
@@ -12,10 +19,176 @@ pub struct Entry {
 }
 
 /// What a part held when a chapter of its history began, the key touched last first. The chapter's first event has the
-/// number `first`.
+/// number `first`. The entries are no more than the capacity, each has a key of its own, which its body fits, a number of its
+/// own below `first`, and a moment of at most 2^40 seconds.
 #[derive(Debug, Drop)]
 pub struct Snapshot {
     pub rules: Rules,
     pub first: u64,
     pub entries: Sequence<Entry>,
+}
+
+impl Model for Snapshot {
+    ghost use Rattle.std.specs.Prelude.{◌≡◌, None};
+    ghost use Rattle.rrc_history.specs.Snapshots.{SnapshotOf, snapshot_fault};
+
+    ghost Value = { SnapshotOf };
+
+    ghost view = { λ s. record { rules = s.rules; first = s.first; entries = s.entries } };
+
+    ghost invariant = { λ s. snapshot_fault s.rules s.first s.entries ≡ None };
+}
+
+/// Why entries are no snapshot: what is wrong with the first of them that is wrong.
+#[derive(Clone, Copy, Debug, PartialEq, Eq, Hash, Error)]
+pub enum SnapshotFault {
+    #[error("as many entries as the capacity stand before an entry")]
+    TooMany = 1,
+    #[error("an entry has the key of one before it")]
+    RepeatedKey = 2,
+    #[error("an entry has the number of one before it, or one that is not below the first event's")]
+    BadNumber = 3,
+    #[error("the body of an entry does not fit its key")]
+    WrongBody = 4,
+    #[error("the moment of an entry is above 2^40 seconds")]
+    BadMoment = 5,
+}
+
+impl SnapshotFault {
+    ghost use Rattle.rrc_history.specs.Faults.{snapshot_fault_number};
+
+    /// The number of the fault, from 1 to 5. Of several faults of an entry the one of the lowest number is answered.
+    pub fn number(&self) -> u8
+        ensures value { result ≡ snapshot_fault_number self.now }
+    {
+        *self as u8
+    }
+}
+
+impl Snapshot {
+    ghost use Rattle.rrc_history.specs.Sound.{AreSound};
+
+    /// A snapshot of entries, the key touched last first, in front of the event of the number `first`. The first entry that is
+    /// wrong is answered for: `TooMany` where `rules.capacity` entries stand before it, then `RepeatedKey`, `BadNumber` (not below
+    /// `first`, or that of an entry before it), `WrongBody` (as of `Offer::new`), and `BadMoment` (above 2^40 seconds). It takes
+    /// no memory, and so compares each entry with all before it.
+    pub fn new(rules: Rules, first: u64, entries: Vec<Entry>) -> Result<Snapshot, SnapshotFault>
+        ensures ok { IfOk result (λ snapshot. snapshot ≡ record { rules = rules; first = first; entries = entries.items }) }
+        ensures sound { OnOk result (snapshot_fault rules first entries.items ≡ None) }
+        ensures err { IfErr result (λ fault. snapshot_fault rules first entries.items ≡ Some fault) }
+    {
+        match first_fault(rules, first, entries.as_slice()) {
+            Some(fault) => Err(fault),
+            None => Ok(Snapshot {
+                rules,
+                first,
+                entries: Sequence::from_vec(entries),
+            }),
+        }
+    }
+
+    /// The rules of the part. By them the entries of every snapshot are sound.
+    pub fn rules(&self) -> Rules
+        ensures value { result ≡ self.now.rules }
+        ensures sound { AreSound self.now.rules.capacity self.now.first self.now.entries }
+    {
+        self.rules
+    }
+}
+
+fn first_fault(rules: Rules, first: u64, entries: &[Entry]) -> Option<SnapshotFault>
+    ensures { result ≡ snapshot_fault rules first entries.now }
+{
+    for (place, entry) in entries.iter().enumerate() {
+        let fault = entry_fault(rules.capacity, first, &entries[..place], entry);
+        if fault.is_some() {
+            return fault;
+        }
+    }
+    None
+}
+
+/// What is wrong with an entry behind others.
+fn entry_fault(capacity: u64, first: u64, before: &[Entry], entry: &Entry) -> Option<SnapshotFault>
+    ensures { result ≡ entry_fault capacity first before.now entry.now }
+{
+    if before.len() as u64 >= capacity {
+        return Some(SnapshotFault::TooMany);
+    }
+    if has_key(&entry.key, before) {
+        return Some(SnapshotFault::RepeatedKey);
+    }
+    if entry.number >= first || has_number(entry.number, before) {
+        return Some(SnapshotFault::BadNumber);
+    }
+    if !offer::is_fit(&entry.key, &entry.body) {
+        return Some(SnapshotFault::WrongBody);
+    }
+    if entry.moment > LAST_MOMENT {
+        return Some(SnapshotFault::BadMoment);
+    }
+    None
+}
+
+fn has_key(key: &Key, entries: &[Entry]) -> bool
+    ensures { result ≡ has_key key.now entries.now }
+{
+    entries.iter().any(|entry| *key == entry.key)
+}
+
+fn has_number(number: u64, entries: &[Entry]) -> bool
+    ensures { result ≡ has_number number entries.now }
+{
+    entries.iter().any(|entry| entry.number == number)
+}
+
+impl PartialEq for Entry {
+    ghost use Rattle.rrc_history.specs.Same.{entry_eq};
+    ghost use Rattle.rrc_history.specs.lemmas.SameLaws.{entry_eq-laws};
+    ghost use Rattle.std.specs.Cmp.{partial_equiv_from_equiv};
+
+    ghost eq = { entry_eq };
+
+    ghost laws = { partial_equiv_from_equiv entry_eq-laws };
+
+    fn eq(&self, other: &Entry) -> bool {
+        self.key == other.key
+            && self.body == other.body
+            && self.moment == other.moment
+            && self.number == other.number
+    }
+}
+
+impl Eq for Entry {
+    ghost use Rattle.rrc_history.specs.lemmas.SameLaws.{entry_eq-laws};
+
+    ghost laws = { entry_eq-laws };
+}
+
+impl PartialEq for Snapshot {
+    ghost use Rattle.rrc_history.specs.Same.{snapshot_eq};
+    ghost use Rattle.rrc_history.specs.lemmas.SameLaws.{snapshot_eq-laws};
+    ghost use Rattle.std.specs.Cmp.{partial_equiv_from_equiv};
+
+    ghost eq = { snapshot_eq };
+
+    ghost laws = { partial_equiv_from_equiv snapshot_eq-laws };
+
+    fn eq(&self, other: &Snapshot) -> bool {
+        has_same_numbers(self.rules, other.rules)
+            && self.first == other.first
+            && self.entries == other.entries
+    }
+}
+
+impl Eq for Snapshot {
+    ghost use Rattle.rrc_history.specs.lemmas.SameLaws.{snapshot_eq-laws};
+
+    ghost laws = { snapshot_eq-laws };
+}
+
+fn has_same_numbers(rules: Rules, other: Rules) -> bool
+    ensures { result ≡ rules_eq rules other }
+{
+    rules.capacity == other.capacity && rules.chapter == other.chapter && rules.stale == other.stale
 }

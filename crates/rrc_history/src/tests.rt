@@ -1,3 +1,6 @@
+mod chains;
+mod snapshots;
+
 use crate::name::{Key, Name, NameFault, Octets, Sequence, Shared, Slot};
 use crate::{Ask, Body, Mode, Offer, OfferFault, Purpose, Reply, RrSet, Rules, Soa, Trust};
 use std::alloc::{AllocError, Global};

@@ -1,5 +1,5 @@
 -- The keys of a cache: a folded name, and what of it is kept.
-use Rattle.std.specs.Prelude.{◌≡◌, ℕ, List, ◌++◌, Bool, true, false, ◌&&◌, ◌==◌, nat_eq}
+use Rattle.std.specs.Prelude.{◌≡◌, ℕ, ◌/◌, List, ◌∷◌, ◌++◌, Bool, true, false, ◌&&◌, ◌==◌, nat_eq}
 use Rattle.std.specs.declared.cmp.Ordering.{Ordering}
 use Rattle.std.specs.Ordering.{nat_cmp, ordering_then}
 use Rattle.std.specs.Cmp.Lexicographic.{pointwise, slice_cmp}
@@ -52,9 +52,14 @@ abbrev pub key_order : KeyOf → KeyOf → Ordering
 key_order a b =
     ordering_then (canonical_order a.name b.name) (ordering_then (slice_cmp nat_cmp a.name b.name) (slot_order a.slot b.slot))
 
--- what slots and keys are hashed by: the kind's place and the type, behind the octets of a key's name
+-- what slots are hashed by: the kind's place and the type
 abbrev pub slot_hash : Slot → HashWrites
 slot_hash slot = fed.u8 (kind_place slot) ++ fed.u16 (type_of slot)
 
+-- types come in blocks of 32, so that the slots that one ask looks for mostly are of one block
+abbrev pub block_of : Slot → ℕ
+block_of slot = type_of slot / 32
+
+-- what keys are hashed by: the octets of their name, and the block of their slot
 abbrev pub key_hash : KeyOf → HashWrites
-key_hash key = fed.slice fed.u8 key.name ++ slot_hash key.slot
+key_hash key = key.name ∷ fed.u16 (block_of key.slot)

@@ -1,6 +1,5 @@
 ghost use Rattle.std.specs.Prelude.{◌≡◌, IfOk};
 ghost use Rattle.rrc_name.specs.Wire.{folded, IsWireForm};
-ghost use Rattle.rrc_name.specs.Key.{key_eq, slot_eq};
 
 use crate::name::Name;
 use crate::slot::Slot;
@@ -51,13 +50,6 @@ impl Key {
         let _ = self.name.len();
         &self.name
     }
-
-    /// Whether this is the key of a folded name and a slot. It takes no memory.
-    pub fn is(&self, name: &Name, slot: Slot) -> bool
-        ensures { result ≡ key_eq (record { name = name.now; slot = slot }) self.now }
-    {
-        *name == self.name && slot == self.slot
-    }
 }
 
 impl Clone for Key {
@@ -81,7 +73,7 @@ impl PartialEq for Key {
     ghost laws = { partial_equiv_from_equiv key_eq-laws };
 
     fn eq(&self, other: &Key) -> bool {
-        self.name == other.name && self.slot == other.slot
+        self.slot == other.slot && self.name == other.name
     }
 }
 
@@ -99,9 +91,11 @@ impl Hash for Key {
 
     ghost respects_eq = { key_hash-alike.fed };
 
+    // The slots of a block have one hash, so in a map they lie side by side: at most 65 keys of a name, and those that one ask
+    // looks for mostly among them.
     fn hash<H: Hasher>(&self, state: &mut H) {
         self.name.hash(state);
-        self.slot.hash(state);
+        self.slot.block().hash(state);
     }
 }
 

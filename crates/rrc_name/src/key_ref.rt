@@ -53,7 +53,7 @@ impl PartialEq for KeyRef<'_> {
     ghost laws = { partial_equiv_from_equiv (on_equiv key_of key_eq-laws) };
 
     fn eq(&self, other: &Self) -> bool {
-        *self.name == *other.name && self.slot == other.slot
+        self.slot == other.slot && *self.name == *other.name
     }
 }
 
@@ -76,7 +76,7 @@ impl Hash for KeyRef<'_> {
 
     fn hash<H: Hasher>(&self, state: &mut H) {
         self.name.hash(state);
-        self.slot.hash(state);
+        self.slot.block().hash(state);
     }
 }
 
@@ -92,7 +92,7 @@ impl Equivalent<Key> for KeyRef<'_> {
     ghost respects_eq = { λ wanted a b. key_eq-laws.congr (key_of wanted) a b };
 
     fn equivalent(&self, key: &Key) -> bool {
-        *self.name == key.name && self.slot == key.slot
+        self.slot == key.slot && *self.name == key.name
     }
 }
 

@@ -116,9 +116,7 @@ impl Name {
         ensures value { result ≡ same_name self.now other.now }
         ensures meaning { IsTrue result ↔ IsSameName self.now other.now }
     {
-        self.wire
-            .as_slice()
-            .eq_ignore_ascii_case(other.wire.as_slice())
+        order::is_same(self.wire.as_slice(), other.wire.as_slice())
     }
 
     /// The canonical order of names (RFC 4034 section 6.1): by labels from the rightmost, each by its octets with the letters

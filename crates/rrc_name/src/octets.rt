@@ -5,14 +5,16 @@ ghost use Rattle.std.specs.Cmp.{nat_eq_equiv, partial_equiv_from_equiv};
 ghost use Rattle.std.specs.Prelude.{nat_eq};
 ghost use Rattle.rrc_name.specs.Wire.{folded};
 
+use smallvec::SmallVec;
 use std::alloc::{AllocError, Global};
 use std::hash::{Hash, Hasher};
 use std::marker::Model;
 
-/// Octets, as a message or a trace has them. Contracts see the list of them.
+/// Octets, as a message or a trace has them. Contracts see the list of them. Up to 32 of them, as most names and data are, take
+/// no memory beside the value.
 #[derive(Debug, Drop)]
 pub struct Octets {
-    octets: Vec<u8>,
+    octets: SmallVec<u8, 32>,
 }
 
 impl Model for Octets {
@@ -27,7 +29,7 @@ impl Octets {
         ensures { result ≡ [] }
     {
         Octets {
-            octets: Vec::new(alloc),
+            octets: SmallVec::new(alloc),
         }
     }
 
@@ -35,7 +37,9 @@ impl Octets {
     pub fn from_vec(octets: Vec<u8>) -> Octets
         ensures { result ≡ octets.items }
     {
-        Octets { octets }
+        Octets {
+            octets: SmallVec::from_vec(octets),
+        }
     }
 
     /// A copy of a slice.
@@ -43,7 +47,7 @@ impl Octets {
         ensures { IfOk result (λ copy. copy ≡ octets.now) }
     {
         Ok(Octets {
-            octets: Vec::from_slice(alloc, octets)?,
+            octets: SmallVec::from_slice(alloc, octets)?,
         })
     }
 
@@ -73,10 +77,14 @@ impl Octets {
         *self.octets.allocator()
     }
 
-    pub fn into_vec(self) -> Vec<u8>
-        ensures { result.items ≡ self }
+    /// A vector of the octets.
+    pub fn into_vec(self) -> Result<Vec<u8>, AllocError>
+        ensures { IfOk result (λ octets. octets.items ≡ self) }
     {
-        self.octets
+        match self.octets.into_vec() {
+            Ok(octets) => Ok(octets),
+            Err(_) => Err(AllocError),
+        }
     }
 
     pub fn len(&self) -> usize
@@ -114,11 +122,12 @@ impl Hash for Octets {
     ghost use Rattle.std.specs.Cmp.Lexicographic.{bytes_decides};
     ghost use Rattle.std.specs.Hash as fed;
 
-    ghost hash_input = { λ o. fed.slice fed.u8 o };
+    ghost hash_input = { λ o. o ∷ [] };
 
-    ghost respects_eq = { (fed.same_Alike (fed.slice fed.u8) bytes_decides).fed };
+    ghost respects_eq = { (fed.same_Alike (λ o. o ∷ []) bytes_decides).fed };
 
+    // A vector is fed octet by octet, and this at once.
     fn hash<H: Hasher>(&self, state: &mut H) {
-        self.octets.hash(state);
+        state.write(self.octets.as_slice());
     }
 }

@@ -1,6 +1,6 @@
 ghost use Rattle.std.specs.Prelude.{◌≡◌, ◌↔◌, length, drop, IsTrue};
 ghost use Rattle.rrc_name.specs.Order.{label_order, canonical_order, outweighed, IsAtOrBelow, is_at_or_below};
-ghost use Rattle.rrc_name.specs.Wire.{labels_of, IsWireForm};
+ghost use Rattle.rrc_name.specs.Wire.{labels_of, IsWireForm, IsSameName};
 
 use crate::label::first_label;
 use std::cmp::Ordering;
@@ -73,6 +73,16 @@ pub(crate) fn order_of_names(a: &[u8], b: &[u8]) -> Ordering
     outweigh(a, b, count.cmp(&other))
 }
 
+/// Whether octets are the same but for the case of letters. Most names that are compared are spelled alike, and to see that is quicker.
+pub(crate) fn is_same(a: &[u8], b: &[u8]) -> bool
+    ensures { IsTrue result ↔ IsSameName a.now b.now }
+{
+    if a == b {
+        return true;
+    }
+    a.eq_ignore_ascii_case(b)
+}
+
 /// Whether a name is at or below a zone.
 pub(crate) fn is_within(name: &[u8], zone: &[u8]) -> bool
     requires name_name { IsWireForm name.now }
@@ -81,5 +91,5 @@ pub(crate) fn is_within(name: &[u8], zone: &[u8]) -> bool
     ensures meaning { IsTrue result ↔ IsAtOrBelow name.now zone.now }
 {
     let (count, zone_count) = (label_count(name), label_count(zone));
-    count >= zone_count && behind_labels(name, count - zone_count).eq_ignore_ascii_case(zone)
+    count >= zone_count && is_same(behind_labels(name, count - zone_count), zone)
 }

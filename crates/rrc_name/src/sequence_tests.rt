@@ -9,7 +9,7 @@ fn holds_octets(rt: HostRuntime) -> Result<(), Fail> {
     assert_eq!(rt; octets.len(), 3);
     assert_eq!(rt; octets.lowered()?.as_slice(), b"www".as_slice());
 
-    let copy = Octets::from_vec(octets.clone()?.into_vec());
+    let copy = Octets::from_vec(octets.clone()?.into_vec()?);
     assert!(rt; copy == octets && !copy.is_empty());
     assert!(rt; Octets::new(octets.alloc()).is_empty());
     Ok(())

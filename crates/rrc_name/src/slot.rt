@@ -15,7 +15,7 @@ pub enum Slot {
 }
 
 impl Slot {
-    ghost use Rattle.rrc_name.specs.Key.{kind_place, type_of};
+    ghost use Rattle.rrc_name.specs.Key.{kind_place, type_of, block_of};
 
     fn kind_place(self) -> u8
         ensures { result ≡ kind_place self }
@@ -34,6 +34,13 @@ impl Slot {
             Slot::Set(rtype) | Slot::Failed(rtype) => rtype,
             Slot::Nx => 0,
         }
+    }
+
+    /// Which block of 32 types the slot's type is in.
+    pub(crate) fn block(self) -> u16
+        ensures { result ≡ block_of self }
+    {
+        self.type_of() / 32
     }
 }
 

@@ -69,14 +69,20 @@ fn answer_at(
 
 /// What the cache of one thread with these rules answers the lines of a trace, in order. Each line makes its calls on a part that
 /// is empty at first: a response one for each of its offers, any other line one. The history of these calls is legal, and keeps the
-/// laws of trust and of life.
+/// laws of trust and of life. Keys are hashed behind the seed: under one that nobody can foresee no names make the replay slow.
+/// No answer depends on it.
 ///
 /// `Spent(n)` where line n is the first that finds the part's chapter full, `Memory` where memory was refused.
-pub fn replay(alloc: Global, trace: &Trace, rules: &Rules) -> Result<Sequence<Answer>, ReplayFault>
+pub fn replay(
+    alloc: Global,
+    trace: &Trace,
+    rules: &Rules,
+    seed: [u8; 16],
+) -> Result<Sequence<Answer>, ReplayFault>
     ensures ok { IfOk result (AreAnswers rules.now trace.now) }
     ensures err { IfErr result (IsRefusal rules.now trace.now) }
 {
-    let Ok(mut part) = Part::new(alloc, *rules) else {
+    let Ok(mut part) = Part::seeded(alloc, *rules, seed) else {
         return Err(ReplayFault::Memory);
     };
     let mut answers = Sequence::new(alloc);

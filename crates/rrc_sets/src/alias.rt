@@ -21,7 +21,8 @@ const MOST_NAMES: u8 = 17;
 pub(crate) fn same(a: &[u8], b: &[u8]) -> bool
     ensures { result ≡ same_name a.now b.now }
 {
-    a.eq_ignore_ascii_case(b)
+    // Most are spelled alike, and to see that is quicker.
+    a == b || a.eq_ignore_ascii_case(b)
 }
 
 /// Whether a record is of a type, under a name.

@@ -31,14 +31,13 @@ impl Model for Set {
 }
 
 impl Set {
-    /// The set of one record.
-    pub(crate) fn alone(alloc: Global, rr: &Rr) -> Result<Set, AllocError>
+    /// The set of one record, with room for this many in all. An event keeps the data as long as it stands, and their room with them.
+    pub(crate) fn alone(alloc: Global, rr: &Rr, room: usize) -> Result<Set, AllocError>
         ensures { IfOk result (λ set. set ≡ alone rr.now) }
     {
-        // Most sets have one record, and an event keeps the data as long as it stands.
-        let mut items = Sequence::from_vec(Vec::with_capacity(alloc, 1)?);
+        let mut items = Sequence::from_vec(Vec::with_capacity(alloc, room)?);
         items.push(rr.rdata.clone()?)?;
-        let mut ttls = Vec::with_capacity(alloc, 1)?;
+        let mut ttls = Vec::with_capacity(alloc, room)?;
         ttls.push(rr.ttl)?;
         Ok(Set {
             owner: rr.owner.clone()?,

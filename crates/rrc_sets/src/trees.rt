@@ -40,7 +40,7 @@ fn key_of(rr: &Rr) -> Result<(u16, Vec<u8>), AllocError>
     ensures rtype { IfOk result (λ key. key.0 ≡ rr.now.rtype) }
     ensures owner { IfOk result (λ key. key.1.items ≡ folded rr.now.owner) }
 {
-    Ok((rr.rtype, rr.owner.wire.lowered()?.into_vec()))
+    Ok((rr.rtype, rr.owner.wire.lowered()?.into_vec()?))
 }
 
 /// The place of a record's set, or that behind the others, which is then the place of sets of its type and owner.
@@ -78,7 +78,7 @@ fn put_at(
     if place < sets.len() {
         sets[place].take(rr, is_new)?;
     } else {
-        sets.push(Set::alone(alloc, rr)?)?;
+        sets.push(Set::alone(alloc, rr, 1)?)?;
     }
     Ok(())
 }
@@ -105,8 +105,8 @@ impl Gathered {
             mut seen,
         } = self;
         let place = place_of(&mut places, sets.as_slice(), rr)?;
-        let lowered = lowered_rdata(alloc, rr.rtype, rr.rdata.as_slice())?;
-        let is_new = seen.insert((place, lowered.into_vec()))?;
+        let lowered = lowered_rdata(alloc, rr.rtype, rr.rdata.as_slice())?.into_vec()?;
+        let is_new = seen.insert((place, lowered))?;
         put_at(alloc, &mut sets, place, rr, is_new)?;
         Ok(Gathered { sets, places, seen })
     }

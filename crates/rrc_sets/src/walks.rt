@@ -1,5 +1,5 @@
-ghost use Rattle.std.specs.Prelude.{◌≡◌, ◌<◌, OnOk, IfOk, IfSome, position, length};
-ghost use Rattle.rrc_sets.specs.Sets.{sets_of};
+ghost use Rattle.std.specs.Prelude.{◌≡◌, ◌<◌, OnOk, IfOk, IfSome, position, length, count_by};
+ghost use Rattle.rrc_sets.specs.Sets.{same_set, sets_of};
 ghost use Rattle.rrc_sets.specs.Gathering.{holds, with_record};
 
 use crate::set::Set;
@@ -14,13 +14,33 @@ fn place_of(sets: &[Set], rr: &Rr) -> Option<usize>
     sets.iter().position(|set| set.holds(rr))
 }
 
-/// Puts a record into its set, or else into one of its own behind the others.
-fn put(alloc: Global, sets: &mut Vec<Set>, rr: &Rr) -> Result<(), AllocError>
+/// Whether two records are of one set.
+fn is_of_set(rr: &Rr, other: &Rr) -> bool
+    ensures { result ≡ same_set rr.now other.now }
+{
+    rr.rtype == other.rtype && rr.owner.same(&other.owner)
+}
+
+/// How many of some records are of the set of a record.
+fn count_of_set(records: &[Rr], rr: &Rr) -> usize
+    ensures { result ≡ count_by (same_set rr.now) records.now }
+{
+    let mut count = 0;
+    for other in records {
+        if is_of_set(rr, other) {
+            count += 1;
+        }
+    }
+    count
+}
+
+/// Puts one of a section's records into its set, or else into one of its own behind the others.
+fn put(alloc: Global, sets: &mut Vec<Set>, records: &[Rr], rr: &Rr) -> Result<(), AllocError>
     ensures { OnOk result (sets.new.items ≡ with_record sets.old.items rr.now) }
 {
     match place_of(sets.as_slice(), rr) {
         Some(place) => sets[place].grow(rr)?,
-        None => sets.push(Set::alone(alloc, rr)?)?,
+        None => sets.push(Set::alone(alloc, rr, count_of_set(records, rr))?)?,
     }
     Ok(())
 }
@@ -31,7 +51,7 @@ pub(crate) fn sets_by_walks(alloc: Global, records: &[Rr]) -> Result<Vec<Set>, A
 {
     let mut sets = Vec::new(alloc);
     for rr in records {
-        put(alloc, &mut sets, rr)?;
+        put(alloc, &mut sets, records, rr)?;
     }
     Ok(sets)
 }

@@ -1,8 +1,10 @@
 pub mod CutLemmas
+pub mod DigitLemmas
 pub mod AheadLemmas
 pub mod NumberLemmas
 pub mod ItemLemmas
 pub mod SaidLemmas
+pub mod SearchLemmas
 pub mod NameLemmas
 pub mod WritingLemmas
 pub mod TraceLemmas

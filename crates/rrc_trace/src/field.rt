@@ -3,12 +3,13 @@ ghost use Rattle.rrc_trace.specs.Fields.{field_at, field_in_front, first_unspace
 ghost use Rattle.rrc_trace.specs.Gives.{Gives};
 
 use crate::line_fault::LineFault;
+use memchr::memchr;
 
 fn first_space(octets: &[u8]) -> Option<usize>
     ensures place { result ≡ position (λ octet. octet == 32) octets.now }
     ensures inside { IfSome result (λ place. place < length octets.now) }
 {
-    octets.iter().position(|&octet| octet == b' ')
+    memchr(b' ', octets)
 }
 
 fn first_unspaced(octets: &[u8]) -> Option<usize>

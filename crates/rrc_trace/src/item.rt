@@ -51,6 +51,15 @@ fn cut_at_comma(octets: &[u8]) -> Option<(&[u8], &[u8])>
     Some((&octets[..end], &octets[end + 1..]))
 }
 
+/// How many commas there are. It says only what room to ask for.
+fn commas_in(octets: &[u8]) -> usize {
+    let mut count: usize = 0;
+    for &octet in octets {
+        count = count.wrapping_add(usize::from(octet == b','));
+    }
+    count
+}
+
 /// Puts the item of a piece behind the others, where none of them is the same.
 fn add_item(
     alloc: Global,
@@ -71,7 +80,9 @@ fn add_item(
 fn items_in(alloc: Global, rtype: u16, field: &[u8]) -> Result<Sequence<Octets>, LineFault>
     ensures { Gives (λ items. items) result (items_of rtype field.now) }
 {
-    let mut items = Sequence::new(alloc);
+    // No room to spare: a trace may have as many of these lists as lines.
+    let most = commas_in(field).min(MOST_ITEMS - 1) + 1;
+    let mut items = Sequence::from_vec(Vec::with_capacity(alloc, most)?);
     let mut rest = field;
     for _seen in 0..MOST_ITEMS {
         match cut_at_comma(rest) {

@@ -3,12 +3,14 @@
 
 mod ahead;
 mod answer;
+mod digits;
 mod fault;
 mod field;
 mod item;
 mod line;
 mod line_fault;
 mod name;
+mod names;
 mod number;
 mod octets;
 mod reading;

@@ -5,7 +5,7 @@ ghost use Rattle.rrc_trace.specs.Lines.{put_of, ask_of, fail_of, response_of, sw
 use crate::field::has_field;
 use crate::item::items_at;
 use crate::line_fault::LineFault;
-use crate::name::name_at;
+use crate::names::{Names, name_at};
 use crate::number::{moment_at, rtype_at, trust_at, ttl_at};
 use crate::octets::message_at;
 use crate::word::{Form, form_at, mode_at, purpose_at};
@@ -62,11 +62,11 @@ pub enum Line {
 
 /// The line whose first word was `put`.
 #[tactic(auto, unfolding(crate::specs::Lines::put_of))]
-fn put_in(alloc: Global, octets: &[u8]) -> Result<Line, LineFault>
+fn put_in(alloc: Global, names: &mut Names, octets: &[u8]) -> Result<Line, LineFault>
     ensures { Gives (λ line. line) result (put_of octets.now) }
 {
     let (moment, rest) = moment_at(octets)?;
-    let (name, rest) = name_at(alloc, rest)?;
+    let (name, rest) = name_at(alloc, names, rest)?;
     let (rtype, rest) = rtype_at(rest)?;
     let (trust, rest) = trust_at(rest)?;
     let (ttl, rest) = ttl_at(rest)?;
@@ -86,11 +86,11 @@ fn put_in(alloc: Global, octets: &[u8]) -> Result<Line, LineFault>
 
 /// The line whose first word was `ask`.
 #[tactic(auto, unfolding(crate::specs::Lines::ask_of))]
-fn ask_in(alloc: Global, octets: &[u8]) -> Result<Line, LineFault>
+fn ask_in(alloc: Global, names: &mut Names, octets: &[u8]) -> Result<Line, LineFault>
     ensures { Gives (λ line. line) result (ask_of octets.now) }
 {
     let (moment, rest) = moment_at(octets)?;
-    let (name, rest) = name_at(alloc, rest)?;
+    let (name, rest) = name_at(alloc, names, rest)?;
     let (rtype, rest) = rtype_at(rest)?;
     let (purpose, rest) = purpose_at(rest)?;
     let (mode, rest) = mode_at(rest)?;
@@ -108,11 +108,11 @@ fn ask_in(alloc: Global, octets: &[u8]) -> Result<Line, LineFault>
 
 /// The line whose first word was `fail`.
 #[tactic(auto, unfolding(crate::specs::Lines::fail_of))]
-fn fail_in(alloc: Global, octets: &[u8]) -> Result<Line, LineFault>
+fn fail_in(alloc: Global, names: &mut Names, octets: &[u8]) -> Result<Line, LineFault>
     ensures { Gives (λ line. line) result (fail_of octets.now) }
 {
     let (moment, rest) = moment_at(octets)?;
-    let (name, rest) = name_at(alloc, rest)?;
+    let (name, rest) = name_at(alloc, names, rest)?;
     let (rtype, rest) = rtype_at(rest)?;
     if has_field(rest) {
         return Err(LineFault::NotOne);
@@ -126,11 +126,11 @@ fn fail_in(alloc: Global, octets: &[u8]) -> Result<Line, LineFault>
 
 /// The line whose first word was `response`.
 #[tactic(auto, unfolding(crate::specs::Lines::response_of))]
-fn response_in(alloc: Global, octets: &[u8]) -> Result<Line, LineFault>
+fn response_in(alloc: Global, names: &mut Names, octets: &[u8]) -> Result<Line, LineFault>
     ensures { Gives (λ line. line) result (response_of octets.now) }
 {
     let (moment, rest) = moment_at(octets)?;
-    let (zone, rest) = name_at(alloc, rest)?;
+    let (zone, rest) = name_at(alloc, names, rest)?;
     let (octets, rest) = message_at(alloc, rest)?;
     if has_field(rest) {
         return Err(LineFault::NotOne);
@@ -155,15 +155,15 @@ fn sweep_in(octets: &[u8]) -> Result<Line, LineFault>
 }
 
 /// The line that octets without its end spell.
-fn line_in(alloc: Global, octets: &[u8]) -> Result<Line, LineFault>
+fn line_in(alloc: Global, names: &mut Names, octets: &[u8]) -> Result<Line, LineFault>
     ensures { Gives (λ line. line) result (line_of octets.now) }
 {
     let (form, rest) = form_at(octets)?;
     match form {
-        Form::Put => put_in(alloc, rest),
-        Form::Ask => ask_in(alloc, rest),
-        Form::Fail => fail_in(alloc, rest),
-        Form::Response => response_in(alloc, rest),
+        Form::Put => put_in(alloc, names, rest),
+        Form::Ask => ask_in(alloc, names, rest),
+        Form::Fail => fail_in(alloc, names, rest),
+        Form::Response => response_in(alloc, names, rest),
         Form::Sweep => sweep_in(rest),
     }
 }
@@ -203,11 +203,15 @@ fn bounded(octets: &[u8]) -> Result<&[u8], LineFault>
 }
 
 /// The line of a piece of a trace, which ends with its LF or with the trace. A CR before an LF is dropped.
-pub(crate) fn line_of_piece(alloc: Global, piece: &[u8]) -> Result<Line, LineFault>
+pub(crate) fn line_of_piece(
+    alloc: Global,
+    names: &mut Names,
+    piece: &[u8],
+) -> Result<Line, LineFault>
     ensures { Gives (λ line. line) result (line_of_piece piece.now) }
 {
     match before_last(piece, b'\n') {
-        Some(octets) => line_in(alloc, without_cr(bounded(octets)?)),
-        None => line_in(alloc, bounded(piece)?),
+        Some(octets) => line_in(alloc, names, without_cr(bounded(octets)?)),
+        None => line_in(alloc, names, bounded(piece)?),
     }
 }

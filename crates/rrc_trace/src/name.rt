@@ -1,16 +1,14 @@
 ghost use Rattle.std.specs.Prelude.{◌≡◌};
-ghost use Rattle.rrc_trace.specs.Fields.{said_at};
 ghost use Rattle.rrc_trace.specs.Gives.{Gives};
 ghost use Rattle.rrc_trace.specs.Names.{name_of, SaysWhatIsSpelled};
 
-use crate::field::field_at;
 use crate::line_fault::LineFault;
 use rrc_name::{Name, NameFault};
 use std::alloc::Global;
 use std::str;
 
 /// The name that a field spells, in its spelling.
-fn name_in(alloc: Global, field: &[u8]) -> Result<Name, LineFault>
+pub(crate) fn name_in(alloc: Global, field: &[u8]) -> Result<Name, LineFault>
     ensures { Gives (λ name. name) result (name_of field.now) }
 {
     if !field.is_ascii() {
@@ -24,14 +22,6 @@ fn name_in(alloc: Global, field: &[u8]) -> Result<Name, LineFault>
         Err(NameFault::Memory) => Err(LineFault::Memory),
         Err(_) => Err(LineFault::NotOne),
     }
-}
-
-/// A name, and the octets behind it.
-pub(crate) fn name_at(alloc: Global, octets: &[u8]) -> Result<(Name, &[u8]), LineFault>
-    ensures { Gives (λ found. (found.0, found.1.now)) result (said_at name_of octets.now) }
-{
-    let (field, rest) = field_at(octets)?;
-    Ok((name_in(alloc, field)?, rest))
 }
 
 /// A field says the name that it spells, and where it spells none it says none (RFC 1035 section 5.1). The function does nothing; its

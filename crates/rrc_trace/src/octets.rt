@@ -2,9 +2,9 @@ ghost use Rattle.rrc_trace.specs.Fields.{said_at};
 ghost use Rattle.rrc_trace.specs.Gives.{Gives};
 ghost use Rattle.rrc_trace.specs.Octets.{octets_of, message_of};
 
+use crate::digits::decoded;
 use crate::field::field_at;
 use crate::line_fault::LineFault;
-use hex::FromHexError;
 use rrc_name::Octets;
 use std::alloc::Global;
 
@@ -18,10 +18,9 @@ pub(crate) fn octets_in(alloc: Global, digits: &[u8]) -> Result<Octets, LineFaul
     if digits.is_empty() {
         return Err(LineFault::NotOne);
     }
-    match hex::decode(alloc, digits) {
-        Ok(octets) => Ok(Octets::from_vec(octets)),
-        Err(FromHexError::OutOfMemory) => Err(LineFault::Memory),
-        Err(_) => Err(LineFault::NotOne),
+    match decoded(alloc, digits)? {
+        Some(octets) => Ok(octets),
+        None => Err(LineFault::NotOne),
     }
 }
 

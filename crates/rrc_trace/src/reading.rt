@@ -8,7 +8,9 @@ use crate::ahead::Ahead;
 use crate::fault::ReplayFault;
 use crate::line::{Line, MOST_OCTETS, line_of_piece};
 use crate::line_fault::LineFault;
+use crate::names::Names;
 use crate::trace::Trace;
+use memchr::memchr;
 use rrc_name::Sequence;
 use std::alloc::{AllocError, Global};
 use std::io::Read;
@@ -31,7 +33,7 @@ fn first_lf(octets: &[u8]) -> Option<usize>
     ensures place { result ≡ position (λ octet. octet == 10) octets.now }
     ensures inside { IfSome result (λ place. place < length octets.now) }
 {
-    octets.iter().position(|&octet| octet == b'\n')
+    memchr(b'\n', octets)
 }
 
 /// The octets to the first LF and with it, or all where there is none, and whether there is one.
@@ -86,10 +88,10 @@ fn piece_from<R: Read>(
 }
 
 /// The line of a piece, which has this number.
-fn line_at(alloc: Global, number: u64, piece: &[u8]) -> Result<Line, ReplayFault>
+fn line_at(alloc: Global, names: &mut Names, number: u64, piece: &[u8]) -> Result<Line, ReplayFault>
     ensures { GivesLine number result (line_of_piece piece.now) }
 {
-    match line_of_piece(alloc, piece) {
+    match line_of_piece(alloc, names, piece) {
         Ok(line) => Ok(line),
         Err(LineFault::NotOne) => Err(ReplayFault::BadLine(number)),
         Err(LineFault::Memory) => Err(ReplayFault::Memory),
@@ -109,15 +111,16 @@ pub fn read_trace<R: Read>(alloc: Global, reader: &mut R) -> Result<Trace, Repla
     let mut lines = Sequence::new(alloc);
     let mut ahead = Ahead::new(alloc)?;
     let mut piece = Vec::new(alloc);
+    let mut names = Names::new(alloc)?;
     for number in 0..MOST_LINES {
         match piece_from(reader, &mut ahead, &mut piece)? {
-            Ending::Lf => lines.push(line_at(alloc, number, piece.as_slice())?)?,
+            Ending::Lf => lines.push(line_at(alloc, &mut names, number, piece.as_slice())?)?,
             Ending::Last => {
                 let octets = piece.as_slice();
                 if octets.is_empty() {
                     return Ok(Trace { lines });
                 }
-                lines.push(line_at(alloc, number, octets)?)?;
+                lines.push(line_at(alloc, &mut names, number, octets)?)?;
                 return Ok(Trace { lines });
             }
             Ending::Endless => return Err(ReplayFault::BadLine(number)),

@@ -328,6 +328,28 @@ fn told(outcome: Outcome, evicted: Option<Key>) -> Told {
 }
 
 #[test]
+fn names_that_lines_share(rt: HostRuntime) -> Result<(), Fail> {
+    let text =
+        "response 1 a. -\nresponse 2 a. -\nresponse 3 A. -\nresponse 4 bc. -\nask 5 a. 1 any now\nresponse 6 bc. -";
+    let trace = read_trace(rt.alloc(), &mut text.as_bytes())?;
+    let mut zones = Vec::new(rt.alloc());
+    for line in &trace.lines {
+        match line {
+            Line::Response(response) => zones.push(&response.zone)?,
+            _ => {}
+        }
+    }
+    let wanted = [("a.", 3), ("a.", 3), ("A.", 1), ("bc.", 2), ("bc.", 2)];
+    assert_eq!(rt; zones.len(), wanted.len());
+    for (zone, (text, owners)) in zones.iter().zip(wanted) {
+        assert_eq!(rt; zone.to_text()?.as_str(), text);
+        // all lines that spell a name alike share it
+        assert_eq!(rt; zone.wire.owners(), owners);
+    }
+    Ok(())
+}
+
+#[test]
 fn texts_of_responses(rt: HostRuntime) -> Result<(), Fail> {
     let alloc = rt.alloc();
     let evicted = Key::of(&Name::from_text(alloc, "B.example.")?, Slot::Set(1))?;

@@ -10,8 +10,31 @@ use crate::item::{Item, Run, item_at};
 use crate::source::{Source, target_of};
 use rrc_name::{Name, Octets, Shared};
 
-/// The octets of names of at most this many are read with one request for memory.
+/// Names with a pointer are read into room for so many octets at first, which is enough for most.
 const USUAL_SIZE: usize = 64;
+
+/// A name has at most so many octets in all (RFC 1035 section 2.3.4), and so it has fewer than half as many labels.
+const MOST_SIZE: usize = 255;
+
+/// How much room to ask for where a name is read that begins at a place: that of its octets, where it has no pointer. It is only a
+/// guess, so that a name which is kept has no room to spare, and no reading rests on it.
+fn room_for_name(message: &[u8], place: usize) -> usize
+    ensures { result ≤ 255 }
+{
+    let mut room = 1;
+    let mut next = place;
+    for _label in 0..MOST_SIZE / 2 {
+        match message.get(next) {
+            Some(0) => return room.min(MOST_SIZE),
+            Some(&size) if size < 64 => {
+                room += 1 + usize::from(size);
+                next += 1 + usize::from(size);
+            }
+            _ => return USUAL_SIZE,
+        }
+    }
+    USUAL_SIZE
+}
 
 /// The name whose first run begins at a place and may read up to the message's end, and the place behind the name. A pointer to
 /// the name that was read last shares it, and takes no memory.
@@ -64,7 +87,8 @@ pub(crate) fn read_wire(source: &mut Source<'_>, first: Run) -> Result<(Vec<u8>,
     ensures same { source.new ≡ source.old }
 {
     let message = source.message();
-    let mut wire = Vec::with_capacity(source.alloc(), USUAL_SIZE)?;
+    let room = room_for_name(message, first.start);
+    let mut wire = Vec::with_capacity(source.alloc(), room)?;
     let mut run = first;
     let mut place = first.start;
     let mut behind = None;

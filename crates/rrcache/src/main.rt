@@ -7,6 +7,7 @@ use clap::error::ErrorKind;
 use rrc_replay::trace::ReplayFault;
 use std::io::BufReader;
 use std::process::ExitCode;
+use std::random::RandomSource;
 use std::{env, io};
 
 /// How the program ends: the status of a fault, which is told, or of the arguments, which are.
@@ -29,6 +30,13 @@ fn no_text(rt: &impl Eprint) -> ExitCode {
     ExitCode::from(WRONG_ARGUMENTS)
 }
 
+/// A seed that nobody can foresee, so that names picked by whoever made the trace don't make its replay slow.
+fn random_seed(rt: &HostRuntime) -> io::Result<[u8; 16]> {
+    let mut seed = [0; 16];
+    rt.fill_bytes(&mut seed)?;
+    Ok(seed)
+}
+
 fn replayed(rt: &HostRuntime, words: &[String]) -> Result<ExitCode, ReplayFault> {
     let alloc = rt.alloc();
     let matches = match options::command(alloc)?.try_get_matches_from(words) {
@@ -48,7 +56,11 @@ fn replayed(rt: &HostRuntime, words: &[String]) -> Result<ExitCode, ReplayFault>
     };
     let mut reader = BufReader::new(alloc, rt.reader()).map_err(|_| ReplayFault::Memory)?;
     let mut writer = io::writer(rt);
-    rrc_replay::run(alloc, &mut reader, &mut writer, &rules)?;
+    let Ok(seed) = random_seed(rt) else {
+        let _ = eprintln!(rt; "rrcache: the system gave no random octets");
+        return Ok(ExitCode::from(FAULT));
+    };
+    rrc_replay::run(alloc, &mut reader, &mut writer, &rules, seed)?;
     Ok(ExitCode::SUCCESS)
 }
 

@@ -21,7 +21,7 @@ use Rattle.rrc_history.specs.WholeLaws.{IsSameCall, CallsDetermineHistory}
 -- ---- contents
 
 -- an entry among others was touched before their bound
-found_below : (snapshot : Snapshot) (past : List Event) (number : ℕ) (entries : List Entry) (key : KeyOf) (entry : Entry) → FallsBelow snapshot past number entries
+pub found_below : (snapshot : Snapshot) (past : List Event) (number : ℕ) (entries : List Entry) (key : KeyOf) (entry : Entry) → FallsBelow snapshot past number entries
     → entry_at key entries ≡ Some entry → touch snapshot past key < number
 found_below snapshot past number [] key entry falls at = absurd cc
 found_below snapshot past number (first ∷ entries) key entry falls at = by (found_below snapshot past (touch snapshot past first.key) entries key entry falls.1) (key_eq key first.key) refl
@@ -43,7 +43,7 @@ none_above snapshot past number (first ∷ entries) key falls above =
     by none false is = rw is none
 
 -- an entry in front is found
-first_found : (entry : Entry) (entries : List Entry) → entry_at entry.key (entry ∷ entries) ≡ Some entry
+pub first_found : (entry : Entry) (entries : List Entry) → entry_at entry.key (entry ∷ entries) ≡ Some entry
 first_found entry entries = let same = key_eq-laws.refl entry.key in rw same refl
 
 -- behind an entry that both lists begin with they agree

@@ -1,35 +1,23 @@
-use Rattle.std.proofs.Common.{◌≡◌, Option, Some, None, ap, sym, subst, ◌∙◌, refl}
-use Rattle.std.specs.Prelude.{IfSome}
+use Rattle.std.proofs.Common.{◌≡◌, Option, Some, None, ap, sym, ◌∙◌, refl}
 use Rattle.std.specs.Option.{option_copied, option_map}
-use Rattle.rrc_name.specs.Key.{key_eq}
-use Rattle.rrc_name.specs.declared.slot.Slot.TheVariants.{Failed}
 use Rattle.rrc_history.specs.declared.snapshot.Entry.{Entry}
-use Rattle.rrc_history.specs.Judged.{Found, answering, reply_by, key_in}
-use Rattle.rrc_history.specs.Lives.{IsTimely}
+use Rattle.rrc_history.specs.Judged.{answering, key_in}
 use Rattle.rrc_history.specs.Entries.{found_among}
 use Rattle.rrc_history.specs.Past.{key_at}
 use Rattle.rrc_cache.specs.Reply.{reply_in}
-use Rattle.rrc_cache.proofs.Timely.{timely_found}
 use Rattle.rrc_cache.proofs.Answering.{answering-named, answering-keyed}
 use Rattle.rrc_cache.proofs.answer.answer.Goals as goal
 use Rattle.rrc_cache.proofs.answer.answer.Goals.{in-Some, in-None}
 
-pub judge-requires-clause-timely : goal.judge-requires-clause-timely
-judge-requires-clause-timely c =
-    let failed : option_copied c.look_up-found.result.failed ≡ (found_among c.args.store.now c.args.ask.now).failed = ap (λ (f : Found). f.failed) c.look_up-found.ensures in
-    let P : Option Entry → Type 0 = λ f. IfSome f IsTimely in
-    subst P (sym failed)
-    (timely_found (λ (entry : Entry). key_eq (key_at c.args.ask.now (Failed c.args.ask.now.rtype)) entry.key) c.args.store.now c.requires.timely)
-
 pub kept_ask-requires : goal.kept_ask-requires
-kept_ask-requires c = answering-named c.args.store.now c.args.ask.now (reply_in c.judge.result.0) (option_copied c.judge.result.1)
-    (c.judge.ensures.answering ∙ ap (λ (f : Found). answering f c.args.ask.now (reply_in c.judge.result.0)) c.look_up-found.ensures)
+kept_ask-requires c = answering-named c.args.store.now.entries c.args.ask.now (reply_in c.judge.result.0) (option_copied c.judge.result.1)
+    c.judge.ensures.answering
 
 pub returns-clause-answered : goal.returns-clause-answered
 returns-clause-answered c =
     let reply : c.in_ok-to_owned.field-0 ≡ reply_in c.judge.result.0 = c.in_ok-to_owned.ensures in
-    let gave : option_copied c.judge.result.1 ≡ answering (found_among c.args.store.now c.args.ask.now) c.args.ask.now c.in_ok-to_owned.field-0 =
-    rw reply (c.judge.ensures.answering ∙ ap (λ (f : Found). answering f c.args.ask.now (reply_in c.judge.result.0)) c.look_up-found.ensures) in
+    let gave : option_copied c.judge.result.1 ≡ answering (found_among c.args.store.now.entries c.args.ask.now) c.args.ask.now c.in_ok-to_owned.field-0 =
+    rw reply (c.judge.ensures.answering) in
     let slot : c.match-answering.slot ≡ option_map (λ (entry : Entry). entry.key.slot) (option_copied c.judge.result.1) =
     elim c.match-answering.branch [
       | in-Some w ↦
@@ -38,12 +26,12 @@ returns-clause-answered c =
       | in-None w ↦ w.slot-is ∙ ap (λ a. option_map (λ (entry : Entry). entry.key.slot) (option_copied a)) (sym w.in-None.is)
     ] in
     record {
-      answered = reply ∙ (c.judge.ensures.reply ∙ ap (λ (f : Found). reply_by c.args.stale f c.args.ask.now) c.look_up-found.ensures);
+      answered = reply ∙ c.judge.ensures.reply;
       from =
           ap (option_map (key_at c.args.ask.now)) slot
           ∙ (mapped (option_copied c.judge.result.1)
           ∙ (answering-keyed c.args.ask.now (option_copied c.judge.result.1)
-          (answering-named c.args.store.now c.args.ask.now c.in_ok-to_owned.field-0 (option_copied c.judge.result.1) gave)
+          (answering-named c.args.store.now.entries c.args.ask.now c.in_ok-to_owned.field-0 (option_copied c.judge.result.1) gave)
           ∙ ap key_in gave));
     }
   where

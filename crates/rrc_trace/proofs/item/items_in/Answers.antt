@@ -5,7 +5,7 @@ use Rattle.rrc_trace.proofs.item.items_in.Goals as goal
 
 pub returns-in_err-add_item-in-Some : goal.returns-in_err-add_item-in-Some
 returns-in_err-add_item-in-Some c =
-    let p = err_from_is_err_and c.from_residual.result c.from_residual.ensures.1 in
+    let p = err_from_is_err_and c.from_residual-in_err-add_item-in-Some.result c.from_residual-in_err-add_item-in-Some.ensures.1 in
     rw (p.1, p.2)
     (bad_piece c.args.rtype c.args.field.now c.loop-seen.items c.loop-seen._seen c.loop-seen.rest.now c.loop-seen.invariant
     c.in_err-add_item-in-Some.field-0.0 c.add_item.new.items c.in-Some.piece.now c.in-Some.more.now (sym c.in-Some.ensures)

@@ -1,6 +1,8 @@
-use Rattle.std.proofs.Common.{refl, ◌≡◌, sym, ◌∙◌, subst, ◌++◌, ◌∷◌, [], List}
+use Rattle.std.proofs.Common.{refl, ◌≡◌, sym, ap, ◌∙◌, subst, ◌++◌, ◌∷◌, [], List}
+use Rattle.rrc_history.specs.declared.rules.Rules.{Rules}
 use Rattle.rrc_history.specs.declared.event.Event.{Event}
 use Rattle.rrc_history.specs.declared.event.Event.TheVariants.{Asked}
+use Rattle.rrc_cache.specs.Pairs.{StoreOf}
 use Rattle.rrc_cache.specs.Part.{PartOf, IsOpen}
 use Rattle.rrc_cache.specs.Taken.{IsAnswered}
 use Rattle.rrc_cache.proofs.Keeping.{IsDone}
@@ -17,18 +19,19 @@ after c = record { snapshot = c.self.inside.snapshot; events = c.push_reserved.n
 abbrev event : goal.After-push_reserved → Event
 event c = Asked c.args.tag c.args.ask.now c.in_ok-reply.reply
 
-done : (c : goal.After-push_reserved) → IsDone (before c) (after c) (event c) c.touch.new.store
+done : (c : goal.After-push_reserved) → IsDone (before c) (after c) (event c) c.touch.new.store.entries
 done c =
     let open' : IsOpen (before c) c.args.ask.now.moment = rw (c.self.view_is, ← c.ask.view_is) (c.in_ok-admit.ensures.due) in
-    let answered : IsAnswered c.self.inside.snapshot.rules.stale c.args.ask.now c.self.inside.store c.in_ok-reply.reply c.in_ok-reply.slot = c.in_ok-reply.ensures.answered in
+    let A : Rules → Type 0 = λ rules. IsAnswered rules.stale c.args.ask.now c.self.inside.store.entries c.in_ok-reply.reply c.in_ok-reply.slot in
+    let answered : A c.self.inside.snapshot.rules = subst A c.rules-stale.ensures.value (c.in_ok-reply.ensures.answered) in
     let written : c.push_reserved.new.self.items ≡ c.self.inside.events.items ++ event c ∷ [] =
     c.push_reserved.ensures.items ∙ rw (c.reserve.ensures.items, c.in_ok-clone.ensures.cases, c.in_ok-reply.ensures.asked) refl in
-    let P : List Event → Type 0 = λ events. IsDone (before c) (record { snapshot = c.self.inside.snapshot; events = events }) (event c) c.touch.new.store in
+    let P : List Event → Type 0 = λ events. IsDone (before c) (record { snapshot = c.self.inside.snapshot; events = events }) (event c) c.touch.new.store.entries in
     subst P (sym written)
-    (ask_done (before c) c.self.inside.store c.args.tag c.args.ask.now c.in_ok-reply.reply c.in_ok-reply.slot c.touch.new.store c.self.invariant open' answered c.touch.ensures)
+    (ask_done (before c) c.self.inside.store.entries c.args.tag c.args.ask.now c.in_ok-reply.reply c.in_ok-reply.slot c.touch.new.store.entries c.self.invariant.keeps open' answered (ap (λ (store : StoreOf). store.entries) c.touch.ensures))
 
 pub invariant_of-self-2 : goal.invariant_of-self-2
-invariant_of-self-2 c = (done c).keeps
+invariant_of-self-2 c = record { keeps = (done c).keeps; stale = ap (λ (store : StoreOf). store.stale) c.touch.ensures ∙ c.self.invariant.stale }
 
 pub returns-clause-ok : goal.returns-clause-ok
 returns-clause-ok c = rw (← c.self.view_is) ((done c).adds)

@@ -1,4 +1,5 @@
 use Rattle.std.proofs.Common.{◌≡◌, ℕ, sym, ap, ◌∙◌, subst, ◌++◌, ◌∷◌, [], List}
+use Rattle.rrc_history.specs.declared.rules.Rules.{Rules}
 use Rattle.rrc_history.specs.declared.event.Event.{Event}
 use Rattle.rrc_history.specs.declared.event.Event.TheVariants.{Offered}
 use Rattle.rrc_cache.specs.Part.{PartOf, next_number, IsOpen}
@@ -16,21 +17,22 @@ after c = record { snapshot = c.self.inside.snapshot; events = c.push_reserved.n
 abbrev event : goal.After-push_reserved → Event
 event c = Offered c.in_ok-outcome.outcome c.args.tag c.args.offer c.in_ok-outcome.evicted
 
-done : (c : goal.After-push_reserved) → IsDone (before c) (after c) (event c) c.take.new.store
+done : (c : goal.After-push_reserved) → IsDone (before c) (after c) (event c) c.take.new.store.entries
 done c =
     let open' : IsOpen (before c) c.args.offer.moment = rw (c.self.view_is, ← c.offer.view_is) (c.in_ok-admit.ensures.due) in
     let number : c.next_number-number.result ≡ next_number (before c) = c.next_number-number.ensures ∙ ap next_number (sym c.self.view_is) in
-    let T : ℕ → Type 0 =
-    λ n. IsTaken c.self.inside.snapshot.rules.capacity n c.args.offer c.self.inside.store c.in_ok-outcome.outcome c.in_ok-outcome.evicted c.take.new.store in
-    let taken : T (next_number (before c)) = subst T number (c.in_ok-outcome.ensures.ok) in
+    let T : Rules → ℕ → Type 0 =
+    λ rules n. IsTaken rules.capacity n c.args.offer c.self.inside.store.entries c.in_ok-outcome.outcome c.in_ok-outcome.evicted c.take.new.store.entries in
+    let numbered : T c.rules.result (next_number (before c)) = subst (T c.rules.result) number (c.in_ok-outcome.ensures.ok) in
+    let taken : T c.self.inside.snapshot.rules (next_number (before c)) = subst (λ rules. T rules (next_number (before c))) c.rules.ensures.value numbered in
     let written : c.push_reserved.new.self.items ≡ c.self.inside.events.items ++ event c ∷ [] =
     c.push_reserved.ensures.items ∙ ap (λ events. events ++ event c ∷ []) c.reserve.ensures.items in
-    let P : List Event → Type 0 = λ events. IsDone (before c) (record { snapshot = c.self.inside.snapshot; events = events }) (event c) c.take.new.store in
+    let P : List Event → Type 0 = λ events. IsDone (before c) (record { snapshot = c.self.inside.snapshot; events = events }) (event c) c.take.new.store.entries in
     subst P (sym written)
-    (offer_done (before c) c.self.inside.store c.args.tag c.args.offer c.in_ok-outcome.outcome c.in_ok-outcome.evicted c.take.new.store c.self.invariant open' taken)
+    (offer_done (before c) c.self.inside.store.entries c.args.tag c.args.offer c.in_ok-outcome.outcome c.in_ok-outcome.evicted c.take.new.store.entries c.self.invariant.keeps open' taken)
 
 pub invariant_of-self-2 : goal.invariant_of-self-2
-invariant_of-self-2 c = (done c).keeps
+invariant_of-self-2 c = record { keeps = (done c).keeps; stale = c.in_ok-outcome.ensures.stale ∙ c.self.invariant.stale }
 
 pub returns-clause-ok : goal.returns-clause-ok
 returns-clause-ok c = (c.in_ok-outcome.evicted, rw (← c.self.view_is) ((done c).adds))

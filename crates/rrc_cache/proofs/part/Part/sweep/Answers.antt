@@ -1,9 +1,11 @@
-use Rattle.std.proofs.Common.{rules, refl, ◌≡◌, sym, ap, ◌∙◌, subst, ◌++◌, ◌∷◌, [], List, length}
+use Rattle.std.proofs.Common.{rules, refl, ◌≡◌, ℕ, sym, ap, ◌∙◌, subst, ◌++◌, ◌∷◌, [], List, length}
 use Rattle.rrc_name.specs.Key.{KeyOf}
 use Rattle.rrc_history.specs.Past.{is_among}
 use Rattle.rrc_history.specs.Entries.{staying}
+use Rattle.rrc_history.specs.declared.rules.Rules.{Rules}
 use Rattle.rrc_history.specs.declared.event.Event.{Event}
 use Rattle.rrc_history.specs.declared.event.Event.TheVariants.{Swept}
+use Rattle.rrc_cache.specs.Pairs.{StoreOf}
 use Rattle.rrc_cache.specs.Part.{PartOf, IsOpen}
 use Rattle.rrc_cache.specs.Taken.{AreDeadKeys}
 use Rattle.rrc_cache.proofs.Keeping.{IsDone}
@@ -20,20 +22,21 @@ after c = record { snapshot = c.self.inside.snapshot; events = c.push_reserved.n
 abbrev event : goal.After-push_reserved → Event
 event c = Swept c.args.tag c.args.moment c.in_ok-gone.gone.items
 
-done : (c : goal.After-push_reserved) → IsDone (before c) (after c) (event c) c.remove.new.store
+done : (c : goal.After-push_reserved) → IsDone (before c) (after c) (event c) c.remove.new.store.entries
 done c =
     let open' : IsOpen (before c) c.args.moment = rw c.self.view_is (c.in_ok-admit.ensures.due) in
-    let dead : AreDeadKeys c.self.inside.snapshot.rules.stale c.args.moment c.self.inside.store c.in_ok-gone.gone.items = c.in_ok-gone.ensures in
+    let dead : AreDeadKeys c.self.inside.snapshot.rules.stale c.args.moment c.self.inside.store.entries c.in_ok-gone.gone.items =
+    subst (λ (stale : ℕ). AreDeadKeys stale c.args.moment c.self.inside.store.entries c.in_ok-gone.gone.items) c.self.invariant.stale c.in_ok-gone.ensures in
     let written : c.push_reserved.new.self.items ≡ c.self.inside.events.items ++ event c ∷ [] =
     c.push_reserved.ensures.items ∙ rw (c.reserve.ensures.items, c.from_vec.ensures) refl in
-    let removed : c.remove.new.store ≡ staying (λ key. is_among key c.in_ok-gone.gone.items) c.self.inside.store =
-    c.remove.ensures ∙ ap (λ (keys : List KeyOf). staying (λ key. is_among key keys) c.self.inside.store) c.as_slice.ensures.value in
-    let P : List Event → Type 0 = λ events. IsDone (before c) (record { snapshot = c.self.inside.snapshot; events = events }) (event c) c.remove.new.store in
+    let removed : c.remove.new.store.entries ≡ staying (λ key. is_among key c.in_ok-gone.gone.items) c.self.inside.store.entries =
+    ap (λ (store : StoreOf). store.entries) c.remove.ensures ∙ ap (λ (keys : List KeyOf). staying (λ key. is_among key keys) c.self.inside.store.entries) c.as_slice.ensures.value in
+    let P : List Event → Type 0 = λ events. IsDone (before c) (record { snapshot = c.self.inside.snapshot; events = events }) (event c) c.remove.new.store.entries in
     subst P (sym written)
-    (sweep_done (before c) c.self.inside.store c.args.tag c.args.moment c.in_ok-gone.gone.items c.remove.new.store c.self.invariant open' dead removed)
+    (sweep_done (before c) c.self.inside.store.entries c.args.tag c.args.moment c.in_ok-gone.gone.items c.remove.new.store.entries c.self.invariant.keeps open' dead removed)
 
 pub invariant_of-self-2 : goal.invariant_of-self-2
-invariant_of-self-2 c = (done c).keeps
+invariant_of-self-2 c = record { keeps = (done c).keeps; stale = ap (λ (store : StoreOf). store.stale) c.remove.ensures ∙ c.self.invariant.stale }
 
 pub returns-clause-ok : goal.returns-clause-ok
 returns-clause-ok c =

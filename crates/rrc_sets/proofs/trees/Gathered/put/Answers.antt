@@ -22,7 +22,7 @@ pub put_at-requires-clause-is_new : goal.put_at-requires-clause-is_new
 put_at-requires-clause-is_new c =
     let sets = c.self.inside.sets.items in let place = c.in_ok-place.place in
     c.in_ok-is_new.ensures.added
-    ∙ ap not (c.self.invariant.1 (place, c.into_vec.result) ∙ ap (has_at sets place) (c.into_vec.ensures ∙ (c.in_ok-lowered.ensures ∙ ap (lowered_rdata c.args.rr.now.rtype) c.as_slice-2.ensures)))
+    ∙ ap not (c.self.invariant.1 (place, c.in_ok-lowered.lowered) ∙ ap (has_at sets place) (c.in_ok-lowered.ensures ∙ (c.in_ok-lowered_rdata.ensures ∙ ap (lowered_rdata c.args.rr.now.rtype) c.as_slice-2.ensures)))
 
 pub invariant_of-result : goal.invariant_of-result
 invariant_of-result c =
@@ -32,8 +32,8 @@ invariant_of-result c =
     let after = sym c.in_ok-put_at.ensures in (
       subst (FindsPlaces c.place_of.new.places) after (subst (λ (s : List SetOf). FindsPlaces c.place_of.new.places (with_record s rr)) c.as_slice.ensures.value c.in_ok-place.ensures.finds),
       subst (FindsData c.insert.new.self) after
-          (FindsData-put c.self.inside.seen c.insert.new.self sets rr place c.into_vec.result c.self.invariant.1 at
-          (c.into_vec.ensures ∙ (c.in_ok-lowered.ensures ∙ ap (lowered_rdata rr.rtype) c.as_slice-2.ensures)) c.in_ok-is_new.ensures.updates.0),
+          (FindsData-put c.self.inside.seen c.insert.new.self sets rr place c.in_ok-lowered.lowered c.self.invariant.1 at
+          (c.in_ok-lowered.ensures ∙ (c.in_ok-lowered_rdata.ensures ∙ ap (lowered_rdata rr.rtype) c.as_slice-2.ensures)) c.in_ok-is_new.ensures.updates.0),
     )
 
 pub returns : goal.returns
