@@ -28,7 +28,13 @@ fn a_run_writes_the_report(rt: HostRuntime) -> Result<(), Fail> {
     let rules = usual().ok_or("the rules are in range")?;
     for (trace, wanted) in [(SWEEPS, SWEEPS_REPORT), (RESPONSES, RESPONSES_REPORT)] {
         let mut written = Vec::new(rt.alloc());
-        run(rt.alloc(), &mut trace.as_bytes(), &mut written, &rules, [0; 16])?;
+        run(
+            rt.alloc(),
+            &mut trace.as_bytes(),
+            &mut written,
+            &rules,
+            [0; 16],
+        )?;
         assert_eq!(rt; written.as_slice(), wanted.as_bytes());
     }
     Ok(())
@@ -62,7 +68,13 @@ fn writers_that_stumble_once(rt: HostRuntime) -> Result<(), Fail> {
                     calls: Some(calls),
                     stumble,
                 };
-                let ended = run(rt.alloc(), &mut trace.as_bytes(), &mut writer, &rules, [0; 16]);
+                let ended = run(
+                    rt.alloc(),
+                    &mut trace.as_bytes(),
+                    &mut writer,
+                    &rules,
+                    [0; 16],
+                );
                 assert_eq!(rt; ended, Err(ReplayFault::Write), "{stumble:?} at {calls}");
                 assert_eq!(rt; writer.taken.as_slice(), &wanted.as_bytes()[..calls]);
             }
