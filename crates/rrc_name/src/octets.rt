@@ -1,4 +1,4 @@
-ghost use Rattle.std.specs.Prelude.{◌≡◌, ℕ, List, [], ◌++◌, ◌∷◌, length, IfOk, IsTrue, ◌↔◌};
+ghost use Rattle.std.specs.Prelude.{◌≡◌, ℕ, List, [], ◌++◌, ◌∷◌, length, IfOk, OnOk, OnErr, IsTrue, ◌↔◌};
 ghost use Rattle.std.proofs.Common.{rules};
 ghost use Rattle.std.specs.Cmp.Lexicographic.{pointwise, lists_equiv};
 ghost use Rattle.std.specs.Cmp.{nat_eq_equiv, partial_equiv_from_equiv};
@@ -10,8 +10,8 @@ use std::alloc::{AllocError, Global};
 use std::hash::{Hash, Hasher};
 use std::marker::Model;
 
-/// Octets, as a message or a trace has them. Contracts see the list of them. Up to 32 of them, as most names and data are, take
-/// no memory beside the value.
+/// Octets, as a message or a trace has them. Contracts see the list of them. Up to 32 of them, as most names and data are, stand
+/// in the value itself and ask for no memory; `from_vec` alone keeps the block of a vector that has room for more.
 #[derive(Debug, Drop)]
 pub struct Octets {
     octets: SmallVec<u8, 32>,
@@ -31,6 +31,15 @@ impl Octets {
         Octets {
             octets: SmallVec::new(alloc),
         }
+    }
+
+    /// No octets, with room for so many.
+    pub fn with_capacity(alloc: Global, octets: usize) -> Result<Octets, AllocError>
+        ensures { IfOk result (λ made. made ≡ []) }
+    {
+        Ok(Octets {
+            octets: SmallVec::with_capacity(alloc, octets)?,
+        })
     }
 
     /// The octets of a vector.
@@ -58,6 +67,25 @@ impl Octets {
         let mut octets = self.octets.clone()?;
         octets.as_mut_slice().make_ascii_lowercase();
         Ok(Octets { octets })
+    }
+
+    /// Puts an octet behind the others.
+    pub fn push(&mut self, octet: u8) -> Result<(), AllocError>
+        ensures ok { OnOk result (self.new ≡ self.old ++ octet ∷ []) }
+        ensures err { OnErr result (self.new ≡ self.old) }
+    {
+        match self.octets.push(octet) {
+            Ok(()) => Ok(()),
+            Err(_) => Err(AllocError),
+        }
+    }
+
+    /// Puts a copy of a slice behind the others.
+    pub fn extend_from_slice(&mut self, octets: &[u8]) -> Result<(), AllocError>
+        ensures ok { OnOk result (self.new ≡ self.old ++ octets.now) }
+        ensures err { OnErr result (self.new ≡ self.old) }
+    {
+        self.octets.extend_from_slice(octets)
     }
 
     pub fn as_slice(&self) -> &[u8]

@@ -5,6 +5,7 @@ ghost use Rattle.rrc_sets.specs.Gathering.{holds, alone, grown};
 
 use rrc_name::{Name, Octets, Sequence};
 use rrc_wire::{Rr, same_rdata};
+use smallvec::SmallVec;
 use std::alloc::{AllocError, Global};
 use std::marker::Model;
 
@@ -15,7 +16,8 @@ pub(crate) struct Set {
     pub(crate) owner: Name,
     pub(crate) rtype: u16,
     pub(crate) items: Sequence<Octets>,
-    pub(crate) ttls: Vec<u32>,
+    /// Those of most sets take no memory beside the set.
+    pub(crate) ttls: SmallVec<u32, 4>,
 }
 
 impl Model for Set {
@@ -37,7 +39,7 @@ impl Set {
     {
         let mut items = Sequence::from_vec(Vec::with_capacity(alloc, room)?);
         items.push(rr.rdata.clone()?)?;
-        let mut ttls = Vec::with_capacity(alloc, room)?;
+        let mut ttls = SmallVec::with_capacity(alloc, room)?;
         ttls.push(rr.ttl)?;
         Ok(Set {
             owner: rr.owner.clone()?,

@@ -15,18 +15,18 @@ use rrc_name::Octets;
 fn read_names(
     source: &mut Source<'_>,
     names: u8,
-    mut before: Vec<u8>,
+    mut before: Octets,
     place: usize,
     end: usize,
-) -> Result<(Vec<u8>, usize), WireFault>
+) -> Result<(Octets, usize), WireFault>
     requires { end ≤ length source.old }
-    ensures gives { Gives (λ read. (read.0.items, read.1)) result (times (name_in_data source.old end) names before.items place) }
+    ensures gives { Gives (λ read. read) result (times (name_in_data source.old end) names before place) }
     ensures same { source.new ≡ source.old }
 {
     let mut next = place;
     for _ in 0..names {
         let (name, behind) = read_wire(source, Run::in_data(next, end))?;
-        before.extend_from_slice(&name)?;
+        before.extend_from_slice(name.as_slice())?;
         next = behind;
     }
     Ok((before, next))
@@ -50,13 +50,13 @@ fn read_laid_out(
         return Err(WireFault::BadData);
     }
     let names = place + before;
-    let data = Vec::from_slice(source.alloc(), &message[place..names])?;
+    let data = Octets::from_slice(source.alloc(), &message[place..names])?;
     let (mut data, next) = read_names(source, layout.names, data, names, end)?;
     if next > end || end - next != usize::from(layout.behind) {
         return Err(WireFault::BadData);
     }
     data.extend_from_slice(&message[next..end])?;
-    Ok(Octets::from_vec(data))
+    Ok(data)
 }
 
 /// The data from `place` to `end` of a kept record, with the names in them expanded.

@@ -71,24 +71,25 @@ fn read_and_remember(source: &mut Source<'_>, place: usize) -> Result<(Name, usi
 {
     let first = Run::to_end(source.message(), place);
     let (wire, behind) = read_wire(source, first)?;
-    let wire = Shared::new(source.alloc(), Octets::from_vec(wire))?;
-    let name = Name { wire };
+    let name = Name {
+        wire: Shared::new(source.alloc(), wire)?,
+    };
     source.remember(place, name.clone()?);
     Ok((name, behind))
 }
 
 /// The octets of the name whose first run is given, with the pointers in it followed, and the place behind it. A chain of pointers
 /// is one step.
-pub(crate) fn read_wire(source: &mut Source<'_>, first: Run) -> Result<(Vec<u8>, usize), WireFault>
+pub(crate) fn read_wire(source: &mut Source<'_>, first: Run) -> Result<(Octets, usize), WireFault>
     requires { first.end ≤ length source.old }
-    ensures gives { Gives (λ read. (read.0.items, read.1)) result (name_at source.old (as_run first)) }
-    ensures wire_form { IfOk result (λ read. IsWireForm read.0.items) }
+    ensures gives { Gives (λ read. read) result (name_at source.old (as_run first)) }
+    ensures wire_form { IfOk result (λ read. IsWireForm read.0) }
     ensures within { IfOk result (λ read. read.1 ≤ first.end) }
     ensures same { source.new ≡ source.old }
 {
     let message = source.message();
     let room = room_for_name(message, first.start);
-    let mut wire = Vec::with_capacity(source.alloc(), room)?;
+    let mut wire = Octets::with_capacity(source.alloc(), room)?;
     let mut run = first;
     let mut place = first.start;
     let mut behind = None;

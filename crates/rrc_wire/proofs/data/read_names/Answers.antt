@@ -11,18 +11,18 @@ returns-in_err-name-clause-gives c =
     let exit = err_from_is_err_and c.from_residual.result c.from_residual.ensures.1 in
     rw (exit.1, exit.2) (elim (c.in_err-name.ensures.gives) [
       | inl refused ↦ inl refused
-      | inr first ↦ inr (sym c.loop.invariant.left ∙ times-Err (name_in_data message c.args.end) c.args.names c.loop.counter c.loop.before.items c.loop.next fault c.loop-test.true
+      | inr first ↦ inr (sym c.loop.invariant.left ∙ times-Err (name_in_data message c.args.end) c.args.names c.loop.counter c.loop.before c.loop.next fault c.loop-test.true
           (ap (λ octets. name_in_data octets c.args.end c.loop.next) (sym c.loop.invariant.unchanged) ∙ ap (name_at c.loop.source) (sym c.in_data.ensures) ∙ first))
     ])
 
 pub loop-preserved : goal.loop-preserved
 loop-preserved c =
-    let message = c.args.source.now in let name = c.in_ok-name.name.items in
+    let message = c.args.source.now in let name = c.in_ok-name.name in
     let read : name_in_data message c.args.end c.loop.next ≡ Ok (name, c.in_ok-name.behind) =
     ap (λ octets. name_in_data octets c.args.end c.loop.next) (sym c.loop.invariant.unchanged) ∙ ap (name_at c.loop.source) (sym c.in_data.ensures) ∙ c.in_ok-name.ensures.gives in
-    let octets : c.extend_from_slice.new.self.items ≡ c.loop.before.items ++ name =
-    c.in_ok-extend_from_slice.ensures.items ∙ ap (λ n. c.loop.before.items ++ n) c.deref.ensures.value in
+    let octets : c.extend_from_slice.new.self ≡ c.loop.before ++ name =
+    c.in_ok-extend_from_slice.ensures.ok ∙ ap (λ n. c.loop.before ++ n) c.as_slice.ensures in
     rw octets (record {
       unchanged = c.read_wire.ensures.same ∙ c.loop.invariant.unchanged;
-      left = sym (times-more (name_in_data message c.args.end) c.args.names c.loop.counter c.loop.before.items c.loop.next (name, c.in_ok-name.behind) c.loop-test.true read) ∙ c.loop.invariant.left;
+      left = sym (times-more (name_in_data message c.args.end) c.args.names c.loop.counter c.loop.before c.loop.next (name, c.in_ok-name.behind) c.loop-test.true read) ∙ c.loop.invariant.left;
     })

@@ -7,5 +7,5 @@ use Rattle.rrc_wire.proofs.data.read_names.Given as goal
 abbrev pub invariant-loop : goal.invariant-loop
 invariant-loop l = record {
   unchanged : l.source ≡ l.fn.source;
-  left : times (name_in_data l.fn.source l.end) (l.names - l.counter) l.before.items l.next ≡ times (name_in_data l.fn.source l.end) l.names l.fn.before.items l.place;
+  left : times (name_in_data l.fn.source l.end) (l.names - l.counter) l.before l.next ≡ times (name_in_data l.fn.source l.end) l.names l.fn.before l.place;
 }
