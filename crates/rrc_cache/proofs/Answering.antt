@@ -1,8 +1,7 @@
 -- What a part keeps after an ask.
-use Rattle.std.proofs.Common.{◌≡◌, ℕ, ◌≤◌, List, [], ◌∷◌, ◌++◌, length, Option, Some, None, ◌||◌, true, false, ◌⊎◌, inl, inr, Bool, refl, sym, ap, subst, ◌∙◌, arith}
+use Rattle.std.proofs.Common.{◌≡◌, ℕ, ◌+◌, ◌≤◌, List, [], ◌∷◌, ◌++◌, length, Option, Some, None, ◌||◌, true, false, ◌⊎◌, inl, inr, Bool, refl, sym, ap, subst, ◌∙◌, arith}
 use Rattle.std.specs.Prelude.{IfSome}
-use Rattle.std.specs.List.{AllByRecursion}
-use Rattle.rrc_name.specs.Key.{KeyOf, key_eq}
+use Rattle.rrc_name.specs.Key.{KeyOf}
 use Rattle.rrc_name.specs.lemmas.KeyLaws.{key_eq-laws}
 use Rattle.rrc_history.specs.declared.event.Event.{Event}
 use Rattle.rrc_history.specs.declared.event.Event.TheVariants.{Asked}
@@ -10,7 +9,6 @@ use Rattle.rrc_history.specs.declared.event.Reply.{Reply}
 use Rattle.rrc_history.specs.declared.event.Tag.{Tag}
 use Rattle.rrc_history.specs.declared.snapshot.Entry.{Entry}
 use Rattle.rrc_history.specs.Asked.{AskOf}
-use Rattle.rrc_history.specs.Lives.{IsTimely}
 use Rattle.rrc_history.specs.Judged.{reply_by, answering, is_miss, key_in}
 use Rattle.rrc_history.specs.Past.{entry_at, key_at, AreContents}
 use Rattle.rrc_name.specs.declared.slot.Slot.{Slot}
@@ -22,9 +20,9 @@ use Rattle.rrc_history.specs.Right.{IsRight}
 use Rattle.rrc_history.specs.Entries.{goes, found_among, promoted, in_front, answered_from}
 use Rattle.rrc_history.specs.lemmas.OfferLaws.{length-staying_found}
 use Rattle.rrc_history.specs.lemmas.AskLaws.{found-contents, ask_contents}
-use Rattle.rrc_cache.specs.Part.{PartOf, past_of, IsOpen, Keeps}
+use Rattle.rrc_cache.specs.Part.{PartOf, past_of, next_number, IsOpen, Keeps}
 use Rattle.rrc_cache.specs.Taken.{HasName, IsAnswered}
-use Rattle.rrc_cache.proofs.Timely.{timely_found, timely_staying}
+use Rattle.rrc_cache.proofs.Sound.{AreWellMade, made_of, made_answered_from}
 use Rattle.rrc_cache.proofs.Keeping.{IsDone, done_with, adds_keeps, number-of}
 
 -- an answer leaves as many entries as there were, or fewer
@@ -41,23 +39,10 @@ length-answered_from : (key : Option KeyOf) (entries : List Entry) → length (a
 length-answered_from None entries = omega arith
 length-answered_from (Some key) entries = length-promoted key entries
 
-timely_promoted : (key : KeyOf) (entries : List Entry) → AllByRecursion IsTimely entries → AllByRecursion IsTimely (promoted key entries)
-timely_promoted key entries all = by (entry_at key entries) refl
-  where
-    by : (f : Option Entry) → entry_at key entries ≡ f → AllByRecursion IsTimely (in_front key f entries)
-    by None is = all
-    by (Some entry) is =
-        let P : Option Entry → Type 0 = λ f. IfSome f IsTimely in
-        (subst P is (timely_found (λ (e : Entry). key_eq key e.key) entries all), timely_staying (goes key None) entries all)
-
-timely_answered_from : (key : Option KeyOf) (entries : List Entry) → AllByRecursion IsTimely entries → AllByRecursion IsTimely (answered_from key entries)
-timely_answered_from None entries all = all
-timely_answered_from (Some key) entries all = timely_promoted key entries all
-
 pub ask_done : (part : PartOf) (entries : List Entry) (tag : Tag) (ask : AskOf) (reply : Reply) (slot : Option Slot) (kept : List Entry)
     → Keeps part entries → IsOpen part ask.moment → IsAnswered part.snapshot.rules.stale ask entries reply slot
     → kept ≡ answered_from (option_map (key_at ask) slot) entries
-    → IsDone part (record { snapshot = part.snapshot; events = part.events ++ Asked tag ask reply ∷ [] }) (Asked tag ask reply) kept
+    → IsDone part (record { number = part.number; snapshot = part.snapshot; events = part.events ++ Asked tag ask reply ∷ [] }) (Asked tag ask reply) kept
 ask_done part entries tag ask reply slot kept keeps open' answered touched =
     let event : Event = Asked tag ask reply in
     let key : Option KeyOf = key_in (answering (found_among entries ask) ask reply) in
@@ -71,12 +56,13 @@ ask_done part entries tag ask reply slot kept keeps open' answered touched =
       };
     } in
     let contents : AreContents part.snapshot (event ∷ past_of part) left = ask_contents part.snapshot (past_of part) tag ask reply entries keeps.contents in
-    let few : length left ≤ part.snapshot.rules.capacity = omega (arith, length-answered_from key entries, keeps.room) in
+    let few : length left ≤ part.snapshot.rules.capacity = omega (arith, length-answered_from key entries, keeps.kept.few) in
     done_with part event kept right
     (adds_keeps part event kept keeps.sound open'.room right
     (let P : List Entry → Type 0 = AreContents part.snapshot (event ∷ past_of part) in subst P (sym is) contents)
     (let P : List Entry → Type 0 = λ es. length es ≤ part.snapshot.rules.capacity in subst P (sym is) few)
-    (let P : List Entry → Type 0 = AllByRecursion IsTimely in subst P (sym is) (timely_answered_from key entries keeps.timely)))
+    (let P : List Entry → Type 0 = AreWellMade (next_number part + 1) in
+    subst P (sym is) (made_answered_from (next_number part) key entries (made_of part.snapshot.rules.capacity (next_number part) entries keeps.kept))))
 
 -- ---- the entry that answers
 

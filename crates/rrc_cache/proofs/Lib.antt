@@ -2,8 +2,9 @@ pub mod Paired
 pub mod Turned
 pub mod Due
 pub mod Timed
-pub mod Timely
+pub mod Sound
 pub mod Placing
 pub mod Keeping
 pub mod Answering
 pub mod Sweeping
+pub mod Closed

@@ -1,7 +1,7 @@
 -- What a part keeps after a sweep.
-use Rattle.std.proofs.Common.{◌≡◌, ℕ, List, [], ◌∷◌, ◌++◌, length, ◌≤◌, ◌||◌, None, Bool, true, false, refl, sym, ap, subst, ◌∙◌, arith}
+use Rattle.std.proofs.Common.{◌≡◌, ℕ, ◌+◌, List, [], ◌∷◌, ◌++◌, length, ◌≤◌, ◌||◌, None, Bool, true, false, refl, sym, ap, subst, ◌∙◌, arith}
 use Rattle.std.specs.Prelude.{filter}
-use Rattle.std.specs.List.{AllByRecursion, dedup}
+use Rattle.std.specs.List.{dedup}
 use Rattle.std.proofs.lemmas.List.Kept.{Contains-dedup, Contains-from_dedup}
 use Rattle.std.proofs.lemmas.Map.Views.{Contains-from_any, list_any-from_Contains}
 use Rattle.rrc_name.specs.Key.{KeyOf, key_eq}
@@ -10,16 +10,15 @@ use Rattle.rrc_history.specs.declared.event.Event.{Event}
 use Rattle.rrc_history.specs.declared.event.Event.TheVariants.{Swept}
 use Rattle.rrc_history.specs.declared.event.Tag.{Tag}
 use Rattle.rrc_history.specs.declared.snapshot.Entry.{Entry}
-use Rattle.rrc_history.specs.Lives.{IsTimely}
 use Rattle.rrc_history.specs.Past.{entry_at, is_among, number_after, AreContents}
 use Rattle.rrc_history.specs.Right.{IsRight, is_swept}
 use Rattle.rrc_history.specs.Entries.{staying, goes, AreApart, living}
 use Rattle.rrc_history.specs.lemmas.OfferLaws.{length-staying_le}
 use Rattle.rrc_history.specs.lemmas.Apart.{falls_apart}
 use Rattle.rrc_history.specs.lemmas.SweepLaws.{keys_of_dead-found, living-staying, sweep_contents}
-use Rattle.rrc_cache.specs.Part.{PartOf, past_of, IsOpen, Keeps}
+use Rattle.rrc_cache.specs.Part.{PartOf, past_of, next_number, IsOpen, Keeps}
 use Rattle.rrc_cache.specs.Taken.{AreDeadKeys}
-use Rattle.rrc_cache.proofs.Timely.{timely_staying}
+use Rattle.rrc_cache.proofs.Sound.{AreWellMade, made_of, made_more, made_staying}
 use Rattle.rrc_cache.proofs.Keeping.{IsDone, done_with, adds_keeps, number-of}
 
 -- ---- the keys
@@ -77,7 +76,7 @@ staying_more gone key (entry ∷ entries) =
 
 pub sweep_done : (part : PartOf) (entries : List Entry) (tag : Tag) (moment : ℕ) (gone : List KeyOf) (kept : List Entry)
     → Keeps part entries → IsOpen part moment → AreDeadKeys part.snapshot.rules.stale moment entries gone → kept ≡ staying (λ key. is_among key gone) entries
-    → IsDone part (record { snapshot = part.snapshot; events = part.events ++ Swept tag moment gone ∷ [] }) (Swept tag moment gone) kept
+    → IsDone part (record { number = part.number; snapshot = part.snapshot; events = part.events ++ Swept tag moment gone ∷ [] }) (Swept tag moment gone) kept
 sweep_done part entries tag moment gone kept keeps open' dead is =
     let event : Event = Swept tag moment gone in
     let stale : ℕ = part.snapshot.rules.stale in
@@ -93,10 +92,13 @@ sweep_done part entries tag moment gone kept keeps open' dead is =
       };
     } in
     let lives : kept ≡ living stale moment entries = is ∙ sym (living-staying stale moment out entries apart listed) in
-    let few : length (staying out entries) ≤ part.snapshot.rules.capacity = omega (arith, length-staying_le out entries, keeps.room) in
+    let few : length (staying out entries) ≤ part.snapshot.rules.capacity = omega (arith, length-staying_le out entries, keeps.kept.few) in
     done_with part event kept right
     (adds_keeps part event kept keeps.sound open'.room right
     (let P : List Entry → Type 0 = AreContents part.snapshot (event ∷ past_of part) in
     subst P (sym lives) (sweep_contents part.snapshot (past_of part) tag moment gone entries keeps.contents apart listed))
     (let P : List Entry → Type 0 = λ es. length es ≤ part.snapshot.rules.capacity in subst P (sym is) few)
-    (let P : List Entry → Type 0 = AllByRecursion IsTimely in subst P (sym is) (timely_staying out entries keeps.timely)))
+    (let P : List Entry → Type 0 = AreWellMade (next_number part + 1) in
+    subst P (sym is)
+    (made_more (next_number part) (staying out entries)
+    (made_staying (next_number part) out entries (made_of part.snapshot.rules.capacity (next_number part) entries keeps.kept)))))

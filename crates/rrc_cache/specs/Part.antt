@@ -7,11 +7,12 @@ use Rattle.rrc_history.specs.declared.event.Event.TheVariants.{Offered, Asked, S
 use Rattle.rrc_history.specs.declared.event.Outcome.{Outcome}
 use Rattle.rrc_history.specs.declared.event.Reply.{Reply}
 use Rattle.rrc_history.specs.declared.event.Tag.{Tag}
-use Rattle.std.specs.List.{AllByRecursion}
-use Rattle.rrc_history.specs.Lives.{LAST_MOMENT, IsTimely}
+use Rattle.rrc_history.specs.Lives.{LAST_MOMENT}
 use Rattle.rrc_history.specs.Laws.{KeepsLaws}
 use Rattle.rrc_history.specs.Past.{AreContents}
 use Rattle.rrc_history.specs.Right.{IsRight, IsLegal}
+use Rattle.rrc_history.specs.Chapters.{ChapterOf, IsChapter}
+use Rattle.rrc_history.specs.Sound.{AreSound}
 use Rattle.rrc_history.specs.declared.event.Event.{Event}
 use Rattle.rrc_history.specs.declared.snapshot.Entry.{Entry}
 use Rattle.rrc_history.specs.declared.snapshot.Snapshot.{Snapshot}
@@ -19,8 +20,9 @@ use Rattle.rrc_cache.specs.Pairs.{StoreOf}
 use Rattle.rrc_cache.specs.declared.refusal.Refusal.{Refusal}
 use Rattle.rrc_cache.specs.declared.refusal.Refusal.TheVariants.{HistoryFull, MomentTooLarge, Memory}
 
--- the snapshot that opened the chapter, and the events since, the oldest first
+-- the number of the chapter that is open, the snapshot that opened it, and the events since, the oldest first
 pub record PartOf : Type 0 where
+  pub number : ℕ
   pub snapshot : Snapshot
   pub events : List Event
 
@@ -59,8 +61,16 @@ IsOfMoments HistoryFull = Unit {0}
 IsOfMoments MomentTooLarge = Unit {0}
 IsOfMoments Memory = ⊥
 
+-- when a chapter is closed, and when that is refused with what: HistoryFull exactly where the chapter's number is 2^62
+abbrev pub IsCloseDue : {A : Type 0} → PartOf → Result A Refusal → Type 0
+IsCloseDue part (Ok chapter) = part.number < 2 ^ 62
+IsCloseDue part (Err HistoryFull) = part.number ≡ 2 ^ 62
+IsCloseDue part (Err MomentTooLarge) = ⊥
+IsCloseDue part (Err Memory) = part.number < 2 ^ 62
+
 -- a call wrote just this event, which is right after those before it and keeps the laws
 pub record Adds (old new : PartOf) (event : Event) : Type 0 where
+  pub number : new.number ≡ old.number
   pub snapshot : new.snapshot ≡ old.snapshot
   pub written : new.events ≡ old.events ++ event ∷ []
   pub right : IsRight old.snapshot (past_of old) event
@@ -78,18 +88,26 @@ WritesAsk old new tag ask reply = Adds old new (Asked tag ask reply)
 abbrev pub WritesSweep : PartOf → PartOf → Tag → ℕ → ℕ → Type 0
 WritesSweep old new tag moment removed = (gone : List KeyOf) × (length gone ≡ removed) × Adds old new (Swept tag moment gone)
 
+-- the chapter that was open is handed out whole, and the part begins the next one with what it holds
+pub record Closes (old new : PartOf) (chapter : ChapterOf) : Type 0 where
+  pub number : chapter.number ≡ old.number
+  pub snapshot : chapter.snapshot ≡ old.snapshot
+  pub events : chapter.events ≡ old.events
+  pub closes : IsChapter chapter
+  pub next : new ≡ record { number = old.number + 1; snapshot = chapter.closing; events = [] }
+
 -- a part's history is legal and keeps to its rules
 pub record IsSound (part : PartOf) : Type 0 where
   pub legal : IsLegal part.snapshot (past_of part)
   pub few : length part.events ≤ part.snapshot.rules.chapter
   pub numbered : next_number part ≤ 2 ^ 62
+  pub chapter : part.number ≤ 2 ^ 62
 
--- a part keeps what its history says, the key touched last first
+-- a part keeps what its history says, the key touched last first, and that may open a chapter
 pub record Keeps (part : PartOf) (entries : List Entry) : Type 0 where
   pub sound : IsSound part
   pub contents : AreContents part.snapshot (past_of part) entries
-  pub room : length entries ≤ part.snapshot.rules.capacity
-  pub timely : AllByRecursion IsTimely entries
+  pub kept : AreSound part.snapshot.rules.capacity (next_number part) entries
 
 -- a part keeps its entries in a store that knows its stale limit
 pub record Holds (part : PartOf) (store : StoreOf) : Type 0 where

@@ -3,22 +3,24 @@ ghost use Rattle.std.specs.Prelude.{◌≡◌, ◌<◌, ◌≤◌, ◌↔◌, �
 use crate::refusal::Refusal;
 use crate::reply::ReplyRef;
 use crate::store::Store;
-use crate::{answer, entries, judge, sweep};
-use rrc_history::{Ask, Event, LAST_MOMENT, Offer, Outcome, Reply, Rules, Snapshot, Tag};
+use crate::{answer, closing, entries, judge, sweep};
+use rrc_history::{Ask, Chapter, Event, LAST_MOMENT, Offer, Outcome, Reply, Rules, Snapshot, Tag};
 use rrc_name::Sequence;
 use std::alloc::Global;
 use std::marker::Model;
+use std::mem;
 
-/// The number that no event has any more.
+/// The number that no event has any more, and no chapter that is closed.
 const SPENT: u64 = 1 << 62;
 
 /// The seed of a part that is given none, so that tests and replays take the same time twice.
 const KNOWN_SEED: [u8; 16] = [0; 16];
 
-/// A part of the cache. Contracts see the chapter of its history that is open: the snapshot that it began with, and the
-/// events since.
+/// A part of the cache. Contracts see the chapter of its history that is open: its number, the snapshot that it began with, and
+/// the events since.
 #[derive(Debug, Drop)]
 pub struct Part {
+    number: u64,
     snapshot: Snapshot,
     events: Vec<Event>,
     /// What is kept, the key touched last first.
@@ -30,19 +32,20 @@ impl Model for Part {
 
     ghost Value = { PartOf };
 
-    ghost view = { λ p. record { snapshot = p.snapshot; events = p.events.items } };
+    ghost view = { λ p. record { number = p.number; snapshot = p.snapshot; events = p.events.items } };
 
-    ghost invariant = { λ p. Holds (record { snapshot = p.snapshot; events = p.events.items }) p.store };
+    ghost invariant = { λ p. Holds (record { number = p.number; snapshot = p.snapshot; events = p.events.items }) p.store };
 }
 
 impl Part {
-    ghost use Rattle.rrc_cache.specs.Part.{past_of, next_number, HasRoom, IsDue, IsOfMoments, IsSound, WritesOffer, WritesAsk, WritesSweep};
+    ghost use Rattle.rrc_cache.specs.Part.{past_of, next_number, Closes, HasRoom, IsCloseDue, IsDue, IsOfMoments, IsSound, WritesOffer, WritesAsk, WritesSweep};
     ghost use Rattle.rrc_cache.specs.Reply.{reply_in};
     ghost use Rattle.rrc_history.specs.Past.{reply_to};
 
     /// An empty part in the first chapter of its history. Its seed is `KNOWN_SEED`: for names that anyone may send, `seeded`
     /// takes one that nobody knows.
     pub fn new(alloc: Global, rules: Rules) -> Result<Part, Refusal>
+        ensures number { IfOk result (λ part. part.number ≡ 1) }
         ensures empty { IfOk result (λ part. part.events ≡ []) }
         ensures snapshot { IfOk result (λ part. part.snapshot ≡ record { rules = rules; first = 0; entries = [] }) }
         ensures memory { OnErr result (result ≡ Err Refusal.Memory) }
@@ -53,11 +56,13 @@ impl Part {
     /// An empty part in the first chapter of its history, whose keys are hashed behind a seed. Under a seed that nobody can
     /// foresee nobody can pick names that make it slow. No reply depends on the seed.
     pub fn seeded(alloc: Global, rules: Rules, seed: [u8; 16]) -> Result<Part, Refusal>
+        ensures number { IfOk result (λ part. part.number ≡ 1) }
         ensures empty { IfOk result (λ part. part.events ≡ []) }
         ensures snapshot { IfOk result (λ part. part.snapshot ≡ record { rules = rules; first = 0; entries = [] }) }
         ensures memory { OnErr result (result ≡ Err Refusal.Memory) }
     {
         Ok(Part {
+            number: 1,
             snapshot: Snapshot {
                 rules,
                 first: 0,
@@ -66,6 +71,14 @@ impl Part {
             events: Vec::new(alloc),
             store: Store::new(alloc, seed, rules.stale)?,
         })
+    }
+
+    /// The number of the chapter that is open.
+    pub fn number(&self) -> u64
+        ensures value { result ≡ self.now.number }
+        ensures sound { IsSound self.now }
+    {
+        self.number
     }
 
     /// The events of the chapter that is open, the oldest first.
@@ -163,6 +176,31 @@ impl Part {
             gone: Sequence::from_vec(gone),
         });
         Ok(removed)
+    }
+
+    /// Closes the chapter that is open and hands it out, and opens the next one with what the part holds.
+    ///
+    /// `HistoryFull` comes exactly where the chapter's number is 2^62, else `Memory`. A part that refuses is as it was.
+    pub fn checkpoint(&mut self) -> Result<Chapter, Refusal>
+        ensures ok { IfOk result (Closes self.old self.new) }
+        ensures err { OnErr result (self.new ≡ self.old) }
+        ensures due { IsCloseDue self.old result }
+    {
+        if self.number >= SPENT {
+            return Err(Refusal::HistoryFull);
+        }
+        let alloc = *self.events.allocator();
+        let (rules, first) = (self.snapshot.rules(), self.next_number());
+        let closing = closing::closing(alloc, &self.store, rules, first)?;
+        let opening = closing::closing(alloc, &self.store, rules, first)?;
+        let number = self.number;
+        self.number = number + 1;
+        Ok(Chapter {
+            number,
+            snapshot: mem::replace(&mut self.snapshot, opening),
+            events: Sequence::from_vec(mem::replace(&mut self.events, Vec::new(alloc))),
+            closing,
+        })
     }
 
     /// The number of the next event.

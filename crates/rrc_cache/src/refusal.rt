@@ -4,7 +4,7 @@ use thiserror::Error;
 /// Why a part did not take a call. It is then as it was.
 #[derive(Clone, Copy, Debug, PartialEq, Eq, Hash, Error)]
 pub enum Refusal {
-    #[error("the chapter has as many events as it may")]
+    #[error("the chapter has as many events as it may, or the numbers are spent")]
     HistoryFull = 1,
     #[error("the moment is above 2^40 seconds")]
     MomentTooLarge = 2,

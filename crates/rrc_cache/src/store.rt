@@ -10,7 +10,7 @@ use crate::deaths::{Death, Deaths};
 use crate::seeded::Seeded;
 use lru::LruCache;
 use rrc_history::Entry;
-use rrc_name::{Key, KeyRef};
+use rrc_name::{Key, KeyRef, Sequence};
 use std::alloc::{AllocError, Global};
 use std::marker::Model;
 
@@ -71,6 +71,17 @@ impl Store {
         // The length is read for what it tells: no two entries have the same key.
         let _ = self.cache.len();
         self.deaths.due(alloc, moment)
+    }
+
+    /// A copy of the entries, the key touched last first.
+    pub(crate) fn entries(&self, alloc: Global) -> Result<Sequence<Entry>, AllocError>
+        ensures { IfOk result (λ entries. entries ≡ self.now.entries) }
+    {
+        let mut entries = Vec::with_capacity(alloc, self.cache.len())?;
+        for (_, entry) in self.cache.iter() {
+            entries.push(entry.clone()?)?;
+        }
+        Ok(Sequence::from_vec(entries))
     }
 
     /// Puts an entry in front, in the place of the one that its key had. An `Err` leaves all as it was.

@@ -1,3 +1,4 @@
+mod chapters;
 mod eviction;
 mod limits;
 mod negative;

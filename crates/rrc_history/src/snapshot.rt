@@ -6,6 +6,7 @@ use crate::body::Body;
 use crate::offer;
 use crate::rules::{LAST_MOMENT, Rules};
 use rrc_name::{Key, Sequence};
+use std::alloc::AllocError;
 use std::marker::Model;
 use thiserror::Error;
 
@@ -140,6 +141,21 @@ fn has_number(number: u64, entries: &[Entry]) -> bool
     ensures { result ≡ has_number number entries.now }
 {
     entries.iter().any(|entry| entry.number == number)
+}
+
+impl Clone for Entry {
+    ghost use Rattle.std.specs.Prelude.{◌≡◌};
+
+    ghost is_clone = { λ a b. b ≡ a };
+
+    fn clone(&self) -> Result<Entry, AllocError> {
+        Ok(Entry {
+            key: self.key.clone()?,
+            body: self.body.clone()?,
+            moment: self.moment,
+            number: self.number,
+        })
+    }
 }
 
 impl PartialEq for Entry {

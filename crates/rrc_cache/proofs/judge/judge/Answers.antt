@@ -6,7 +6,7 @@ use Rattle.rrc_name.specs.KeyRef.{key_of}
 use Rattle.rrc_history.specs.declared.snapshot.Entry.{Entry}
 use Rattle.rrc_history.specs.Judged.{Found, is_before, recent_failure}
 use Rattle.rrc_history.specs.Lives.{is_unexpired, IsTimely}
-use Rattle.rrc_cache.proofs.Timely.{timely_found}
+use Rattle.rrc_cache.proofs.Sound.{timely_found}
 use Rattle.rrc_cache.proofs.judge.judge.Goals as goal
 
 -- a recent failure is the one that was found

@@ -11,10 +11,10 @@ use Rattle.rrc_cache.proofs.part.Part.ask.Goals as goal
 
 -- the part as it was, and as it is
 abbrev before : goal.After-push_reserved → PartOf
-before c = record { snapshot = c.self.inside.snapshot; events = c.self.inside.events.items }
+before c = record { number = c.self.inside.number; snapshot = c.self.inside.snapshot; events = c.self.inside.events.items }
 
 abbrev after : goal.After-push_reserved → PartOf
-after c = record { snapshot = c.self.inside.snapshot; events = c.push_reserved.new.self.items }
+after c = record { number = c.self.inside.number; snapshot = c.self.inside.snapshot; events = c.push_reserved.new.self.items }
 
 abbrev event : goal.After-push_reserved → Event
 event c = Asked c.args.tag c.args.ask.now c.in_ok-reply.reply
@@ -26,7 +26,7 @@ done c =
     let answered : A c.self.inside.snapshot.rules = subst A c.rules-stale.ensures.value (c.in_ok-reply.ensures.answered) in
     let written : c.push_reserved.new.self.items ≡ c.self.inside.events.items ++ event c ∷ [] =
     c.push_reserved.ensures.items ∙ rw (c.reserve.ensures.items, c.in_ok-clone.ensures.cases, c.in_ok-reply.ensures.asked) refl in
-    let P : List Event → Type 0 = λ events. IsDone (before c) (record { snapshot = c.self.inside.snapshot; events = events }) (event c) c.touch.new.store.entries in
+    let P : List Event → Type 0 = λ events. IsDone (before c) (record { number = c.self.inside.number; snapshot = c.self.inside.snapshot; events = events }) (event c) c.touch.new.store.entries in
     subst P (sym written)
     (ask_done (before c) c.self.inside.store.entries c.args.tag c.args.ask.now c.in_ok-reply.reply c.in_ok-reply.slot c.touch.new.store.entries c.self.invariant.keeps open' answered (ap (λ (store : StoreOf). store.entries) c.touch.ensures))
 

@@ -2,7 +2,6 @@ use Rattle.std.proofs.Common.{rules, refl, ◌≡◌, ℕ, sym, ap, ◌∙◌, s
 use Rattle.rrc_name.specs.Key.{KeyOf}
 use Rattle.rrc_history.specs.Past.{is_among}
 use Rattle.rrc_history.specs.Entries.{staying}
-use Rattle.rrc_history.specs.declared.rules.Rules.{Rules}
 use Rattle.rrc_history.specs.declared.event.Event.{Event}
 use Rattle.rrc_history.specs.declared.event.Event.TheVariants.{Swept}
 use Rattle.rrc_cache.specs.Pairs.{StoreOf}
@@ -14,10 +13,10 @@ use Rattle.rrc_cache.proofs.part.Part.sweep.Goals as goal
 
 -- the part as it was, and as it is
 abbrev before : goal.After-push_reserved → PartOf
-before c = record { snapshot = c.self.inside.snapshot; events = c.self.inside.events.items }
+before c = record { number = c.self.inside.number; snapshot = c.self.inside.snapshot; events = c.self.inside.events.items }
 
 abbrev after : goal.After-push_reserved → PartOf
-after c = record { snapshot = c.self.inside.snapshot; events = c.push_reserved.new.self.items }
+after c = record { number = c.self.inside.number; snapshot = c.self.inside.snapshot; events = c.push_reserved.new.self.items }
 
 abbrev event : goal.After-push_reserved → Event
 event c = Swept c.args.tag c.args.moment c.in_ok-gone.gone.items
@@ -31,7 +30,7 @@ done c =
     c.push_reserved.ensures.items ∙ rw (c.reserve.ensures.items, c.from_vec.ensures) refl in
     let removed : c.remove.new.store.entries ≡ staying (λ key. is_among key c.in_ok-gone.gone.items) c.self.inside.store.entries =
     ap (λ (store : StoreOf). store.entries) c.remove.ensures ∙ ap (λ (keys : List KeyOf). staying (λ key. is_among key keys) c.self.inside.store.entries) c.as_slice.ensures.value in
-    let P : List Event → Type 0 = λ events. IsDone (before c) (record { snapshot = c.self.inside.snapshot; events = events }) (event c) c.remove.new.store.entries in
+    let P : List Event → Type 0 = λ events. IsDone (before c) (record { number = c.self.inside.number; snapshot = c.self.inside.snapshot; events = events }) (event c) c.remove.new.store.entries in
     subst P (sym written)
     (sweep_done (before c) c.self.inside.store.entries c.args.tag c.args.moment c.in_ok-gone.gone.items c.remove.new.store.entries c.self.invariant.keeps open' dead removed)
 
