@@ -111,27 +111,47 @@ mod tests {
         })
     }
 
+    type Failed<'a> = (u64, u64, &'a str);
+
+    /// Adds the death of a failure, and answers whether it is new.
+    fn add(alloc: Global, deaths: &mut Deaths, failed: Failed<'_>) -> Result<bool, Fail> {
+        let (number, moment, name) = failed;
+        let death = Death::of(&failure(alloc, number, moment, name)?, 0)?;
+        Ok(deaths.add(death)?)
+    }
+
+    /// The names whose time has come, one after another.
+    fn due(alloc: Global, deaths: &Deaths, moment: u64) -> Result<String, Fail> {
+        let mut names = String::new(alloc);
+        for key in &deaths.due(alloc, moment)? {
+            names.push_str(key.name().to_text()?.as_str())?;
+        }
+        Ok(names)
+    }
+
+    /// Whether these names are due at these moments.
+    fn are_due(alloc: Global, deaths: &Deaths, wanted: &[(u64, &str)]) -> Result<bool, Fail> {
+        for (moment, names) in wanted {
+            if due(alloc, deaths, *moment)?.as_str() != *names {
+                return Ok(false);
+            }
+        }
+        Ok(true)
+    }
+
     #[test]
     fn lists_what_is_due_by_time_and_number(rt: HostRuntime) -> Result<(), Fail> {
         let alloc = rt.alloc();
         let mut deaths = Deaths::new(alloc);
-        for (number, moment, name) in [(0, 30, "c"), (1, 10, "b"), (2, 20, "a"), (3, 10, "a")] {
-            let death = Death::of(&failure(alloc, number, moment, name)?, 0)?;
-            assert!(rt; deaths.add(death)?);
+        for failed in [(0, 30, "c"), (1, 10, "b"), (2, 20, "a"), (3, 10, "a")] {
+            assert!(rt; add(alloc, &mut deaths, failed)?);
         }
-        let again = Death::of(&failure(alloc, 1, 10, "b")?, 0)?;
-        assert!(rt; !deaths.add(again)?);
-        for (moment, names) in [(19, ""), (20, "ba"), (39, "baa"), (40, "baac")] {
-            let due = deaths.due(alloc, moment)?;
-            assert_eq!(rt; due.len(), names.len());
-            for (key, name) in due.iter().zip(names.chars()) {
-                assert_eq!(rt; key.name().to_text()?.chars().next(), Some(name));
-            }
-        }
+        assert!(rt; !add(alloc, &mut deaths, (1, 10, "b"))?);
+        let wanted = [(19, ""), (20, "b.a."), (39, "b.a.a."), (40, "b.a.a.c.")];
+        assert!(rt; are_due(alloc, &deaths, &wanted)?);
         // Of deaths of one key the one of that number goes.
         deaths.forget(failure(alloc, 3, 10, "a")?, 0);
-        assert_eq!(rt; deaths.due(alloc, 20)?.len(), 1);
-        assert_eq!(rt; deaths.due(alloc, 40)?.len(), 3);
+        assert!(rt; are_due(alloc, &deaths, &[(20, "b."), (40, "b.a.c.")])?);
         Ok(())
     }
 }

@@ -2,6 +2,8 @@ mod chapters;
 mod eviction;
 mod limits;
 mod negative;
+mod owners;
+mod sweeps;
 
 use crate::part::Part;
 use crate::refusal::Refusal;
@@ -95,15 +97,16 @@ fn deny(
     offer(part, line, key(alloc, name, slot)?, body, moment)
 }
 
-/// Offers that asking for the addresses of `a.example.` failed, for 30 seconds.
+/// Offers that asking for the addresses of `a.example.` failed, for some seconds.
 fn fail(
     alloc: Global,
     part: &mut Part,
     line: u64,
     moment: u64,
+    ttl: u32,
 ) -> Result<Result<Outcome, Refusal>, Fail> {
     let key = key(alloc, "a.example.", Slot::Failed(1))?;
-    offer(part, line, key, Body::Failure { ttl: 30 }, moment)
+    offer(part, line, key, Body::Failure { ttl }, moment)
 }
 
 /// A question for addresses: at a moment, of a name, for a purpose, in a mode.
@@ -120,21 +123,25 @@ fn question(alloc: Global, question: Question<'_>) -> Result<Ask, NameFault> {
     })
 }
 
-/// The last octet of the first datum.
-fn host(items: &Sequence<Octets>) -> Option<u8> {
-    items.as_slice().first()?.as_slice().last().copied()
+/// The last octet of the first datum, or 0.
+fn host(items: &Sequence<Octets>) -> u8 {
+    match items.as_slice().first() {
+        Some(datum) => last(datum),
+        None => 0,
+    }
 }
 
-fn seen_in(reply: &Reply) -> Option<Seen> {
+fn last(octets: &Octets) -> u8 {
+    octets.as_slice().last().copied().unwrap_or(0)
+}
+
+fn seen_in(reply: &Reply) -> Seen {
     match reply {
-        Reply::Fresh { set, left } => Some(Seen::Fresh(*left, host(&set.items)?)),
-        Reply::Stale { set, left } => Some(Seen::Stale(*left, host(&set.items)?)),
-        Reply::NoData { soa, left } => Some(Seen::NoData(*left, *soa.octets.as_slice().last()?)),
-        Reply::NxDomain { soa, left } => Some(Seen::NxDomain(
-            *left,
-            *soa.octets.as_slice().last()?,
-        )),
-        Reply::Miss { retry_from } => Some(Seen::Miss(*retry_from)),
+        Reply::Fresh { set, left } => Seen::Fresh(*left, host(&set.items)),
+        Reply::Stale { set, left } => Seen::Stale(*left, host(&set.items)),
+        Reply::NoData { soa, left } => Seen::NoData(*left, last(&soa.octets)),
+        Reply::NxDomain { soa, left } => Seen::NxDomain(*left, last(&soa.octets)),
+        Reply::Miss { retry_from } => Seen::Miss(*retry_from),
     }
 }
 
@@ -147,7 +154,7 @@ fn ask(
 ) -> Result<Result<Seen, Refusal>, Fail> {
     let asked = question(alloc, asked)?;
     match part.ask(Tag { line, place: 0 }, &asked) {
-        Ok(reply) => Ok(Ok(seen_in(&reply).ok_or("a set with no data")?)),
+        Ok(reply) => Ok(Ok(seen_in(&reply))),
         Err(refusal) => Ok(Err(refusal)),
     }
 }
@@ -155,8 +162,7 @@ fn ask(
 /// What a question would get.
 fn would(alloc: Global, part: &Part, asked: Question<'_>) -> Result<Seen, Fail> {
     let asked = question(alloc, asked)?;
-    let reply = part.would_answer(&asked).to_owned()?;
-    Ok(seen_in(&reply).ok_or("a set with no data")?)
+    Ok(seen_in(&part.would_answer(&asked).to_owned()?))
 }
 
 /// Whether the last event is a kept offer that evicted the addresses of the name.
@@ -174,21 +180,82 @@ fn has_evicted(alloc: Global, part: &Part, name: &str) -> Result<bool, Fail> {
     }
 }
 
-#[test]
-fn an_answer_shares_what_is_kept(rt: HostRuntime) -> Result<(), Fail> {
-    let alloc = rt.alloc();
-    let mut part = part(alloc, 4, 8)?;
-    assert_eq!(rt;
-        put(alloc, &mut part, 0, (100, "A.example.", AA, 60, 1))?,
-        KEPT
-    );
-    let asked = question(alloc, (101, "a.example.", Purpose::Answer, Mode::NoStale))?;
-    let tag = Tag { line: 1, place: 0 };
-    let Reply::Fresh { set, .. } = part.ask(tag, &asked)? else {
-        return Err("no fresh answer")?;
+/// Whether the last event is a sweep of these keys, in this order.
+fn has_swept(alloc: Global, part: &Part, wanted: &[(&str, Slot)]) -> Result<bool, Fail> {
+    let Some(Event::Swept { gone, .. }) = part.events().last() else {
+        return Ok(false);
     };
-    // The offer and the answer as they were written, what is kept, and the answer handed out.
-    assert_eq!(rt; set.owner.wire.owners(), 4);
-    assert_eq!(rt; set.items.owners(), 4);
-    Ok(())
+    for (swept, (name, slot)) in gone.iter().zip(wanted) {
+        if *swept != key(alloc, name, *slot)? {
+            return Ok(false);
+        }
+    }
+    Ok(gone.len() == wanted.len())
+}
+
+/// Whether the part is in the chapter it began with, and has taken nothing but the offer of a line, which it kept.
+fn has_only(part: &Part, line: u64) -> bool {
+    let opening = part.snapshot();
+    if opening.first != 0 || !opening.entries.is_empty() || part.events().len() != 1 {
+        return false;
+    }
+    match part.events().first() {
+        Some(Event::Offered { tag, outcome, .. }) => tag.line == line && *outcome == Outcome::Kept,
+        _ => false,
+    }
+}
+
+/// A call of a part with what it is to answer, or what a part is to tell of itself.
+#[derive(Clone, Copy)]
+enum Step<'a> {
+    Put(Set<'a>, Result<Outcome, Refusal>),
+    Deny(Negative<'a>, Result<Outcome, Refusal>),
+    Fail(u64, u32, Result<Outcome, Refusal>),
+    Ask(Question<'a>, Result<Seen, Refusal>),
+    Would(Question<'a>, Seen),
+    Sweep(u64, Result<usize, Refusal>),
+    /// Whether the chapter has room.
+    Room(bool),
+    /// Nothing was taken but the offer of that line.
+    Only(u64),
+    /// The last offer evicted the addresses of a name.
+    Evicted(&'a str),
+    /// The last sweep removed these keys.
+    Swept(&'a [(&'a str, Slot)]),
+}
+
+/// Whether a step goes as it is to, as line `line` of a trace.
+fn goes(alloc: Global, part: &mut Part, line: u64, step: Step<'_>) -> Result<bool, Fail> {
+    match step {
+        Step::Put(set, wanted) => Ok(put(alloc, part, line, set)? == wanted),
+        Step::Deny(negative, wanted) => Ok(deny(alloc, part, line, negative)? == wanted),
+        Step::Fail(moment, ttl, wanted) => Ok(fail(alloc, part, line, moment, ttl)? == wanted),
+        Step::Ask(asked, wanted) => Ok(ask(alloc, part, line, asked)? == wanted),
+        Step::Would(asked, wanted) => Ok(would(alloc, part, asked)? == wanted),
+        Step::Sweep(moment, wanted) => Ok(part.sweep(Tag { line, place: 0 }, moment) == wanted),
+        Step::Room(wanted) => Ok(part.has_room() == wanted),
+        Step::Only(line) => Ok(has_only(part, line)),
+        Step::Evicted(name) => has_evicted(alloc, part, name),
+        Step::Swept(keys) => has_swept(alloc, part, keys),
+    }
+}
+
+/// The place of the first step that goes otherwise than it is to. The steps are the lines of a trace, from line 0 on.
+fn astray_in(alloc: Global, part: &mut Part, steps: &[Step<'_>]) -> Result<Option<usize>, Fail> {
+    for (line, step) in steps.iter().enumerate() {
+        if !goes(alloc, part, line as u64, *step)? {
+            return Ok(Some(line));
+        }
+    }
+    Ok(None)
+}
+
+/// The same in a new part for as many keys, in a chapter for as many events.
+fn astray(
+    alloc: Global,
+    capacity: u64,
+    chapter: u64,
+    steps: &[Step<'_>],
+) -> Result<Option<usize>, Fail> {
+    astray_in(alloc, &mut part(alloc, capacity, chapter)?, steps)
 }

@@ -2,7 +2,10 @@ mod chains;
 mod snapshots;
 
 use crate::name::{Key, Name, NameFault, Octets, Sequence, Shared, Slot};
-use crate::{Ask, Body, Mode, Offer, OfferFault, Purpose, Reply, RrSet, Rules, Soa, Trust};
+use crate::{
+    Ask, Body, Entry, Mode, Offer, OfferFault, Purpose, Reply, RrSet, Rules, Snapshot,
+    SnapshotFault, Soa, Trust,
+};
 use std::alloc::{AllocError, Global};
 use std::test::Fail;
 
@@ -35,144 +38,188 @@ fn negative(alloc: Global, ttl: u32) -> Result<Body, NameFault> {
     })
 }
 
-/// Whether an offer is taken for `a.example.`. Either way its key and its body come back as they were.
-fn is_taken(alloc: Global, slot: Slot, body: Body) -> Result<bool, Fail> {
-    let key = Key::of(&Name::from_text(alloc, "a.example.")?, slot)?;
-    let (taken, got_key, got_body) = match Offer::new(key.clone()?, body.clone()?, 100) {
-        Ok(offer) => (true, offer.key, offer.body),
-        Err(OfferFault::WrongBody { key, body }) => (false, key, body),
-    };
-    if got_key != key || got_body != body {
+/// A body for `a.example.`, alive for some seconds.
+#[derive(Clone, Copy)]
+enum Offered<'a> {
+    /// The set of an owner, with a datum or none.
+    Set(&'a str, bool, u32),
+    Negative(u32),
+    Failure(u32),
+}
+
+fn made(alloc: Global, offered: Offered<'_>) -> Result<Body, NameFault> {
+    match offered {
+        Offered::Set(owner, some, ttl) => body(alloc, owner, some, ttl),
+        Offered::Negative(ttl) => negative(alloc, ttl),
+        Offered::Failure(ttl) => Ok(Body::Failure { ttl }),
+    }
+}
+
+/// The number of an offer's fault, if it has one, and the key and the body that came back.
+fn came_back(offer: Result<Offer, OfferFault>) -> (Option<u8>, Key, Body) {
+    match offer {
+        Ok(offer) => (None, offer.key, offer.body),
+        Err(fault) => {
+            let number = fault.number();
+            let OfferFault::WrongBody { key, body } = fault;
+            (Some(number), key, body)
+        }
+    }
+}
+
+/// The key of `a.example.` under a slot.
+fn key(alloc: Global, slot: Slot) -> Result<Key, NameFault> {
+    Ok(Key::of(&Name::from_text(alloc, "a.example.")?, slot)?)
+}
+
+fn offer(
+    alloc: Global,
+    slot: Slot,
+    offered: Offered<'_>,
+) -> Result<Result<Offer, OfferFault>, NameFault> {
+    Ok(Offer::new(key(alloc, slot)?, made(alloc, offered)?, 100))
+}
+
+/// The number of the fault of an offer for `a.example.`, if it has one. Either way its key and its body come back as they were.
+fn fault(alloc: Global, slot: Slot, offered: Offered<'_>) -> Result<Option<u8>, Fail> {
+    let (fault, key, body) = came_back(offer(alloc, slot, offered)?);
+    if key != self::key(alloc, slot)? || body != made(alloc, offered)? {
         return Err("something else came back")?;
     }
-    Ok(taken)
+    Ok(fault)
 }
 
-/// Whether a set of the owner's, with a datum or none, is taken for the addresses of `a.example.`.
-fn is_set_taken(alloc: Global, owner: &str, some: bool, ttl: u32) -> Result<bool, Fail> {
-    is_taken(alloc, Slot::Set(1), body(alloc, owner, some, ttl)?)
+/// The place of the first body that has another fault under its slot than it is to have.
+fn astray(alloc: Global, cases: &[(Slot, Offered<'_>, Option<u8>)]) -> Result<Option<usize>, Fail> {
+    for (place, (slot, offered, wanted)) in cases.iter().enumerate() {
+        if fault(alloc, *slot, *offered)? != *wanted {
+            return Ok(Some(place));
+        }
+    }
+    Ok(None)
 }
 
-#[test]
-fn takes_a_set_that_fits_its_key(rt: HostRuntime) -> Result<(), Fail> {
-    let alloc = rt.alloc();
-    assert!(rt; is_set_taken(alloc, "a.example.", true, 60)?);
-    assert!(rt; is_set_taken(alloc, "A.eXample.", true, 60)?);
-    assert!(rt; is_set_taken(alloc, "a.example.", true, 0)?);
-    assert!(rt; is_set_taken(alloc, "a.example.", true, 2_147_483_647)?);
-    Ok(())
-}
+const FITS: Option<u8> = None;
 
-#[test]
-fn hands_back_a_set_that_does_not_fit(rt: HostRuntime) -> Result<(), Fail> {
-    let alloc = rt.alloc();
-    assert!(rt; !is_set_taken(alloc, "b.example.", true, 60)?);
-    assert!(rt; !is_set_taken(alloc, "example.", true, 60)?);
-    assert!(rt; !is_set_taken(alloc, "a.example.", false, 60)?);
-    assert!(rt; !is_set_taken(alloc, "a.example.", true, 2_147_483_648)?);
-    assert!(rt; !is_set_taken(alloc, "a.example.", true, 4_294_967_295)?);
-    Ok(())
-}
+const WRONG: Option<u8> = Some(1);
 
 #[test]
-fn a_set_fits_the_slot_of_a_type_alone(rt: HostRuntime) -> Result<(), Fail> {
-    let alloc = rt.alloc();
-    let set = body(alloc, "a.example.", true, 60)?;
-    assert!(rt; is_taken(alloc, Slot::Set(28), set.clone()?)?);
-    assert!(rt; !is_taken(alloc, Slot::Nx, set.clone()?)?);
-    assert!(rt; !is_taken(alloc, Slot::Failed(1), set)?);
+fn a_set_fits_its_owner_and_the_slot_of_a_type(rt: HostRuntime) -> Result<(), Fail> {
+    let cases = [
+        (Slot::Set(1), Offered::Set("a.example.", true, 60), FITS),
+        (Slot::Set(1), Offered::Set("A.eXample.", true, 60), FITS),
+        (Slot::Set(1), Offered::Set("a.example.", true, 0), FITS),
+        (
+            Slot::Set(1),
+            Offered::Set("a.example.", true, 2_147_483_647),
+            FITS,
+        ),
+        (Slot::Set(1), Offered::Set("b.example.", true, 60), WRONG),
+        (Slot::Set(1), Offered::Set("example.", true, 60), WRONG),
+        (Slot::Set(1), Offered::Set("a.example.", false, 60), WRONG),
+        (
+            Slot::Set(1),
+            Offered::Set("a.example.", true, 2_147_483_648),
+            WRONG,
+        ),
+        (
+            Slot::Set(1),
+            Offered::Set("a.example.", true, 4_294_967_295),
+            WRONG,
+        ),
+        (Slot::Set(28), Offered::Set("a.example.", true, 60), FITS),
+        (Slot::Nx, Offered::Set("a.example.", true, 60), WRONG),
+        (Slot::Failed(1), Offered::Set("a.example.", true, 60), WRONG),
+    ];
+    assert_eq!(rt; astray(rt.alloc(), &cases)?, None);
     Ok(())
 }
 
 #[test]
 fn a_negative_answer_fits_a_type_or_a_name(rt: HostRuntime) -> Result<(), Fail> {
-    let alloc = rt.alloc();
-    assert!(rt; is_taken(alloc, Slot::Set(1), negative(alloc, 300)?)?);
-    assert!(rt; is_taken(alloc, Slot::Nx, negative(alloc, 2_147_483_647)?)?);
-    assert!(rt; !is_taken(alloc, Slot::Failed(1), negative(alloc, 300)?)?);
-    assert!(rt; !is_taken(alloc, Slot::Nx, negative(alloc, 2_147_483_648)?)?);
+    let cases = [
+        (Slot::Set(1), Offered::Negative(300), FITS),
+        (Slot::Nx, Offered::Negative(2_147_483_647), FITS),
+        (Slot::Failed(1), Offered::Negative(300), WRONG),
+        (Slot::Nx, Offered::Negative(2_147_483_648), WRONG),
+    ];
+    assert_eq!(rt; astray(rt.alloc(), &cases)?, None);
     Ok(())
 }
 
 #[test]
 fn a_failure_fits_the_slot_of_failures_alone(rt: HostRuntime) -> Result<(), Fail> {
-    let alloc = rt.alloc();
-    assert!(rt; is_taken(alloc, Slot::Failed(1), Body::Failure { ttl: 30 })?);
-    assert!(rt; !is_taken(alloc, Slot::Set(1), Body::Failure { ttl: 30 })?);
-    assert!(rt; !is_taken(alloc, Slot::Nx, Body::Failure { ttl: 30 })?);
-    assert!(rt; !is_taken(alloc, Slot::Failed(1), Body::Failure { ttl: 2_147_483_648 })?);
-    Ok(())
-}
-
-#[test]
-fn a_wrong_body_has_the_number_1(rt: HostRuntime) -> Result<(), Fail> {
-    let key = Key::of(&Name::from_text(rt.alloc(), "a.example.")?, Slot::Nx)?;
-    let Err(fault) = Offer::new(key, Body::Failure { ttl: 30 }, 100) else {
-        return Err("a failure was taken under a name")?;
-    };
-    assert_eq!(rt; fault.number(), 1);
+    let cases = [
+        (Slot::Failed(1), Offered::Failure(30), FITS),
+        (Slot::Set(1), Offered::Failure(30), WRONG),
+        (Slot::Nx, Offered::Failure(30), WRONG),
+        (Slot::Failed(1), Offered::Failure(2_147_483_648), WRONG),
+    ];
+    assert_eq!(rt; astray(rt.alloc(), &cases)?, None);
     Ok(())
 }
 
 #[test]
 fn keeps_the_ranges_of_rules(rt: HostRuntime) {
-    let within = [
-        (1, 1, 0),
-        (1024, 4096, 86_400),
-        (65_536, 1_048_576, 604_800),
-    ];
-    for (capacity, chapter, stale) in within {
+    for (capacity, chapter, stale, is_within) in [
+        (1, 1, 0, true),
+        (1024, 4096, 86_400, true),
+        (65_536, 1_048_576, 604_800, true),
+        (0, 1, 0, false),
+        (65_537, 1, 0, false),
+        (1, 0, 0, false),
+        (1, 1_048_577, 0, false),
+        (1, 1, 604_801, false),
+    ] {
         let rules = Rules::new(capacity, chapter, stale);
-        assert!(rt; rules.is_some(), "refused at {capacity} {chapter} {stale}");
-    }
-    let beyond = [
-        (0, 1, 0),
-        (65_537, 1, 0),
-        (1, 0, 0),
-        (1, 1_048_577, 0),
-        (1, 1, 604_801),
-    ];
-    for (capacity, chapter, stale) in beyond {
-        let rules = Rules::new(capacity, chapter, stale);
-        assert!(rt; rules.is_none(), "taken at {capacity} {chapter} {stale}");
+        assert!(rt;
+            rules.is_some() == is_within,
+            "at {capacity} {chapter} {stale}"
+        );
     }
 }
 
 #[test]
 fn answers_the_rules_it_was_given(rt: HostRuntime) -> Result<(), Fail> {
     let rules = Rules::new(1024, 4096, 86_400).ok_or("no rules")?;
-    assert_eq!(rt; rules.capacity, 1024);
-    assert_eq!(rt; rules.chapter, 4096);
-    assert_eq!(rt; rules.stale, 86_400);
+    assert_eq!(rt;
+        [rules.capacity, rules.chapter, rules.stale],
+        [1024, 4096, 86_400]
+    );
     Ok(())
+}
+
+/// Whether the clone of an offer at moment 100 is like it.
+fn is_offer_cloned(offer: &Offer) -> Result<bool, AllocError> {
+    let copy = offer.clone()?;
+    Ok(copy.key == offer.key && copy.body == offer.body && copy.moment == 100)
 }
 
 #[test]
 fn clones_an_offer(rt: HostRuntime) -> Result<(), Fail> {
-    let alloc = rt.alloc();
-    let key = Key::of(&Name::from_text(alloc, "a.example.")?, Slot::Set(1))?;
-    let body = body(alloc, "A.example.", true, 60)?;
-    let copy = Offer::new(key.clone()?, body.clone()?, 100)?.clone()?;
-    assert!(rt; copy.key == key);
-    assert!(rt; copy.body == body);
-    assert_eq!(rt; copy.moment, 100);
+    let set = Offered::Set("A.example.", true, 60);
+    let offer = offer(rt.alloc(), Slot::Set(1), set)??;
+    assert!(rt; is_offer_cloned(&offer)?);
     Ok(())
 }
 
-#[test]
-fn clones_an_ask(rt: HostRuntime) -> Result<(), Fail> {
-    let key = Key::of(&Name::from_text(rt.alloc(), "a.example.")?, Slot::Nx)?;
-    let ask = Ask {
-        name: key.name().clone()?,
+/// A question for the addresses of `a.example.`.
+fn ask(alloc: Global) -> Result<Ask, NameFault> {
+    Ok(Ask {
+        name: key(alloc, Slot::Nx)?.name().clone()?,
         rtype: 28,
         moment: 159,
         purpose: Purpose::Any,
         mode: Mode::Failed,
-    };
+    })
+}
+
+#[test]
+fn clones_an_ask(rt: HostRuntime) -> Result<(), Fail> {
+    let ask = ask(rt.alloc())?;
     let copy = ask.clone()?;
-    assert!(rt; copy.name == ask.name);
-    assert_eq!(rt; (copy.rtype, copy.moment), (28, 159));
-    assert_eq!(rt; (copy.purpose, copy.mode), (Purpose::Any, Mode::Failed));
+    assert!(rt; copy.name == ask.name && copy.rtype == 28 && copy.moment == 159);
+    assert!(rt; copy.purpose == Purpose::Any && copy.mode == Mode::Failed);
     Ok(())
 }
 
@@ -191,57 +238,120 @@ fn soa(alloc: Global) -> Result<Soa, NameFault> {
     })
 }
 
-#[test]
-fn clones_replies_of_a_set(rt: HostRuntime) -> Result<(), Fail> {
-    let fresh = Reply::Fresh {
-        set: set(rt.alloc())?,
-        left: 60,
-    };
-    assert_eq!(rt; fresh.clone()?, fresh);
-    let stale = Reply::Stale {
-        set: set(rt.alloc())?,
-        left: 30,
-    };
-    assert_eq!(rt; stale.clone()?, stale);
-    assert!(rt; fresh != stale);
-    Ok(())
+/// A reply with its time left, or with the moment from which to ask again.
+#[derive(Clone, Copy)]
+enum Replied {
+    Fresh(u32),
+    Stale(u32),
+    NoData(u32),
+    NxDomain(u32),
+    Miss(Option<u64>),
+}
+
+fn reply(alloc: Global, replied: Replied) -> Result<Reply, NameFault> {
+    Ok(match replied {
+        Replied::Fresh(left) => Reply::Fresh {
+            set: set(alloc)?,
+            left,
+        },
+        Replied::Stale(left) => Reply::Stale {
+            set: set(alloc)?,
+            left,
+        },
+        Replied::NoData(left) => Reply::NoData {
+            soa: soa(alloc)?,
+            left,
+        },
+        Replied::NxDomain(left) => Reply::NxDomain {
+            soa: soa(alloc)?,
+            left,
+        },
+        Replied::Miss(retry_from) => Reply::Miss { retry_from },
+    })
+}
+
+/// Whether the clone of a reply is like it.
+fn is_cloned(alloc: Global, replied: Replied) -> Result<bool, NameFault> {
+    let reply = reply(alloc, replied)?;
+    Ok(reply.clone()? == reply)
+}
+
+/// Whether two replies are alike.
+fn are_replies_alike(alloc: Global, one: Replied, other: Replied) -> Result<bool, NameFault> {
+    Ok(reply(alloc, one)? == reply(alloc, other)?)
 }
 
 #[test]
-fn clones_negative_replies_and_misses(rt: HostRuntime) -> Result<(), Fail> {
-    let no_data = Reply::NoData {
-        soa: soa(rt.alloc())?,
-        left: 1,
-    };
-    assert_eq!(rt; no_data.clone()?, no_data);
-    let nx_domain = Reply::NxDomain {
-        soa: soa(rt.alloc())?,
-        left: 1,
-    };
-    assert_eq!(rt; nx_domain.clone()?, nx_domain);
-    assert!(rt; no_data != nx_domain);
-    let miss = Reply::Miss {
-        retry_from: Some(330),
-    };
-    assert_eq!(rt; miss.clone()?, miss);
+fn clones_replies(rt: HostRuntime) -> Result<(), Fail> {
+    for replied in [
+        Replied::Fresh(60),
+        Replied::Stale(30),
+        Replied::NoData(1),
+        Replied::NxDomain(1),
+        Replied::Miss(Some(330)),
+    ] {
+        assert!(rt; is_cloned(rt.alloc(), replied)?);
+    }
+    assert!(rt; !are_replies_alike(rt.alloc(), Replied::Fresh(60), Replied::Stale(30))?);
+    assert!(rt; !are_replies_alike(rt.alloc(), Replied::NoData(1), Replied::NxDomain(1))?);
     Ok(())
+}
+
+/// Whether the clone of a body is like it.
+fn is_body_cloned(alloc: Global, offered: Offered<'_>) -> Result<bool, NameFault> {
+    let body = made(alloc, offered)?;
+    Ok(body.clone()? == body)
+}
+
+/// Whether two bodies are alike.
+fn are_alike(alloc: Global, one: Offered<'_>, other: Offered<'_>) -> Result<bool, NameFault> {
+    Ok(made(alloc, one)? == made(alloc, other)?)
 }
 
 #[test]
 fn clones_negative_answers_and_failures(rt: HostRuntime) -> Result<(), Fail> {
-    let negative = negative(rt.alloc(), 300)?;
-    assert!(rt; negative.clone()? == negative);
-    let failure = Body::Failure { ttl: 30 };
-    assert!(rt; failure.clone()? == failure);
-    assert!(rt; negative != failure);
+    assert!(rt; is_body_cloned(rt.alloc(), Offered::Negative(300))?);
+    assert!(rt; is_body_cloned(rt.alloc(), Offered::Failure(30))?);
+    assert!(rt; !are_alike(rt.alloc(), Offered::Negative(300), Offered::Failure(30))?);
     Ok(())
 }
 
 #[test]
 fn ranks_are_numbered_from_low_to_high(rt: HostRuntime) {
-    assert_eq!(rt; Trust::Additional as u8, 1);
-    assert_eq!(rt; Trust::NonAuthoritativeAnswer as u8, 2);
-    assert_eq!(rt; Trust::Authority as u8, 3);
-    assert_eq!(rt; Trust::AuthoritativeAnswer as u8, 4);
+    let ranks = [
+        Trust::Additional as u8,
+        Trust::NonAuthoritativeAnswer as u8,
+        Trust::Authority as u8,
+        Trust::AuthoritativeAnswer as u8,
+    ];
+    assert_eq!(rt; ranks, [1, 2, 3, 4]);
     assert!(rt; Trust::Additional < Trust::AuthoritativeAnswer);
+}
+
+/// The addresses of an owner under its name: the owner, the ttl, the moment and the number.
+type Kept<'a> = (&'a str, u32, u64, u64);
+
+fn entry(alloc: Global, kept: Kept<'_>) -> Result<Entry, NameFault> {
+    let (owner, ttl, moment, number) = kept;
+    Ok(Entry {
+        key: Key::of(&Name::from_text(alloc, owner)?, Slot::Set(1))?,
+        body: body(alloc, owner, true, ttl)?,
+        moment,
+        number,
+    })
+}
+
+/// A snapshot of these entries in front of event `first`, or its fault.
+fn snapshot(
+    alloc: Global,
+    capacity: u64,
+    first: u64,
+    kept: &[Kept<'_>],
+) -> Result<Result<Snapshot, SnapshotFault>, Fail> {
+    let rules = Rules::new(capacity, 4096, 86_400).ok_or("no rules")?;
+    let mut entries = Vec::new(alloc);
+    for each in kept {
+        entries.push(entry(alloc, *each)?)?;
+    }
+    Ok(Snapshot::new(rules, first, entries))
 }

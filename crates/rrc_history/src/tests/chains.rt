@@ -1,31 +1,18 @@
-use super::body;
-use crate::{ChainFault, Chapter, Entry, Rules, Snapshot, Whole, chain};
-use rrc_name::{Key, Name, Sequence, Slot};
+use super::{Kept, snapshot};
+use crate::{ChainFault, Chapter, Snapshot, Whole, chain};
+use rrc_name::Sequence;
 use std::alloc::Global;
 use std::test::Fail;
 
-/// A chapter in which nothing happens: its number, the capacity, the number of its first event, and the owner whose addresses it
-/// holds, if any.
-type Quiet<'a> = (u64, u64, u64, Option<&'a str>);
+/// A chapter in which nothing happens: its number, the capacity, the number of its first event, and what it holds.
+type Quiet<'a> = (u64, u64, u64, &'a [Kept<'a>]);
 
-fn snapshot(
-    alloc: Global,
-    capacity: u64,
-    first: u64,
-    owner: Option<&str>,
-) -> Result<Snapshot, Fail> {
-    let mut entries = Vec::new(alloc);
-    if let Some(owner) = owner {
-        entries.push(Entry {
-            key: Key::of(&Name::from_text(alloc, owner)?, Slot::Set(1))?,
-            body: body(alloc, owner, true, 60)?,
-            moment: 10,
-            number: 0,
-        })?;
-    }
-    let rules = Rules::new(capacity, 4096, 86_400).ok_or("no rules")?;
-    Ok(Snapshot::new(rules, first, entries)?)
-}
+/// What a chapter holds: nothing, or one set, under two spellings.
+const NONE: &[Kept<'static>] = &[];
+
+const LOW: &[Kept<'static>] = &[("a.example.", 60, 10, 0)];
+
+const HIGH: &[Kept<'static>] = &[("A.example.", 60, 10, 0)];
 
 /// The chapter of no events between two snapshots that are the same.
 fn between(alloc: Global, number: u64, snapshot: Snapshot, closing: Snapshot) -> Option<Chapter> {
@@ -42,13 +29,14 @@ fn between(alloc: Global, number: u64, snapshot: Snapshot, closing: Snapshot) ->
     })
 }
 
-fn quiet(alloc: Global, (number, capacity, first, owner): Quiet) -> Result<Chapter, Fail> {
-    let opening = snapshot(alloc, capacity, first, owner)?;
-    let closing = snapshot(alloc, capacity, first, owner)?;
+fn quiet(alloc: Global, quiet: Quiet<'_>) -> Result<Chapter, Fail> {
+    let (number, capacity, first, kept) = quiet;
+    let opening = snapshot(alloc, capacity, first, kept)??;
+    let closing = snapshot(alloc, capacity, first, kept)??;
     Ok(between(alloc, number, opening, closing).ok_or("no chapter")?)
 }
 
-fn chained(alloc: Global, quiets: &[Quiet]) -> Result<Result<Whole, ChainFault>, Fail> {
+fn chained(alloc: Global, quiets: &[Quiet<'_>]) -> Result<Result<Whole, ChainFault>, Fail> {
     let mut chapters = Vec::new(alloc);
     for each in quiets {
         chapters.push(quiet(alloc, *each)?)?;
@@ -56,68 +44,69 @@ fn chained(alloc: Global, quiets: &[Quiet]) -> Result<Result<Whole, ChainFault>,
     Ok(chain(alloc, chapters))
 }
 
+/// The fault of a chain of these chapters, if it has one.
+fn fault(alloc: Global, quiets: &[Quiet<'_>]) -> Result<Option<ChainFault>, Fail> {
+    match chained(alloc, quiets)? {
+        Ok(_) => Ok(None),
+        Err(fault) => Ok(Some(fault)),
+    }
+}
+
 #[test]
 fn reads_a_chapter(rt: HostRuntime) -> Result<(), Fail> {
-    let chapter = quiet(rt.alloc(), (7, 2, 3, Some("a.example.")))?;
-    assert_eq!(rt; chapter.number(), 7);
-    assert_eq!(rt; chapter.snapshot().first, 3);
-    assert!(rt; chapter.events().is_empty());
-    assert_eq!(rt; chapter.closing().entries.len(), 1);
+    let chapter = quiet(rt.alloc(), (7, 2, 3, LOW))?;
+    assert!(rt; chapter.number() == 7 && chapter.snapshot().first == 3);
+    assert!(rt; chapter.events().is_empty() && chapter.closing().entries.len() == 1);
     Ok(())
 }
 
 #[test]
 fn chains_chapters(rt: HostRuntime) -> Result<(), Fail> {
-    let owner = Some("a.example.");
     let whole = chained(
         rt.alloc(),
-        &[(7, 2, 3, owner), (8, 2, 3, owner), (9, 2, 3, owner)],
+        &[(7, 2, 3, LOW), (8, 2, 3, LOW), (9, 2, 3, LOW)],
     )??;
-    assert_eq!(rt; whole.snapshot.first, 3);
-    assert_eq!(rt; whole.events.len(), 0);
-    assert_eq!(rt; whole.closing.entries.len(), 1);
+    assert!(rt;
+        whole.snapshot.first == 3 && whole.events.len() == 0 && whole.closing.entries.len() == 1
+    );
     Ok(())
 }
 
 #[test]
 fn answers_the_first_fault_of_a_chain(rt: HostRuntime) -> Result<(), Fail> {
-    let owner = Some("a.example.");
     let gap = ChainFault::NumberGap;
     let unlike = ChainFault::NotTheSameContents;
     let faults: [(ChainFault, &[Quiet]); 8] = [
         (gap(0), &[]),
-        (gap(1), &[(1, 2, 3, None), (3, 2, 3, None)]),
-        (gap(1), &[(1, 2, 3, None), (2, 2, 4, None)]),
-        (gap(1), &[(1, 2, 3, None), (3, 4, 3, owner)]),
+        (gap(1), &[(1, 2, 3, NONE), (3, 2, 3, NONE)]),
+        (gap(1), &[(1, 2, 3, NONE), (2, 2, 4, NONE)]),
+        (gap(1), &[(1, 2, 3, NONE), (3, 4, 3, LOW)]),
         (
             unlike(1),
-            &[(1, 2, 3, None), (2, 4, 3, None), (4, 2, 3, None)],
+            &[(1, 2, 3, NONE), (2, 4, 3, NONE), (4, 2, 3, NONE)],
         ),
+        (unlike(1), &[(1, 2, 3, LOW), (2, 2, 3, HIGH)]),
         (
             unlike(1),
-            &[(1, 2, 3, owner), (2, 2, 3, Some("A.example."))],
-        ),
-        (
-            unlike(1),
-            &[(1, 2, 3, None), (2, 2, 3, owner), (3, 2, 3, None)],
+            &[(1, 2, 3, NONE), (2, 2, 3, LOW), (3, 2, 3, NONE)],
         ),
         (
             unlike(2),
-            &[(1, 2, 3, owner), (2, 2, 3, owner), (3, 2, 3, None)],
+            &[(1, 2, 3, LOW), (2, 2, 3, LOW), (3, 2, 3, NONE)],
         ),
     ];
-    for (fault, quiets) in faults {
-        let Err(answered) = chained(rt.alloc(), quiets)? else {
-            return Err("no fault was found")?;
-        };
-        assert_eq!(rt; answered, fault);
+    for (wanted, quiets) in faults {
+        assert!(rt; fault(rt.alloc(), quiets)? == Some(wanted), "at {wanted:?}");
     }
     Ok(())
 }
 
 #[test]
 fn numbers_the_faults_of_a_chain(rt: HostRuntime) {
-    assert_eq!(rt; ChainFault::NumberGap(7).number(), 1);
-    assert_eq!(rt; ChainFault::NotTheSameContents(7).number(), 2);
-    assert_eq!(rt; ChainFault::Memory.number(), 3);
+    let numbers = [
+        ChainFault::NumberGap(7).number(),
+        ChainFault::NotTheSameContents(7).number(),
+        ChainFault::Memory.number(),
+    ];
+    assert_eq!(rt; numbers, [1, 2, 3]);
 }
