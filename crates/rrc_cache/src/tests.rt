@@ -193,6 +193,41 @@ fn has_swept(alloc: Global, part: &Part, wanted: &[(&str, Slot)]) -> Result<bool
     Ok(gone.len() == wanted.len())
 }
 
+/// A closed chapter, in short: its number, the number of its first event, how many events it has, and how many keys it left held.
+type Closed = (u64, u64, usize, usize);
+
+/// Closes a chapter, with whose closing the part goes on.
+fn close(part: &mut Part) -> Result<Closed, Fail> {
+    let chapter = part.checkpoint()?;
+    if chapter.closing() != part.snapshot() {
+        return Err("the part goes on from something else")?;
+    }
+    Ok((
+        chapter.number(),
+        chapter.snapshot().first,
+        chapter.events().len(),
+        chapter.closing().entries.len(),
+    ))
+}
+
+/// Whether nothing was taken in a chapter of this number, which began with the addresses of these names, each with the moment and the
+/// number of its offer, in this order.
+fn opens(
+    alloc: Global,
+    part: &Part,
+    number: u64,
+    wanted: &[(&str, u64, u64)],
+) -> Result<bool, Fail> {
+    let entries = part.snapshot().entries.as_slice();
+    for (entry, (name, moment, number)) in entries.iter().zip(wanted) {
+        let key = key(alloc, name, Slot::Set(1))?;
+        if entry.key != key || entry.moment != *moment || entry.number != *number {
+            return Ok(false);
+        }
+    }
+    Ok(part.number() == number && part.events().is_empty() && entries.len() == wanted.len())
+}
+
 /// Whether the part is in the chapter it began with, and has taken nothing but the offer of a line, which it kept.
 fn has_only(part: &Part, line: u64) -> bool {
     let opening = part.snapshot();
@@ -214,6 +249,9 @@ enum Step<'a> {
     Ask(Question<'a>, Result<Seen, Refusal>),
     Would(Question<'a>, Seen),
     Sweep(u64, Result<usize, Refusal>),
+    Close(Closed),
+    /// A chapter of this number began with these names, moments and numbers.
+    Opens(u64, &'a [(&'a str, u64, u64)]),
     /// Whether the chapter has room.
     Room(bool),
     /// Nothing was taken but the offer of that line.
@@ -233,6 +271,8 @@ fn goes(alloc: Global, part: &mut Part, line: u64, step: Step<'_>) -> Result<boo
         Step::Ask(asked, wanted) => Ok(ask(alloc, part, line, asked)? == wanted),
         Step::Would(asked, wanted) => Ok(would(alloc, part, asked)? == wanted),
         Step::Sweep(moment, wanted) => Ok(part.sweep(Tag { line, place: 0 }, moment) == wanted),
+        Step::Close(wanted) => Ok(close(part)? == wanted),
+        Step::Opens(number, wanted) => opens(alloc, part, number, wanted),
         Step::Room(wanted) => Ok(part.has_room() == wanted),
         Step::Only(line) => Ok(has_only(part, line)),
         Step::Evicted(name) => has_evicted(alloc, part, name),
