@@ -100,27 +100,38 @@ impl Equivalent<Key> for KeyRef<'_> {
 mod tests {
     use super::*;
     use lru::LruCache;
+    use std::alloc::Global;
     use std::num::NonZeroUsize;
     use std::test::Fail;
 
+    type Cache = LruCache<Key, u8>;
+
+    /// A map that holds 1 under a key.
+    fn holding(alloc: Global, key: Key) -> Result<Cache, Fail> {
+        let room = NonZeroUsize::new(2).ok_or("no room")?;
+        let mut cache = LruCache::new(alloc, room)?;
+        cache.put(key, 1)?;
+        Ok(cache)
+    }
+
+    /// What a map holds under a borrowed key.
+    fn held(cache: &Cache, alloc: Global, text: &str, slot: Slot) -> Result<Option<u8>, Fail> {
+        let name = &Name::from_text(alloc, text)?;
+        Ok(cache.peek(KeyRef { name, slot }).copied())
+    }
+
     #[test]
     fn finds_what_its_key_finds(rt: HostRuntime) -> Result<(), Fail> {
-        let (low, other) = (
-            Name::from_text(rt.alloc(), "a.example")?,
-            Name::from_text(rt.alloc(), "b.example")?,
-        );
         let key = Key::of(&Name::from_text(rt.alloc(), "A.example")?, Slot::Nx)?;
-        let room = NonZeroUsize::new(2).ok_or("no room")?;
-        let mut cache = LruCache::new(rt.alloc(), room)?;
-        cache.put(key.clone()?, 1)?;
-        for (name, slot, held) in [
-            (&low, Slot::Nx, Some(1)),
-            (&low, Slot::Set(0), None),
-            (&other, Slot::Nx, None),
+        let cache = holding(rt.alloc(), key.clone()?)?;
+        assert!(rt; cache.peek(KeyRef::of(&key)).copied() == Some(1));
+        for (text, slot, wanted) in [
+            ("a.example", Slot::Nx, Some(1)),
+            ("a.example", Slot::Set(0), None),
+            ("b.example", Slot::Nx, None),
         ] {
-            assert_eq!(rt; cache.peek(KeyRef { name, slot }).copied(), held);
+            assert!(rt; held(&cache, rt.alloc(), text, slot)? == wanted);
         }
-        assert_eq!(rt; cache.peek(KeyRef::of(&key)).copied(), Some(1));
         Ok(())
     }
 }
