@@ -120,18 +120,23 @@ mod tests {
         Ok(cache.peek(KeyRef { name, slot }).copied())
     }
 
+    /// What a map that holds a key alone holds under its borrowed form.
+    fn held_by_itself(alloc: Global, key: Key) -> Result<Option<u8>, Fail> {
+        let cache = holding(alloc, key.clone()?)?;
+        Ok(cache.peek(KeyRef::of(&key)).copied())
+    }
+
+    fn key(alloc: Global) -> Result<Key, Fail> {
+        Ok(Key::of(&Name::from_text(alloc, "A.example")?, Slot::Nx)?)
+    }
+
     #[test]
     fn finds_what_its_key_finds(rt: HostRuntime) -> Result<(), Fail> {
-        let key = Key::of(&Name::from_text(rt.alloc(), "A.example")?, Slot::Nx)?;
-        let cache = holding(rt.alloc(), key.clone()?)?;
-        assert!(rt; cache.peek(KeyRef::of(&key)).copied() == Some(1));
-        for (text, slot, wanted) in [
-            ("a.example", Slot::Nx, Some(1)),
-            ("a.example", Slot::Set(0), None),
-            ("b.example", Slot::Nx, None),
-        ] {
-            assert!(rt; held(&cache, rt.alloc(), text, slot)? == wanted);
-        }
+        let cache = holding(rt.alloc(), key(rt.alloc())?)?;
+        assert!(rt; held(&cache, rt.alloc(), "a.example", Slot::Nx)? == Some(1));
+        assert!(rt; held(&cache, rt.alloc(), "a.example", Slot::Set(0))? == None);
+        assert!(rt; held(&cache, rt.alloc(), "b.example", Slot::Nx)? == None);
+        assert!(rt; held_by_itself(rt.alloc(), key(rt.alloc())?)? == Some(1));
         Ok(())
     }
 }

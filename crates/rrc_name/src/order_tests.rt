@@ -152,16 +152,26 @@ fn peek(cache: &LruCache<Key, u8>, alloc: Global, of: Of<'_>) -> Result<Option<u
     Ok(cache.peek(&key(alloc, of)?).copied())
 }
 
+/// A map to which these keys and values were put, one after another.
+fn filled(alloc: Global, puts: &[(Of<'_>, u8)]) -> Result<LruCache<Key, u8>, Fail> {
+    let mut cache = room_for_two(alloc)?;
+    for (of, value) in puts {
+        put(&mut cache, alloc, *of, *value)?;
+    }
+    Ok(cache)
+}
+
 #[test]
 fn keeps_keys_by_recency(rt: HostRuntime) -> Result<(), Fail> {
-    let alloc = rt.alloc();
-    let mut cache = room_for_two(alloc)?;
-    put(&mut cache, alloc, ("a.example", Slot::Nx), 1)?;
-    put(&mut cache, alloc, ("a.example", Slot::Set(1)), 2)?;
-    assert!(rt; get(&mut cache, alloc, ("A.EXAMPLE", Slot::Nx))? == Some(1));
-    put(&mut cache, alloc, ("b.example", Slot::Nx), 3)?;
-    assert!(rt; peek(&cache, alloc, ("a.example", Slot::Set(1)))? == None);
-    assert!(rt; peek(&cache, alloc, ("a.example", Slot::Nx))? == Some(1));
+    let puts = [
+        (("a.example", Slot::Nx), 1),
+        (("a.example", Slot::Set(1)), 2),
+    ];
+    let mut cache = filled(rt.alloc(), &puts)?;
+    assert!(rt; get(&mut cache, rt.alloc(), ("A.EXAMPLE", Slot::Nx))? == Some(1));
+    put(&mut cache, rt.alloc(), ("b.example", Slot::Nx), 3)?;
+    assert!(rt; peek(&cache, rt.alloc(), ("a.example", Slot::Set(1)))? == None);
+    assert!(rt; peek(&cache, rt.alloc(), ("a.example", Slot::Nx))? == Some(1));
     Ok(())
 }
 
