@@ -100,27 +100,43 @@ impl Equivalent<Key> for KeyRef<'_> {
 mod tests {
     use super::*;
     use lru::LruCache;
+    use std::alloc::Global;
     use std::num::NonZeroUsize;
     use std::test::Fail;
 
+    type Cache = LruCache<Key, u8>;
+
+    /// A map that holds 1 under a key.
+    fn holding(alloc: Global, key: Key) -> Result<Cache, Fail> {
+        let room = NonZeroUsize::new(2).ok_or("no room")?;
+        let mut cache = LruCache::new(alloc, room)?;
+        cache.put(key, 1)?;
+        Ok(cache)
+    }
+
+    /// What a map holds under a borrowed key.
+    fn held(cache: &Cache, alloc: Global, text: &str, slot: Slot) -> Result<Option<u8>, Fail> {
+        let name = &Name::from_text(alloc, text)?;
+        Ok(cache.peek(KeyRef { name, slot }).copied())
+    }
+
+    /// What a map that holds a key alone holds under its borrowed form.
+    fn held_by_itself(alloc: Global, key: Key) -> Result<Option<u8>, Fail> {
+        let cache = holding(alloc, key.clone()?)?;
+        Ok(cache.peek(KeyRef::of(&key)).copied())
+    }
+
+    fn key(alloc: Global) -> Result<Key, Fail> {
+        Ok(Key::of(&Name::from_text(alloc, "A.example")?, Slot::Nx)?)
+    }
+
     #[test]
     fn finds_what_its_key_finds(rt: HostRuntime) -> Result<(), Fail> {
-        let (low, other) = (
-            Name::from_text(rt.alloc(), "a.example")?,
-            Name::from_text(rt.alloc(), "b.example")?,
-        );
-        let key = Key::of(&Name::from_text(rt.alloc(), "A.example")?, Slot::Nx)?;
-        let room = NonZeroUsize::new(2).ok_or("no room")?;
-        let mut cache = LruCache::new(rt.alloc(), room)?;
-        cache.put(key.clone()?, 1)?;
-        for (name, slot, held) in [
-            (&low, Slot::Nx, Some(1)),
-            (&low, Slot::Set(0), None),
-            (&other, Slot::Nx, None),
-        ] {
-            assert_eq!(rt; cache.peek(KeyRef { name, slot }).copied(), held);
-        }
-        assert_eq!(rt; cache.peek(KeyRef::of(&key)).copied(), Some(1));
+        let cache = holding(rt.alloc(), key(rt.alloc())?)?;
+        assert!(rt; held(&cache, rt.alloc(), "a.example", Slot::Nx)? == Some(1));
+        assert!(rt; held(&cache, rt.alloc(), "a.example", Slot::Set(0))? == None);
+        assert!(rt; held(&cache, rt.alloc(), "b.example", Slot::Nx)? == None);
+        assert!(rt; held_by_itself(rt.alloc(), key(rt.alloc())?)? == Some(1));
         Ok(())
     }
 }

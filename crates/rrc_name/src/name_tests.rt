@@ -2,28 +2,13 @@ use crate::fault::{NameFault, WireNameFault};
 use crate::key::Key;
 use crate::name::Name;
 use crate::slot::Slot;
-use std::alloc::AllocError;
+use std::alloc::{AllocError, Global};
 use std::test::Fail;
 
-/// A text of as many letters.
-fn letters(rt: &HostRuntime, count: usize) -> Result<String, AllocError> {
-    let mut text = String::new(rt.alloc());
-    for _ in 0..count {
-        text.push('a')?;
-    }
-    Ok(text)
-}
-
-/// Labels of these many letters, with dots between them.
-fn labels(rt: &HostRuntime, counts: &[usize]) -> Result<String, AllocError> {
-    let mut text = String::new(rt.alloc());
-    for &count in counts {
-        if !text.is_empty() {
-            text.push('.')?;
-        }
-        text.push_str(letters(rt, count)?.as_str())?;
-    }
-    Ok(text)
+/// Whether a text is read as the name of a wire form.
+fn is_read(alloc: Global, text: &str, wire: &[u8]) -> Result<bool, NameFault> {
+    let name = Name::from_text(alloc, text)?;
+    Ok(name.wire.as_slice() == wire && name.len() == wire.len())
 }
 
 #[test]
@@ -41,15 +26,18 @@ fn reads_names(rt: HostRuntime) -> Result<(), Fail> {
         (r"\@!~", b"\x03@!~\0"),
     ];
     for (text, wire) in cases {
-        let name = Name::from_text(rt.alloc(), text)?;
-        assert_eq!(rt; name.wire.as_slice(), wire, "at {text}");
-        assert_eq!(rt; name.len(), wire.len(), "at {text}");
+        assert!(rt; is_read(rt.alloc(), text, wire)?, "at {text}");
     }
     Ok(())
 }
 
+/// The length of the name that a text is read as.
+fn length(alloc: Global, text: &str) -> Result<usize, NameFault> {
+    Ok(Name::from_text(alloc, text)?.len())
+}
+
 #[test]
-fn refuses_other_texts(rt: HostRuntime) -> Result<(), Fail> {
+fn refuses_other_texts(rt: HostRuntime) {
     let cases = [
         ("", NameFault::EmptyLabel),
         ("..", NameFault::EmptyLabel),
@@ -68,130 +56,133 @@ fn refuses_other_texts(rt: HostRuntime) -> Result<(), Fail> {
         (r"..\", NameFault::EmptyLabel),
     ];
     for (text, fault) in cases {
-        assert_eq!(rt;
-            Name::from_text(rt.alloc(), text).err(),
-            Some(fault),
-            "at {text}"
-        );
+        assert!(rt; length(rt.alloc(), text) == Err(fault), "at {text}");
+    }
+}
+
+#[test]
+fn numbers_its_faults(rt: HostRuntime) {
+    let numbers = [
+        NameFault::EmptyLabel.number(),
+        NameFault::LabelTooLong.number(),
+        NameFault::NameTooLong.number(),
+        NameFault::BadEscape.number(),
+        NameFault::Memory.number(),
+    ];
+    assert_eq!(rt; numbers, [1, 2, 3, 4, 5]);
+    let numbers = [
+        WireNameFault::Short.number(),
+        WireNameFault::LabelTooLong.number(),
+        WireNameFault::NameTooLong.number(),
+        WireNameFault::LeftOver.number(),
+        WireNameFault::Memory.number(),
+    ];
+    assert_eq!(rt; numbers, [1, 2, 3, 4, 5]);
+}
+
+/// Puts as many letters behind a text.
+fn put_letters(text: &mut String, count: usize) -> Result<(), AllocError> {
+    for _ in 0..count {
+        text.push('a')?;
     }
     Ok(())
 }
 
-#[test]
-fn numbers_its_faults(rt: HostRuntime) -> Result<(), Fail> {
-    let faults = [
-        NameFault::EmptyLabel,
-        NameFault::LabelTooLong,
-        NameFault::NameTooLong,
-        NameFault::BadEscape,
-        NameFault::Memory,
-    ];
-    for (fault, number) in faults.iter().zip(1..=5) {
-        assert_eq!(rt; fault.number(), number);
+/// Labels of these many letters, with dots between them, and an end.
+fn labels(alloc: Global, counts: &[usize], end: &str) -> Result<String, AllocError> {
+    let mut text = String::new(alloc);
+    for &count in counts {
+        if !text.is_empty() {
+            text.push('.')?;
+        }
+        put_letters(&mut text, count)?;
     }
-    let faults = [
-        WireNameFault::Short,
-        WireNameFault::LabelTooLong,
-        WireNameFault::NameTooLong,
-        WireNameFault::LeftOver,
-        WireNameFault::Memory,
-    ];
-    for (fault, number) in faults.iter().zip(1..=5) {
-        assert_eq!(rt; fault.number(), number);
-    }
-    Ok(())
+    text.push_str(end)?;
+    Ok(text)
 }
 
 #[test]
 fn keeps_the_limits_of_length(rt: HostRuntime) -> Result<(), Fail> {
-    let cases: [(&[usize], Option<NameFault>); 6] = [
-        (&[63], None),
-        (&[64], Some(NameFault::LabelTooLong)),
-        (&[63, 63, 63, 61], None),
-        (&[63, 63, 63, 62], Some(NameFault::NameTooLong)),
-        (&[63, 63, 63, 64], Some(NameFault::LabelTooLong)),
-        (&[63, 63, 63, 61, 1], Some(NameFault::NameTooLong)),
+    let cases: [(&[usize], &str, Result<usize, NameFault>); 7] = [
+        (&[63], "", Ok(65)),
+        (&[64], "", Err(NameFault::LabelTooLong)),
+        (&[63, 63, 63, 61], "", Ok(255)),
+        (&[63, 63, 63, 62], "", Err(NameFault::NameTooLong)),
+        (&[63, 63, 63, 64], "", Err(NameFault::LabelTooLong)),
+        (&[63, 63, 63, 61, 1], "", Err(NameFault::NameTooLong)),
+        // The fault inside a label comes before the label's own.
+        (&[70], r"\256", Err(NameFault::BadEscape)),
     ];
-    for (counts, fault) in cases {
-        let text = labels(&rt, counts)?;
-        match Name::from_text(rt.alloc(), text.as_str()) {
-            Ok(name) => {
-                assert_eq!(rt; None, fault);
-                assert_eq!(rt; name.len(), text.len() + 2);
-            }
-            Err(refused) => assert_eq!(rt; Some(refused), fault),
-        }
+    for (counts, end, wanted) in cases {
+        let text = labels(rt.alloc(), counts, end)?;
+        assert_eq!(rt; length(rt.alloc(), text.as_str()), wanted);
     }
-
-    // The fault inside a label comes before the label's own.
-    let mut text = labels(&rt, &[70])?;
-    text.push_str(r"\256")?;
-    assert_eq!(rt;
-        Name::from_text(rt.alloc(), text.as_str()).err(),
-        Some(NameFault::BadEscape)
-    );
     Ok(())
 }
 
+/// Whether octets are read as the name that has them as its wire form.
+fn is_reread(alloc: Global, octets: &[u8]) -> Result<bool, WireNameFault> {
+    let name = Name::from_wire(alloc, octets)?;
+    Ok(name.wire.as_slice() == octets && name.len() == octets.len())
+}
+
 #[test]
-fn reads_wire_forms(rt: HostRuntime) -> Result<(), Fail> {
-    let cases: [(&[u8], Option<WireNameFault>); 12] = [
-        (b"\0", None),
-        (b"\x03www\x07Example\0", None),
-        (b"\x02.\\\0", None),
-        (b"", Some(WireNameFault::Short)),
-        (b"\x03ww", Some(WireNameFault::Short)),
-        (b"\x03www", Some(WireNameFault::Short)),
-        (b"\x01a\0\0", Some(WireNameFault::LeftOver)),
-        (b"\0\x01a\0", Some(WireNameFault::LeftOver)),
-        (b"\x40", Some(WireNameFault::LabelTooLong)),
-        (b"\x01a\xc0\x0c", Some(WireNameFault::LabelTooLong)),
-        (b"\0\x40", Some(WireNameFault::LeftOver)),
-        (b"\x3f", Some(WireNameFault::Short)),
+fn reads_wire_forms(rt: HostRuntime) {
+    let cases: [(&[u8], Result<bool, WireNameFault>); 12] = [
+        (b"\0", Ok(true)),
+        (b"\x03www\x07Example\0", Ok(true)),
+        (b"\x02.\\\0", Ok(true)),
+        (b"", Err(WireNameFault::Short)),
+        (b"\x03ww", Err(WireNameFault::Short)),
+        (b"\x03www", Err(WireNameFault::Short)),
+        (b"\x01a\0\0", Err(WireNameFault::LeftOver)),
+        (b"\0\x01a\0", Err(WireNameFault::LeftOver)),
+        (b"\x40", Err(WireNameFault::LabelTooLong)),
+        (b"\x01a\xc0\x0c", Err(WireNameFault::LabelTooLong)),
+        (b"\0\x40", Err(WireNameFault::LeftOver)),
+        (b"\x3f", Err(WireNameFault::Short)),
     ];
-    for (octets, fault) in cases {
-        match Name::from_wire(rt.alloc(), octets) {
-            Ok(name) => {
-                assert_eq!(rt; None, fault);
-                assert_eq!(rt; name.wire.as_slice(), octets);
-            }
-            Err(refused) => assert_eq!(rt; Some(refused), fault),
+    for (octets, wanted) in cases {
+        assert_eq!(rt; is_reread(rt.alloc(), octets), wanted);
+    }
+}
+
+/// The wire form of labels of these many letters.
+fn wire_form(alloc: Global, counts: &[u8]) -> Result<Vec<u8>, AllocError> {
+    let mut octets = Vec::new(alloc);
+    for &count in counts {
+        octets.push(count)?;
+        for _ in 0..count {
+            octets.push(b'a')?;
         }
     }
-    Ok(())
+    octets.push(0)?;
+    Ok(octets)
 }
 
 #[test]
 fn keeps_the_limit_of_a_wire_form(rt: HostRuntime) -> Result<(), Fail> {
-    let cases: [(&[u8], Option<WireNameFault>); 4] = [
-        (&[63, 63, 63, 61], None),
-        (&[63, 63, 63, 62], Some(WireNameFault::NameTooLong)),
-        (&[63, 63, 63, 60, 1], Some(WireNameFault::NameTooLong)),
-        (&[63, 63, 63, 64], Some(WireNameFault::LabelTooLong)),
+    let cases: [(&[u8], usize, Result<bool, WireNameFault>); 4] = [
+        (&[63, 63, 63, 61], 255, Ok(true)),
+        (&[63, 63, 63, 62], 256, Err(WireNameFault::NameTooLong)),
+        (&[63, 63, 63, 60, 1], 256, Err(WireNameFault::NameTooLong)),
+        (&[63, 63, 63, 64], 258, Err(WireNameFault::LabelTooLong)),
     ];
-    for (counts, fault) in cases {
-        let mut octets = Vec::new(rt.alloc());
-        for &count in counts {
-            octets.push(count)?;
-            for _ in 0..count {
-                octets.push(b'a')?;
-            }
-        }
-        octets.push(0)?;
-        match Name::from_wire(rt.alloc(), octets.as_slice()) {
-            Ok(name) => {
-                assert_eq!(rt; None, fault);
-                assert_eq!(rt; name.len(), 255);
-            }
-            Err(refused) => assert_eq!(rt; Some(refused), fault),
-        }
+    for (counts, length, wanted) in cases {
+        let octets = wire_form(rt.alloc(), counts)?;
+        assert!(rt; octets.len() == length && is_reread(rt.alloc(), octets.as_slice()) == wanted);
     }
     Ok(())
 }
 
+/// What is printed of the name of a text.
+fn printed(alloc: Global, text: &str) -> Result<String, NameFault> {
+    Ok(Name::from_text(alloc, text)?.to_text()?)
+}
+
 #[test]
 fn prints_names(rt: HostRuntime) -> Result<(), Fail> {
-    let cases: [(&str, &str); 6] = [
+    let cases = [
         (".", "."),
         ("a", "a."),
         ("www.Example", "www.Example."),
@@ -199,34 +190,72 @@ fn prints_names(rt: HostRuntime) -> Result<(), Fail> {
         (r"\000\009\032.\127\255", r"\000\009\032.\127\255."),
         (r"\@\;\(!~", r"@;(!~."),
     ];
-    for (written, printed) in cases {
-        let name = Name::from_text(rt.alloc(), written)?;
-        assert_eq!(rt; name.to_text()?.as_str(), printed);
+    for (text, wanted) in cases {
+        assert!(rt; printed(rt.alloc(), text)?.as_str() == wanted, "at {text}");
     }
     Ok(())
+}
+
+/// Whether two texts are of names that are the same but for case.
+fn are_same(alloc: Global, text: &str, other: &str) -> Result<bool, NameFault> {
+    Ok(Name::from_text(alloc, text)?.same(&Name::from_text(alloc, other)?))
 }
 
 #[test]
 fn sees_no_case(rt: HostRuntime) -> Result<(), Fail> {
-    let mixed = Name::from_text(rt.alloc(), "wWw.EXAMPLE.Z-9.[")?;
-    let low = Name::from_text(rt.alloc(), "www.example.z-9.[")?;
-    let other = Name::from_text(rt.alloc(), "www.example.z-9.{")?;
-    assert!(rt; mixed.same(&low) && low.same(&mixed));
-    assert!(rt; !low.same(&other));
-    assert!(rt; mixed.folded()? == low);
-    assert!(rt; !Name::root(rt.alloc())?.same(&low));
+    for (text, other, wanted) in [
+        ("wWw.EXAMPLE.Z-9.[", "www.example.z-9.[", true),
+        ("www.example.z-9.[", "wWw.EXAMPLE.Z-9.[", true),
+        ("www.example.z-9.[", "www.example.z-9.{", false),
+    ] {
+        assert!(rt;
+            are_same(rt.alloc(), text, other)? == wanted,
+            "{text} and {other}"
+        );
+    }
     Ok(())
 }
 
 #[test]
+fn folds_a_name(rt: HostRuntime) -> Result<(), Fail> {
+    let mixed = Name::from_text(rt.alloc(), "wWw.EXAMPLE.Z-9.[")?;
+    assert!(rt; mixed.folded()? == Name::from_text(rt.alloc(), "www.example.z-9.[")?);
+    Ok(())
+}
+
+#[test]
+fn the_root_is_like_no_other(rt: HostRuntime) -> Result<(), Fail> {
+    let low = Name::from_text(rt.alloc(), "www.example.z-9.[")?;
+    assert!(rt; !Name::root(rt.alloc())?.same(&low));
+    Ok(())
+}
+
+fn key(alloc: Global, text: &str, slot: Slot) -> Result<Key, NameFault> {
+    Ok(Key::of(&Name::from_text(alloc, text)?, slot)?)
+}
+
+/// Whether the key of a text and a slot is that of `WWW.example` and `Set(1)`.
+fn is_that_key(alloc: Global, text: &str, slot: Slot) -> Result<bool, NameFault> {
+    Ok(key(alloc, text, slot)? == key(alloc, "WWW.example", Slot::Set(1))?)
+}
+
+#[test]
 fn finds_its_key(rt: HostRuntime) -> Result<(), Fail> {
-    let low = Name::from_text(rt.alloc(), "www.example")?;
-    let key = Key::of(&Name::from_text(rt.alloc(), "WWW.example")?, Slot::Set(1))?;
-    assert!(rt; key == Key::of(&low, Slot::Set(1))?);
-    assert!(rt; *key.name() == low);
-    for slot in [Slot::Set(2), Slot::Nx, Slot::Failed(1)] {
-        assert!(rt; key != Key::of(&low, slot)?);
+    for (text, slot, wanted) in [
+        ("www.example", Slot::Set(1), true),
+        ("www.example", Slot::Set(2), false),
+        ("www.example", Slot::Nx, false),
+        ("www.example", Slot::Failed(1), false),
+        (".", Slot::Set(1), false),
+    ] {
+        assert!(rt; is_that_key(rt.alloc(), text, slot)? == wanted);
     }
-    assert!(rt; key != Key::of(&Name::root(rt.alloc())?, Slot::Set(1))?);
+    Ok(())
+}
+
+#[test]
+fn a_key_has_its_name_in_lower_case(rt: HostRuntime) -> Result<(), Fail> {
+    let key = key(rt.alloc(), "WWW.example", Slot::Set(1))?;
+    assert!(rt; *key.name() == Name::from_text(rt.alloc(), "www.example")?);
     Ok(())
 }

@@ -2,6 +2,7 @@ use crate::key::Key;
 use crate::name::Name;
 use crate::slot::Slot;
 use lru::LruCache;
+use std::alloc::Global;
 use std::cmp::Ordering;
 use std::collections::BTreeSet;
 use std::num::NonZeroUsize;
@@ -21,16 +22,25 @@ const RISING: [&str; 10] = [
     r"\200.z.example.",
 ];
 
+/// How the names of two texts go in canonical order.
+fn order(alloc: Global, text: &str, other: &str) -> Result<Ordering, Fail> {
+    Ok(Name::from_text(alloc, text)?.canonical_cmp(&Name::from_text(alloc, other)?))
+}
+
 #[test]
 fn orders_names_canonically(rt: HostRuntime) -> Result<(), Fail> {
     for (i, low) in RISING.iter().enumerate() {
-        let low = Name::from_text(rt.alloc(), low)?;
         for (j, high) in RISING.iter().enumerate() {
-            let high = Name::from_text(rt.alloc(), high)?;
-            assert_eq!(rt; low.canonical_cmp(&high), i.cmp(&j), "{i} against {j}");
+            let order = order(rt.alloc(), low, high)?;
+            assert!(rt; order == i.cmp(&j), "{i} against {j}");
         }
     }
     Ok(())
+}
+
+/// Whether two names go in this order, seen from either side.
+fn goes(alloc: Global, text: &str, other: &str, wanted: Ordering) -> Result<bool, Fail> {
+    Ok(order(alloc, text, other)? == wanted && order(alloc, other, text)? == wanted.reverse())
 }
 
 #[test]
@@ -50,21 +60,18 @@ fn orders_octets_as_numbers_and_letters_without_case(rt: HostRuntime) -> Result<
         ("a.b", "b.a", Ordering::Greater),
         ("a.a.b", "b.b", Ordering::Less),
     ];
-    for (text, other, order) in cases {
-        let name = Name::from_text(rt.alloc(), text)?;
-        let other_name = Name::from_text(rt.alloc(), other)?;
-        assert_eq!(rt;
-            name.canonical_cmp(&other_name),
-            order,
+    for (text, other, wanted) in cases {
+        assert!(rt;
+            goes(rt.alloc(), text, other, wanted)?,
             "{text} against {other}"
-        );
-        assert_eq!(rt;
-            other_name.canonical_cmp(&name),
-            order.reverse(),
-            "{other} against {text}"
         );
     }
     Ok(())
+}
+
+/// Whether a zone holds a name.
+fn holds(alloc: Global, zone: &str, text: &str) -> Result<bool, Fail> {
+    Ok(Name::from_text(alloc, text)?.is_at_or_below(&Name::from_text(alloc, zone)?))
 }
 
 #[test]
@@ -82,86 +89,127 @@ fn tells_what_a_zone_holds(rt: HostRuntime) -> Result<(), Fail> {
         ("a.test", "example", false),
         ("example.a", "example", false),
     ];
-    for (text, zone, holds) in cases {
-        let name = Name::from_text(rt.alloc(), text)?;
-        let zone_name = Name::from_text(rt.alloc(), zone)?;
-        assert_eq!(rt; name.is_at_or_below(&zone_name), holds, "{text} in {zone}");
+    for (text, zone, wanted) in cases {
+        assert!(rt;
+            holds(rt.alloc(), zone, text)? == wanted,
+            "{text} in {zone}"
+        );
     }
     Ok(())
 }
 
-fn key(rt: &HostRuntime, text: &str, slot: Slot) -> Result<Key, Fail> {
-    Ok(Key::of(&Name::from_text(rt.alloc(), text)?, slot)?)
+/// The name and the slot of a key.
+type Of<'a> = (&'a str, Slot);
+
+fn key(alloc: Global, (text, slot): Of<'_>) -> Result<Key, Fail> {
+    Ok(Key::of(&Name::from_text(alloc, text)?, slot)?)
 }
 
 /// Keys, each before the next.
-fn rising_keys(rt: &HostRuntime) -> Result<[Key; 7], Fail> {
-    Ok([
-        key(rt, "example", Slot::Failed(1))?,
-        key(rt, "a.EXAMPLE", Slot::Set(1))?,
-        key(rt, "a.example", Slot::Set(28))?,
-        key(rt, "a.example", Slot::Nx)?,
-        key(rt, "A.example", Slot::Failed(1))?,
-        key(rt, "a.example", Slot::Failed(28))?,
-        key(rt, "b.a.example", Slot::Set(1))?,
-    ])
+const RISING_KEYS: [Of<'static>; 7] = [
+    ("example", Slot::Failed(1)),
+    ("a.EXAMPLE", Slot::Set(1)),
+    ("a.example", Slot::Set(28)),
+    ("a.example", Slot::Nx),
+    ("A.example", Slot::Failed(1)),
+    ("a.example", Slot::Failed(28)),
+    ("b.a.example", Slot::Set(1)),
+];
+
+/// Whether two keys go in this order, by each way to compare them.
+fn go(alloc: Global, low: Of<'_>, high: Of<'_>, order: Ordering) -> Result<bool, Fail> {
+    let (low, high) = (key(alloc, low)?, key(alloc, high)?);
+    let is_tie = order == Ordering::Equal;
+    Ok(low.cmp(&high) == order && low.partial_cmp(&high) == Some(order) && (low == high) == is_tie)
 }
 
 #[test]
 fn orders_keys_by_name_and_slot(rt: HostRuntime) -> Result<(), Fail> {
-    let keys = rising_keys(&rt)?;
-    for (i, low) in keys.iter().enumerate() {
-        for (j, high) in keys.iter().enumerate() {
-            assert_eq!(rt; low.cmp(high), i.cmp(&j), "{i} against {j}");
-            assert_eq!(rt; low.partial_cmp(high), Some(i.cmp(&j)));
-            assert_eq!(rt; low == high, i == j);
+    for (i, low) in RISING_KEYS.iter().enumerate() {
+        for (j, high) in RISING_KEYS.iter().enumerate() {
+            assert!(rt; go(rt.alloc(), *low, *high, i.cmp(&j))?, "{i} against {j}");
         }
     }
     Ok(())
 }
 
+/// A map with room for two keys.
+fn room_for_two(alloc: Global) -> Result<LruCache<Key, u8>, Fail> {
+    let room = NonZeroUsize::new(2).ok_or("no room")?;
+    Ok(LruCache::new(alloc, room)?)
+}
+
+fn put(cache: &mut LruCache<Key, u8>, alloc: Global, of: Of<'_>, value: u8) -> Result<(), Fail> {
+    cache.put(key(alloc, of)?, value)?;
+    Ok(())
+}
+
+fn get(cache: &mut LruCache<Key, u8>, alloc: Global, of: Of<'_>) -> Result<Option<u8>, Fail> {
+    Ok(cache.get(&key(alloc, of)?).copied())
+}
+
+fn peek(cache: &LruCache<Key, u8>, alloc: Global, of: Of<'_>) -> Result<Option<u8>, Fail> {
+    Ok(cache.peek(&key(alloc, of)?).copied())
+}
+
+/// A map to which these keys and values were put, one after another.
+fn filled(alloc: Global, puts: &[(Of<'_>, u8)]) -> Result<LruCache<Key, u8>, Fail> {
+    let mut cache = room_for_two(alloc)?;
+    for (of, value) in puts {
+        put(&mut cache, alloc, *of, *value)?;
+    }
+    Ok(cache)
+}
+
 #[test]
 fn keeps_keys_by_recency(rt: HostRuntime) -> Result<(), Fail> {
-    let room = NonZeroUsize::new(2).ok_or("no room")?;
-    let mut cache = LruCache::new(rt.alloc(), room)?;
-    cache.put(key(&rt, "a.example", Slot::Nx)?, 1)?;
-    cache.put(key(&rt, "a.example", Slot::Set(1))?, 2)?;
-    assert_eq!(rt;
-        cache.get(&key(&rt, "A.EXAMPLE", Slot::Nx)?).copied(),
-        Some(1)
-    );
-    cache.put(key(&rt, "b.example", Slot::Nx)?, 3)?;
-    assert_eq!(rt;
-        cache.peek(&key(&rt, "a.example", Slot::Set(1))?).copied(),
-        None
-    );
-    assert_eq!(rt;
-        cache.peek(&key(&rt, "a.example", Slot::Nx)?).copied(),
-        Some(1)
-    );
+    let puts = [
+        (("a.example", Slot::Nx), 1),
+        (("a.example", Slot::Set(1)), 2),
+    ];
+    let mut cache = filled(rt.alloc(), &puts)?;
+    assert!(rt; get(&mut cache, rt.alloc(), ("A.EXAMPLE", Slot::Nx))? == Some(1));
+    put(&mut cache, rt.alloc(), ("b.example", Slot::Nx), 3)?;
+    assert!(rt; peek(&cache, rt.alloc(), ("a.example", Slot::Set(1)))? == None);
+    assert!(rt; peek(&cache, rt.alloc(), ("a.example", Slot::Nx))? == Some(1));
     Ok(())
+}
+
+/// A moment and a key.
+type Death<'a> = (u64, Of<'a>);
+
+fn deaths(alloc: Global, of: &[Death<'_>]) -> Result<BTreeSet<(u64, Key)>, Fail> {
+    let mut deaths = BTreeSet::new(alloc);
+    for (moment, of) in of {
+        deaths.insert((*moment, key(alloc, *of)?))?;
+    }
+    Ok(deaths)
+}
+
+/// Whether these are the deaths, in this order.
+fn are(alloc: Global, deaths: &BTreeSet<(u64, Key)>, wanted: &[Death<'_>]) -> Result<bool, Fail> {
+    for ((moment, key), (wanted, of)) in deaths.iter().zip(wanted) {
+        if *moment != *wanted || *key != self::key(alloc, *of)? {
+            return Ok(false);
+        }
+    }
+    Ok(deaths.len() == wanted.len())
 }
 
 #[test]
 fn keeps_keys_by_moment(rt: HostRuntime) -> Result<(), Fail> {
-    let mut deaths: BTreeSet<(u64, Key)> = BTreeSet::new(rt.alloc());
-    for (moment, text, slot) in [
-        (9, "a", Slot::Nx),
-        (8, "b", Slot::Set(1)),
-        (9, "A", Slot::Set(1)),
-        (9, "a", Slot::Nx),
-    ] {
-        deaths.insert((moment, key(&rt, text, slot)?))?;
-    }
-    let mut rising = deaths.iter();
-    for (moment, text, slot) in [
-        (8, "b", Slot::Set(1)),
-        (9, "a", Slot::Set(1)),
-        (9, "a", Slot::Nx),
-    ] {
-        let wanted = (moment, key(&rt, text, slot)?);
-        assert!(rt; rising.next() == Some(&wanted));
-    }
-    assert!(rt; rising.next().is_none());
+    let put = [
+        (9, ("a", Slot::Nx)),
+        (8, ("b", Slot::Set(1))),
+        (9, ("A", Slot::Set(1))),
+        (9, ("a", Slot::Nx)),
+    ];
+    let kept = [
+        (8, ("b", Slot::Set(1))),
+        (9, ("a", Slot::Set(1))),
+        (9, ("a", Slot::Nx)),
+    ];
+    let deaths = deaths(rt.alloc(), &put)?;
+    assert!(rt; are(rt.alloc(), &deaths, &kept)?);
     Ok(())
 }

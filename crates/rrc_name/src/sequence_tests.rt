@@ -1,38 +1,60 @@
 use crate::octets::Octets;
 use crate::sequence::Sequence;
+use std::alloc::{AllocError, Global};
 use std::test::Fail;
+
+/// Whether octets are the same after a clone and a vector.
+fn are_kept(octets: &Octets) -> Result<bool, AllocError> {
+    let copy = Octets::from_vec(octets.clone()?.into_vec()?);
+    Ok(copy == *octets && !copy.is_empty())
+}
 
 #[test]
 fn holds_octets(rt: HostRuntime) -> Result<(), Fail> {
     let octets = Octets::from_slice(rt.alloc(), b"wWw")?;
-    assert_eq!(rt; octets.as_slice(), b"wWw".as_slice());
-    assert_eq!(rt; octets.len(), 3);
-    assert_eq!(rt; octets.lowered()?.as_slice(), b"www".as_slice());
-
-    let copy = Octets::from_vec(octets.clone()?.into_vec()?);
-    assert!(rt; copy == octets && !copy.is_empty());
+    assert!(rt; octets.as_slice() == b"wWw".as_slice() && octets.len() == 3);
+    assert!(rt; octets.lowered()?.as_slice() == b"www".as_slice());
+    assert!(rt; are_kept(&octets)?);
     assert!(rt; Octets::new(octets.alloc()).is_empty());
     Ok(())
 }
 
+/// A sequence of these values.
+fn sequence(alloc: Global, values: &[u8]) -> Result<Sequence<u8>, Fail> {
+    let mut sequence = Sequence::new(alloc);
+    for value in values {
+        sequence.push(*value)?;
+    }
+    Ok(sequence)
+}
+
+/// What a walk over a sequence meets.
+fn met(alloc: Global, values: &Sequence<u8>) -> Result<Vec<u8>, AllocError> {
+    let mut met = Vec::new(alloc);
+    for value in values {
+        met.push(*value)?;
+    }
+    Ok(met)
+}
+
+/// Whether a sequence shows these values, by each way to look at it.
+fn shows(values: &Sequence<u8>, wanted: &[u8]) -> bool {
+    values.as_slice() == wanted
+        && values.len() == wanted.len()
+        && values.iter().next() == wanted.first()
+}
+
+/// Whether a sequence is the same after a clone and a vector.
+fn is_kept(values: &Sequence<u8>) -> Result<bool, AllocError> {
+    Ok(Sequence::from_vec(values.clone()?.into_vec()) == *values)
+}
+
 #[test]
 fn holds_values_in_order(rt: HostRuntime) -> Result<(), Fail> {
-    let mut values = Sequence::new(rt.alloc());
-    assert!(rt; values.is_empty());
-    for value in [3, 1, 2] {
-        values.push(value)?;
-    }
-    assert_eq!(rt; values.len(), 3);
-    assert_eq!(rt; values.as_slice(), [3, 1, 2].as_slice());
-    assert_eq!(rt; values.iter().next(), Some(&3));
-
-    let mut seen = Vec::new(rt.alloc());
-    for &value in &values {
-        seen.push(value)?;
-    }
-    assert_eq!(rt; seen.as_slice(), values.as_slice());
-
-    let copy = Sequence::from_vec(values.clone()?.into_vec());
-    assert!(rt; copy == values);
+    assert!(rt; sequence(rt.alloc(), &[])?.is_empty());
+    let values = sequence(rt.alloc(), &[3, 1, 2])?;
+    assert!(rt; shows(&values, &[3, 1, 2]));
+    assert!(rt; met(rt.alloc(), &values)?.as_slice() == [3, 1, 2].as_slice());
+    assert!(rt; is_kept(&values)?);
     Ok(())
 }

@@ -21,35 +21,53 @@ fn shown<D: Deref<Target = Octets>>(it: &D) -> usize {
 fn owners_see_one_value(rt: HostRuntime) -> Result<(), Fail> {
     let octets = shared(&rt, &[192, 0, 2, 1])?;
     let other = octets.clone()?;
-    assert!(rt; other == octets);
-    assert_eq!(rt; octets.owners(), 2);
-    assert!(rt; octets == shared(&rt, &[192, 0, 2, 1])?);
-    assert!(rt; octets != shared(&rt, &[192, 0, 2, 2])?);
-    assert_eq!(rt; shown(&octets), 4);
+    assert!(rt; other == octets && octets.owners() == 2 && shown(&octets) == 4);
 
     // The value stays while it has an owner.
     drop(octets);
-    assert_eq!(rt; other.owners(), 1);
-    assert_eq!(rt; other.as_slice(), [192, 0, 2, 1].as_slice());
+    assert!(rt; other.owners() == 1 && other.as_slice() == [192, 0, 2, 1].as_slice());
     Ok(())
 }
 
 #[test]
-fn owners_stand_in_lists_and_maps(rt: HostRuntime) -> Result<(), Fail> {
+fn owners_are_compared_by_their_values(rt: HostRuntime) -> Result<(), Fail> {
+    assert!(rt; shared(&rt, &[192, 0, 2, 1])? == shared(&rt, &[192, 0, 2, 1])?);
+    assert!(rt; shared(&rt, &[192, 0, 2, 1])? != shared(&rt, &[192, 0, 2, 2])?);
+    Ok(())
+}
+
+#[test]
+fn owners_stand_in_lists(rt: HostRuntime) -> Result<(), Fail> {
     let mut list = Sequence::new(rt.alloc());
     list.push(shared(&rt, &[1, 2])?)?;
     list.push(shared(&rt, &[])?)?;
     assert!(rt; list.clone()? == list);
+    Ok(())
+}
 
-    let mut cache = LruCache::new(rt.alloc(), NonZeroUsize::new(2).ok_or("no room")?)?;
-    cache.put(shared(&rt, &[1, 2])?, 1)?;
-    cache.put(shared(&rt, &[1, 3])?, 2)?;
-    assert_eq!(rt; cache.get(&shared(&rt, &[1, 2])?).copied(), Some(1));
-    assert_eq!(rt; cache.get(&shared(&rt, &[2, 1])?).copied(), None);
-    assert_eq!(rt;
-        format!(in rt.alloc(); "{:?}", shared(&rt, &[1, 2])?)?,
-        format!(in rt.alloc(); "{:?}", Octets::from_slice(rt.alloc(), &[1, 2])?)?
-    );
+/// A map of 1 and 2 under two keys.
+fn map(rt: &HostRuntime) -> Result<LruCache<Shared<Octets>, u8>, Fail> {
+    let room = NonZeroUsize::new(2).ok_or("no room")?;
+    let mut cache = LruCache::new(rt.alloc(), room)?;
+    cache.put(shared(rt, &[1, 2])?, 1)?;
+    cache.put(shared(rt, &[1, 3])?, 2)?;
+    Ok(cache)
+}
+
+#[test]
+fn owners_stand_in_maps(rt: HostRuntime) -> Result<(), Fail> {
+    let mut cache = map(&rt)?;
+    assert!(rt; cache.get(&shared(&rt, &[1, 2])?).copied() == Some(1));
+    assert!(rt; cache.get(&shared(&rt, &[2, 1])?).copied() == None);
+    Ok(())
+}
+
+#[test]
+fn an_owner_is_printed_as_its_value(rt: HostRuntime) -> Result<(), Fail> {
+    let value = Octets::from_slice(rt.alloc(), &[1, 2])?;
+    let of_value = format!(in rt.alloc(); "{value:?}")?;
+    let owner = Shared::new(rt.alloc(), value)?;
+    assert!(rt; format!(in rt.alloc(); "{owner:?}")? == of_value);
     Ok(())
 }
 
@@ -57,11 +75,9 @@ fn owners_stand_in_lists_and_maps(rt: HostRuntime) -> Result<(), Fail> {
 fn a_folded_name_is_shared(rt: HostRuntime) -> Result<(), Fail> {
     let mixed = Name::from_text(rt.alloc(), "wWw.example")?;
     let low = mixed.folded()?;
-    assert_eq!(rt; low.as_slice(), b"\x03www\x07example\0".as_slice());
-    assert_eq!(rt; mixed.as_slice(), b"\x03wWw\x07example\0".as_slice());
-    assert_eq!(rt; low.wire.owners(), 1);
+    assert!(rt; mixed.as_slice() == b"\x03wWw\x07example\0".as_slice());
+    assert!(rt; low.as_slice() == b"\x03www\x07example\0".as_slice() && low.wire.owners() == 1);
     let again = low.folded()?;
-    assert!(rt; again == low);
-    assert_eq!(rt; low.wire.owners(), 2);
+    assert!(rt; again == low && low.wire.owners() == 2);
     Ok(())
 }
