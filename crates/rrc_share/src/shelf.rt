@@ -1,0 +1,69 @@
+ghost use Rattle.std.specs.Prelude.{◌≡◌, []};
+
+use rrc_cache::Part;
+use rrc_history::Chapter;
+use std::alloc::Global;
+use std::marker::Model;
+use std::mem;
+
+/// A part of the cache and the chapters of its history that are closed, the oldest first. They chain, the part's snapshot is the
+/// last closing, and its number is the next; where none is closed this asks nothing. Contracts see both.
+#[derive(Debug, Drop)]
+pub struct Shelf {
+    pub closed: Vec<Chapter>,
+    pub part: Part,
+}
+
+impl Model for Shelf {
+    ghost use Rattle.rrc_share.specs.Shelf.{ShelfOf, IsShelf};
+
+    ghost Value = { ShelfOf };
+
+    ghost view = { λ s. record { closed = s.closed.items; part = s.part } };
+
+    ghost invariant = { λ s. IsShelf (record { closed = s.closed.items; part = s.part }) };
+}
+
+impl Shelf {
+    ghost use Rattle.rrc_share.specs.Shelf.{AreBefore, IsShelf};
+
+    /// A part, with no chapter closed. It takes no memory.
+    pub fn new(alloc: Global, part: Part) -> Shelf
+        ensures { result ≡ record { closed = []; part = part } }
+    {
+        // The rules are read for what they tell: the entries of the snapshot are sound.
+        let _ = part.snapshot().rules();
+        Shelf {
+            closed: Vec::new(alloc),
+            part,
+        }
+    }
+
+    /// The chapters that are closed, the oldest first.
+    pub fn closed(&self) -> &[Chapter]
+        ensures value { result.now ≡ self.now.closed }
+        ensures sound { IsShelf self.now }
+    {
+        self.closed.as_slice()
+    }
+
+    /// The part, in the chapter that is open.
+    pub fn part(&self) -> &Part
+        ensures value { result.now ≡ self.now.part }
+        ensures sound { IsShelf self.now }
+    {
+        &self.part
+    }
+
+    /// Hands out the closed chapters, the oldest first, and leaves none. The part goes on from the last of them. It takes no memory.
+    pub fn take_chapters(&mut self) -> Vec<Chapter>
+        ensures chapters { result.items ≡ self.old.closed }
+        ensures before { AreBefore result.items self.old.part }
+        ensures left { self.new ≡ record { closed = []; part = self.old.part } }
+    {
+        // The rules are read for what they tell: the entries of the snapshot are sound.
+        let _ = self.part.snapshot().rules();
+        let alloc = *self.closed.allocator();
+        mem::replace(&mut self.closed, Vec::new(alloc))
+    }
+}
