@@ -1,1 +1,8 @@
+pub mod Answered
+pub mod Audited
+pub mod Candidates
+pub mod Counting
+pub mod Evicting
 pub mod Joining
+pub mod Removing
+pub mod Walking

@@ -12,6 +12,9 @@ pub mod Sound
 pub mod Same
 pub mod Chapters
 pub mod Chains
+pub mod Audits
+pub mod Auditing
+pub mod Views
 pub mod Laws
 pub mod WholeLaws
 pub mod lemmas

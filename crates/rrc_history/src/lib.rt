@@ -2,18 +2,22 @@
 #![tactic(auto)]
 
 mod ask;
+mod audits;
 mod body;
 mod chains;
 mod chapter;
 mod event;
+mod judge;
 mod laws;
 mod offer;
+mod past;
 mod rules;
 mod snapshot;
 #[cfg(test)]
 mod tests;
 
 pub use ask::{Ask, Mode, Purpose};
+pub use audits::{FirstBad, audit};
 pub use body::{Body, Trust};
 pub use chains::{ChainFault, Whole, chain};
 pub use chapter::Chapter;

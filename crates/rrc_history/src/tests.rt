@@ -1,3 +1,4 @@
+mod audits;
 mod chains;
 mod snapshots;
 

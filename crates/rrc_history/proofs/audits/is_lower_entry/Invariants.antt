@@ -1,0 +1,11 @@
+use Rattle.std.proofs.Common.{◌≡◌, drop}
+use Rattle.std.specs.Prelude.{reverse}
+use Rattle.std.specs.List.{list_any}
+use Rattle.rrc_history.specs.declared.snapshot.Entry.{Entry}
+use Rattle.rrc_history.specs.Auditing.{is_lower}
+use Rattle.rrc_history.proofs.audits.is_lower_entry.Given as goal
+
+abbrev pub invariant-loop-entry : goal.invariant-loop-entry
+invariant-loop-entry l =
+    list_any (λ (entry : Entry). is_lower l.snapshot (reverse l.past) l.number entry.key) (drop l.entry-index l.entry-items)
+    ≡ list_any (λ (entry : Entry). is_lower l.snapshot (reverse l.past) l.number entry.key) l.snapshot.entries
