@@ -111,6 +111,7 @@ mod tests {
         })
     }
 
+    /// A failure: the event that stored it, its moment and its name.
     type Failed<'a> = (u64, u64, &'a str);
 
     /// Adds the death of a failure, and answers whether it is new.
