@@ -39,10 +39,11 @@ fn offered(
 }
 
 fn asked(alloc: Global, owner: &str, moment: u64, reply: Reply) -> Result<Event, Fail> {
+    let key = key(alloc, owner)?;
     Ok(Event::Asked {
         tag: TAG,
         ask: Ask {
-            name: Name::from_text(alloc, owner)?.folded()?,
+            name: key.name.clone()?,
             rtype: 1,
             moment,
             purpose: Purpose::Answer,
@@ -107,7 +108,7 @@ fn turned(alloc: Global, place: usize, event: Event) -> Result<Result<(), FirstB
         events.push(right(alloc, before)?)?;
     }
     events.push(event)?;
-    for behind in place + 1..6 {
+    for behind in events.len()..6 {
         events.push(right(alloc, behind)?)?;
     }
     Ok(audit(&empty(alloc, 0)?, events.as_slice()))
