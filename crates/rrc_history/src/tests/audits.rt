@@ -43,7 +43,7 @@ fn asked(alloc: Global, owner: &str, moment: u64, reply: Reply) -> Result<Event,
     Ok(Event::Asked {
         tag: TAG,
         ask: Ask {
-            name: key.name.clone()?,
+            name: key.name().clone()?,
             rtype: 1,
             moment,
             purpose: Purpose::Answer,
