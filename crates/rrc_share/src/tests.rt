@@ -1,7 +1,7 @@
-use crate::{Shelf, on_shelf_ask, on_shelf_checkpoint, on_shelf_offer, on_shelf_sweep};
+use crate::{Shelf, on_shelf_offer, on_shelf_sweep};
 use rrc_cache::{Part, Refusal};
-use rrc_history::{Ask, Body, Mode, Offer, Outcome, Purpose, Reply, Rules, Tag, chain};
-use rrc_name::{Key, Name, NameFault, Slot};
+use rrc_history::{Body, Offer, Outcome, Rules, Tag};
+use rrc_name::{Key, Name, Slot};
 use std::alloc::Global;
 use std::test::Fail;
 
@@ -19,17 +19,6 @@ fn failure(alloc: Global, name: &str, moment: u64) -> Result<Offer, Fail> {
     Ok(Offer::new(key, Body::Failure { ttl: 30 }, moment)?)
 }
 
-fn question(alloc: Global, name: &str, moment: u64) -> Result<Ask, NameFault> {
-    let key = Key::of(&Name::from_text(alloc, name)?, Slot::Nx)?;
-    Ok(Ask {
-        name: key.name().clone()?,
-        rtype: 1,
-        moment,
-        purpose: Purpose::Answer,
-        mode: Mode::NoStale,
-    })
-}
-
 #[test]
 fn a_full_chapter_is_closed_first(rt: HostRuntime) -> Result<(), Fail> {
     let alloc = rt.alloc();
@@ -45,25 +34,6 @@ fn a_full_chapter_is_closed_first(rt: HostRuntime) -> Result<(), Fail> {
     assert_eq!(rt; (opening.first, opening.entries.len()), (1, 1));
     let numbers = opening.entries.as_slice().first().map(|entry| entry.number);
     assert_eq!(rt; numbers, Some(0));
-    Ok(())
-}
-
-#[test]
-fn chapters_that_are_taken_chain(rt: HostRuntime) -> Result<(), Fail> {
-    let alloc = rt.alloc();
-    let mut shelf = shelf(alloc, 1)?;
-    on_shelf_offer(&mut shelf, TAG, failure(alloc, "a.example.", 10)?)?;
-    let asked = question(alloc, "a.example.", 12)?;
-    let miss = Reply::Miss {
-        retry_from: Some(40),
-    };
-    assert_eq!(rt; on_shelf_ask(&mut shelf, TAG, &asked)?, miss);
-    assert_eq!(rt; on_shelf_sweep(&mut shelf, TAG, 40)?, 1);
-    on_shelf_checkpoint(&mut shelf)?;
-    let whole = chain(alloc, shelf.take_chapters())?;
-    assert_eq!(rt; (whole.events.len(), whole.closing.entries.len()), (3, 0));
-    assert!(rt; whole.closing == *shelf.part().snapshot());
-    assert_eq!(rt; (shelf.closed().len(), shelf.part().number()), (0, 4));
     Ok(())
 }
 
