@@ -1,3 +1,5 @@
+mod shared;
+
 use crate::{Shelf, on_shelf_ask, on_shelf_checkpoint, on_shelf_offer, on_shelf_sweep};
 use rrc_cache::{Part, Refusal};
 use rrc_history::{Ask, Body, Mode, Offer, Outcome, Purpose, Reply, Rules, Tag, chain};
@@ -7,10 +9,14 @@ use std::test::Fail;
 
 const TAG: Tag = Tag { line: 0, place: 0 };
 
-/// A shelf of a part for many keys, in chapters for as many events.
+/// Rules for many keys, in chapters for as many events.
+fn rules(chapter: u64) -> Result<Rules, Fail> {
+    Ok(Rules::new(1024, chapter, 86_400).ok_or("no rules")?)
+}
+
+/// A shelf of an empty part, in chapters for as many events.
 fn shelf(alloc: Global, chapter: u64) -> Result<Shelf, Fail> {
-    let rules = Rules::new(1024, chapter, 86_400).ok_or("no rules")?;
-    Ok(Shelf::new(alloc, Part::new(alloc, rules)?))
+    Ok(Shelf::new(alloc, Part::new(alloc, rules(chapter)?)?))
 }
 
 /// That asking for the addresses of a name failed, at a moment, for 30 seconds.
@@ -53,6 +59,15 @@ fn stand(shelf: &Shelf) -> (usize, u64, usize) {
     (shelf.closed().len(), part.number(), part.events().len())
 }
 
+/// Whether the chapter that is open began behind event 0, with just the entry that that one stored.
+fn opens_with_event_0(shelf: &Shelf) -> bool {
+    let opening = shelf.part().snapshot();
+    match opening.entries.as_slice() {
+        [entry] => opening.first == 1 && entry.number == 0,
+        _ => false,
+    }
+}
+
 #[test]
 fn a_full_chapter_is_closed_first(rt: HostRuntime) -> Result<(), Fail> {
     let alloc = rt.alloc();
@@ -61,13 +76,7 @@ fn a_full_chapter_is_closed_first(rt: HostRuntime) -> Result<(), Fail> {
         let outcome = on_shelf_offer(&mut shelf, TAG, failure(alloc, name, moment)?)?;
         assert_eq!(rt; outcome, Outcome::Kept);
     }
-    assert_eq!(rt; shelf.closed().len(), 1);
-    let part = shelf.part();
-    assert_eq!(rt; (part.number(), part.events().len()), (2, 1));
-    let opening = part.snapshot();
-    assert_eq!(rt; (opening.first, opening.entries.len()), (1, 1));
-    let numbers = opening.entries.as_slice().first().map(|entry| entry.number);
-    assert_eq!(rt; numbers, Some(0));
+    assert!(rt; stand(&shelf) == (1, 2, 1) && opens_with_event_0(&shelf));
     Ok(())
 }
 
