@@ -14,7 +14,7 @@ use std::mem;
 const SPENT: u64 = 1 << 62;
 
 /// The seed of a part that is given none, so that tests and replays take the same time twice.
-const KNOWN_SEED: [u8; 16] = [0; 16];
+pub(crate) const KNOWN_SEED: [u8; 16] = [0; 16];
 
 /// A part of the cache. Contracts see the chapter of its history that is open: its number, the snapshot that it began with, and
 /// the events since.

@@ -29,7 +29,7 @@ use Rattle.rrc_history.specs.lemmas.OfferLaws.{offer_contents, length-kept_after
 use Rattle.rrc_history.specs.lemmas.AskLaws.{ask_contents}
 use Rattle.rrc_history.specs.lemmas.SweepLaws.{sweep_contents}
 use Rattle.rrc_history.specs.lemmas.Openings.{opening}
-use Rattle.rrc_history.proofs.Answered.{outcome_eq-Decides, reply_eq-Decides}
+use Rattle.rrc_history.specs.lemmas.ReplyLaws.{outcome_eq-Decides, reply_eq-Decides}
 use Rattle.rrc_history.proofs.Evicting.{evicts_Decides}
 use Rattle.rrc_history.proofs.Removing.{in_order_Decides, dead_Decides}
 use Rattle.rrc_history.proofs.Walking.{reverse_more, split_at}
