@@ -2,4 +2,5 @@ pub mod OfferMoments
 pub mod FewOffers
 pub mod CallLemmas
 pub mod ReplayLemmas
+pub mod AuditLemmas
 pub mod AnswersLaw

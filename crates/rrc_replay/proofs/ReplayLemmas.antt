@@ -74,6 +74,11 @@ numbers_for rules shelf trace answers number has inside few =
     let count : length (take number trace) ≡ number = length-take-le number trace (omega (arith, inside)) in
     record { numbers = omega (arith, has.numbers, count, inside, few); chapters = omega (arith, has.chapters, count, inside, few) }
 
+-- a shelf that answered a trace has a number for one more event, and for one more chapter
+pub number_left : (rules : Rules) (shelf : ShelfOf) (lines : List Line) (answers : List Answer) → HasAnswered rules shelf lines answers → length lines ≤ MOST_LINES
+    → HasNumbers shelf 1
+number_left rules shelf lines answers has few = record { numbers = omega (arith, has.numbers, few); chapters = omega (arith, has.chapters, few) }
+
 -- a new shelf has answered nothing
 pub answered_none : (rules : Rules) (part : PartOf) → part.number ≡ 1 → part.snapshot ≡ empty_under rules → part.events ≡ []
     → HasAnswered rules (record { closed = []; part = part }) [] []

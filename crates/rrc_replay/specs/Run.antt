@@ -3,7 +3,7 @@ use Rattle.std.specs.Prelude.{ℕ, List, Option}
 use Rattle.std.specs.Io.KnownBytes.{Appends, Keeps}
 use Rattle.rrc_history.specs.declared.rules.Rules.{Rules}
 use Rattle.rrc_trace.specs.declared.fault.ReplayFault.{ReplayFault}
-use Rattle.rrc_trace.specs.declared.fault.ReplayFault.TheVariants.{BadLine, TooManyLines, Read, Write, Memory, Spent}
+use Rattle.rrc_trace.specs.declared.fault.ReplayFault.TheVariants.{BadLine, TooManyLines, Read, Write, Memory, Spent, NotLegal}
 use Rattle.rrc_trace.specs.declared.line.Line.{Line}
 use Rattle.rrc_trace.specs.declared.answer.Answer.{Answer}
 use Rattle.rrc_replay.specs.Answers.{AreAnswers}
@@ -38,6 +38,7 @@ IsFirstFaultOf read Read = Unit {0}
 IsFirstFaultOf read Write = Unit {0}
 IsFirstFaultOf read Memory = Unit {0}
 IsFirstFaultOf read (Spent number) = ⊥
+IsFirstFaultOf read NotLegal = ⊥
 
 -- before the fault of a write a beginning of the report went out, before any other nothing
 abbrev pub LeavesWriter : Rules → Option (List ℕ) → Option (List ℕ) → Option (List ℕ) → ReplayFault → Type 0
@@ -47,3 +48,4 @@ LeavesWriter rules read old new Read = Keeps old new
 LeavesWriter rules read old new Write = BeginsReport rules read old new
 LeavesWriter rules read old new Memory = Keeps old new
 LeavesWriter rules read old new (Spent number) = Keeps old new
+LeavesWriter rules read old new NotLegal = Keeps old new

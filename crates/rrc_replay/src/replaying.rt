@@ -4,6 +4,7 @@ ghost use Rattle.rrc_replay.specs.Answers.{AreAnswers, OneListOfAnswers};
 ghost use Rattle.rrc_replay.specs.Calls.{Answers, HasNumbers, MOST_CALLS};
 ghost use Rattle.rrc_trace.specs.Lawful.{IsLawful};
 
+use crate::auditing::{Audit, audit_whole};
 use crate::calls::{failure_at, fault_at, offer_at, tell, tell_all};
 use crate::limits::limits;
 use rrc_cache::Part;
@@ -70,20 +71,22 @@ fn answer_at(
     }
 }
 
-/// What the cache of one thread with these rules answers the lines of a trace, in order. Each line makes its calls on one shelf, whose
-/// part is empty at first: a response one for each of its offers, any other line one. A chapter that is full is closed before the
-/// next call. The history of these calls, over all its chapters, is legal, and keeps the laws of trust and of life. Keys are hashed
-/// behind the seed: under one that nobody can foresee no names make the replay slow. No answer depends on it.
-///
-/// `Memory` where memory was refused, and no other fault: no trace has so many lines that the numbers of events or of chapters, 2^62
-/// each, are spent.
-pub fn replay(
+/// What a replay leaves: the answers of the lines, and the shelf whose history tells them.
+#[derive(Drop)]
+struct Replayed {
+    answers: Sequence<Answer>,
+    shelf: Shelf,
+}
+
+/// Answers the lines of a trace on a shelf whose part is empty at first.
+fn replay_lines(
     alloc: Global,
     trace: &Trace,
     rules: &Rules,
     seed: [u8; 16],
-) -> Result<Sequence<Answer>, ReplayFault>
-    ensures ok { IfOk result (AreAnswers rules.now trace.now) }
+) -> Result<Replayed, ReplayFault>
+    ensures ok { IfOk result (λ replayed. AreAnswers rules.now trace.now replayed.answers) }
+    ensures numbers { IfOk result (λ replayed. HasNumbers replayed.shelf 1) }
     ensures err { IfErr result (λ fault. fault ≡ ReplayFault.Memory) }
 {
     let Ok(part) = Part::seeded(alloc, *rules, seed) else {
@@ -93,6 +96,32 @@ pub fn replay(
     let mut answers = Sequence::new(alloc);
     for (number, line) in trace.lines.as_slice().iter().enumerate() {
         answers.push(answer_at(alloc, &mut shelf, number as u64, line)?)?;
+    }
+    Ok(Replayed { answers, shelf })
+}
+
+/// What the cache of one thread with these rules answers the lines of a trace, in order. Each line makes its calls on one shelf, whose
+/// part is empty at first: a response one for each of its offers, any other line one. A chapter that is full is closed before the
+/// next call. The history of these calls, over all its chapters, is legal, and keeps the laws of trust and of life. Keys are hashed
+/// behind the seed: under one that nobody can foresee no names make the replay slow. No answer depends on it, nor on whether an audit
+/// is made: a history that is not legal would be `NotLegal`, and never is.
+///
+/// `Memory` where memory was refused, and no other fault: no trace has so many lines that the numbers of events or of chapters, 2^62
+/// each, are spent.
+pub fn replay(
+    alloc: Global,
+    trace: &Trace,
+    rules: &Rules,
+    seed: [u8; 16],
+    audit: Audit,
+) -> Result<Sequence<Answer>, ReplayFault>
+    ensures ok { IfOk result (AreAnswers rules.now trace.now) }
+    ensures err { IfErr result (λ fault. fault ≡ ReplayFault.Memory) }
+{
+    let Replayed { answers, shelf } = replay_lines(alloc, trace, rules, seed)?;
+    match audit {
+        Audit::Skipped => {}
+        Audit::Made => audit_whole(alloc, shelf, seed)?,
     }
     Ok(answers)
 }

@@ -26,7 +26,10 @@ fn usual() -> Option<Rules> {
 #[test]
 fn a_run_writes_the_report(rt: HostRuntime) -> Result<(), Fail> {
     let rules = usual().ok_or("the rules are in range")?;
-    for (trace, wanted) in [(SWEEPS, SWEEPS_REPORT), (RESPONSES, RESPONSES_REPORT)] {
+    for (trace, wanted, audit) in [
+        (SWEEPS, SWEEPS_REPORT, Audit::Made),
+        (RESPONSES, RESPONSES_REPORT, Audit::Skipped),
+    ] {
         let mut written = Vec::new(rt.alloc());
         run(
             rt.alloc(),
@@ -34,6 +37,7 @@ fn a_run_writes_the_report(rt: HostRuntime) -> Result<(), Fail> {
             &mut written,
             &rules,
             [0; 16],
+            audit,
         )?;
         assert_eq!(rt; written.as_slice(), wanted.as_bytes());
     }
@@ -49,7 +53,14 @@ fn readers_that_fail_once(rt: HostRuntime) -> Result<(), Fail> {
             reads: Some(reads),
         };
         let mut written = Vec::new(rt.alloc());
-        let ended = run(rt.alloc(), &mut reader, &mut written, &rules, [7; 16]);
+        let ended = run(
+            rt.alloc(),
+            &mut reader,
+            &mut written,
+            &rules,
+            [7; 16],
+            Audit::Skipped,
+        );
         assert_eq!(rt; ended, Err(ReplayFault::Read), "at {reads}");
         assert!(rt; written.is_empty());
     }
@@ -74,6 +85,7 @@ fn writers_that_stumble_once(rt: HostRuntime) -> Result<(), Fail> {
                     &mut writer,
                     &rules,
                     [0; 16],
+                    Audit::Skipped,
                 );
                 assert_eq!(rt; ended, Err(ReplayFault::Write), "{stumble:?} at {calls}");
                 assert_eq!(rt; writer.taken.as_slice(), &wanted.as_bytes()[..calls]);

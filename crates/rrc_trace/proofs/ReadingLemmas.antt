@@ -129,6 +129,7 @@ stops faults.Read all old new lines number piece few read cut said = tt
 stops faults.Write all old new lines number piece few read cut said = absurd said
 stops faults.Memory all old new lines number piece few read cut said = tt
 stops (faults.Spent bad) all old new lines number piece few read cut said = absurd said
+stops faults.NotLegal all old new lines number piece few read cut said = absurd said
 
 pub fails : (fault : ReplayFault) (all : Option (List ℕ)) → IsOfReading fault → IsFaultOfTrace all fault
 fails (faults.BadLine bad) all of_reading = absurd of_reading
@@ -137,6 +138,7 @@ fails faults.Read all of_reading = tt
 fails faults.Write all of_reading = absurd of_reading
 fails faults.Memory all of_reading = tt
 fails (faults.Spent bad) all of_reading = absurd of_reading
+fails faults.NotLegal all of_reading = absurd of_reading
 
 -- nothing is left to read
 pub ends : (all now : Option (List ℕ)) (lines : List Line) (number : ℕ) → IsReadTo all now lines number → IsAtEnd now → number ≤ MOST_LINES → IsTraceFrom all lines

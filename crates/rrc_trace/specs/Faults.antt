@@ -1,7 +1,7 @@
 -- The numbers of faults.
 use Rattle.std.specs.Prelude.{ℕ}
 use Rattle.rrc_trace.specs.declared.fault.ReplayFault.{ReplayFault}
-use Rattle.rrc_trace.specs.declared.fault.ReplayFault.TheVariants.{BadLine, TooManyLines, Read, Write, Memory, Spent}
+use Rattle.rrc_trace.specs.declared.fault.ReplayFault.TheVariants.{BadLine, TooManyLines, Read, Write, Memory, Spent, NotLegal}
 
 -- the number by which the documents know a fault
 abbrev pub fault_number : ReplayFault → ℕ
@@ -11,3 +11,4 @@ fault_number Read = 3
 fault_number Write = 4
 fault_number Memory = 6
 fault_number (Spent line) = 7
+fault_number NotLegal = 9

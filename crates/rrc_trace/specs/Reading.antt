@@ -3,7 +3,7 @@ use Rattle.std.specs.Prelude.{◌≡◌, ◌≢◌, ◌<◌, ◌≤◌, ℕ, Boo
 use Rattle.std.specs.Io.KnownBytes.{IsAtEnd}
 use Rattle.std.specs.List.{AllByRecursion}
 use Rattle.rrc_trace.specs.declared.fault.ReplayFault.{ReplayFault}
-use Rattle.rrc_trace.specs.declared.fault.ReplayFault.TheVariants.{BadLine, TooManyLines, Read, Write, Memory, Spent}
+use Rattle.rrc_trace.specs.declared.fault.ReplayFault.TheVariants.{BadLine, TooManyLines, Read, Write, Memory, Spent, NotLegal}
 use Rattle.rrc_trace.specs.declared.reading.Ending.{Ending}
 use Rattle.rrc_trace.specs.declared.reading.Ending.TheVariants.{Lf, Last, Endless}
 use Rattle.rrc_trace.specs.declared.line.Line.{Line}
@@ -53,6 +53,7 @@ IsOfReading Read = Unit {0}
 IsOfReading Write = ⊥
 IsOfReading Memory = Unit {0}
 IsOfReading (Spent number) = ⊥
+IsOfReading NotLegal = ⊥
 
 -- the lines are those of the octets that a reader gives, where these are known
 abbrev pub IsTraceFrom : Option (List ℕ) → List Line → Type 0
@@ -66,6 +67,7 @@ IsFaultOfTrace read Read = Unit {0}
 IsFaultOfTrace read Write = ⊥
 IsFaultOfTrace read Memory = Unit {0}
 IsFaultOfTrace read (Spent number) = ⊥
+IsFaultOfTrace read NotLegal = ⊥
 
 -- the line is what its piece says, unless memory was refused
 abbrev pub GivesLine : ℕ → Result Line ReplayFault → Option Line → Type 0
@@ -76,3 +78,4 @@ GivesLine number (Err Read) said = ⊥
 GivesLine number (Err Write) said = ⊥
 GivesLine number (Err Memory) said = Unit {0}
 GivesLine number (Err (Spent bad)) said = ⊥
+GivesLine number (Err NotLegal) said = ⊥

@@ -16,13 +16,15 @@ pub enum ReplayFault {
     Memory,
     #[error("line {0} met a part whose numbers are spent")]
     Spent(u64),
+    #[error("the history of the replay is not legal")]
+    NotLegal,
 }
 
 impl ReplayFault {
     ghost use Rattle.std.specs.Prelude.{◌≡◌};
     ghost use Rattle.rrc_trace.specs.Faults.{fault_number};
 
-    /// The number by which the documents know the fault: 1 to 7, of which 5 is not used.
+    /// The number by which the documents know the fault: 1 to 9, of which 5 and 8 are not used.
     pub fn number(&self) -> u8
         ensures { result ≡ fault_number self.now }
     {
@@ -33,6 +35,7 @@ impl ReplayFault {
             ReplayFault::Write => 4,
             ReplayFault::Memory => 6,
             ReplayFault::Spent(_) => 7,
+            ReplayFault::NotLegal => 9,
         }
     }
 }

@@ -413,6 +413,11 @@ fn numbers_and_texts_of_faults(rt: HostRuntime) -> Result<(), Fail> {
             7,
             "line 3 met a part whose numbers are spent",
         ),
+        (
+            ReplayFault::NotLegal,
+            9,
+            "the history of the replay is not legal",
+        ),
     ];
     for (fault, number, text) in faults {
         assert_eq!(rt; fault.number(), number, "{fault:?}");

@@ -60,7 +60,8 @@ fn replayed(rt: &HostRuntime, words: &[String]) -> Result<ExitCode, ReplayFault>
         let _ = eprintln!(rt; "rrcache: the system gave no random octets");
         return Ok(ExitCode::from(FAULT));
     };
-    rrc_replay::run(alloc, &mut reader, &mut writer, &rules, seed)?;
+    let audit = options::audit_in(&matches);
+    rrc_replay::run(alloc, &mut reader, &mut writer, &rules, seed, audit)?;
     Ok(ExitCode::SUCCESS)
 }
 

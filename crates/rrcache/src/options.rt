@@ -1,5 +1,6 @@
 use clap::{Arg, ArgAction, ArgMatches, Command, value_parser};
 use rrc_history::Rules;
+use rrc_replay::Audit;
 use std::alloc::{AllocError, Global};
 
 /// The command line of the program.
@@ -25,13 +26,18 @@ pub(crate) fn command<'a>(alloc: Global) -> Result<Command<'a>, AllocError> {
         .action(ArgAction::Set)
         .default_value("86400")
         .value_parser(value_parser!(u64).range(0..=604_800));
+    let audit = Arg::new(alloc, "audit")
+        .long("audit")
+        .help("Makes each call again and compares its event, before the report is written")
+        .action(ArgAction::SetTrue);
     Command::new(alloc, "rrcache")
         .about(
             "Replays a trace of cache operations from standard input, and writes its report to standard output",
         )
         .arg(capacity)?
         .arg(chapter)?
-        .arg(stale)
+        .arg(stale)?
+        .arg(audit)
 }
 
 /// The rules that the arguments give.
@@ -40,6 +46,15 @@ pub(crate) fn rules_in(matches: &ArgMatches<'_>) -> Option<Rules> {
     let chapter = matches.get_one::<u64>("chapter")?;
     let stale = matches.get_one::<u64>("stale")?;
     Rules::new(capacity, chapter, stale)
+}
+
+/// Whether the arguments want an audit.
+pub(crate) fn audit_in(matches: &ArgMatches<'_>) -> Audit {
+    if matches.get_flag("audit") {
+        Audit::Made
+    } else {
+        Audit::Skipped
+    }
 }
 
 #[cfg(test)]

@@ -47,6 +47,21 @@ fn arguments_in_range(rt: HostRuntime) -> Result<(), Fail> {
 }
 
 #[test]
+fn an_audit_is_made_where_it_is_wanted(rt: HostRuntime) -> Result<(), Fail> {
+    let alloc = rt.alloc();
+    for (words, wanted) in [
+        (&["rrcache"][..], Audit::Skipped),
+        (&["rrcache", "--audit"][..], Audit::Made),
+    ] {
+        let Ok(matches) = command(alloc)?.try_get_matches_from(words) else {
+            return Err("the words are arguments".into());
+        };
+        assert_eq!(rt; audit_in(&matches), wanted);
+    }
+    Ok(())
+}
+
+#[test]
 fn arguments_refused(rt: HostRuntime) -> Result<(), Fail> {
     let options = [
         "--capacity=0",

@@ -1,9 +1,9 @@
-use Rattle.std.proofs.Common.{◌∙◌, ap, subst, length, arith, ◌≡◌, ◌<◌, ◌≤◌, take}
+use Rattle.std.proofs.Common.{◌∙◌, ap, sym, subst, length, arith, ◌≡◌, ◌<◌, ◌≤◌, take}
 use Rattle.std.proofs.lemmas.List.{take_all}
 use Rattle.rrc_trace.specs.Trace.{MOST_LINES}
 use Rattle.rrc_replay.specs.Answers.{AreAnswers}
-use Rattle.rrc_replay.proofs.ReplayLemmas.{answered_none, answered_line, are_answers, numbers_for}
-use Rattle.rrc_replay.proofs.replaying.replay.Goals as goal
+use Rattle.rrc_replay.proofs.ReplayLemmas.{answered_none, answered_line, are_answers, number_left, numbers_for}
+use Rattle.rrc_replay.proofs.replaying.replay_lines.Goals as goal
 
 pub loop-number-init : goal.loop-number-init
 loop-number-init c =
@@ -23,9 +23,18 @@ loop-number-preserved c =
     c.loop-number.number c.line-item.result c.in_ok-answer_at.field-0 (c.as_slice-line-items.ensures ∙ c.trace.view_is) c.loop-number-test.true c.line-item.is
     c.loop-number.invariant c.in_ok-answer_at.ensures.ok c.in_ok-push.ensures.ok
 
+whole : (c : goal.After-loop-number) → take c.loop-number.number c.args.trace.now ≡ c.args.trace.now
+whole c =
+    let size : length c.as_slice-line-items.result.now ≡ length c.args.trace.now = ap length (c.as_slice-line-items.ensures ∙ c.trace.view_is) in
+    take_all c.loop-number.number c.args.trace.now (omega (arith, size, c.loop-number-test.false))
+
 pub returns-clause-ok : goal.returns-clause-ok
 returns-clause-ok c =
-    let size : length c.as_slice-line-items.result.now ≡ length c.args.trace.now = ap length (c.as_slice-line-items.ensures ∙ c.trace.view_is) in
-    let whole : take c.loop-number.number c.args.trace.now ≡ c.args.trace.now = take_all c.loop-number.number c.args.trace.now (omega (arith, size, c.loop-number-test.false)) in
-    subst (λ lines. AreAnswers c.args.rules.now lines c.loop-number.answers) whole
+    subst (λ lines. AreAnswers c.args.rules.now lines c.loop-number.answers) (whole c)
     (are_answers c.args.rules.now c.loop-number.shelf (take c.loop-number.number c.args.trace.now) c.loop-number.answers c.loop-number.invariant)
+
+pub returns-clause-numbers : goal.returns-clause-numbers
+returns-clause-numbers c =
+    let few : length c.args.trace.now ≤ MOST_LINES = subst (λ lines. length lines ≤ MOST_LINES) c.trace.view_is c.trace.invariant.few in
+    number_left c.args.rules.now c.loop-number.shelf (take c.loop-number.number c.args.trace.now) c.loop-number.answers c.loop-number.invariant
+    (subst (λ lines. length lines ≤ MOST_LINES) (sym (whole c)) few)
