@@ -166,39 +166,15 @@ tells_more old middle new number offers told offer one tells writes =
 
 -- ---- the calls of a line
 
--- a line whose one call wrote an event
-pub answers_one : (old new : ShelfOf) (number : ℕ) (line : Line) (answer : Answer) (event : Event) → AreEventsOfLine number line answer (event ∷ [])
-    → Writes old new 1 (event ∷ []) → Answers old new number line answer
-answers_one old new number line answer event are writes = record { calls = 1; few = omega arith; events = event ∷ []; are = are; writes = writes }
-
-pub answers_put : (old new : ShelfOf) (number : ℕ) (put : Put) (told : Told) → Writes old new 1 (told_as (tag_at number 0) (offer_of put) told ∷ [])
-    → Answers old new number (lines.Put put) (answers.Put told)
-answers_put old new number put told = answers_one old new number (lines.Put put) (answers.Put told) (told_as (tag_at number 0) (offer_of put) told) refl
-
-pub answers_fail : (old new : ShelfOf) (number : ℕ) (failed : Failed) (told : Told) → Writes old new 1 (told_as (tag_at number 0) (failure_of failed) told ∷ [])
-    → Answers old new number (lines.Fail failed) (answers.Fail told)
-answers_fail old new number failed told = answers_one old new number (lines.Fail failed) (answers.Fail told) (told_as (tag_at number 0) (failure_of failed) told) refl
-
-pub answers_ask : (old new : ShelfOf) (number : ℕ) (ask : AskOf) (reply : Reply) → AppendsAsk old new (tag_at number 0) ask reply
-    → Answers old new number (lines.Ask ask) (answers.Ask reply)
-answers_ask old new number ask reply appends =
-    let event = Asked (tag_at number 0) ask reply in answers_one old new number (lines.Ask ask) (answers.Ask reply) event refl (writes_one old new event appends)
-
-pub answers_sweep : (old new : ShelfOf) (number at removed : ℕ) → AppendsSweep old new (tag_at number 0) at removed
-    → Answers old new number (lines.Sweep at) (answers.Swept removed)
-answers_sweep old new number at removed appends =
-    let event = Swept (tag_at number 0) at appends.0 in
-    answers_one old new number (lines.Sweep at) (answers.Swept removed) event (appends.0, (appends.1, refl)) (writes_one old new event appends.2)
+-- a checkpoint
+pub answers_closed : (old new : ShelfOf) (number : ℕ) → Shuts old new → Answers old new number lines.Checkpoint answers.Closed
+answers_closed old new number shuts = record { calls = 1; few = omega arith; events = []; are = refl; writes = writes_shut old new shuts }
 
 -- a response whose offers were told
 pub answers_told : (old new : ShelfOf) (number : ℕ) (response : Response) (offers : List OfferOf) (told : List Told) → Brings response offers → length offers ≤ MOST_CALLS
     → TellsAll old new number offers told → Answers old new number (lines.Response response) (answers.Response told)
 answers_told old new number response offers told brings few tells =
     record { calls = length offers; few = few; events = tells.events; are = (offers, (brings, tells.are)); writes = tells.writes }
-
-pub answers_refused : (shelf : ShelfOf) (number : ℕ) (response : Response) (fault : WireFault) → FirstFault response.octets fault
-    → Answers shelf shelf number (lines.Response response) (answers.Refused fault)
-answers_refused shelf number response fault first = record { calls = 0; few = omega arith; events = []; are = (first, refl); writes = writes_none shelf }
 
 -- ---- numbers
 
