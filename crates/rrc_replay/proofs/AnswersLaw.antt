@@ -111,6 +111,7 @@ of_put number put (answers.Fail told) events is = absurd is
 of_put number put (answers.Response told) events is = absurd is
 of_put number put (answers.Refused fault) events is = absurd is
 of_put number put (answers.Swept removed) events is = absurd is
+of_put number put answers.Closed events is = absurd is
 
 of_fail : (number : ℕ) (failed : Failed) (answer : Answer) (events : List Event) → AreEventsOfLine number (lines.Fail failed) answer events
     → (told : Told) × ((answer ≡ answers.Fail told) × (events ≡ told_as (tag_at number 0) (failure_of failed) told ∷ []))
@@ -120,6 +121,7 @@ of_fail number failed (answers.Fail told) events is = (told, (refl, is))
 of_fail number failed (answers.Response told) events is = absurd is
 of_fail number failed (answers.Refused fault) events is = absurd is
 of_fail number failed (answers.Swept removed) events is = absurd is
+of_fail number failed answers.Closed events is = absurd is
 
 of_ask : (number : ℕ) (ask : AskOf) (answer : Answer) (events : List Event) → AreEventsOfLine number (lines.Ask ask) answer events
     → (reply : Reply) × ((answer ≡ answers.Ask reply) × (events ≡ Asked (tag_at number 0) ask reply ∷ []))
@@ -129,6 +131,7 @@ of_ask number ask (answers.Fail told) events is = absurd is
 of_ask number ask (answers.Response told) events is = absurd is
 of_ask number ask (answers.Refused fault) events is = absurd is
 of_ask number ask (answers.Swept removed) events is = absurd is
+of_ask number ask answers.Closed events is = absurd is
 
 of_sweep : (number at : ℕ) (answer : Answer) (events : List Event) → AreEventsOfLine number (lines.Sweep at) answer events
     → (gone : List KeyOf) × ((answer ≡ answers.Swept (length gone)) × (events ≡ Swept (tag_at number 0) at gone ∷ []))
@@ -138,6 +141,16 @@ of_sweep number at (answers.Fail told) events is = absurd is
 of_sweep number at (answers.Response told) events is = absurd is
 of_sweep number at (answers.Refused fault) events is = absurd is
 of_sweep number at (answers.Swept removed) events is = (is.0, (ap answers.Swept (sym is.1.0), is.1.1))
+of_sweep number at answers.Closed events is = absurd is
+
+of_checkpoint : (number : ℕ) (answer : Answer) (events : List Event) → AreEventsOfLine number lines.Checkpoint answer events → (answer ≡ answers.Closed) × (events ≡ [])
+of_checkpoint number (answers.Put told) events is = absurd is
+of_checkpoint number (answers.Ask reply) events is = absurd is
+of_checkpoint number (answers.Fail told) events is = absurd is
+of_checkpoint number (answers.Response told) events is = absurd is
+of_checkpoint number (answers.Refused fault) events is = absurd is
+of_checkpoint number (answers.Swept removed) events is = absurd is
+of_checkpoint number answers.Closed events is = (refl, is)
 
 -- a response was told what became of its offers
 record WasTold (number : ℕ) (response : Response) (answer : Answer) (events : List Event) : Type 0 where
@@ -162,6 +175,7 @@ of_response number response (answers.Fail told) events is = absurd is
 of_response number response (answers.Response told) events is = inl (record { told = told; offers = is.0; answer_is = refl; brings = is.1.0; are = is.1.1 })
 of_response number response (answers.Refused fault) events is = inr (record { fault = fault; answer_is = refl; first = is.0; events_are = is.1 })
 of_response number response (answers.Swept removed) events is = absurd is
+of_response number response answers.Closed events is = absurd is
 
 -- ---- the same calls
 
@@ -213,6 +227,8 @@ line_alike law number (lines.Sweep at) answer other events also is also_is =
     let one = of_sweep number at answer events is in
     let two = of_sweep number at other also also_is in
     are_alike events also (Swept (tag_at number 0) at one.0 ∷ []) (Swept (tag_at number 0) at two.0 ∷ []) one.1.1 two.1.1 ((refl, refl), tt)
+line_alike law number lines.Checkpoint answer other events also is also_is =
+    are_alike events also [] [] (of_checkpoint number answer events is).1 (of_checkpoint number other also also_is).1 tt
 
 -- the same calls are as many
 alike_count : (events also : List Event) → AreSameCalls events also → length events ≡ length also
@@ -312,6 +328,7 @@ one_answer law number (lines.Sweep at) answer other events also same is also_is 
     let two = of_sweep number at other also also_is in
     let event = one_event events also (Swept (tag_at number 0) at one.0) (Swept (tag_at number 0) at two.0) same one.1.1 two.1.1 in
     one.1.0 ∙ (ap (λ keys. answers.Swept (length keys)) (ap gone_in event) ∙ sym two.1.0)
+one_answer law number lines.Checkpoint answer other events also same is also_is = (of_checkpoint number answer events is).0 ∙ sym (of_checkpoint number other also also_is).0
 
 -- ---- the events of all lines
 

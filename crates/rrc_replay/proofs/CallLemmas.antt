@@ -6,30 +6,23 @@ use Rattle.std.proofs.lemmas.List.{reverse-append, append-nil, length-reverse}
 use Rattle.rrc_name.specs.Wire.{folded}
 use Rattle.rrc_name.specs.Key.{KeyOf}
 use Rattle.rrc_history.specs.declared.event.Event.{Event}
-use Rattle.rrc_history.specs.declared.event.Event.TheVariants.{Offered, Asked, Swept}
+use Rattle.rrc_history.specs.declared.event.Event.TheVariants.{Offered}
 use Rattle.rrc_history.specs.declared.event.Outcome.{Outcome}
-use Rattle.rrc_history.specs.declared.event.Reply.{Reply}
 use Rattle.rrc_history.specs.declared.event.Tag.{Tag}
 use Rattle.rrc_history.specs.declared.snapshot.Snapshot.{Snapshot}
-use Rattle.rrc_history.specs.Asked.{AskOf}
 use Rattle.rrc_history.specs.Fits.{OfferOf, has_items, is_lifetime, fits}
 use Rattle.rrc_history.specs.Right.{IsLegal}
 use Rattle.rrc_cache.specs.Part.{PartOf, next_number}
-use Rattle.rrc_share.specs.Shelf.{ShelfOf, opening_of, history_of, whole_past, Shuts, HasMadeRoom, Appends, AppendsOffer, AppendsAsk, AppendsSweep}
-use Rattle.rrc_wire.specs.declared.fault.WireFault.{WireFault}
-use Rattle.rrc_wire.specs.Message.{FirstFault}
-use Rattle.rrc_trace.specs.declared.line.Failed.{Failed}
+use Rattle.rrc_share.specs.Shelf.{ShelfOf, opening_of, history_of, whole_past, Shuts, HasMadeRoom, Appends, AppendsOffer}
 use Rattle.rrc_trace.specs.declared.line.Put.{Put}
 use Rattle.rrc_trace.specs.declared.line.Response.{Response}
-use Rattle.rrc_trace.specs.declared.line.Line.{Line}
 use Rattle.rrc_trace.specs.declared.line.Line.TheVariants as lines
-use Rattle.rrc_trace.specs.declared.answer.Answer.{Answer}
 use Rattle.rrc_trace.specs.declared.answer.Answer.TheVariants as answers
 use Rattle.rrc_trace.specs.declared.answer.Told.{Told}
 use Rattle.rrc_sets.specs.Life.{life}
 use Rattle.rrc_replay.specs.Limits.{LIMITS}
-use Rattle.rrc_replay.specs.Replay.{offer_of, failure_of, Brings, evicted_in, evicted_last}
-use Rattle.rrc_replay.specs.Answers.{tag_at, told_as, AreTold, AreEventsOfLine}
+use Rattle.rrc_replay.specs.Replay.{offer_of, Brings, evicted_in, evicted_last}
+use Rattle.rrc_replay.specs.Answers.{tag_at, told_as, AreTold}
 use Rattle.rrc_replay.specs.Calls.{Writes, HasNumbers, TellsAll, MOST_CALLS, Answers}
 
 -- ---- the offer of a put
@@ -62,17 +55,6 @@ number-shut old new shuts =
 
 chapter-shut : (old new : ShelfOf) → Shuts old new → new.part.number ≡ old.part.number + 1
 chapter-shut old new shuts = ap (λ (part : PartOf). part.number) shuts.part.next
-
--- a chapter was closed by one call, which wrote nothing
-pub writes_shut : (old new : ShelfOf) → Shuts old new → Writes old new 1 []
-writes_shut old new shuts =
-    record {
-      opening = shuts.same.opening;
-      written = shuts.same.history ∙ sym (append-nil (history_of old));
-      legal = λ legal. subst (λ events. IsLegal (opening_of old) (reverse events)) (sym shuts.same.history) legal;
-      numbers = omega (arith, number-shut old new shuts);
-      chapters = omega (arith, chapter-shut old new shuts);
-    }
 
 -- where there was to be room, the next event has the same number, in this chapter or the next
 room-numbers : (old middle : ShelfOf) → HasMadeRoom old middle → (next_number middle.part ≡ next_number old.part) × (middle.part.number ≤ old.part.number + 1)
@@ -164,41 +146,13 @@ tells_more old middle new number offers told offer one tells writes =
           (writes_more old middle new (length offers) 1 tells.events (event ∷ []) tells.writes writes);
     }
 
--- ---- the calls of a line
-
--- a line whose one call wrote an event
-pub answers_one : (old new : ShelfOf) (number : ℕ) (line : Line) (answer : Answer) (event : Event) → AreEventsOfLine number line answer (event ∷ [])
-    → Writes old new 1 (event ∷ []) → Answers old new number line answer
-answers_one old new number line answer event are writes = record { calls = 1; few = omega arith; events = event ∷ []; are = are; writes = writes }
-
-pub answers_put : (old new : ShelfOf) (number : ℕ) (put : Put) (told : Told) → Writes old new 1 (told_as (tag_at number 0) (offer_of put) told ∷ [])
-    → Answers old new number (lines.Put put) (answers.Put told)
-answers_put old new number put told = answers_one old new number (lines.Put put) (answers.Put told) (told_as (tag_at number 0) (offer_of put) told) refl
-
-pub answers_fail : (old new : ShelfOf) (number : ℕ) (failed : Failed) (told : Told) → Writes old new 1 (told_as (tag_at number 0) (failure_of failed) told ∷ [])
-    → Answers old new number (lines.Fail failed) (answers.Fail told)
-answers_fail old new number failed told = answers_one old new number (lines.Fail failed) (answers.Fail told) (told_as (tag_at number 0) (failure_of failed) told) refl
-
-pub answers_ask : (old new : ShelfOf) (number : ℕ) (ask : AskOf) (reply : Reply) → AppendsAsk old new (tag_at number 0) ask reply
-    → Answers old new number (lines.Ask ask) (answers.Ask reply)
-answers_ask old new number ask reply appends =
-    let event = Asked (tag_at number 0) ask reply in answers_one old new number (lines.Ask ask) (answers.Ask reply) event refl (writes_one old new event appends)
-
-pub answers_sweep : (old new : ShelfOf) (number at removed : ℕ) → AppendsSweep old new (tag_at number 0) at removed
-    → Answers old new number (lines.Sweep at) (answers.Swept removed)
-answers_sweep old new number at removed appends =
-    let event = Swept (tag_at number 0) at appends.0 in
-    answers_one old new number (lines.Sweep at) (answers.Swept removed) event (appends.0, (appends.1, refl)) (writes_one old new event appends.2)
+-- ---- a response
 
 -- a response whose offers were told
 pub answers_told : (old new : ShelfOf) (number : ℕ) (response : Response) (offers : List OfferOf) (told : List Told) → Brings response offers → length offers ≤ MOST_CALLS
     → TellsAll old new number offers told → Answers old new number (lines.Response response) (answers.Response told)
 answers_told old new number response offers told brings few tells =
     record { calls = length offers; few = few; events = tells.events; are = (offers, (brings, tells.are)); writes = tells.writes }
-
-pub answers_refused : (shelf : ShelfOf) (number : ℕ) (response : Response) (fault : WireFault) → FirstFault response.octets fault
-    → Answers shelf shelf number (lines.Response response) (answers.Refused fault)
-answers_refused shelf number response fault first = record { calls = 0; few = omega arith; events = []; are = (first, refl); writes = writes_none shelf }
 
 -- ---- numbers
 

@@ -42,6 +42,7 @@ AreEventsOfLine number (lines.Response response) (answers.Response told) events 
 AreEventsOfLine number (lines.Response response) (answers.Refused fault) events = FirstFault response.octets fault × (events ≡ [])
 AreEventsOfLine number (lines.Sweep at) (answers.Swept removed) events =
     (gone : List KeyOf) × ((length gone ≡ removed) × (events ≡ Swept (tag_at number 0) at gone ∷ []))
+AreEventsOfLine number lines.Checkpoint answers.Closed events = events ≡ []
 AreEventsOfLine number line answer events = ⊥
 
 -- the events are those of one thing and then those of others, end to end

@@ -11,7 +11,7 @@ use rrc_cache::Part;
 use rrc_history::{Rules, Tag};
 use rrc_name::Sequence;
 use rrc_sets::offers;
-use rrc_share::{Shelf, on_shelf_ask, on_shelf_sweep};
+use rrc_share::{Shelf, on_shelf_ask, on_shelf_checkpoint, on_shelf_sweep};
 use rrc_trace::{Answer, Line, ReplayFault, Response, Trace};
 use rrc_wire::{WireFault, one_message_or_fault, read_message};
 use std::alloc::Global;
@@ -66,6 +66,10 @@ fn answer_at(
         },
         Line::Sweep(moment) => match on_shelf_sweep(shelf, tag, *moment) {
             Ok(removed) => Ok(Answer::Swept(removed)),
+            Err(refusal) => Err(fault_at(number, refusal)),
+        },
+        Line::Checkpoint => match on_shelf_checkpoint(shelf) {
+            Ok(()) => Ok(Answer::Closed),
             Err(refusal) => Err(fault_at(number, refusal)),
         },
     }

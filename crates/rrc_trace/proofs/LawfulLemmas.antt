@@ -4,6 +4,7 @@ use Rattle.std.proofs.lemmas.Bool.Decides.{nat_tests}
 use Rattle.rrc_history.specs.Lives.{LAST_MOMENT}
 use Rattle.rrc_wire.specs.Layout.{is_kept}
 use Rattle.rrc_trace.specs.declared.line.Line.{Line}
+use Rattle.rrc_trace.specs.declared.line.Line.TheVariants.{Checkpoint}
 use Rattle.rrc_trace.specs.declared.word.Form.{Form}
 use Rattle.rrc_trace.specs.declared.word.Form.TheVariants as forms
 use Rattle.rrc_trace.specs.Gives.{◌>>=◌}
@@ -106,15 +107,19 @@ sweep-lawful octets line is =
     let moment = said_first (said_at moment_of octets) _ line is in
     subst IsLawful (ended-says moment.0.1 _ line moment.1.1) (moment-says octets moment.0.0 moment.0.1 moment.1.0)
 
+checkpoint-lawful : (octets : List ℕ) (line : Line) → ended octets Checkpoint ≡ Some line → IsLawful line
+checkpoint-lawful octets line is = subst IsLawful (ended-says octets Checkpoint line is) tt
+
 line-lawful : (octets : List ℕ) (line : Line) → line_of octets ≡ Some line → IsLawful line
 line-lawful octets line is = let form = said_first (said_at form_of octets) _ line is in by form.0.0 form.0.1 form.1.1
   where
-    by : (form : Form) (rest : List ℕ) → elim form [ forms.Put ↦ put_of rest | forms.Ask ↦ ask_of rest | forms.Fail ↦ fail_of rest | forms.Response ↦ response_of rest | forms.Sweep ↦ sweep_of rest ] ≡ Some line → IsLawful line
+    by : (form : Form) (rest : List ℕ) → elim form [ forms.Put ↦ put_of rest | forms.Ask ↦ ask_of rest | forms.Fail ↦ fail_of rest | forms.Response ↦ response_of rest | forms.Sweep ↦ sweep_of rest | forms.Checkpoint ↦ ended rest Checkpoint ] ≡ Some line → IsLawful line
     by forms.Put rest said = put-lawful rest line said
     by forms.Ask rest said = ask-lawful rest line said
     by forms.Fail rest said = fail-lawful rest line said
     by forms.Response rest said = response-lawful rest line said
     by forms.Sweep rest said = sweep-lawful rest line said
+    by forms.Checkpoint rest said = checkpoint-lawful rest line said
 
 -- the line of a piece is lawful
 pub says_lawful : (piece : List ℕ) (line : Line) → line_of_piece piece ≡ Some line → IsLawful line

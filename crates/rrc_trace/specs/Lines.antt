@@ -69,6 +69,7 @@ line_of octets = do
     | forms.Fail ↦ fail_of form.1
     | forms.Response ↦ response_of form.1
     | forms.Sweep ↦ sweep_of form.1
+    | forms.Checkpoint ↦ ended form.1 lines.Checkpoint
   ]
 
 -- the octets before the last one, where that is this one

@@ -87,6 +87,7 @@ answer_text (answers.Fail told) = codes "fail " ++ told_text told
 answer_text (answers.Response offers) = codes "response " ++ offers_text offers
 answer_text (answers.Refused fault) = codes "response refused " ++ decimal (number_of fault)
 answer_text (answers.Swept removed) = codes "sweep " ++ decimal removed
+answer_text answers.Closed = codes "checkpoint"
 
 -- the number of a line, and what it got
 abbrev pub line_text : ℕ → Answer → List ℕ

@@ -15,6 +15,7 @@ form_of word =
     else if bytes_eq word (codes "fail") then Some forms.Fail
     else if bytes_eq word (codes "response") then Some forms.Response
     else if bytes_eq word (codes "sweep") then Some forms.Sweep
+    else if bytes_eq word (codes "checkpoint") then Some forms.Checkpoint
     else None
 
 -- what an answer is for

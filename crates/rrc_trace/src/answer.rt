@@ -21,4 +21,6 @@ pub enum Answer {
     Refused(WireFault),
     /// How many keys a sweep removed.
     Swept(usize),
+    /// A checkpoint closed the chapter.
+    Closed,
 }

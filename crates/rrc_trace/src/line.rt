@@ -1,6 +1,6 @@
 ghost use Rattle.std.specs.Prelude.{◌≡◌, option_map};
 ghost use Rattle.rrc_trace.specs.Gives.{Gives};
-ghost use Rattle.rrc_trace.specs.Lines.{put_of, ask_of, fail_of, response_of, sweep_of, line_of, before_last, without_cr, bounded, line_of_piece};
+ghost use Rattle.rrc_trace.specs.Lines.{put_of, ask_of, fail_of, response_of, sweep_of, ended, line_of, before_last, without_cr, bounded, line_of_piece};
 
 use crate::field::has_field;
 use crate::item::items_at;
@@ -58,6 +58,8 @@ pub enum Line {
     Response(Response),
     /// A sweep of what is dead at this moment, in seconds.
     Sweep(u64),
+    /// The chapter that is open is closed.
+    Checkpoint,
 }
 
 /// The line whose first word was `put`.
@@ -154,6 +156,16 @@ fn sweep_in(octets: &[u8]) -> Result<Line, LineFault>
     Ok(Line::Sweep(moment))
 }
 
+/// The line whose only word was `checkpoint`.
+fn checkpoint_in(octets: &[u8]) -> Result<Line, LineFault>
+    ensures { Gives (λ line. line) result (ended octets.now Line.Checkpoint) }
+{
+    if has_field(octets) {
+        return Err(LineFault::NotOne);
+    }
+    Ok(Line::Checkpoint)
+}
+
 /// The line that octets without its end spell.
 fn line_in(alloc: Global, names: &mut Names, octets: &[u8]) -> Result<Line, LineFault>
     ensures { Gives (λ line. line) result (line_of octets.now) }
@@ -165,6 +177,7 @@ fn line_in(alloc: Global, names: &mut Names, octets: &[u8]) -> Result<Line, Line
         Form::Fail => fail_in(alloc, names, rest),
         Form::Response => response_in(alloc, names, rest),
         Form::Sweep => sweep_in(rest),
+        Form::Checkpoint => checkpoint_in(rest),
     }
 }
 

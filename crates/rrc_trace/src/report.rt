@@ -174,6 +174,7 @@ fn push_answer(text: &mut String, answer: &Answer) -> Result<(), AllocError>
             let removed = *removed;
             write!(text, "sweep {removed}")
         }
+        Answer::Closed => text.push_str("checkpoint"),
         Answer::Ask(reply) => {
             text.push_str("ask ")?;
             push_reply(text, reply)

@@ -11,7 +11,7 @@ use std::test::Fail;
 #[test]
 fn fields_of_lines(rt: HostRuntime) -> Result<(), Fail> {
     let text =
-        "  put   0000100 A.Example 0001 04 060 C00002Fe,-,c00002fe,-  \r\nask 101 a.eXample. 28 any now\nfail 102 B. 16\nsweep 1099511627776";
+        "  put   0000100 A.Example 0001 04 060 C00002Fe,-,c00002fe,-  \r\nask 101 a.eXample. 28 any now\nfail 102 B. 16\nsweep 1099511627776\n checkpoint ";
     let trace = read_trace(rt.alloc(), &mut text.as_bytes())?;
     let mut lines = trace.lines.iter();
     match lines.next() {
@@ -42,6 +42,7 @@ fn fields_of_lines(rt: HostRuntime) -> Result<(), Fail> {
         _ => Err("the third line is a failure")?,
     }
     assert!(rt; matches!(lines.next(), Some(Line::Sweep(1_099_511_627_776))));
+    assert!(rt; matches!(lines.next(), Some(Line::Checkpoint)));
     assert!(rt; lines.next().is_none());
     Ok(())
 }
@@ -317,8 +318,9 @@ fn texts_of_answers(rt: HostRuntime) -> Result<(), Fail> {
         answers.push(Answer::Ask(reply))?;
     }
     answers.push(Answer::Swept(3))?;
+    answers.push(Answer::Closed)?;
     let wanted =
-        "0 put kept\n1 put cleared\n2 put less\n3 fail kept-out:b.example./1\n4 fail kept-out:b.example./nx\n5 fail kept-out:b.example./failed28\n6 ask fresh 59 A.example. c00002fe,-\n7 ask stale 30 A.example. c00002fe,-\n8 ask nodata 300 Example. 000aff\n9 ask nxdomain 300 Example. 000aff\n10 ask miss\n11 ask miss 330\n12 sweep 3\n";
+        "0 put kept\n1 put cleared\n2 put less\n3 fail kept-out:b.example./1\n4 fail kept-out:b.example./nx\n5 fail kept-out:b.example./failed28\n6 ask fresh 59 A.example. c00002fe,-\n7 ask stale 30 A.example. c00002fe,-\n8 ask nodata 300 Example. 000aff\n9 ask nxdomain 300 Example. 000aff\n10 ask miss\n11 ask miss 330\n12 sweep 3\n13 checkpoint\n";
     assert_eq!(rt; report_text(alloc, answers.as_slice())?.as_str(), wanted);
     Ok(())
 }

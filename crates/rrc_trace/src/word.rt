@@ -14,6 +14,7 @@ pub(crate) enum Form {
     Fail,
     Response,
     Sweep,
+    Checkpoint,
 }
 
 /// The form of a line, and the octets behind its word.
@@ -31,6 +32,8 @@ pub(crate) fn form_at(octets: &[u8]) -> Result<(Form, &[u8]), LineFault>
         Ok((Form::Response, rest))
     } else if field == b"sweep".as_slice() {
         Ok((Form::Sweep, rest))
+    } else if field == b"checkpoint".as_slice() {
+        Ok((Form::Checkpoint, rest))
     } else {
         Err(LineFault::NotOne)
     }
