@@ -5,7 +5,7 @@ use rrc_history::{
     Snapshot, Tag, Trust, audit,
 };
 use rrc_name::{Name, NameFault, Sequence, Slot};
-use std::alloc::Global;
+use std::alloc::{AllocError, Global};
 use std::test::Fail;
 
 const TAG: Tag = Tag { line: 0, place: 0 };
@@ -141,22 +141,41 @@ const LEGAL: [Told<'static>; 6] = [
     Told::Swept(86_590, &["a.example.", "c.example."]),
 ];
 
-/// The first event that is not right where another stands at a place of the legal history. An audit has to find the same.
+/// The first event that is not right, by a recheck.
+fn bad_of(rechecked: Result<(), RecheckFault>) -> Result<Option<usize>, AllocError> {
+    match rechecked {
+        Ok(()) => Ok(None),
+        Err(RecheckFault::FirstBad(FirstBad(bad))) => Ok(Some(bad)),
+        Err(RecheckFault::Memory) => Err(AllocError),
+    }
+}
+
+/// The first event that is not right, which an audit and a recheck have to find alike.
+fn both_say(
+    audited: Result<(), FirstBad>,
+    rechecked: Result<(), RecheckFault>,
+) -> Result<Option<usize>, Fail> {
+    let bad = bad_of(rechecked)?;
+    let other = match audited {
+        Ok(()) => None,
+        Err(FirstBad(other)) => Some(other),
+    };
+    if bad == other {
+        Ok(bad)
+    } else {
+        Err("an audit finds something else")?
+    }
+}
+
+/// The first event that is not right where another stands at a place of the legal history.
 fn first_bad(alloc: Global, place: usize, told: Told<'_>) -> Result<Option<usize>, Fail> {
     let mut events = Vec::new(alloc);
     for (each, legal) in LEGAL.iter().enumerate() {
         events.push(event(alloc, if each == place { told } else { *legal })?)?;
     }
     let snapshot = snapshot(alloc)?;
-    let audited = audit(&snapshot, events.as_slice());
     let rechecked = recheck_seeded(alloc, &snapshot, events.as_slice(), [7; 16]);
-    match (rechecked, audited) {
-        (Ok(()), Ok(())) => Ok(None),
-        (Err(RecheckFault::FirstBad(FirstBad(bad))), Err(FirstBad(other))) if bad == other => {
-            Ok(Some(bad))
-        }
-        _ => Err("an audit finds something else")?,
-    }
+    both_say(audit(&snapshot, events.as_slice()), rechecked)
 }
 
 /// The first of these at which not just the event that was turned is found.
@@ -277,11 +296,8 @@ fn finds_a_number_of_63_bits(rt: HostRuntime) -> Result<(), Fail> {
         let mut events = Vec::new(rt.alloc());
         events.push(asked(rt.alloc(), question, MISS)?)?;
         events.push(asked(rt.alloc(), question, MISS)?)?;
-        let wanted = match bad {
-            None => Ok(()),
-            Some(place) => Err(RecheckFault::FirstBad(FirstBad(place))),
-        };
-        assert_eq!(rt; recheck(rt.alloc(), &snapshot, events.as_slice()), wanted);
+        let rechecked = recheck(rt.alloc(), &snapshot, events.as_slice());
+        assert_eq!(rt; bad_of(rechecked)?, bad);
     }
     Ok(())
 }
