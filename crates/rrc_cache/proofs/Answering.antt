@@ -1,5 +1,5 @@
--- What a part keeps after an ask.
-use Rattle.std.proofs.Common.{◌≡◌, ℕ, ◌+◌, ◌≤◌, List, [], ◌∷◌, ◌++◌, length, Option, Some, None, ◌||◌, true, false, ◌⊎◌, inl, inr, Bool, refl, sym, ap, subst, ◌∙◌, arith}
+-- What a past leaves after an ask.
+use Rattle.std.proofs.Common.{◌≡◌, ℕ, ◌^◌, ◌<◌, ◌≤◌, List, ◌∷◌, length, Option, Some, None, ◌||◌, true, false, ◌⊎◌, inl, inr, Bool, refl, sym, ap, subst, ◌∙◌, arith}
 use Rattle.std.specs.Prelude.{IfSome}
 use Rattle.rrc_name.specs.Key.{KeyOf}
 use Rattle.rrc_name.specs.lemmas.KeyLaws.{key_eq-laws}
@@ -8,9 +8,10 @@ use Rattle.rrc_history.specs.declared.event.Event.TheVariants.{Asked}
 use Rattle.rrc_history.specs.declared.event.Reply.{Reply}
 use Rattle.rrc_history.specs.declared.event.Tag.{Tag}
 use Rattle.rrc_history.specs.declared.snapshot.Entry.{Entry}
+use Rattle.rrc_history.specs.declared.snapshot.Snapshot.{Snapshot}
 use Rattle.rrc_history.specs.Asked.{AskOf}
 use Rattle.rrc_history.specs.Judged.{reply_by, answering, is_miss, key_in}
-use Rattle.rrc_history.specs.Past.{entry_at, key_at, AreContents}
+use Rattle.rrc_history.specs.Past.{entry_at, key_at, number_after}
 use Rattle.rrc_name.specs.declared.slot.Slot.{Slot}
 use Rattle.rrc_name.specs.declared.slot.Slot.TheVariants.{Set, Nx}
 use Rattle.rrc_history.specs.lemmas.EntryLaws.{entry_at-key}
@@ -20,10 +21,11 @@ use Rattle.rrc_history.specs.Right.{IsRight}
 use Rattle.rrc_history.specs.Entries.{goes, found_among, promoted, in_front, answered_from}
 use Rattle.rrc_history.specs.lemmas.OfferLaws.{length-staying_found}
 use Rattle.rrc_history.specs.lemmas.AskLaws.{found-contents, ask_contents}
-use Rattle.rrc_cache.specs.Part.{PartOf, past_of, next_number, IsOpen, Keeps}
-use Rattle.rrc_cache.specs.Taken.{HasName, IsAnswered}
-use Rattle.rrc_cache.proofs.Sound.{AreWellMade, made_of, made_answered_from}
-use Rattle.rrc_cache.proofs.Keeping.{IsDone, done_with, adds_keeps, number-of}
+use Rattle.rrc_history.specs.Lives.{LAST_MOMENT}
+use Rattle.rrc_cache.specs.Calls.{Leaves}
+use Rattle.rrc_cache.specs.Taken.{HasName, IsAnswered, slot_of}
+use Rattle.rrc_cache.proofs.Leaving.{right_leaves}
+use Rattle.rrc_cache.proofs.Sound.{made_of, made_answered_from}
 
 -- an answer leaves as many entries as there were, or fewer
 length-promoted : (key : KeyOf) (entries : List Entry) → length (promoted key entries) ≤ length entries
@@ -39,30 +41,25 @@ length-answered_from : (key : Option KeyOf) (entries : List Entry) → length (a
 length-answered_from None entries = omega arith
 length-answered_from (Some key) entries = length-promoted key entries
 
-pub ask_done : (part : PartOf) (entries : List Entry) (tag : Tag) (ask : AskOf) (reply : Reply) (slot : Option Slot) (kept : List Entry)
-    → Keeps part entries → IsOpen part ask.moment → IsAnswered part.snapshot.rules.stale ask entries reply slot
-    → kept ≡ answered_from (option_map (key_at ask) slot) entries
-    → IsDone part (record { number = part.number; snapshot = part.snapshot; events = part.events ++ Asked tag ask reply ∷ [] }) (Asked tag ask reply) kept
-ask_done part entries tag ask reply slot kept keeps open' answered touched =
+pub ask_leaves : (snapshot : Snapshot) (past : List Event) (entries : List Entry) (tag : Tag) (ask : AskOf) (reply : Reply) (slot : Option Slot) (kept : List Entry)
+    → Leaves snapshot past entries → number_after snapshot past < 2 ^ 62 → ask.moment ≤ LAST_MOMENT → IsAnswered snapshot.rules.stale ask entries reply slot
+    → kept ≡ answered_from (option_map (key_at ask) slot) entries → Leaves snapshot (Asked tag ask reply ∷ past) kept
+ask_leaves snapshot past entries tag ask reply slot kept leaves below timely answered touched =
     let event : Event = Asked tag ask reply in
     let key : Option KeyOf = key_in (answering (found_among entries ask) ask reply) in
-    let left : List Entry = answered_from key entries in
-    let is : kept ≡ left = touched ∙ ap (λ k. answered_from k entries) answered.from in
-    let right : IsRight part.snapshot (past_of part) event = record {
-      numbered = omega (arith, number-of part, open'.room.number);
+    let is : kept ≡ answered_from key entries = touched ∙ ap (λ k. answered_from k entries) answered.from in
+    let right : IsRight snapshot past event = record {
+      numbered = below;
       right = record {
-        timely = open'.moment;
-        answered = answered.answered ∙ ap (λ f. reply_by part.snapshot.rules.stale f ask) (found-contents part.snapshot (past_of part) ask entries keeps.contents);
+        timely = timely;
+        answered = answered.answered ∙ ap (λ f. reply_by snapshot.rules.stale f ask) (found-contents snapshot past ask entries leaves.contents);
       };
     } in
-    let contents : AreContents part.snapshot (event ∷ past_of part) left = ask_contents part.snapshot (past_of part) tag ask reply entries keeps.contents in
-    let few : length left ≤ part.snapshot.rules.capacity = omega (arith, length-answered_from key entries, keeps.kept.few) in
-    done_with part event kept right
-    (adds_keeps part event kept keeps.sound open'.room right
-    (let P : List Entry → Type 0 = AreContents part.snapshot (event ∷ past_of part) in subst P (sym is) contents)
-    (let P : List Entry → Type 0 = λ es. length es ≤ part.snapshot.rules.capacity in subst P (sym is) few)
-    (let P : List Entry → Type 0 = AreWellMade (next_number part + 1) in
-    subst P (sym is) (made_answered_from (next_number part) key entries (made_of part.snapshot.rules.capacity (next_number part) entries keeps.kept))))
+    let few : length (answered_from key entries) ≤ snapshot.rules.capacity = omega (arith, length-answered_from key entries, leaves.kept.few) in
+    let P : List Entry → Type 0 = Leaves snapshot (event ∷ past) in
+    subst P (sym is)
+    (right_leaves snapshot past event (answered_from key entries) leaves.legal right (ask_contents snapshot past tag ask reply entries leaves.contents) few
+    (made_answered_from (number_after snapshot past) key entries (made_of snapshot.rules.capacity (number_after snapshot past) entries leaves.kept)))
 
 -- ---- the entry that answers
 
@@ -90,3 +87,15 @@ answering-keyed ask None named = refl
 answering-keyed ask (Some entry) named =
     let keyed : List ℕ → Option KeyOf = λ name. Some (record { name = name; slot = entry.key.slot }) in
     ap keyed (sym named)
+
+-- the answer, and the slot of the entry that gave it
+pub answered_at : (stale : ℕ) (ask : AskOf) (entries : List Entry) (reply : Reply) (a : Option Entry) (slot : Option Slot) → reply ≡ reply_by stale (found_among entries ask) ask
+    → a ≡ answering (found_among entries ask) ask reply → slot ≡ slot_of a → IsAnswered stale ask entries reply slot
+answered_at stale ask entries reply a slot answered gave is = record {
+  answered = answered;
+  from = ap (option_map (key_at ask)) is ∙ (mapped a ∙ (answering-keyed ask a (answering-named entries ask reply a gave) ∙ ap key_in gave));
+}
+  where
+    mapped : (a' : Option Entry) → option_map (key_at ask) (slot_of a') ≡ option_map (λ (entry : Entry). key_at ask entry.key.slot) a'
+    mapped None = refl
+    mapped (Some entry) = refl

@@ -4,7 +4,11 @@ pub mod Due
 pub mod Timed
 pub mod Sound
 pub mod Placing
+pub mod Leaving
+pub mod Written
 pub mod Keeping
 pub mod Answering
 pub mod Sweeping
 pub mod Closed
+pub mod Again
+pub mod Rechecked

@@ -1,5 +1,5 @@
--- What a part keeps after a sweep.
-use Rattle.std.proofs.Common.{◌≡◌, ℕ, ◌+◌, List, [], ◌∷◌, ◌++◌, length, ◌≤◌, ◌||◌, None, Bool, true, false, refl, sym, ap, subst, ◌∙◌, arith}
+-- What a past leaves after a sweep.
+use Rattle.std.proofs.Common.{◌≡◌, ℕ, ◌^◌, ◌<◌, List, [], ◌∷◌, ◌++◌, length, ◌≤◌, ◌||◌, None, Bool, true, false, refl, sym, ap, subst, ◌∙◌, arith}
 use Rattle.std.specs.Prelude.{filter}
 use Rattle.std.specs.List.{dedup}
 use Rattle.std.proofs.lemmas.List.Kept.{Contains-dedup, Contains-from_dedup}
@@ -10,16 +10,18 @@ use Rattle.rrc_history.specs.declared.event.Event.{Event}
 use Rattle.rrc_history.specs.declared.event.Event.TheVariants.{Swept}
 use Rattle.rrc_history.specs.declared.event.Tag.{Tag}
 use Rattle.rrc_history.specs.declared.snapshot.Entry.{Entry}
+use Rattle.rrc_history.specs.declared.snapshot.Snapshot.{Snapshot}
 use Rattle.rrc_history.specs.Past.{entry_at, is_among, number_after, AreContents}
 use Rattle.rrc_history.specs.Right.{IsRight, is_swept}
 use Rattle.rrc_history.specs.Entries.{staying, goes, AreApart, living}
 use Rattle.rrc_history.specs.lemmas.OfferLaws.{length-staying_le}
 use Rattle.rrc_history.specs.lemmas.Apart.{falls_apart}
 use Rattle.rrc_history.specs.lemmas.SweepLaws.{keys_of_dead-found, living-staying, sweep_contents}
-use Rattle.rrc_cache.specs.Part.{PartOf, past_of, next_number, IsOpen, Keeps}
+use Rattle.rrc_history.specs.Lives.{LAST_MOMENT}
+use Rattle.rrc_cache.specs.Calls.{Leaves}
 use Rattle.rrc_cache.specs.Taken.{AreDeadKeys}
-use Rattle.rrc_cache.proofs.Sound.{AreWellMade, made_of, made_more, made_staying}
-use Rattle.rrc_cache.proofs.Keeping.{IsDone, done_with, adds_keeps, number-of}
+use Rattle.rrc_cache.proofs.Leaving.{right_leaves}
+use Rattle.rrc_cache.proofs.Sound.{made_of, made_more, made_staying}
 
 -- ---- the keys
 
@@ -72,33 +74,32 @@ staying_more gone key (entry ∷ entries) =
         let now : is_among entry.key (gone ++ key ∷ []) ≡ false = both ∙ (ap (λ b. b || key_eq key entry.key) is ∙ at) in
         rw (is, now, filter) (rw at (ap (λ es. entry ∷ es) rest))
 
--- ---- the part
+-- ---- the past
 
-pub sweep_done : (part : PartOf) (entries : List Entry) (tag : Tag) (moment : ℕ) (gone : List KeyOf) (kept : List Entry)
-    → Keeps part entries → IsOpen part moment → AreDeadKeys part.snapshot.rules.stale moment entries gone → kept ≡ staying (λ key. is_among key gone) entries
-    → IsDone part (record { number = part.number; snapshot = part.snapshot; events = part.events ++ Swept tag moment gone ∷ [] }) (Swept tag moment gone) kept
-sweep_done part entries tag moment gone kept keeps open' dead is =
+pub sweep_leaves : (snapshot : Snapshot) (past : List Event) (entries : List Entry) (tag : Tag) (moment : ℕ) (gone : List KeyOf) (kept : List Entry)
+    → Leaves snapshot past entries → number_after snapshot past < 2 ^ 62 → moment ≤ LAST_MOMENT → AreDeadKeys snapshot.rules.stale moment entries gone
+    → kept ≡ staying (λ key. is_among key gone) entries → Leaves snapshot (Swept tag moment gone ∷ past) kept
+sweep_leaves snapshot past entries tag moment gone kept leaves below timely dead is =
     let event : Event = Swept tag moment gone in
-    let stale : ℕ = part.snapshot.rules.stale in
+    let stale : ℕ = snapshot.rules.stale in
     let out : KeyOf → Bool = λ key. is_among key gone in
-    let apart : AreApart entries = falls_apart part.snapshot (past_of part) (number_after part.snapshot (past_of part)) entries keeps.contents.falling in
+    let apart : AreApart entries = falls_apart snapshot past (number_after snapshot past) entries leaves.contents.falling in
     let listed : (key : KeyOf) → is_among key gone ≡ is_swept stale (entry_at key entries) moment = λ key. dead.dead key ∙ keys_of_dead-found stale moment key entries apart in
-    let right : IsRight part.snapshot (past_of part) event = record {
-      numbered = omega (arith, number-of part, open'.room.number);
+    let right : IsRight snapshot past event = record {
+      numbered = below;
       right = record {
-        timely = open'.moment;
+        timely = timely;
         sorted = dead.sorted;
-        dead = λ key. listed key ∙ ap (λ found. is_swept stale found moment) (keeps.contents.agree key);
+        dead = λ key. listed key ∙ ap (λ found. is_swept stale found moment) (leaves.contents.agree key);
       };
     } in
-    let lives : kept ≡ living stale moment entries = is ∙ sym (living-staying stale moment out entries apart listed) in
-    let few : length (staying out entries) ≤ part.snapshot.rules.capacity = omega (arith, length-staying_le out entries, keeps.kept.few) in
-    done_with part event kept right
-    (adds_keeps part event kept keeps.sound open'.room right
-    (let P : List Entry → Type 0 = AreContents part.snapshot (event ∷ past_of part) in
-    subst P (sym lives) (sweep_contents part.snapshot (past_of part) tag moment gone entries keeps.contents apart listed))
-    (let P : List Entry → Type 0 = λ es. length es ≤ part.snapshot.rules.capacity in subst P (sym is) few)
-    (let P : List Entry → Type 0 = AreWellMade (next_number part + 1) in
+    let lives : staying out entries ≡ living stale moment entries = sym (living-staying stale moment out entries apart listed) in
+    let few : length (staying out entries) ≤ snapshot.rules.capacity = omega (arith, length-staying_le out entries, leaves.kept.few) in
+    let P : List Entry → Type 0 = Leaves snapshot (event ∷ past) in
     subst P (sym is)
-    (made_more (next_number part) (staying out entries)
-    (made_staying (next_number part) out entries (made_of part.snapshot.rules.capacity (next_number part) entries keeps.kept)))))
+    (right_leaves snapshot past event (staying out entries) leaves.legal right
+    (let Q : List Entry → Type 0 = AreContents snapshot (event ∷ past) in
+    subst Q (sym lives) (sweep_contents snapshot past tag moment gone entries leaves.contents apart listed))
+    few
+    (made_more (number_after snapshot past) (staying out entries)
+    (made_staying (number_after snapshot past) out entries (made_of snapshot.rules.capacity (number_after snapshot past) entries leaves.kept))))

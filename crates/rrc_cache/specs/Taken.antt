@@ -1,5 +1,5 @@
 -- What the calls of a part do to its entries, the key touched last first.
-use Rattle.std.specs.Prelude.{◌≡◌, ℕ, ◌∷◌, List, Option}
+use Rattle.std.specs.Prelude.{◌≡◌, ℕ, ◌∷◌, List, Bool, Option}
 use Rattle.std.specs.Option.{option_map}
 use Rattle.std.specs.List.Sorted.{IsStrictlySortedBy}
 use Rattle.rrc_name.specs.declared.slot.Slot.{Slot}
@@ -10,6 +10,7 @@ use Rattle.rrc_history.specs.declared.snapshot.Entry.{Entry}
 use Rattle.rrc_history.specs.Fits.{OfferOf}
 use Rattle.rrc_history.specs.Asked.{AskOf}
 use Rattle.rrc_history.specs.declared.event.Reply.{Reply}
+use Rattle.rrc_history.specs.Auditing.{reply_eq}
 use Rattle.rrc_history.specs.Entries.{found_among, goes, kept_after, keys_of_dead, staying}
 use Rattle.rrc_history.specs.Judged.{verdict, reply_by, answering, key_in}
 use Rattle.rrc_history.specs.Past.{entry_at, is_among, key_at}
@@ -34,6 +35,16 @@ HasName name entry = entry.key.name ≡ name
 pub record IsAnswered (stale : ℕ) (ask : AskOf) (entries : List Entry) (reply : Reply) (slot : Option Slot) : Type 0 where
   pub answered : reply ≡ reply_by stale (found_among entries ask) ask
   pub from : option_map (key_at ask) slot ≡ key_in (answering (found_among entries ask) ask reply)
+
+-- the slot of the entry that answers, if any does
+abbrev pub slot_of : Option Entry → Option Slot
+slot_of answering = option_map (λ entry. entry.key.slot) answering
+
+-- an ask was answered, and it is told whether that is this reply
+pub record IsCompared (stale : ℕ) (ask : AskOf) (entries : List Entry) (reply : Reply) (same : Bool) (slot : Option Slot) : Type 0 where
+  pub answer : Reply
+  pub answered : IsAnswered stale ask entries answer slot
+  pub told : same ≡ reply_eq answer reply
 
 -- the keys of the dead entries, in the order of keys
 pub record AreDeadKeys (stale moment : ℕ) (entries : List Entry) (keys : List KeyOf) : Type 0 where

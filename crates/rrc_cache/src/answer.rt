@@ -4,7 +4,7 @@ ghost use Rattle.std.specs.Option.{option_copied, option_map};
 ghost use Rattle.rrc_history.specs.Entries.{answered_from};
 ghost use Rattle.rrc_history.specs.Past.{key_at};
 ghost use Rattle.rrc_history.specs.Lives.{IsTimely};
-ghost use Rattle.rrc_cache.specs.Taken.{IsAnswered, HasName};
+ghost use Rattle.rrc_cache.specs.Taken.{IsAnswered, IsCompared, HasName, slot_of};
 
 use crate::store::Store;
 use crate::{found, judge};
@@ -29,6 +29,15 @@ fn kept_ask(ask: &Ask, answering: Option<&Entry>) -> Result<Ask, AllocError>
     }
 }
 
+fn slot_of(answering: Option<&Entry>) -> Option<Slot>
+    ensures { result ≡ slot_of (option_copied answering.entry) }
+{
+    match answering {
+        Some(entry) => Some(entry.key.slot),
+        None => None,
+    }
+}
+
 /// What an ask is answered, the ask as its event is to keep it, and the slot of the entry that answers.
 pub(crate) fn answer(
     store: &Store,
@@ -41,11 +50,21 @@ pub(crate) fn answer(
     ensures asked { IfOk result (λ told. told.1 ≡ ask.now) }
 {
     let (reply, answering) = judge::judge(store, ask, stale);
-    let slot = match answering {
-        Some(entry) => Some(entry.key.slot),
-        None => None,
-    };
-    Ok((reply.to_owned()?, kept_ask(ask, answering)?, slot))
+    Ok((
+        reply.to_owned()?,
+        kept_ask(ask, answering)?,
+        slot_of(answering),
+    ))
+}
+
+/// Whether an ask is answered just this reply, and the slot of the entry that answers. It takes no memory.
+pub(crate) fn compare(store: &Store, ask: &Ask, stale: u64, reply: &Reply) -> (bool, Option<Slot>)
+    requires stale { stale ≤ 604800 }
+    requires timely { AllByRecursion IsTimely store.now.entries }
+    ensures { IsCompared stale ask.now store.now.entries reply.now result.0 result.1 }
+{
+    let (answered, answering) = judge::judge(store, ask, stale);
+    (answered.is(reply), slot_of(answering))
 }
 
 /// Moves the entry that gave an answer to the front. It takes no memory.

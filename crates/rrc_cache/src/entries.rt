@@ -1,9 +1,9 @@
-ghost use Rattle.std.specs.Prelude.{◌≡◌, ◌≤◌, length, IfOk, IfErr, OnErr};
+ghost use Rattle.std.specs.Prelude.{◌≡◌, ◌≤◌, length, true, IfOk, OnErr};
+ghost use Rattle.rrc_history.specs.Fits.{fits};
 ghost use Rattle.rrc_history.specs.Past.{entry_of};
 ghost use Rattle.rrc_cache.specs.Taken.{IsPlaced, IsTaken};
 
 use crate::judge;
-use crate::refusal::Refusal;
 use crate::store::Store;
 use rrc_history::{Entry, Offer, Outcome};
 use rrc_name::{Key, KeyRef};
@@ -46,12 +46,13 @@ pub(crate) fn take(
     offer: &Offer,
     number: u64,
     capacity: u64,
-) -> Result<(Outcome, Option<Key>), Refusal>
+) -> Result<(Outcome, Option<Key>), AllocError>
     requires some { 1 ≤ capacity }
     requires room { length store.old.entries ≤ capacity }
     ensures ok { IfOk result (λ told. IsTaken capacity number offer.now store.old.entries told.0 told.1 store.new.entries) }
+    ensures fit { fits offer.now.key offer.now.body ≡ true }
     ensures stale { store.new.stale ≡ store.old.stale }
-    ensures err { IfErr result (λ refusal. (refusal ≡ Refusal.Memory) × (store.new ≡ store.old)) }
+    ensures err { OnErr result (store.new ≡ store.old) }
 {
     let key = KeyRef::of(&offer.key);
     let outcome = judge::verdict(store.get(key), offer);

@@ -8,6 +8,7 @@ mod entries;
 mod found;
 mod judge;
 mod part;
+mod rechecks;
 mod refusal;
 mod reply;
 mod seeded;
@@ -17,6 +18,7 @@ mod sweep;
 mod tests;
 
 pub use part::Part;
+pub use rechecks::{RecheckFault, recheck, recheck_seeded};
 pub use refusal::Refusal;
 pub use reply::{ReplyRef, SetRef, SoaRef};
 pub use rrc_history::LAST_MOMENT;

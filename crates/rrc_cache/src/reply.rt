@@ -1,4 +1,5 @@
 ghost use Rattle.std.specs.Prelude.{◌≡◌, IfOk};
+ghost use Rattle.rrc_history.specs.Auditing.{set_eq, soa_eq, moment_eq, reply_eq};
 ghost use Rattle.rrc_cache.specs.Reply.{reply_in};
 
 use rrc_history::{Reply, RrSet, Soa};
@@ -51,7 +52,73 @@ impl SoaRef<'_> {
     }
 }
 
+fn is_same_moment(moment: Option<u64>, other: Option<u64>) -> bool
+    ensures { result ≡ moment_eq moment other }
+{
+    match (moment, other) {
+        (None, None) => true,
+        (Some(moment), Some(other)) => moment == other,
+        _ => false,
+    }
+}
+
+impl SetRef<'_> {
+    fn is(self, set: &RrSet) -> bool
+        ensures { result ≡ set_eq (record { owner = self.entry.owner.now; items = self.entry.items.now }) set.now }
+    {
+        *self.owner == set.owner && *self.items == set.items
+    }
+}
+
+impl SoaRef<'_> {
+    fn is(self, soa: &Soa) -> bool
+        ensures { result ≡ soa_eq (record { owner = self.entry.owner.now; octets = self.entry.octets.now }) soa.now }
+    {
+        *self.owner == soa.owner && *self.octets == soa.octets
+    }
+}
+
 impl ReplyRef<'_> {
+    /// Whether it is just this reply, octet for octet.
+    pub(crate) fn is(self, reply: &Reply) -> bool
+        ensures { result ≡ reply_eq (reply_in self.entry) reply.now }
+    {
+        match (self, reply) {
+            (
+                ReplyRef::Fresh { set, left },
+                Reply::Fresh {
+                    set: other,
+                    left: other_left,
+                },
+            ) => set.is(other) && left == *other_left,
+            (
+                ReplyRef::Stale { set, left },
+                Reply::Stale {
+                    set: other,
+                    left: other_left,
+                },
+            ) => set.is(other) && left == *other_left,
+            (
+                ReplyRef::NoData { soa, left },
+                Reply::NoData {
+                    soa: other,
+                    left: other_left,
+                },
+            ) => soa.is(other) && left == *other_left,
+            (
+                ReplyRef::NxDomain { soa, left },
+                Reply::NxDomain {
+                    soa: other,
+                    left: other_left,
+                },
+            ) => soa.is(other) && left == *other_left,
+            (ReplyRef::Miss { retry_from }, Reply::Miss { retry_from: other }) => {
+                is_same_moment(retry_from, *other)
+            }
+            _ => false,
+        }
+    }
+
     /// The reply with data of its own.
     pub fn to_owned(self) -> Result<Reply, AllocError>
         ensures { IfOk result (λ reply. reply ≡ reply_in self.entry) }

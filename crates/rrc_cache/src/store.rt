@@ -4,12 +4,13 @@ ghost use Rattle.rrc_name.specs.Key.{KeyOf};
 ghost use Rattle.rrc_name.specs.KeyRef.{key_of};
 ghost use Rattle.rrc_history.specs.Lives.{LAST_MOMENT};
 ghost use Rattle.rrc_history.specs.Past.{entry_at, is_among, last_key};
+ghost use Rattle.rrc_history.specs.Sound.{AreSound};
 ghost use Rattle.rrc_history.specs.Entries.{AreApart, goes, keys_of_dead, promoted, staying};
 
 use crate::deaths::{Death, Deaths};
 use crate::seeded::Seeded;
 use lru::LruCache;
-use rrc_history::Entry;
+use rrc_history::{Entry, Snapshot};
 use rrc_name::{Key, KeyRef, Sequence};
 use std::alloc::{AllocError, Global};
 use std::marker::Model;
@@ -46,6 +47,25 @@ impl Store {
             deaths: Deaths::new(alloc),
             stale,
         })
+    }
+
+    /// The entries of a snapshot, in their order, with keys hashed behind the seed.
+    pub(crate) fn of(
+        alloc: Global,
+        seed: [u8; 16],
+        snapshot: &Snapshot,
+    ) -> Result<Store, AllocError>
+        ensures ok { IfOk result (λ store. store ≡ record { stale = snapshot.now.rules.stale; entries = snapshot.now.entries }) }
+        ensures sound { AreSound snapshot.now.rules.capacity snapshot.now.first snapshot.now.entries }
+    {
+        let rules = snapshot.rules();
+        let entries = snapshot.entries.as_slice();
+        let mut store = Store::new(alloc, seed, rules.stale)?;
+        // The last one first, since each is put in front.
+        for place in (0..entries.len()).rev() {
+            store.put(entries[place].clone()?)?;
+        }
+        Ok(store)
     }
 
     /// How many entries there are. No two have the same key.

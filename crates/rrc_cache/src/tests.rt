@@ -3,6 +3,7 @@ mod eviction;
 mod limits;
 mod negative;
 mod owners;
+mod rechecks;
 mod sweeps;
 
 use crate::part::Part;

@@ -1,12 +1,11 @@
 -- An audit's test of an event decides whether it is right, and its count of keys goes on.
-use Rattle.std.specs.Prelude.{◌≡◌, ℕ, ◌+◌, ◌-◌, ◌<◌, ◌≤◌, ◌^◌, List, [], ◌∷◌, ◌++◌, length, reverse, Bool, true, false, ◌&&◌, nat_lt, nat_le, Option, Some, None}
+use Rattle.std.specs.Prelude.{◌≡◌, ℕ, ◌+◌, ◌-◌, ◌<◌, ◌≤◌, ◌^◌, List, [], ◌∷◌, ◌++◌, length, reverse, Bool, true, false, ◌&&◌, nat_lt, nat_le, Option}
 use Rattle.std.specs.Bool.{Decides}
-use Rattle.std.specs.List.Sorted.{IsStrictlySortedBy}
 use Rattle.std.proofs.Common.{refl, sym, ap, subst, ◌∙◌, arith, take, drop, get_or}
 use Rattle.std.proofs.lemmas.Bool.{and_from, and_parts}
 use Rattle.std.proofs.lemmas.Bool.Decides.{nat_tests}
 use Rattle.std.proofs.lemmas.List.{length-take-le}
-use Rattle.rrc_name.specs.Key.{KeyOf, key_order}
+use Rattle.rrc_name.specs.Key.{KeyOf}
 use Rattle.rrc_history.specs.declared.event.Event.{Event}
 use Rattle.rrc_history.specs.declared.event.Event.TheVariants.{Offered, Asked, Swept}
 use Rattle.rrc_history.specs.declared.event.Outcome.{Outcome}
@@ -18,7 +17,7 @@ use Rattle.rrc_history.specs.Asked.{AskOf}
 use Rattle.rrc_history.specs.Fits.{OfferOf}
 use Rattle.rrc_history.specs.Judged.{verdict, answering, key_in}
 use Rattle.rrc_history.specs.Lives.{LAST_MOMENT}
-use Rattle.rrc_history.specs.Past.{held, entry_at, is_among, number_after, reply_to, AreContents}
+use Rattle.rrc_history.specs.Past.{held, entry_at, is_among, number_after, reply_to}
 use Rattle.rrc_history.specs.Right.{evicted_by, is_swept, IsRightOffer, IsRightAsk, IsRightSweep, IsRightThen, IsRight, IsLegal}
 use Rattle.rrc_history.specs.Entries.{AreApart, kept_after, found_among, answered_from, living}
 use Rattle.rrc_history.specs.Sound.{AreSound}
@@ -30,7 +29,7 @@ use Rattle.rrc_history.specs.lemmas.OfferLaws.{offer_contents, length-kept_after
 use Rattle.rrc_history.specs.lemmas.AskLaws.{ask_contents}
 use Rattle.rrc_history.specs.lemmas.SweepLaws.{sweep_contents}
 use Rattle.rrc_history.specs.lemmas.Openings.{opening}
-use Rattle.rrc_history.proofs.Answered.{outcome_eq-Decides, reply_eq-Decides}
+use Rattle.rrc_history.specs.lemmas.ReplyLaws.{outcome_eq-Decides, reply_eq-Decides}
 use Rattle.rrc_history.proofs.Evicting.{evicts_Decides}
 use Rattle.rrc_history.proofs.Removing.{in_order_Decides, dead_Decides}
 use Rattle.rrc_history.proofs.Walking.{reverse_more, split_at}

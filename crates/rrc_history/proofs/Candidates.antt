@@ -1,5 +1,5 @@
 -- Every key that is held is one of the snapshot's or of an offer's.
-use Rattle.std.specs.Prelude.{◌≡◌, ℕ, List, [], ◌∷◌, ◌++◌, reverse, Bool, true, false, ◌||◌, if◌then◌else◌, Option, Some, None}
+use Rattle.std.specs.Prelude.{◌≡◌, ℕ, List, [], ◌∷◌, reverse, Bool, true, false, ◌||◌, if◌then◌else◌, Option, None}
 use Rattle.std.proofs.Common.{refl, sym, ap, ◌∙◌}
 use Rattle.std.proofs.lemmas.List.{reverse-append}
 use Rattle.std.proofs.lemmas.List.Folds.{list_any-append}
@@ -14,7 +14,7 @@ use Rattle.rrc_history.specs.declared.event.Outcome.TheVariants.{Kept, Cleared, 
 use Rattle.rrc_history.specs.declared.snapshot.Entry.{Entry}
 use Rattle.rrc_history.specs.declared.snapshot.Snapshot.{Snapshot}
 use Rattle.rrc_history.specs.Fits.{OfferOf}
-use Rattle.rrc_history.specs.Past.{held, held_after_offer, entry_at, entry_of, is_among, is_evicted, number_after}
+use Rattle.rrc_history.specs.Past.{held, held_after_offer, entry_at, is_among, is_evicted, number_after}
 use Rattle.rrc_history.specs.Auditing.{is_offered, is_somewhere}
 
 -- ---- tests of lists

@@ -1,11 +1,10 @@
 -- How many keys are held after an event.
-use Rattle.std.specs.Prelude.{◌≡◌, ℕ, ◌+◌, ◌-◌, ◌≤◌, List, [], ◌∷◌, length, Bool, true, false, not, ◌||◌, ◌==◌, Option, Some, None, filter, map}
-use Rattle.std.specs.List.{AllByRecursion, IsDistinct, list_any}
+use Rattle.std.specs.Prelude.{◌≡◌, ℕ, ◌+◌, ◌-◌, List, [], ◌∷◌, length, Bool, true, false, ◌||◌, ◌==◌, Option, Some, None, filter}
+use Rattle.std.specs.List.{AllByRecursion, IsDistinct}
 use Rattle.std.specs.List.Sorted.{IsStrictlySortedBy}
 use Rattle.std.specs.declared.cmp.Ordering.TheVariants.{Less}
 use Rattle.std.specs.Ordering.{is_eq}
 use Rattle.std.proofs.Common.{refl, sym, ap, subst, ◌∙◌, arith}
-use Rattle.std.proofs.lemmas.Bool.Decides.{nat_tests}
 use Rattle.std.proofs.lemmas.Map.Made.{length-from_same_keys}
 use Rattle.rrc_name.specs.Key.{KeyOf, key_eq, key_order}
 use Rattle.rrc_name.specs.lemmas.KeyLaws.{key_eq-laws, key_eq-same, key_order-ties}
@@ -14,9 +13,9 @@ use Rattle.rrc_history.specs.declared.event.Outcome.TheVariants.{Kept, Cleared, 
 use Rattle.rrc_history.specs.declared.snapshot.Entry.{Entry}
 use Rattle.rrc_history.specs.Fits.{OfferOf}
 use Rattle.rrc_history.specs.Lives.{is_dead}
-use Rattle.rrc_history.specs.Past.{entry_at, entry_of, is_among, is_evicted, last_key}
+use Rattle.rrc_history.specs.Past.{entry_at, is_among, last_key}
 use Rattle.rrc_history.specs.Right.{evicted_by, is_swept}
-use Rattle.rrc_history.specs.Entries.{LacksKey, AreApart, staying, goes, kept_after, promoted, in_front, answered_from, living, keys_of_dead}
+use Rattle.rrc_history.specs.Entries.{LacksKey, AreApart, staying, goes, kept_after, in_front, answered_from, living, keys_of_dead}
 use Rattle.rrc_history.specs.lemmas.SweepLaws.{keys_of_dead-found}
 use Rattle.rrc_history.specs.Auditing.{is_there, present_after_offer}
 use Rattle.rrc_history.proofs.Evicting.{last_there}

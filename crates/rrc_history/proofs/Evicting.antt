@@ -11,9 +11,9 @@ use Rattle.rrc_history.specs.declared.event.Outcome.{Outcome}
 use Rattle.rrc_history.specs.declared.event.Outcome.TheVariants.{Kept, Cleared, LessTrusted}
 use Rattle.rrc_history.specs.declared.snapshot.Entry.{Entry}
 use Rattle.rrc_history.specs.declared.snapshot.Snapshot.{Snapshot}
-use Rattle.rrc_history.specs.Past.{held, touch, entry_at, FallsBelow, AreContents, last_key, victim, number_after}
+use Rattle.rrc_history.specs.Past.{held, touch, entry_at, FallsBelow, AreContents, last_key, number_after}
 use Rattle.rrc_history.specs.Right.{evicted_by}
-use Rattle.rrc_history.specs.Auditing.{is_there, is_lower, is_least, is_victim, has_to_evict, is_rightly_evicted, is_somewhere}
+use Rattle.rrc_history.specs.Auditing.{is_there, is_lower, is_least, is_victim, is_rightly_evicted, is_somewhere}
 use Rattle.rrc_history.specs.lemmas.OneHistory.{found_below}
 use Rattle.rrc_history.proofs.Candidates.{nowhere_held, passes_nowhere}
 

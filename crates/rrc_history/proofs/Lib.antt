@@ -1,4 +1,3 @@
-pub mod Answered
 pub mod Audited
 pub mod Candidates
 pub mod Counting

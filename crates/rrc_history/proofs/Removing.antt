@@ -1,7 +1,7 @@
 -- Whether a sweep removed what it had to, and lists it in order.
-use Rattle.std.specs.Prelude.{◌≡◌, ℕ, List, [], ◌∷◌, reverse, Bool, true, false, not, ◌&&◌, ◌||◌, Option, Some, None}
+use Rattle.std.specs.Prelude.{◌≡◌, ℕ, List, [], ◌∷◌, reverse, Bool, true, false, not, ◌&&◌, ◌||◌, None}
 use Rattle.std.specs.Bool.{Decides}
-use Rattle.std.specs.List.{AllByRecursion, list_any, list_all}
+use Rattle.std.specs.List.{AllByRecursion, list_all}
 use Rattle.std.specs.List.Sorted.{IsStrictlySortedBy}
 use Rattle.std.specs.declared.cmp.Ordering.{Ordering}
 use Rattle.std.specs.declared.cmp.Ordering.TheVariants.{Less, Equal, Greater}
@@ -10,7 +10,6 @@ use Rattle.std.proofs.lemmas.Bool.{and_from, and_parts}
 use Rattle.rrc_name.specs.Key.{KeyOf, key_eq, key_order}
 use Rattle.rrc_name.specs.lemmas.KeyLaws.{key_eq-laws, key_eq-same, key_order-total}
 use Rattle.rrc_history.specs.declared.event.Event.{Event}
-use Rattle.rrc_history.specs.declared.snapshot.Entry.{Entry}
 use Rattle.rrc_history.specs.declared.snapshot.Snapshot.{Snapshot}
 use Rattle.rrc_history.specs.Past.{held, is_among}
 use Rattle.rrc_history.specs.Right.{is_swept}

@@ -1,11 +1,10 @@
 -- How an audit looks at what was written: walks over the events, and tests of one event.
 use Rattle.std.specs.Prelude.{◌≡◌, ℕ, ◌+◌, ◌-◌, ◌^◌, ◌≤◌, List, [], ◌∷◌, length, Bool, true, false, not, ◌&&◌, ◌||◌, ◌==◌, nat_eq, nat_lt, nat_le, if◌then◌else◌, Option, Some, None}
 use Rattle.std.specs.List.{list_any, list_all}
-use Rattle.std.specs.Option.{option_map}
 use Rattle.std.specs.Cmp.Lexicographic.{pointwise}
 use Rattle.std.specs.declared.cmp.Ordering.{Ordering}
 use Rattle.std.specs.declared.cmp.Ordering.TheVariants.{Less, Equal, Greater}
-use Rattle.rrc_name.specs.Key.{KeyOf, key_eq, key_order}
+use Rattle.rrc_name.specs.Key.{KeyOf, key_order}
 use Rattle.rrc_history.specs.declared.event.Event.{Event}
 use Rattle.rrc_history.specs.declared.event.Event.TheVariants.{Offered, Asked, Swept}
 use Rattle.rrc_history.specs.declared.event.Outcome.{Outcome}
@@ -20,7 +19,7 @@ use Rattle.rrc_history.specs.Asked.{AskOf}
 use Rattle.rrc_history.specs.Fits.{OfferOf}
 use Rattle.rrc_history.specs.Lives.{LAST_MOMENT}
 use Rattle.rrc_history.specs.Judged.{verdict}
-use Rattle.rrc_history.specs.Past.{held, held_after_offer, reply_to, is_among, is_evicted, number_after, AreContents, touch}
+use Rattle.rrc_history.specs.Past.{held, held_after_offer, reply_to, is_among, number_after, AreContents, touch}
 use Rattle.rrc_history.specs.Right.{is_swept}
 
 -- what a key holds after an event of a number that held this before

@@ -12,5 +12,6 @@ pub mod LawsHold
 pub mod OneHistory
 pub mod Chained
 pub mod SameLaws
+pub mod ReplyLaws
 pub mod SnapshotLaws
 pub mod Openings

@@ -196,7 +196,7 @@ one_offer snapshot past offer outcome other evicted other_evicted right also =
     )
 
 -- what is right after a past is right in one way
-one_event : (snapshot : Snapshot) (past : List Event) (event other : Event) → IsRightThen snapshot past event → IsRightThen snapshot past other → IsSameCall event other → event ≡ other
+pub one_event : (snapshot : Snapshot) (past : List Event) (event other : Event) → IsRightThen snapshot past event → IsRightThen snapshot past other → IsSameCall event other → event ≡ other
 one_event snapshot past (Offered outcome tag offer evicted) (Offered other_outcome other_tag other other_evicted) right also same =
     let same_offer : IsRightOffer snapshot past offer other_outcome other_evicted = subst (λ o. IsRightOffer snapshot past o other_outcome other_evicted) (sym same.1) also in
     let told = one_offer snapshot past offer outcome other_outcome evicted other_evicted right same_offer in

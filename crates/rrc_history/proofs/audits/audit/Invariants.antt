@@ -1,4 +1,4 @@
-use Rattle.std.proofs.Common.{◌≡◌, take}
+use Rattle.std.proofs.Common.{take}
 use Rattle.std.specs.Prelude.{reverse}
 use Rattle.rrc_history.proofs.Audited.{IsAudited}
 use Rattle.rrc_history.proofs.audits.audit.Given as goal

@@ -7,8 +7,7 @@ use Rattle.rrc_history.specs.declared.event.Event.TheVariants.{Swept}
 use Rattle.rrc_cache.specs.Pairs.{StoreOf}
 use Rattle.rrc_cache.specs.Part.{PartOf, IsOpen}
 use Rattle.rrc_cache.specs.Taken.{AreDeadKeys}
-use Rattle.rrc_cache.proofs.Keeping.{IsDone}
-use Rattle.rrc_cache.proofs.Sweeping.{sweep_done}
+use Rattle.rrc_cache.proofs.Keeping.{IsDone, call_done}
 use Rattle.rrc_cache.proofs.part.Part.sweep.Goals as goal
 
 -- the part as it was, and as it is
@@ -32,7 +31,7 @@ done c =
     ap (λ (store : StoreOf). store.entries) c.remove.ensures ∙ ap (λ (keys : List KeyOf). staying (λ key. is_among key keys) c.self.inside.store.entries) c.as_slice.ensures.value in
     let P : List Event → Type 0 = λ events. IsDone (before c) (record { number = c.self.inside.number; snapshot = c.self.inside.snapshot; events = events }) (event c) c.remove.new.store.entries in
     subst P (sym written)
-    (sweep_done (before c) c.self.inside.store.entries c.args.tag c.args.moment c.in_ok-gone.gone.items c.remove.new.store.entries c.self.invariant.keeps open' dead removed)
+    (call_done (before c) c.self.inside.store.entries (event c) c.remove.new.store.entries c.self.invariant.keeps open' (dead, removed))
 
 pub invariant_of-self-2 : goal.invariant_of-self-2
 invariant_of-self-2 c = record { keeps = (done c).keeps; stale = ap (λ (store : StoreOf). store.stale) c.remove.ensures ∙ c.self.invariant.stale }

@@ -1,0 +1,23 @@
+// Numbers in no order that shows, the same in each run.
+
+/// What makes the numbers: a linear congruential generator.
+#[derive(Drop)]
+pub struct Numbers {
+    state: u64,
+}
+
+impl Numbers {
+    pub fn new() -> Numbers {
+        Numbers { state: 1 }
+    }
+
+    /// The next number below the limit. `None` where the limit is 0.
+    pub fn below(&mut self, limit: u64) -> Option<u64> {
+        self.state = self
+            .state
+            .wrapping_mul(6_364_136_223_846_793_005)
+            .wrapping_add(1_442_695_040_888_963_407);
+        // The low bits of such numbers repeat soon.
+        (self.state >> 33).checked_rem(limit)
+    }
+}
