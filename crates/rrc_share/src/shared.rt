@@ -19,13 +19,12 @@ type Locked = CachePadded<Mutex<Shelf>>;
 /// there are.
 ///
 /// - A call takes one lock, that of one part, and never a second one beside it. In which part a name lies is worked out before.
-/// - The lock is held for one call on the shelf, the one that the method names, and for nothing else: that takes as long as the call
-///   on a part does, and where it closes a chapter as long as there are keys. What it makes room for, and what it drops, it does
-///   under the lock.
+/// - The lock is held for one call on the shelf, the one that the method names, and for nothing else: as long as that call on a part
+///   takes, and where it closes a chapter as long as there are keys. It makes its room and drops what goes under the lock.
 /// - An offer is made before, by the caller. An answer shares its data with what is kept, so that under a lock no name and no data
 ///   are copied, and it is read after the lock is let go.
 /// - What a call does under its lock the contract of the call on the shelf says. Here only that is said which holds of every
-///   shelf, since no clause can name what another thread left there. A call that is to wait for a lock is not proved to get it.
+///   shelf, since no clause can name what another thread left there. Nor is it proved that a call which waits for a lock gets it.
 #[derive(Drop)]
 pub struct SharedCache {
     locks: Vec<Locked>,
@@ -94,6 +93,7 @@ impl SharedCache {
         SharedCache::made(alloc, parts, rules, Some(seed))
     }
 
+    /// As many empty parts under their locks, and room for their shelves.
     fn made(
         alloc: Global,
         parts: usize,
