@@ -1,14 +1,19 @@
 // The calls whose time is taken.
 
 use crate::made::{PickedAsk, PickedOffer, offer_a_tenth};
+use crate::numbers::Numbers;
 use anyhow::{Context, Result};
 use rrc_cache::{Part, ReplyRef};
-use rrc_history::{Event, Outcome, Reply, Tag};
+use rrc_history::{Ask, Event, Outcome, Reply, Tag};
+use rrc_share::{Shelf, on_shelf_ask, on_shelf_checkpoint};
 use std::alloc::Global;
 use std::time::{CpuClock, Duration};
 
 /// The tag of each event, which tells nothing here.
 pub const TAG: Tag = Tag { line: 0, place: 0 };
+
+/// After how many asks a shelf's chapter is closed and let go.
+const ASKS_OF_A_CHAPTER: u32 = 4096;
 
 /// What came of the calls.
 #[derive(Clone, Copy)]
@@ -68,6 +73,25 @@ pub fn would_answer_all<R: CpuClock>(
         let part = parts.get(picked.part).context("no such part")?;
         let reply = part.would_answer(picked.ask);
         counts.count(!matches!(reply, ReplyRef::Miss { .. }));
+    }
+    let time = rt.thread_cpu_time()?.saturating_sub(before);
+    Ok(Done { counts, time })
+}
+
+/// Asks a shelf so often, in no order that shows, and lets each chapter go once it is closed.
+pub fn ask_shelf<R: CpuClock>(rt: &R, shelf: &mut Shelf, asks: &[Ask], calls: u32) -> Result<Done> {
+    let mut counts = NONE;
+    let mut numbers = Numbers::new();
+    let before = rt.thread_cpu_time()?;
+    for call in 0..calls {
+        let place = numbers.below(asks.len() as u64).context("no questions")?;
+        let ask = asks.get(place as usize).context("no such question")?;
+        let reply = on_shelf_ask(shelf, TAG, ask)?;
+        counts.count(!matches!(reply, Reply::Miss { .. }));
+        if call % ASKS_OF_A_CHAPTER == ASKS_OF_A_CHAPTER - 1 {
+            on_shelf_checkpoint(shelf)?;
+            drop(shelf.take_chapters());
+        }
     }
     let time = rt.thread_cpu_time()?.saturating_sub(before);
     Ok(Done { counts, time })

@@ -1,7 +1,8 @@
 //! Calls parts of the cache many times and prints what it counted, and on standard error the nanoseconds of processor time that
-//! the calls took, for a script that compares: `bench_cache TASK KEYS CALLS [PARTS]`, where TASK is `hit`, `miss`, `would`, `room`,
-//! `replace`, `evict`, `sweep` or `load`. KEYS is how many each part holds. A call of `sweep` is one of the first part, after a
-//! tenth of its keys died; of `load`, one load from a random place of 8 MiB. Without arguments it does a few of each.
+//! the calls took, for a script that compares: `bench_cache TASK KEYS CALLS [PARTS]`, where TASK is `hit`, `shelf`, `miss`, `would`,
+//! `room`, `replace`, `evict`, `sweep` or `load`. KEYS is how many each part holds. A call of `shelf` is an ask of the first part on a
+//! shelf that lets a chapter go after each 4,096; of `sweep`, one of the first part, after a tenth of its keys died; of `load`, one
+//! load from a random place of 8 MiB. Without arguments it does a few of each.
 #![tactic(auto)]
 
 mod calls;
@@ -9,10 +10,12 @@ mod made;
 mod numbers;
 
 use crate::calls::{
-    Counts, Done, ask_all, has_room_all, load_all, offer_all, sweep_all, would_answer_all,
+    Counts, Done, ask_all, ask_shelf, has_room_all, load_all, offer_all, sweep_all,
+    would_answer_all,
 };
 use crate::made::{asks, filled, offers_of_absent, offers_of_held, picked, places};
 use anyhow::{Context, Result, bail};
+use rrc_share::Shelf;
 use std::alloc::Global;
 use std::env;
 use std::rt::Env;
@@ -63,6 +66,13 @@ fn swept<R: CpuClock>(rt: &R, alloc: Global, task: &Task<'_>) -> Result<Done> {
     sweep_all(rt, alloc, part, task.keys, task.calls)
 }
 
+fn shelved<R: CpuClock>(rt: &R, alloc: Global, task: &Task<'_>) -> Result<Done> {
+    let part = filled(alloc, 1, task.keys)?.pop().context("no part")?;
+    let asks = asks(alloc, 0, u64::from(task.keys))?;
+    let mut shelf = Shelf::new(alloc, part);
+    ask_shelf(rt, &mut shelf, asks.as_slice(), task.calls)
+}
+
 fn done<R: CpuClock>(rt: &R, alloc: Global, task: &Task<'_>) -> Result<Done> {
     match task.name {
         "hit" | "would" => asked(rt, alloc, task, 0),
@@ -74,8 +84,9 @@ fn done<R: CpuClock>(rt: &R, alloc: Global, task: &Task<'_>) -> Result<Done> {
         ),
         "replace" | "evict" => offered(rt, alloc, task),
         "sweep" => swept(rt, alloc, task),
+        "shelf" => shelved(rt, alloc, task),
         "load" => load_all(rt, places(alloc)?.as_slice(), task.calls),
-        _ => bail!("it does hit, miss, would, room, replace, evict, sweep or load"),
+        _ => bail!("it does hit, shelf, miss, would, room, replace, evict, sweep or load"),
     }
 }
 
@@ -106,7 +117,7 @@ fn run<R: Env + Print + Eprint + Alloc<A = Global> + CpuClock>(rt: &R) -> Result
     let _program = args.next();
     let Some(name) = args.next() else {
         for name in [
-            "hit", "miss", "would", "room", "replace", "evict", "sweep", "load",
+            "hit", "shelf", "miss", "would", "room", "replace", "evict", "sweep", "load",
         ] {
             let task = Task {
                 name,

@@ -5,7 +5,7 @@ use crate::reply::ReplyRef;
 use crate::store::Store;
 use crate::{answer, closing, entries, judge, sweep};
 use rrc_history::{Ask, Chapter, Event, LAST_MOMENT, Offer, Outcome, Reply, Rules, Snapshot, Tag};
-use rrc_name::Sequence;
+use rrc_name::{Sequence, Shared};
 use std::alloc::Global;
 use std::marker::Model;
 use std::mem;
@@ -21,7 +21,8 @@ pub(crate) const KNOWN_SEED: [u8; 16] = [0; 16];
 #[derive(Debug, Drop)]
 pub struct Part {
     number: u64,
-    snapshot: Snapshot,
+    /// What the part held when the chapter began. The chapter before ends with it, and shares it.
+    snapshot: Shared<Snapshot>,
     events: Vec<Event>,
     /// What is kept, the key touched last first.
     store: Store,
@@ -63,11 +64,7 @@ impl Part {
     {
         Ok(Part {
             number: 1,
-            snapshot: Snapshot {
-                rules,
-                first: 0,
-                entries: Sequence::new(alloc),
-            },
+            snapshot: closing::nothing(alloc, rules)?,
             events: Vec::new(alloc),
             store: Store::new(alloc, seed, rules.stale)?,
         })
@@ -192,7 +189,7 @@ impl Part {
         let alloc = *self.events.allocator();
         let (rules, first) = (self.snapshot.rules(), self.next_number());
         let closing = closing::closing(alloc, &self.store, rules, first)?;
-        let opening = closing::closing(alloc, &self.store, rules, first)?;
+        let opening = closing.clone()?;
         let number = self.number;
         self.number = number + 1;
         Ok(Chapter {

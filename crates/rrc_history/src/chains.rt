@@ -7,7 +7,7 @@ ghost use Rattle.rrc_history.specs.WholeLaws.{AllKeepLaws};
 use crate::chapter::Chapter;
 use crate::event::Event;
 use crate::snapshot::Snapshot;
-use rrc_name::Sequence;
+use rrc_name::{Sequence, Shared};
 use std::alloc::{AllocError, Global};
 use std::marker::Model;
 use std::vec::IntoIter;
@@ -16,9 +16,9 @@ use thiserror::Error;
 /// A history of a part's: the snapshot that it began with, the events since, the oldest first, and the snapshot that they lead to.
 #[derive(Debug, Drop)]
 pub struct Whole {
-    pub snapshot: Snapshot,
+    pub snapshot: Shared<Snapshot>,
     pub events: Sequence<Event>,
-    pub closing: Snapshot,
+    pub closing: Shared<Snapshot>,
 }
 
 impl Model for Whole {

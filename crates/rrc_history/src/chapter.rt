@@ -3,17 +3,17 @@ ghost use Rattle.rrc_history.specs.Chapters.{LeadTo};
 
 use crate::event::Event;
 use crate::snapshot::Snapshot;
-use rrc_name::Sequence;
+use rrc_name::{Sequence, Shared};
 use std::marker::Model;
 
 /// A piece of a part's history that is closed: the snapshot that it began with, the events since, the oldest first, and the
-/// snapshot that they lead to. Its number is below 2^62.
+/// snapshot that they lead to, which the next chapter begins with: both share it. Its number is below 2^62.
 #[derive(Debug, Drop)]
 pub struct Chapter {
     pub number: u64,
-    pub snapshot: Snapshot,
+    pub snapshot: Shared<Snapshot>,
     pub events: Sequence<Event>,
-    pub closing: Snapshot,
+    pub closing: Shared<Snapshot>,
 }
 
 impl Model for Chapter {

@@ -1,4 +1,5 @@
 pub mod OfferMoments
+pub mod FewOffers
 pub mod CallLemmas
 pub mod ReplayLemmas
 pub mod AnswersLaw

@@ -1,5 +1,5 @@
 -- What the lines of a trace get from the cache of one thread.
-use Rattle.std.specs.Prelude.{◌≡◌, ℕ, ◌+◌, ◌<◌, ◌≤◌, List, [], ◌∷◌, ◌++◌, length, reverse, take, slice_get, Some}
+use Rattle.std.specs.Prelude.{◌≡◌, ℕ, ◌+◌, List, [], ◌∷◌, ◌++◌, length, reverse}
 use Rattle.rrc_name.specs.Key.{KeyOf}
 use Rattle.rrc_history.specs.declared.event.Event.{Event}
 use Rattle.rrc_history.specs.declared.event.Event.TheVariants.{Offered, Asked, Swept}
@@ -10,14 +10,12 @@ use Rattle.rrc_history.specs.Fits.{OfferOf}
 use Rattle.rrc_history.specs.WholeLaws.{AllKeepLaws}
 use Rattle.rrc_history.specs.Right.{IsLegal}
 use Rattle.rrc_wire.specs.Message.{FirstFault}
-use Rattle.rrc_trace.specs.declared.fault.ReplayFault.{ReplayFault}
-use Rattle.rrc_trace.specs.declared.fault.ReplayFault.TheVariants.{BadLine, TooManyLines, Read, Write, Memory, Spent}
 use Rattle.rrc_trace.specs.declared.line.Line.{Line}
 use Rattle.rrc_trace.specs.declared.line.Line.TheVariants as lines
 use Rattle.rrc_trace.specs.declared.answer.Answer.{Answer}
 use Rattle.rrc_trace.specs.declared.answer.Answer.TheVariants as answers
 use Rattle.rrc_trace.specs.declared.answer.Told.{Told}
-use Rattle.rrc_replay.specs.Replay.{offer_of, failure_of, Brings, HasOperations}
+use Rattle.rrc_replay.specs.Replay.{offer_of, failure_of, Brings}
 
 -- the tag of an operation: the number of its line, and its place among the operations of the line
 abbrev pub tag_at : ℕ → ℕ → Tag
@@ -65,34 +63,13 @@ AreEventsOf number lines answers events = ⊥
 abbrev pub empty_under : Rules → Snapshot
 empty_under rules = record { rules = rules; first = 0; entries = [] }
 
--- what the cache of one thread answers the lines of a trace: their calls make a history of one chapter that is legal, and so keeps
--- the laws
+-- what the cache of one thread answers the lines of a trace: their calls make one history, over all its chapters, that is legal, and
+-- so keeps the laws
 pub record AreAnswers (rules : Rules) (lines : List Line) (answers : List Answer) : Type 0 where
   pub events : List Event
   pub calls : AreEventsOf 0 lines answers events
-  pub few : length events ≤ rules.chapter
   pub legal : IsLegal (empty_under rules) (reverse events)
   pub laws : AllKeepLaws (empty_under rules) (reverse events)
-
--- the line is the first that finds the chapter full: those before it were answered, and their events and its operations are together
--- more than a chapter may have
-pub record IsFirstSpent (rules : Rules) (lines : List Line) (number : ℕ) : Type 0 where
-  pub line : Line
-  pub here : slice_get lines number ≡ Some line
-  pub before : List Answer
-  pub answered : AreAnswers rules (take number lines) before
-  pub operations : ℕ
-  pub has : HasOperations line operations
-  pub full : rules.chapter < length answered.events + operations
-
--- a replay is refused where memory is, or at the first line that finds the chapter full
-abbrev pub IsRefusal : Rules → List Line → ReplayFault → Type 0
-IsRefusal rules lines (BadLine number) = ⊥
-IsRefusal rules lines TooManyLines = ⊥
-IsRefusal rules lines Read = ⊥
-IsRefusal rules lines Write = ⊥
-IsRefusal rules lines Memory = Unit {0}
-IsRefusal rules lines (Spent number) = IsFirstSpent rules lines number
 
 -- the cache of one thread has one list of answers to a trace
 abbrev pub OneListOfAnswers : Type 0

@@ -1,5 +1,5 @@
--- A line of a trace makes calls on a part, one operation each.
-use Rattle.std.specs.Prelude.{◌≡◌, ℕ, ◌-◌, ◌⊎◌, List, length, slice_get, Option, Some, None}
+-- A line of a trace makes calls on a shelf, one operation each.
+use Rattle.std.specs.Prelude.{◌≡◌, ℕ, ◌-◌, List, length, slice_get, Option, Some, None}
 use Rattle.rrc_name.specs.Key.{KeyOf}
 use Rattle.rrc_history.specs.declared.event.Event.{Event}
 use Rattle.rrc_history.specs.declared.event.Event.TheVariants.{Offered, Asked, Swept}
@@ -9,10 +9,8 @@ use Rattle.rrc_history.specs.Fits.{OfferOf}
 use Rattle.rrc_history.specs.declared.body.Body.TheVariants.{Positive, Failure}
 use Rattle.rrc_cache.specs.declared.refusal.Refusal.{Refusal}
 use Rattle.rrc_cache.specs.declared.refusal.Refusal.TheVariants as refusals
-use Rattle.rrc_wire.specs.declared.fault.WireFault.{WireFault}
 use Rattle.rrc_wire.specs.declared.message.Message.{Message}
 use Rattle.rrc_wire.specs.Grammar.{MessageOf}
-use Rattle.rrc_wire.specs.Message.{FirstFault}
 use Rattle.rrc_sets.specs.Life.{life}
 use Rattle.rrc_sets.specs.Offers.{offers_of}
 use Rattle.rrc_trace.specs.declared.fault.ReplayFault.{ReplayFault}
@@ -20,11 +18,9 @@ use Rattle.rrc_trace.specs.declared.fault.ReplayFault.TheVariants as faults
 use Rattle.rrc_trace.specs.declared.line.Put.{Put}
 use Rattle.rrc_trace.specs.declared.line.Failed.{Failed}
 use Rattle.rrc_trace.specs.declared.line.Response.{Response}
-use Rattle.rrc_trace.specs.declared.line.Line.{Line}
-use Rattle.rrc_trace.specs.declared.line.Line.TheVariants as lines
 use Rattle.rrc_replay.specs.Limits.{LIMITS}
 
--- the fault of a line whose call a part refused; no line's moment is too large
+-- the fault of a line whose call was refused; no line's moment is too large
 abbrev pub IsFaultOf : ℕ → Refusal → ReplayFault → Type 0
 IsFaultOf number refusals.HistoryFull fault = fault ≡ faults.Spent number
 IsFaultOf number refusals.MomentTooLarge fault = ⊥
@@ -53,20 +49,6 @@ pub record Brings (response : Response) (offers : List OfferOf) : Type 0 where
   pub message : Message
   pub begins : MessageOf response.octets message
   pub offered : offers ≡ offers_of message response.zone response.moment LIMITS
-
--- a response brings so many offers; it brings none where its octets have a fault
-abbrev pub BringsSoMany : Response → ℕ → Type 0
-BringsSoMany response count =
-    ((offers : List OfferOf) × (Brings response offers × (count ≡ length offers)))
-    ⊎ ((fault : WireFault) × (FirstFault response.octets fault × (count ≡ 0)))
-
--- a line has so many operations: a response one for each of its offers, any other line one
-abbrev pub HasOperations : Line → ℕ → Type 0
-HasOperations (lines.Put put) count = count ≡ 1
-HasOperations (lines.Ask ask) count = count ≡ 1
-HasOperations (lines.Fail failed) count = count ≡ 1
-HasOperations (lines.Response response) count = BringsSoMany response count
-HasOperations (lines.Sweep at) count = count ≡ 1
 
 -- the key that an event evicted
 abbrev pub evicted_in : Event → Option KeyOf

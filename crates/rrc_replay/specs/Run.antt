@@ -6,7 +6,7 @@ use Rattle.rrc_trace.specs.declared.fault.ReplayFault.{ReplayFault}
 use Rattle.rrc_trace.specs.declared.fault.ReplayFault.TheVariants.{BadLine, TooManyLines, Read, Write, Memory, Spent}
 use Rattle.rrc_trace.specs.declared.line.Line.{Line}
 use Rattle.rrc_trace.specs.declared.answer.Answer.{Answer}
-use Rattle.rrc_replay.specs.Answers.{AreAnswers, IsFirstSpent}
+use Rattle.rrc_replay.specs.Answers.{AreAnswers}
 use Rattle.rrc_trace.specs.Reading.{IsTraceFrom, IsFaultOfTrace}
 use Rattle.rrc_trace.specs.Report.{report_text}
 use Rattle.rrc_trace.specs.Writing.{AppendsFront}
@@ -30,20 +30,14 @@ pub record BeginsReport (rules : Rules) (read old new : Option (List ℕ)) : Typ
   pub replays : Replays rules read lines answers
   pub begun : AppendsFront old new (report_text answers)
 
--- what was read is a trace, and the line is the first one that finds the chapter full
-pub record MeetsFullChapter (rules : Rules) (read : Option (List ℕ)) (number : ℕ) : Type 0 where
-  pub lines : List Line
-  pub trace : IsTraceFrom read lines
-  pub spent : IsFirstSpent rules lines number
-
--- a fault is the first one of the text, or the first refusal of its replay
-abbrev pub IsFirstFaultOf : Rules → Option (List ℕ) → ReplayFault → Type 0
-IsFirstFaultOf rules read (BadLine number) = IsFaultOfTrace read (BadLine number)
-IsFirstFaultOf rules read TooManyLines = IsFaultOfTrace read TooManyLines
-IsFirstFaultOf rules read Read = Unit {0}
-IsFirstFaultOf rules read Write = Unit {0}
-IsFirstFaultOf rules read Memory = Unit {0}
-IsFirstFaultOf rules read (Spent number) = MeetsFullChapter rules read number
+-- a fault is the first one of the text, or of a read, of a write or of memory; no trace has so many lines that a part's numbers are spent
+abbrev pub IsFirstFaultOf : Option (List ℕ) → ReplayFault → Type 0
+IsFirstFaultOf read (BadLine number) = IsFaultOfTrace read (BadLine number)
+IsFirstFaultOf read TooManyLines = IsFaultOfTrace read TooManyLines
+IsFirstFaultOf read Read = Unit {0}
+IsFirstFaultOf read Write = Unit {0}
+IsFirstFaultOf read Memory = Unit {0}
+IsFirstFaultOf read (Spent number) = ⊥
 
 -- before the fault of a write a beginning of the report went out, before any other nothing
 abbrev pub LeavesWriter : Rules → Option (List ℕ) → Option (List ℕ) → Option (List ℕ) → ReplayFault → Type 0

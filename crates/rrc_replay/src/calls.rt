@@ -3,14 +3,15 @@ ghost use Rattle.std.specs.List.{All};
 ghost use Rattle.rrc_history.specs.Fits.{has_items};
 ghost use Rattle.rrc_history.specs.Lives.{LAST_MOMENT};
 ghost use Rattle.rrc_replay.specs.Answers.{told_as};
-ghost use Rattle.rrc_replay.specs.Calls.{Writes, TellsAll, AreRefused};
+ghost use Rattle.rrc_replay.specs.Calls.{HasNumbers, TellsAll, Writes};
 ghost use Rattle.rrc_replay.specs.Replay.{IsFaultOf, offer_of, failure_of, evicted_last};
 
 use crate::limits::limits;
-use rrc_cache::{Part, Refusal};
+use rrc_cache::Refusal;
 use rrc_history::{Body, Event, Offer, Tag};
 use rrc_name::{Key, Sequence, Slot};
 use rrc_sets::life;
+use rrc_share::{Shelf, on_shelf_offer};
 use rrc_trace::{Failed, Put, ReplayFault, Told};
 use std::alloc::{AllocError, Global};
 
@@ -74,31 +75,33 @@ fn evicted_last(events: &[Event]) -> Result<Option<Key>, AllocError>
 }
 
 /// Makes the call of an offer, and tells what became of it.
-pub(crate) fn tell(part: &mut Part, tag: Tag, offer: Offer) -> Result<Told, ReplayFault>
-    requires { offer.moment ≤ LAST_MOMENT }
-    ensures ok { IfOk result (λ told. Writes part.old part.new (told_as tag offer told ∷ [])) }
-    ensures err { IfErr result (AreRefused part.old tag.line 1) }
+pub(crate) fn tell(shelf: &mut Shelf, tag: Tag, offer: Offer) -> Result<Told, ReplayFault>
+    requires timely { offer.moment ≤ LAST_MOMENT }
+    requires numbers { HasNumbers shelf.old 1 }
+    ensures ok { IfOk result (λ told. Writes shelf.old shelf.new 1 (told_as tag offer told ∷ [])) }
+    ensures err { IfErr result (λ fault. fault ≡ ReplayFault.Memory) }
 {
-    let outcome = match part.offer(tag, offer) {
+    let outcome = match on_shelf_offer(shelf, tag, offer) {
         Ok(outcome) => outcome,
         Err(refusal) => return Err(fault_at(tag.line, refusal)),
     };
     Ok(Told {
         outcome,
-        evicted: evicted_last(part.events())?,
+        evicted: evicted_last(shelf.part().events())?,
     })
 }
 
 /// Makes the calls of a line's offers, in order, and tells what became of each.
 pub(crate) fn tell_all(
     alloc: Global,
-    part: &mut Part,
+    shelf: &mut Shelf,
     number: u64,
     offers: Vec<Offer>,
 ) -> Result<Sequence<Told>, ReplayFault>
-    requires { All (λ offer. offer.moment ≤ LAST_MOMENT) offers.items }
-    ensures ok { IfOk result (TellsAll part.old part.new number offers.items) }
-    ensures err { IfErr result (AreRefused part.old number (length offers.items)) }
+    requires timely { All (λ offer. offer.moment ≤ LAST_MOMENT) offers.items }
+    requires numbers { HasNumbers shelf.old (length offers.items) }
+    ensures ok { IfOk result (TellsAll shelf.old shelf.new number offers.items) }
+    ensures err { IfErr result (λ fault. fault ≡ ReplayFault.Memory) }
 {
     // No room to spare: a trace may have as many of these lists as lines.
     let mut told = Sequence::from_vec(Vec::with_capacity(alloc, offers.len())?);
@@ -107,7 +110,7 @@ pub(crate) fn tell_all(
             line: number,
             place: told.len() as u64,
         };
-        told.push(tell(part, tag, offer)?)?;
+        told.push(tell(shelf, tag, offer)?)?;
     }
     Ok(told)
 }

@@ -22,7 +22,7 @@ pub fn run<R: Read, W: Write>(
 ) -> Result<(), ReplayFault>
     ensures ok { OnOk result (Reports rules.now (R.remaining reader.old) (W.contents writer.old) (W.contents writer.new)) }
     ensures whole { OnOk result (IsAtEnd (R.remaining reader.new)) }
-    ensures fault { IfErr result (IsFirstFaultOf rules.now (R.remaining reader.old)) }
+    ensures fault { IfErr result (IsFirstFaultOf (R.remaining reader.old)) }
     ensures writer { IfErr result (LeavesWriter rules.now (R.remaining reader.old) (W.contents writer.old) (W.contents writer.new)) }
 {
     let trace = read_trace(alloc, reader)?;

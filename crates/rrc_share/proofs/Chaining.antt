@@ -1,15 +1,14 @@
 -- One more chapter behind others that chain.
-use Rattle.std.proofs.Common.{◌≡◌, ℕ, ◌+◌, List, [], ◌∷◌, ◌++◌, Bool, true, false, Option, Some, None, refl, sym, ap, subst, ◌∙◌, arith, append_assoc}
-use Rattle.std.specs.Prelude.{◌==◌, ◌&&◌, not, if◌then◌else◌}
+use Rattle.std.proofs.Common.{◌≡◌, ℕ, ◌+◌, List, [], ◌∷◌, ◌++◌, true, Option, Some, None, refl, sym, ap, ◌∙◌, arith, append_assoc}
+use Rattle.std.specs.Prelude.{◌==◌}
 use Rattle.std.specs.Option.{option_or}
 use Rattle.std.proofs.lemmas.Bool.Decides.{nat_tests}
 use Rattle.std.proofs.lemmas.List.{append-nil}
 use Rattle.rrc_history.specs.declared.chains.ChainFault.{ChainFault}
-use Rattle.rrc_history.specs.declared.chains.ChainFault.TheVariants.{NumberGap, NotTheSameContents}
 use Rattle.rrc_history.specs.declared.snapshot.Snapshot.{Snapshot}
 use Rattle.rrc_history.specs.Chapters.{ChapterOf}
 use Rattle.rrc_history.specs.Same.{snapshot_eq}
-use Rattle.rrc_history.specs.Chains.{follows, link_fault, fault_from, events_of, last_closing}
+use Rattle.rrc_history.specs.Chains.{link_fault, fault_from, events_of, last_closing}
 use Rattle.rrc_history.specs.lemmas.SameLaws.{snapshot_eq-Decides}
 use Rattle.rrc_share.specs.Shelf.{last_number}
 

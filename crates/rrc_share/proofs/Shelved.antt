@@ -1,5 +1,5 @@
 -- What calls leave of a shelf.
-use Rattle.std.proofs.Common.{◌≡◌, ℕ, ◌+◌, ◌^◌, ◌<◌, ◌≤◌, ◌⊎◌, inl, inr, List, [], ◌∷◌, ◌++◌, length, reverse, None, Result, Ok, Err, refl, sym, ap, subst, ◌∙◌, arith, append_assoc}
+use Rattle.std.proofs.Common.{◌≡◌, ℕ, ◌+◌, ◌^◌, ◌≤◌, inl, inr, List, [], ◌∷◌, ◌++◌, length, reverse, Result, Ok, Err, refl, sym, ap, subst, ◌∙◌, arith, append_assoc}
 use Rattle.std.proofs.lemmas.List.{append-nil, length-reverse, reverse-append}
 use Rattle.rrc_name.specs.declared.slot.Slot.{Slot}
 use Rattle.rrc_name.specs.declared.slot.Slot.TheVariants.{Set, Nx, Failed}
@@ -12,11 +12,9 @@ use Rattle.rrc_history.specs.declared.event.Tag.{Tag}
 use Rattle.rrc_history.specs.Fits.{OfferOf}
 use Rattle.rrc_history.specs.declared.snapshot.Snapshot.{Snapshot}
 use Rattle.rrc_history.specs.Asked.{AskOf}
-use Rattle.rrc_history.specs.Chapters.{ChapterOf, LeadTo, IsClosing, IsChapter}
-use Rattle.rrc_history.specs.Chains.{events_of, last_closing}
-use Rattle.rrc_history.specs.Judged.{Found, reply_by}
-use Rattle.rrc_history.specs.Laws.{KeepsLaws}
-use Rattle.rrc_history.specs.Lives.{LAST_MOMENT}
+use Rattle.rrc_history.specs.Chapters.{ChapterOf, LeadTo, IsClosing}
+use Rattle.rrc_history.specs.Chains.{events_of}
+use Rattle.rrc_history.specs.Judged.{reply_by}
 use Rattle.rrc_history.specs.Past.{held, found, key_at, reply_to}
 use Rattle.rrc_history.specs.Right.{IsRight, IsLegal}
 use Rattle.rrc_history.specs.Sound.{AreSound}
@@ -27,7 +25,7 @@ use Rattle.rrc_cache.specs.Part as parts
 use Rattle.rrc_cache.specs.Part.{PartOf, past_of, next_number, Adds, Closes, IsSound}
 use Rattle.rrc_cache.specs.declared.refusal.Refusal.{Refusal}
 use Rattle.rrc_cache.specs.declared.refusal.Refusal.TheVariants.{HistoryFull, MomentTooLarge, Memory}
-use Rattle.rrc_share.specs.Shelf.{ShelfOf, first_snapshot, opening_of, history_of, whole_past, last_number, GoesOn, AreBefore, IsShelf, IsFull, IsWide, IsSame, Shuts, HasMadeRoom, Appends, AppendsOffer, AppendsAsk, AppendsSweep, CanWrite, IsOpen, IsDue}
+use Rattle.rrc_share.specs.Shelf.{ShelfOf, first_snapshot, opening_of, history_of, whole_past, AreBefore, IsShelf, IsFull, IsSame, Shuts, HasMadeRoom, Appends, AppendsOffer, AppendsAsk, AppendsSweep, CanWrite, IsOpen, IsDue}
 use Rattle.rrc_share.proofs.Chaining.{chained_more, last_closing-more, last_number-more, events_of-more}
 
 -- ---- a chapter is closed

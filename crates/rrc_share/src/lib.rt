@@ -1,10 +1,12 @@
-//! A part of the cache on a shelf, with the chapters that it closed: each call closes a chapter that is full and then goes on.
+//! The cache that threads share: parts under locks, each on a shelf with the chapters that it closed.
 #![tactic(auto)]
 
 mod calls;
+mod shared;
 mod shelf;
 #[cfg(test)]
 mod tests;
 
 pub use calls::{on_shelf_ask, on_shelf_checkpoint, on_shelf_offer, on_shelf_sweep};
+pub use shared::SharedCache;
 pub use shelf::Shelf;

@@ -1,7 +1,7 @@
-ghost use Rattle.std.specs.Prelude.{◌≡◌, []};
+ghost use Rattle.std.specs.Prelude.{◌≡◌, [], Err, IfOk, OnErr};
 
-use rrc_cache::Part;
-use rrc_history::Chapter;
+use rrc_cache::{Part, Refusal};
+use rrc_history::{Ask, Chapter, Reply};
 use std::alloc::Global;
 use std::marker::Model;
 use std::mem;
@@ -25,6 +25,8 @@ impl Model for Shelf {
 }
 
 impl Shelf {
+    ghost use Rattle.rrc_history.specs.Past.{reply_to};
+    ghost use Rattle.rrc_cache.specs.Part.{past_of};
     ghost use Rattle.rrc_share.specs.Shelf.{AreBefore, IsShelf};
 
     /// A part, with no chapter closed. It takes no memory.
@@ -53,6 +55,15 @@ impl Shelf {
         ensures sound { IsShelf self.now }
     {
         &self.part
+    }
+
+    /// The reply that the part would give (`Part::would_answer`), as an owner of its data, so that it stays when the part goes on. It
+    /// copies no name and no data. `Memory` comes only where these have as many owners as can be counted.
+    pub fn would_answer(&self, ask: &Ask) -> Result<Reply, Refusal>
+        ensures ok { IfOk result (λ reply. reply ≡ reply_to self.now.part.snapshot (past_of self.now.part) ask.now) }
+        ensures memory { OnErr result (result ≡ Err Refusal.Memory) }
+    {
+        Ok(self.part.would_answer(ask).to_owned()?)
     }
 
     /// Hands out the closed chapters, the oldest first, and leaves none. The part goes on from the last of them. It takes no memory.

@@ -1,6 +1,6 @@
 use super::{Kept, snapshot};
 use crate::{ChainFault, Chapter, Snapshot, Whole, chain};
-use rrc_name::Sequence;
+use rrc_name::{Sequence, Shared};
 use std::alloc::Global;
 use std::test::Fail;
 
@@ -14,14 +14,15 @@ const LOW: &[Kept<'static>] = &[("a.example.", 60, 10, 0)];
 
 const HIGH: &[Kept<'static>] = &[("A.example.", 60, 10, 0)];
 
-/// The chapter of no events between two snapshots that are the same.
-fn between(alloc: Global, number: u64, snapshot: Snapshot, closing: Snapshot) -> Option<Chapter> {
-    if number >= 1 << 62 || snapshot != closing {
-        return None;
+/// The chapter of no events that begins and ends with a snapshot.
+fn around(alloc: Global, number: u64, closing: Shared<Snapshot>) -> Result<Chapter, Fail> {
+    if number >= 1 << 62 {
+        return Err("no chapter has this number".into());
     }
     // The rules are read for what they tell: the entries are sound.
-    let _ = snapshot.rules();
-    Some(Chapter {
+    let _ = closing.rules();
+    let snapshot = closing.clone()?;
+    Ok(Chapter {
         number,
         snapshot,
         events: Sequence::new(alloc),
@@ -31,9 +32,8 @@ fn between(alloc: Global, number: u64, snapshot: Snapshot, closing: Snapshot) ->
 
 fn quiet(alloc: Global, quiet: Quiet<'_>) -> Result<Chapter, Fail> {
     let (number, capacity, first, kept) = quiet;
-    let opening = snapshot(alloc, capacity, first, kept)??;
-    let closing = snapshot(alloc, capacity, first, kept)??;
-    Ok(between(alloc, number, opening, closing).ok_or("no chapter")?)
+    let held = snapshot(alloc, capacity, first, kept)??;
+    around(alloc, number, Shared::new(alloc, held)?)
 }
 
 fn chained(alloc: Global, quiets: &[Quiet<'_>]) -> Result<Result<Whole, ChainFault>, Fail> {

@@ -2,6 +2,7 @@ use Rattle.std.proofs.Common.{refl, ◌≡◌, sym, ap, ◌∙◌, subst, ◌++�
 use Rattle.rrc_history.specs.declared.rules.Rules.{Rules}
 use Rattle.rrc_history.specs.declared.event.Event.{Event}
 use Rattle.rrc_history.specs.declared.event.Event.TheVariants.{Asked}
+use Rattle.rrc_history.specs.declared.snapshot.Snapshot.{Snapshot}
 use Rattle.rrc_cache.specs.Pairs.{StoreOf}
 use Rattle.rrc_cache.specs.Part.{PartOf, IsOpen}
 use Rattle.rrc_cache.specs.Taken.{IsAnswered}
@@ -22,7 +23,7 @@ done : (c : goal.After-push_reserved) → IsDone (before c) (after c) (event c) 
 done c =
     let open' : IsOpen (before c) c.args.ask.now.moment = rw (c.self.view_is, ← c.ask.view_is) (c.in_ok-admit.ensures.due) in
     let A : Rules → Type 0 = λ rules. IsAnswered rules.stale c.args.ask.now c.self.inside.store.entries c.in_ok-reply.reply c.in_ok-reply.slot in
-    let answered : A c.self.inside.snapshot.rules = subst A c.rules-stale.ensures.value (c.in_ok-reply.ensures.answered) in
+    let answered : A c.self.inside.snapshot.rules = subst A (c.rules-stale.ensures.value ∙ ap (λ (snapshot : Snapshot). snapshot.rules) c.deref.ensures) (c.in_ok-reply.ensures.answered) in
     let written : c.push_reserved.new.self.items ≡ c.self.inside.events.items ++ event c ∷ [] =
     c.push_reserved.ensures.items ∙ rw (c.reserve.ensures.items, c.in_ok-clone.ensures.cases, c.in_ok-reply.ensures.asked) refl in
     let P : List Event → Type 0 = λ events. IsDone (before c) (record { number = c.self.inside.number; snapshot = c.self.inside.snapshot; events = events }) (event c) c.touch.new.store.entries in

@@ -17,16 +17,16 @@ entries c = c.self.inside.store.entries
 below : (c : goal.After-from_vec) → c.self.inside.number < 2 ^ 62
 below c = omega (arith, c.if-self-ge-SPENT.false)
 
--- both snapshots are what the part holds
+-- the closing is what the part holds
 held : (c : goal.After-from_vec) → record { rules = c.rules-rules.result; first = c.next_number-first.result; entries = entries c } ≡ closing_of (before c) (entries c)
 held c =
     let first : c.next_number-first.result ≡ next_number (before c) = c.next_number-first.ensures ∙ ap next_number (sym c.self.view_is) in
     let P : Rules → ℕ → Snapshot = λ rules n. record { rules = rules; first = n; entries = entries c } in
-    ap (λ rules. P rules c.next_number-first.result) c.rules-rules.ensures.value ∙ ap (P c.self.inside.snapshot.rules) first
+    ap (λ rules. P rules c.next_number-first.result) (c.rules-rules.ensures.value ∙ ap (λ (snapshot : Snapshot). snapshot.rules) c.deref.ensures) ∙ ap (P c.self.inside.snapshot.rules) first
 
 pub invariant_of-self : goal.invariant_of-self
 invariant_of-self c =
-    let opens : c.replace.new.dest ≡ closing_of (before c) (entries c) = c.replace.ensures.after ∙ (c.in_ok-opening.ensures ∙ held c) in
+    let opens : c.replace.new.dest ≡ closing_of (before c) (entries c) = c.replace.ensures.after ∙ (c.in_ok-opening.ensures.cases ∙ (c.in_ok-closing.ensures ∙ held c)) in
     let none : c.replace-2.new.dest.items ≡ [] = rw c.replace-2.ensures.after (c.new.ensures.items) in
     let P : Snapshot → List Event → Type 0 = λ snapshot events. Keeps (record { number = c.self.inside.number + 1; snapshot = snapshot; events = events }) (entries c) in
     record {

@@ -2,6 +2,7 @@ use Rattle.std.proofs.Common.{◌≡◌, ℕ, true, sym, ap, ◌∙◌, subst, �
 use Rattle.rrc_history.specs.declared.rules.Rules.{Rules}
 use Rattle.rrc_history.specs.declared.event.Event.{Event}
 use Rattle.rrc_history.specs.declared.event.Event.TheVariants.{Offered}
+use Rattle.rrc_history.specs.declared.snapshot.Snapshot.{Snapshot}
 use Rattle.rrc_history.specs.Fits.{fits}
 use Rattle.rrc_cache.specs.Part.{PartOf, next_number, IsOpen}
 use Rattle.rrc_cache.specs.Taken.{IsTaken}
@@ -26,7 +27,7 @@ done c =
     let T : Rules → ℕ → Type 0 =
     λ rules n. IsTaken rules.capacity n c.args.offer c.self.inside.store.entries c.in_ok-outcome.outcome c.in_ok-outcome.evicted c.take.new.store.entries in
     let numbered : T c.rules.result (next_number (before c)) = subst (T c.rules.result) number (c.in_ok-outcome.ensures.ok) in
-    let taken : T c.self.inside.snapshot.rules (next_number (before c)) = subst (λ rules. T rules (next_number (before c))) c.rules.ensures.value numbered in
+    let taken : T c.self.inside.snapshot.rules (next_number (before c)) = subst (λ rules. T rules (next_number (before c))) (c.rules.ensures.value ∙ ap (λ (snapshot : Snapshot). snapshot.rules) c.deref.ensures) numbered in
     let written : c.push_reserved.new.self.items ≡ c.self.inside.events.items ++ event c ∷ [] =
     c.push_reserved.ensures.items ∙ ap (λ events. events ++ event c ∷ []) c.reserve.ensures.items in
     let P : List Event → Type 0 = λ events. IsDone (before c) (record { number = c.self.inside.number; snapshot = c.self.inside.snapshot; events = events }) (event c) c.take.new.store.entries in

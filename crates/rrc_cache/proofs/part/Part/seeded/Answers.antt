@@ -2,5 +2,5 @@ use Rattle.std.proofs.Common.{refl}
 use Rattle.rrc_cache.proofs.Keeping.{empty_keeps}
 use Rattle.rrc_cache.proofs.part.Part.seeded.Goals as goal
 
-pub invariant_of-result-2 : goal.invariant_of-result-2
-invariant_of-result-2 c = rw (c.new.ensures, c.new-2.ensures.items, c.in_ok-new.ensures) (record { keeps = empty_keeps c.args.rules; stale = refl })
+pub invariant_of-result : goal.invariant_of-result
+invariant_of-result c = rw (c.in_ok-nothing.ensures, c.new.ensures.items, c.in_ok-new.ensures) (record { keeps = empty_keeps c.args.rules; stale = refl })
