@@ -1,3 +1,5 @@
 pub mod Pairs
 pub mod Falling
 pub mod Classes
+pub mod CallLaws
+pub mod Dealing

@@ -1,1 +1,4 @@
 pub mod Words
+pub mod Calls
+pub mod Same
+pub mod Hands

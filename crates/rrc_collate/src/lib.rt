@@ -2,9 +2,13 @@
 #![tactic(auto)]
 
 mod falls;
+mod hands;
 mod owning;
+mod script;
 mod valued;
 
 pub use falls::never_falls;
+pub use hands::{Hands, deal};
 pub use owning::owners;
+pub use script::{Call, Operation, is_call_of, tag_of};
 pub use valued::Valued;
