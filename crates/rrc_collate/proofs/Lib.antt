@@ -3,3 +3,4 @@ pub mod Falling
 pub mod Classes
 pub mod CallLaws
 pub mod Dealing
+pub mod Taking

@@ -2,3 +2,4 @@ pub mod Words
 pub mod Calls
 pub mod Same
 pub mod Hands
+pub mod Drawing

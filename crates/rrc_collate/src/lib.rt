@@ -1,12 +1,14 @@
 //! Whether what workers say that they did fits the histories of a cache's parts: the words for it, and the checks.
 #![tactic(auto)]
 
+mod drawing;
 mod falls;
 mod hands;
 mod owning;
 mod script;
 mod valued;
 
+pub use drawing::draw;
 pub use falls::never_falls;
 pub use hands::{Hands, deal};
 pub use owning::owners;
