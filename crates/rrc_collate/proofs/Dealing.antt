@@ -92,3 +92,9 @@ dealt_more workers owners events hands dealt event line below is_line within are
 
 pub named_more : (lines : ℕ) (events : List Event) (event : Event) (line : ℕ) → line ≡ (tag_of event).line → line < lines → AreNamed lines events → AreNamed lines (events ++ event ∷ [])
 named_more lines events event line is_line within named = All-push (λ (event : Event). (tag_of event).line < lines) events event named (subst (λ n. n < lines) is_line within)
+
+pub shown_push : {Q : Type 0} {B : Type 0} {E : Type 0} (items : Q → List B) (now : B → E) (hands more : List Q) (hand : Q) → more ≡ hands ++ hand ∷ []
+  → shown items now more ≡ shown items now hands ++ map now (items hand) ∷ []
+shown_push {Q} {B} {E} items now hands more hand is =
+    let f : Q → List E = λ hand. map now (items hand) in
+    ap (map f) is ∙ map-append f hands (hand ∷ [])

@@ -4,3 +4,4 @@ pub mod Classes
 pub mod CallLaws
 pub mod Dealing
 pub mod Taking
+pub mod Tasking

@@ -59,24 +59,38 @@ going_elsewhere : (part : ℕ) (operation : Operation) (operations : List Operat
 going_elsewhere part operation operations event events other =
     cond-false (eqb operation.part part) (event ∷ going_to part operations events) (going_to part operations events) (ne_eqb operation.part part (λ e. other (sym e)))
 
-pub fits_more : (parts left : List (List (List Event))) (worker line place : ℕ) (operation : Operation) (operations : List Operation) (events : List Event) (behind : ℕ → List Event)
-  → Takes parts left operation.part worker → Fits parts worker line place (operation ∷ operations) events behind
-  → (rest : List Event) × Fits left worker line (place + 1) operations rest behind
-fits_more parts left worker line place operation operations [] behind takes fits = absurd (fits.calls)
-fits_more parts left worker line place operation operations (event ∷ events) behind takes fits =
-    (events, record {
-      calls = fits.calls.2;
-      own = λ part.
-        ⊎_elim
-        (λ (same : part ≡ operation.part).
-          ap (λ k. hand_of left k worker) same
-          ∙ (takes.own
-            ∙ (ap (λ k. drop 1 (hand_of parts k worker)) (sym same)
-              ∙ ap (drop 1) (fits.own part ∙ ap (λ l. l ++ behind part) (going_here part operation operations event events same)))))
-        (λ (other : part ≡ operation.part → ⊥).
-          takes.other_part part other ∙ (fits.own part ∙ ap (λ l. l ++ behind part) (going_elsewhere part operation operations event events other)))
-        (cases_eq part operation.part);
-    })
+-- what fits begins with the event that was taken
+pub record FitsBehind (left : List (List (List Event))) (worker line place : ℕ) (operations : List Operation) (event : Event) (events : List Event) (behind : ℕ → List Event) : Type 0 where
+  pub rest : List Event
+  pub first : events ≡ event ∷ rest
+  pub fits : Fits left worker line place operations rest behind
+
+first_same : (event own : Event) (hand behind : List Event) → slice_get hand 0 ≡ Some event → hand ≡ own ∷ behind → own ≡ event
+first_same event own hand behind first is = cc
+
+pub fits_more : (parts left : List (List (List Event))) (worker line place : ℕ) (operation : Operation) (operations : List Operation) (event : Event) (events : List Event) (behind : ℕ → List Event)
+  → Takes parts left operation.part worker → slice_get (hand_of parts operation.part worker) 0 ≡ Some event → Fits parts worker line place (operation ∷ operations) events behind
+  → FitsBehind left worker line (place + 1) operations event events behind
+fits_more parts left worker line place operation operations event [] behind takes is_first fits = absurd (fits.calls)
+fits_more parts left worker line place operation operations event (own ∷ events) behind takes is_first fits =
+    let head = fits.own operation.part ∙ ap (λ l. l ++ behind operation.part) (going_here operation.part operation operations own events refl) in
+    record {
+      rest = events;
+      first = ap (λ e. e ∷ events) (first_same event own (hand_of parts operation.part worker) (going_to operation.part operations events ++ behind operation.part) is_first head);
+      fits = record {
+        calls = fits.calls.2;
+        own = λ part.
+          ⊎_elim
+          (λ (same : part ≡ operation.part).
+            ap (λ k. hand_of left k worker) same
+            ∙ (takes.own
+              ∙ (ap (λ k. drop 1 (hand_of parts k worker)) (sym same)
+                ∙ ap (drop 1) (fits.own part ∙ ap (λ l. l ++ behind part) (going_here part operation operations own events same)))))
+          (λ (other : part ≡ operation.part → ⊥).
+            takes.other_part part other ∙ (fits.own part ∙ ap (λ l. l ++ behind part) (going_elsewhere part operation operations own events other)))
+          (cases_eq part operation.part);
+      };
+    }
 
 pub fits_none : (parts : List (List (List Event))) (worker line place : ℕ) (operation : Operation) (operations : List Operation) (events : List Event) (behind : ℕ → List Event)
   → HasNoFirst (tag_at line place) operation.call (hand_of parts operation.part worker) → Fits parts worker line place (operation ∷ operations) events behind → ⊥
@@ -139,3 +153,31 @@ drawn_more parts before left worker line number operations events operation even
   parts_stay = takes.parts_stay ∙ drawn.parts_stay;
   workers_stay = λ part. takes.workers_stay part ∙ drawn.workers_stay part;
 }
+
+-- what fits the whole script is what was drawn, and then what fits the rest of the script
+pub record FitsOn (parts : List (List (List Event))) (worker line place : ℕ) (rest : List Operation) (drawn events : List Event) (behind : ℕ → List Event) : Type 0 where
+  pub others : List Event
+  pub joined : events ≡ drawn ++ others
+  pub fits : Fits parts worker line place rest others behind
+
+pub fits_on : (parts left : List (List (List Event))) (worker line place : ℕ) (operation : Operation) (operations : List Operation) (event : Event) (drawn events : List Event) (behind : ℕ → List Event)
+  → Takes parts left operation.part worker → slice_get (hand_of parts operation.part worker) 0 ≡ Some event
+  → FitsOn parts worker line place (operation ∷ operations) drawn events behind → FitsOn left worker line (place + 1) operations (drawn ++ event ∷ []) events behind
+fits_on parts left worker line place operation operations event drawn events behind takes is_first on =
+    let more = fits_more parts left worker line place operation operations event on.others behind takes is_first on.fits in
+    record {
+      others = more.rest;
+      joined = on.joined ∙ (ap (λ l. drawn ++ l) more.first ∙ sym (append_assoc drawn (event ∷ []) more.rest));
+      fits = more.fits;
+    }
+
+-- with no operation left there is no event left
+pub fits_all : (parts : List (List (List Event))) (worker line place : ℕ) (drawn events : List Event) (behind : ℕ → List Event)
+  → FitsOn parts worker line place [] drawn events behind → (events ≡ drawn) × ((part : ℕ) → hand_of parts part worker ≡ behind part)
+fits_all parts worker line place drawn events behind on =
+    let none = no_events line place on.others on.fits.calls in
+    (on.joined ∙ (ap (λ l. drawn ++ l) none ∙ append-nil drawn), λ part. on.fits.own part)
+  where
+    no_events : (line place : ℕ) (events : List Event) → AreCalls line place [] events → events ≡ []
+    no_events line place [] calls = refl
+    no_events line place (event ∷ events) calls = absurd calls

@@ -37,3 +37,9 @@ pub record IsDrawn (parts : List (List (List Event))) (worker line : ℕ) (scrip
 -- no events fit a line's operations, whatever is left
 abbrev pub CanNotDraw : List (List (List Event)) → ℕ → ℕ → List Operation → Type 0
 CanNotDraw parts worker line script = (events : List Event) (left : ℕ → List Event) → Fits parts worker line 0 script events left → ⊥
+
+-- no other events fit a line's operations, and what fits them leaves what is left
+abbrev pub IsOnlyDraw : List (List (List Event)) → ℕ → ℕ → List Operation → List Event → List (List (List Event)) → Type 0
+IsOnlyDraw parts worker line script drawn left =
+    (events : List Event) (behind : ℕ → List Event) → Fits parts worker line 0 script events behind
+    → (events ≡ drawn) × ((part : ℕ) → hand_of left part worker ≡ behind part)

@@ -3,3 +3,4 @@ pub mod Calls
 pub mod Same
 pub mod Hands
 pub mod Drawing
+pub mod Tasks

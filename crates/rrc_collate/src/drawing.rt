@@ -1,6 +1,6 @@
 ghost use Rattle.std.specs.Prelude.{◌≡◌, ◌<◌, ◌↔◌, [], length, drop, map, slice_set, slice_index_or, IfOk, IfSome, IfNone, IsTrue};
 ghost use Rattle.std.specs.List.{All};
-ghost use Rattle.rrc_collate.specs.Drawing.{IsNext, IsFirst, HasNoFirst, IsDrawn, CanNotDraw};
+ghost use Rattle.rrc_collate.specs.Drawing.{IsNext, IsFirst, HasNoFirst, IsDrawn, IsOnlyDraw, CanNotDraw};
 
 use crate::hands::Hands;
 use crate::script::{Call, Operation, is_call_of, tag_of};
@@ -42,6 +42,7 @@ pub fn draw<'a>(
     requires workers { All (λ hands. worker < length hands) parts.old }
     requires parts { All (λ operation. operation.part < length parts.old) script.now }
     ensures drawn { IfOk result (λ drawn. IfSome drawn (λ events. IsDrawn parts.old worker line script.now (map (λ event. event.now) events.items) parts.new)) }
+    ensures only { IfOk result (λ drawn. IfSome drawn (λ events. IsOnlyDraw parts.old worker line script.now (map (λ event. event.now) events.items) parts.new)) }
     ensures none { IfOk result (λ drawn. IfNone drawn (CanNotDraw parts.old worker line script.now)) }
 {
     let mut events = Vec::with_capacity(alloc, script.len())?;

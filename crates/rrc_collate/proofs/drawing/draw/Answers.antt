@@ -1,9 +1,9 @@
 use Rattle.std.proofs.Common.{◌≡◌, ◌<◌, ◌+◌, ◌++◌, ◌∷◌, [], List, Bor, length, get_or, set, take, drop, map, ap, subst, sym, ◌∙◌, arith}
-use Rattle.std.proofs.lemmas.List.{get_or_default, drop_more, take_more, length-take-le, map-append}
+use Rattle.std.proofs.lemmas.List.{get_or_default, drop_more, drop_all, take_more, length-take-le, map-append}
 use Rattle.rrc_history.specs.declared.event.Event.{Event}
 use Rattle.rrc_collate.specs.declared.script.Operation.{Operation}
 use Rattle.rrc_collate.specs.Drawing.{IsFirst, HasNoFirst, Fits, IsDrawn}
-use Rattle.rrc_collate.proofs.Taking.{tag_at, fits_none, fits_more, drawn_more, takes, Takes}
+use Rattle.rrc_collate.proofs.Taking.{tag_at, fits_none, fits_on, fits_all, drawn_more, takes, Takes, FitsOn}
 use Rattle.rrc_collate.proofs.drawing.draw.Goals as goal
 
 pub returns-in-None-clause-none : goal.returns-in-None-clause-none
@@ -23,8 +23,8 @@ returns-in-None-clause-none c =
       drop_more script place operation c.loop-place-test.true ∙ ap (λ o. o ∷ drop (place + 1) script) (sym here) in
     λ events left fits.
       let rest = c.loop-place.invariant.rest events left fits in
-      fits_none parts c.args.worker c.args.line place operation (drop (place + 1) script) rest.0 left none
-      (subst (λ s. Fits parts c.args.worker c.args.line place s rest.0 left) behind rest.1)
+      fits_none parts c.args.worker c.args.line place operation (drop (place + 1) script) rest.others left none
+      (subst (λ s. Fits parts c.args.worker c.args.line place s rest.others left) behind rest.fits)
 
 pub loop-place-preserved : goal.loop-place-preserved
 loop-place-preserved c =
@@ -65,6 +65,16 @@ loop-place-preserved c =
           (drawn_more c.args.parts.now parts left worker c.args.line place (take place script) events operation event.now (sym size) took first drawn));
       rest = λ others behinds fits.
         let rest = c.loop-place.invariant.rest others behinds fits in
-        fits_more parts left worker c.args.line place operation (drop (place + 1) script) rest.0 behinds took
-        (subst (λ s. Fits parts worker c.args.line place s rest.0 behinds) behind rest.1);
+        subst (λ es. FitsOn left worker c.args.line (place + 1) (drop (place + 1) script) es others behinds) (sym pushed)
+        (fits_on parts left worker c.args.line place operation (drop (place + 1) script) event.now events others behinds took first.1
+          (subst (λ s. FitsOn parts worker c.args.line place s events others behinds) behind rest));
     }
+
+pub returns-clause-only : goal.returns-clause-only
+returns-clause-only c =
+    let none = drop_all c.loop-place.place c.args.script.now (omega (arith, c.loop-place-test.false)) in
+    let now : Bor Event → Event = λ borrowed. borrowed.now in
+    let drawn = map now c.loop-place.events.items in
+    λ events behind fits.
+      fits_all c.loop-place.parts c.args.worker c.args.line c.loop-place.place drawn events behind
+      (subst (λ s. FitsOn c.loop-place.parts c.args.worker c.args.line c.loop-place.place s drawn events behind) none (c.loop-place.invariant.rest events behind fits))
