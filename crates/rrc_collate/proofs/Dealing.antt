@@ -1,11 +1,11 @@
 -- hands of queues, as the lists that contracts see
-use Rattle.std.proofs.Common.{◌≡◌, ℕ, ◌+◌, ◌<◌, List, [], ◌∷◌, ◌++◌, length, get_or, set, map, drop, replicate, zero, suc, refl, sym, ◌∙◌, ap, subst, arith, ⊎_elim}
+use Rattle.std.proofs.Common.{◌≡◌, ℕ, ◌+◌, ◌<◌, ◌≤◌, List, [], ◌∷◌, ◌++◌, length, get_or, set, map, drop, take, replicate, zero, suc, refl, sym, ◌∙◌, ap, subst, arith, ⊎_elim}
 use Rattle.std.specs.Prelude.{filter, slice_get, Bool, true, false, cond, Some, ◌==◌}
-use Rattle.std.specs.List.{All}
+use Rattle.std.specs.List.{All, AllZip}
 use Rattle.std.proofs.lemmas.Bool.{cases_eq, eq-eqb, ne_eqb, cond-true, cond-false}
 use Rattle.std.proofs.lemmas.Option.{slice_get-get_or}
-use Rattle.std.proofs.lemmas.List.{map-set, map-append, length-map, length-set, get_or-set_same, get_or-set_other, replicate_more}
-use Rattle.std.proofs.lemmas.List.Elements.{All-push}
+use Rattle.std.proofs.lemmas.List.{map-set, map-append, length-map, length-set, get_or-set_same, get_or-set_other, replicate_more, take_all}
+use Rattle.std.proofs.lemmas.List.Elements.{All-push, All-more}
 use Rattle.rrc_history.specs.declared.event.Event.{Event}
 use Rattle.rrc_collate.specs.Calls.{tag_of}
 use Rattle.rrc_collate.specs.Hands.{AreNamed, AreDealt, is_of, events_of}
@@ -98,3 +98,36 @@ pub shown_push : {Q : Type 0} {B : Type 0} {E : Type 0} (items : Q → List B) (
 shown_push {Q} {B} {E} items now hands more hand is =
     let f : Q → List E = λ hand. map now (items hand) in
     ap (map f) is ∙ map-append f hands (hand ∷ [])
+
+-- whether hands are empty, of which those so far are
+pub empty_here : {Q : Type 0} {B : Type 0} {E : Type 0} (items : Q → List B) (now : B → E) (hands : List Q) (view : List (List E)) (i : ℕ) (hand : Q)
+  → shown items now hands ≡ view → i < length hands → hand ≡ get_or hands i hand → items hand ≡ [] → All (λ (l : List E). l ≡ []) (take i view) → All (λ (l : List E). l ≡ []) (take (i + 1) view)
+empty_here {Q} {B} {E} items now hands view i hand is within read empty so_far =
+    let f : Q → List E = λ hand. map now (items hand) in
+    let size : i < length view = let a = length-map hands f in let b = ap length is in omega (arith, a, b, within) in
+    let here : get_or view i [] ≡ [] = ap (λ v. get_or v i []) (sym is) ∙ (map_read f hands i hand within read ∙ ap (map now) empty) in
+    All-more (λ (l : List E). l ≡ []) view i [] size so_far here
+
+map_nil : {B : Type 0} {E : Type 0} (f : B → E) (xs : List B) → map f xs ≡ [] → xs ≡ []
+map_nil f [] none = refl
+map_nil f (x ∷ xs) none = absurd cc
+
+pub not_empty_here : {Q : Type 0} {B : Type 0} {E : Type 0} (items : Q → List B) (now : B → E) (hands : List Q) (view : List (List E)) (i : ℕ) (hand : Q)
+  → shown items now hands ≡ view → i < length hands → hand ≡ get_or hands i hand → (items hand ≡ [] → ⊥) → All (λ (l : List E). l ≡ []) view → ⊥
+not_empty_here {Q} {B} {E} items now hands view i hand is within read not_empty empty =
+    let f : Q → List E = λ hand. map now (items hand) in
+    let size : i < length view = let a = length-map hands f in let b = ap length is in omega (arith, a, b, within) in
+    not_empty (map_nil now (items hand) (sym (ap (λ v. get_or v i []) (sym is) ∙ map_read f hands i hand within read) ∙ empty i [] size))
+
+pub all_empty : {Q : Type 0} {B : Type 0} {E : Type 0} (items : Q → List B) (now : B → E) (hands : List Q) (view : List (List E)) (i : ℕ) → shown items now hands ≡ view
+  → length hands ≤ i → All (λ (l : List E). l ≡ []) (take i view) → All (λ (l : List E). l ≡ []) view
+all_empty {Q} {B} {E} items now hands view i is behind so_far =
+    let f : Q → List E = λ hand. map now (items hand) in
+    let size : length view ≤ i = let a = length-map hands f in let b = ap length is in omega (arith, a, b, behind) in
+    subst (λ v. All (λ (l : List E). l ≡ []) v) (take_all i view size) so_far
+
+pub zip_push : {A B : Type 0} (R : A → B → Type 0) (xs : List A) (ys : List B) (x : A) (y : B) → AllZip R xs ys → R x y → AllZip R (xs ++ x ∷ []) (ys ++ y ∷ [])
+zip_push R [] [] x y all last = (last, tt)
+zip_push R [] (z ∷ zs) x y all last = absurd all
+zip_push R (z ∷ zs) [] x y all last = absurd all
+zip_push R (w ∷ ws) (z ∷ zs) x y all last = (all.0, zip_push R ws zs x y all.1 last)

@@ -7,6 +7,7 @@ use Rattle.rrc_history.specs.declared.event.Event.{Event}
 use Rattle.rrc_collate.specs.declared.task.Task.{Task}
 use Rattle.rrc_collate.specs.Calls.{AreCalls, going_to}
 use Rattle.rrc_collate.specs.Drawing.{hand_of, Fits, IsDrawn, IsOnlyDraw, CanNotDraw}
+use Rattle.rrc_collate.proofs.Dealing.{zip_push}
 use Rattle.rrc_collate.specs.Tasks.{IsTaskOf, written_by, AllFit, AreDone, AreOnlyDone, CanNotBeDone}
 
 written_own : (worker part : ℕ) (task : Task) (tasks : List Task) (own : List Event) (others : List (List Event)) → worker ≡ task.worker
@@ -95,18 +96,11 @@ written_more worker part (first ∷ behind) (own ∷ others) task drawn calls =
     elim (eqb first.worker worker) as (λ b. cond b (going ++ whole) whole ≡ cond b (going ++ before) before ++ last)
     [ true ↦ ap (λ l. going ++ l) rest ∙ sym (append_assoc going before last) | false ↦ rest ]
 
-tasks_push : (tasks : List Task) (done : List (List Event)) (task : Task) (drawn : List Event) → AllZip IsTaskOf tasks done → IsTaskOf task drawn
-  → AllZip IsTaskOf (tasks ++ task ∷ []) (done ++ drawn ∷ [])
-tasks_push [] [] task drawn all last = (last, tt)
-tasks_push [] (own ∷ others) task drawn all last = absurd all
-tasks_push (first ∷ behind) [] task drawn all last = absurd all
-tasks_push (first ∷ behind) (own ∷ others) task drawn all last = (all.0, tasks_push behind others task drawn all.1 last)
-
 pub done_more : (parts before left : List (List (List Event))) (tasks : List Task) (done : List (List Event)) (task : Task) (drawn : List Event)
   → AreDone parts tasks done before → IsDrawn before task.worker task.line task.operations drawn left → AreDone parts (tasks ++ task ∷ []) (done ++ drawn ∷ []) left
 done_more parts before left tasks done task drawn are is_drawn = record {
   fit = record {
-    calls = tasks_push tasks done task drawn are.fit.calls is_drawn.fits.calls;
+    calls = zip_push IsTaskOf tasks done task drawn are.fit.calls is_drawn.fits.calls;
     own = λ part worker.
       let written = written_by worker part tasks done in
       let going = going_to part task.operations drawn in

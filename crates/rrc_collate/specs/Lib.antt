@@ -4,3 +4,4 @@ pub mod Same
 pub mod Hands
 pub mod Drawing
 pub mod Tasks
+pub mod Collated

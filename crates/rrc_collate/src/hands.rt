@@ -54,6 +54,25 @@ impl<'a> Hands<'a> {
     {
         self.hands[worker].pop_front()
     }
+
+    /// Whether every hand is empty.
+    pub fn is_empty(&self) -> bool
+        ensures { IsTrue result ↔ All (λ hand. hand ≡ []) self.now }
+    {
+        for hand in &self.hands {
+            if !is_nothing(hand) {
+                return false;
+            }
+        }
+        true
+    }
+}
+
+/// Whether a hand is empty.
+fn is_nothing(hand: &VecDeque<&Event>) -> bool
+    ensures { IsTrue result ↔ (hand.now.items ≡ []) }
+{
+    hand.is_empty()
 }
 
 /// Deals the events of a part. `owners` has the worker that took each line. `None` where an event names a line that it has not.

@@ -5,6 +5,7 @@ mod doing;
 mod drawing;
 mod falls;
 mod hands;
+mod ordering;
 mod owning;
 mod script;
 mod task;

@@ -1,0 +1,61 @@
+ghost use Rattle.std.specs.Prelude.{◌≡◌, ◌<◌, ◌↔◌, [], length, map, is_some, IfOk, IfSome, IfNone, IsTrue};
+ghost use Rattle.std.specs.List.{All, AllZip};
+ghost use Rattle.rrc_collate.specs.Hands.{AreNamed, AreDealt};
+ghost use Rattle.rrc_collate.specs.Drawing.{hand_of};
+ghost use Rattle.rrc_collate.specs.Collated.{taken_by, AreInOrder};
+
+use crate::doing::draw_all;
+use crate::falls::never_falls;
+use crate::hands::{Hands, deal};
+use crate::owning::owners;
+use crate::task::Task;
+use crate::valued::Valued;
+use rrc_history::{Event, Whole};
+use std::alloc::{AllocError, Global};
+
+/// Which worker took which line.
+fn taken_by(alloc: Global, tasks: &[Task]) -> Result<Vec<Valued>, AllocError>
+    ensures { IfOk result (λ taken. taken.items ≡ taken_by tasks.now) }
+{
+    let mut taken = Vec::with_capacity(alloc, tasks.len())?;
+    for task in tasks {
+        taken.push(Valued {
+            class: task.worker,
+            value: task.line,
+        })?;
+    }
+    Ok(taken)
+}
+
+/// The events of all parts, dealt. `None` where one of them names a line that no worker took.
+fn deal_all<'a>(
+    alloc: Global,
+    workers: usize,
+    owners: &[usize],
+    wholes: &'a [Whole],
+) -> Result<Option<Vec<Hands<'a>>>, AllocError>
+    requires { All (λ owner. owner < workers) owners.now }
+    ensures named { IfOk result (λ dealt. IsTrue (is_some dealt) ↔ All (λ whole. AreNamed (length owners.now) whole.events) wholes.now) }
+    ensures dealt { IfOk result (λ dealt. IfSome dealt (λ parts. AllZip (λ whole hands. AreDealt workers owners.now whole.events hands) wholes.now parts.items)) }
+{
+    let mut parts = Vec::with_capacity(alloc, wholes.len())?;
+    for whole in wholes {
+        match deal(alloc, workers, owners, whole.events.as_slice())? {
+            None => return Ok(None),
+            Some(hands) => parts.push(hands)?,
+        }
+    }
+    Ok(Some(parts))
+}
+
+/// Whether no hand holds anything.
+fn are_empty(parts: &[Hands]) -> bool
+    ensures { IsTrue result ↔ All (λ hands. All (λ hand. hand ≡ []) hands) parts.now }
+{
+    for hands in parts {
+        if !hands.is_empty() {
+            return false;
+        }
+    }
+    true
+}
