@@ -5,3 +5,4 @@ pub mod CallLaws
 pub mod Dealing
 pub mod Taking
 pub mod Tasking
+pub mod Writing

@@ -3,13 +3,14 @@ use Rattle.std.specs.Prelude.{◌≡◌, ◌≢◌, ◌<◌, ℕ, zero, suc, ◌
 use Rattle.std.specs.List.{All, AllZip, Contains}
 use Rattle.rrc_history.specs.declared.event.Event.{Event}
 use Rattle.rrc_history.specs.declared.event.Tag.{Tag}
+use Rattle.rrc_history.specs.declared.chains.Whole.{Whole}
 use Rattle.rrc_collate.specs.declared.valued.Valued.{Valued}
 use Rattle.rrc_collate.specs.declared.task.Task.{Task}
 use Rattle.rrc_collate.specs.declared.task.Fate.{Fate}
 use Rattle.rrc_collate.specs.declared.task.Fate.TheVariants.{Plain, Joined, Fetched}
 use Rattle.rrc_collate.specs.Words.{NeverFalls, AreSharedOut, class_of}
 use Rattle.rrc_collate.specs.Calls.{tag_of}
-use Rattle.rrc_collate.specs.Hands.{AreNamed, is_of}
+use Rattle.rrc_collate.specs.Hands.{AreNamed, is_of, events_of}
 use Rattle.rrc_collate.specs.Tasks.{IsTaskOf, written_by}
 
 -- which worker took which line, in the order of the tasks
@@ -90,3 +91,14 @@ pub record IsCollated (lines workers : ℕ) (tasks : List Task) (histories event
   pub ordered : AreInOrder lines workers tasks histories events
   pub joined : All (λ task. IsJoinedTo tasks task.worker task.fate) tasks
   pub turns : All (λ history. NeverFalls (turns_in tasks histories history)) histories
+
+-- the same, with a table of the lines' owners
+pub record AreWritten (workers : ℕ) (owners : List ℕ) (tasks : List Task) (histories events : List (List Event)) : Type 0 where
+  pub named : All (λ history. AreNamed (length owners) history) histories
+  pub calls : AllZip IsTaskOf tasks events
+  pub in_order : (worker part : ℕ) → worker < workers → part < length histories
+    → events_of worker owners (slice_index_or histories part []) ≡ written_by worker part tasks events
+
+-- the histories of parts
+abbrev pub histories_of : List Whole → List (List Event)
+histories_of wholes = map (λ whole. whole.events) wholes

@@ -1,8 +1,8 @@
-ghost use Rattle.std.specs.Prelude.{◌≡◌, ◌<◌, ◌↔◌, [], length, map, is_some, IfOk, IfSome, IfNone, IsTrue};
+ghost use Rattle.std.specs.Prelude.{◌≡◌, List, ◌<◌, ◌↔◌, [], length, map, is_some, IfOk, IfSome, IfNone, IsTrue};
 ghost use Rattle.std.specs.List.{All, AllZip};
+ghost use Rattle.rrc_history.specs.declared.event.Event.{Event};
 ghost use Rattle.rrc_collate.specs.Hands.{AreNamed, AreDealt};
-ghost use Rattle.rrc_collate.specs.Drawing.{hand_of};
-ghost use Rattle.rrc_collate.specs.Collated.{taken_by, AreInOrder};
+ghost use Rattle.rrc_collate.specs.Collated.{taken_by, histories_of, AreWritten, AreInOrder};
 
 use crate::doing::draw_all;
 use crate::falls::never_falls;
@@ -58,4 +58,35 @@ fn are_empty(parts: &[Hands]) -> bool
         }
     }
     true
+}
+
+/// The events of tasks, where the parts' histories are just what the workers wrote with their tasks. `owners` has the worker that
+/// took each line.
+fn events_in<'a>(
+    alloc: Global,
+    workers: usize,
+    owners: &[usize],
+    wholes: &'a [Whole],
+    tasks: &[Task],
+) -> Result<Option<Vec<Vec<&'a Event>>>, AllocError>
+    requires owners { All (λ owner. owner < workers) owners.now }
+    requires workers { All (λ task. task.worker < workers) tasks.now }
+    requires parts { All (λ task. All (λ operation. operation.part < length wholes.now) task.operations) tasks.now }
+    ensures written { IfOk result (λ found. IfSome found (λ events. AreWritten workers owners.now tasks.now (histories_of wholes.now) (map (λ own. map (λ event. event.now) own.items) events.items))) }
+    ensures only { IfOk result (λ found. IfSome found (λ events. (others : List (List Event)) → AreWritten workers owners.now tasks.now (histories_of wholes.now) others → others ≡ map (λ own. map (λ event. event.now) own.items) events.items)) }
+    ensures strayed { IfOk result (λ found. IfNone found ((others : List (List Event)) → AreWritten workers owners.now tasks.now (histories_of wholes.now) others → ⊥)) }
+{
+    let mut parts = match deal_all(alloc, workers, owners, wholes)? {
+        None => return Ok(None),
+        Some(parts) => parts,
+    };
+    let events = match draw_all(alloc, parts.as_mut_slice(), workers, tasks)? {
+        None => return Ok(None),
+        Some(events) => events,
+    };
+    if are_empty(parts.as_slice()) {
+        Ok(Some(events))
+    } else {
+        Ok(None)
+    }
 }
