@@ -6,3 +6,4 @@ pub mod Dealing
 pub mod Taking
 pub mod Tasking
 pub mod Writing
+pub mod Ordered

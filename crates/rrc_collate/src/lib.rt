@@ -15,6 +15,7 @@ pub use doing::draw_all;
 pub use drawing::draw;
 pub use falls::never_falls;
 pub use hands::{Hands, deal};
+pub use ordering::order;
 pub use owning::owners;
 pub use script::{Call, Operation, is_call_of, tag_of};
 pub use task::{Fate, Task};

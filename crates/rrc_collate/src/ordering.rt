@@ -90,3 +90,31 @@ fn events_in<'a>(
         Ok(None)
     }
 }
+
+/// The events of each task, in the order of the tasks and of their operations, where the parts' histories are just what the workers
+/// wrote with their tasks: each line below `lines` was taken once, no worker did a line behind a greater one, and in each part the
+/// events of a worker's lines are those of its tasks' operations that go there, one each, task by task. `None` where they are not.
+///
+/// Its time is linear in tasks, operations and events, and so is its memory.
+pub fn order<'a>(
+    alloc: Global,
+    lines: usize,
+    workers: usize,
+    wholes: &'a [Whole],
+    tasks: &[Task],
+) -> Result<Option<Vec<Vec<&'a Event>>>, AllocError>
+    requires workers { All (λ task. task.worker < workers) tasks.now }
+    requires parts { All (λ task. All (λ operation. operation.part < length wholes.now) task.operations) tasks.now }
+    ensures ordered { IfOk result (λ found. IfSome found (λ events. AreInOrder lines workers tasks.now (histories_of wholes.now) (map (λ own. map (λ event. event.now) own.items) events.items))) }
+    ensures only { IfOk result (λ found. IfSome found (λ events. (others : List (List Event)) → AreInOrder lines workers tasks.now (histories_of wholes.now) others → others ≡ map (λ own. map (λ event. event.now) own.items) events.items)) }
+    ensures strayed { IfOk result (λ found. IfNone found ((others : List (List Event)) → AreInOrder lines workers tasks.now (histories_of wholes.now) others → ⊥)) }
+{
+    let taken = taken_by(alloc, tasks)?;
+    if !never_falls(alloc, workers, taken.as_slice())? {
+        return Ok(None);
+    }
+    match owners(alloc, lines, taken.as_slice())? {
+        None => Ok(None),
+        Some(owners) => events_in(alloc, workers, owners.as_slice(), wholes, tasks),
+    }
+}
