@@ -1,5 +1,5 @@
 -- calls that are the same are one
-use Rattle.std.proofs.Common.{◌≡◌, Bool, true, false, ◌&&◌, refl, sym, ap, subst}
+use Rattle.std.proofs.Common.{◌≡◌, Bool, true, ◌&&◌, refl, sym, ap, subst}
 use Rattle.std.specs.Prelude.{◌==◌, nat_eq}
 use Rattle.std.specs.Bool.{Decides}
 use Rattle.std.specs.Cmp.Lexicographic.{pointwise, bytes_decides}
@@ -100,6 +100,7 @@ call_eq-same (Sweep moment) (Sweep other) h = ap Sweep ((Decides-eqb moment othe
 
 -- a test whose answer is that of `call_eq` decides whether two calls are one
 pub call_eq-Decides : (call other : Call) (answer : Bool) → answer ≡ call_eq call other → Decides answer (call ≡ other)
-call_eq-Decides call other answer same =
-    (λ holds. call_eq-same call other (subst (λ b. b ≡ true) same holds),
-      λ e. subst (λ b. b ≡ true) (sym same) (subst (λ c. call_eq call c ≡ true) e (call_eq-itself call)))
+call_eq-Decides call other answer same = (
+  λ holds. call_eq-same call other (subst (λ b. b ≡ true) same holds),
+  λ e. subst (λ b. b ≡ true) (sym same) (subst (λ c. call_eq call c ≡ true) e (call_eq-itself call)),
+)

@@ -1,5 +1,5 @@
 -- any two of a list: its first with each behind it, and any two behind it
-use Rattle.std.proofs.Common.{ℕ, ◌+◌, ◌<◌, zero, suc, List, [], ◌∷◌, length, get_or, arith}
+use Rattle.std.proofs.Common.{zero, suc, List, [], ◌∷◌, arith}
 use Rattle.std.specs.List.{All, AllPairs}
 
 pub pairs_nil : {X : Type 0} (R : X → X → Type 0) → AllPairs R []

@@ -1,5 +1,5 @@
 -- When what workers say that they did fits the histories of the parts.
-use Rattle.std.specs.Prelude.{◌≡◌, ◌≢◌, ◌<◌, ℕ, zero, suc, ◌==◌, List, [], ◌∷◌, ◌++◌, length, map, filter, slice_index_or, Bool, if◌then◌else◌, Option, Some, None}
+use Rattle.std.specs.Prelude.{◌≡◌, ◌≢◌, ◌<◌, ℕ, zero, suc, ◌==◌, List, [], ◌∷◌, ◌++◌, length, map, filter, slice_index_or, Bool, if◌then◌else◌}
 use Rattle.std.specs.List.{All, AllZip, Contains}
 use Rattle.rrc_history.specs.declared.event.Event.{Event}
 use Rattle.rrc_history.specs.declared.event.Tag.{Tag}
@@ -34,7 +34,7 @@ pub record AreInOrder (lines workers : ℕ) (tasks : List Task) (histories event
   pub named : All (λ history. AreNamed lines history) histories
   pub calls : AllZip IsTaskOf tasks events
   pub in_order : (worker part : ℕ) → worker < workers → part < length histories
-    → own_events worker tasks (slice_index_or histories part []) ≡ written_by worker part tasks events
+      → own_events worker tasks (slice_index_or histories part []) ≡ written_by worker part tasks events
 
 -- a line fetched a question
 abbrev pub IsFetchOf : ℕ → Fate → Type 0
@@ -97,7 +97,7 @@ pub record AreWritten (workers : ℕ) (owners : List ℕ) (tasks : List Task) (h
   pub named : All (λ history. AreNamed (length owners) history) histories
   pub calls : AllZip IsTaskOf tasks events
   pub in_order : (worker part : ℕ) → worker < workers → part < length histories
-    → events_of worker owners (slice_index_or histories part []) ≡ written_by worker part tasks events
+      → events_of worker owners (slice_index_or histories part []) ≡ written_by worker part tasks events
 
 -- the histories of parts
 abbrev pub histories_of : List Whole → List (List Event)

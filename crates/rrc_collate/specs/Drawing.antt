@@ -1,5 +1,5 @@
 -- What the operations of a line take from the hands of its worker.
-use Rattle.std.specs.Prelude.{◌≡◌, ◌≢◌, ℕ, List, [], ◌∷◌, ◌++◌, length, slice_get, slice_index_or, Some}
+use Rattle.std.specs.Prelude.{◌≡◌, ◌≢◌, ℕ, List, [], ◌++◌, length, slice_get, slice_index_or, Some}
 use Rattle.rrc_history.specs.declared.event.Event.{Event}
 use Rattle.rrc_history.specs.declared.event.Tag.{Tag}
 use Rattle.rrc_collate.specs.declared.script.Call.{Call}

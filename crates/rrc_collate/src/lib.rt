@@ -9,6 +9,8 @@ mod ordering;
 mod owning;
 mod script;
 mod task;
+#[cfg(test)]
+mod tests;
 mod valued;
 
 pub use doing::draw_all;

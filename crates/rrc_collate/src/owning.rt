@@ -7,7 +7,11 @@ use crate::valued::Valued;
 use std::alloc::{AllocError, Global};
 
 /// The class in which each value below `count` stands, where no value stands twice and no other does.
-fn classes_of(alloc: Global, count: usize, taken: &[Valued]) -> Result<Option<Vec<Option<usize>>>, AllocError>
+fn classes_of(
+    alloc: Global,
+    count: usize,
+    taken: &[Valued],
+) -> Result<Option<Vec<Option<usize>>>, AllocError>
     ensures apart { IfOk result (λ found. IsTrue (is_some found) ↔ AreApart count taken.now) }
     ensures classes { IfOk result (λ found. IfSome found (λ classes. AreClasses count taken.now classes.items)) }
 {
@@ -40,7 +44,11 @@ fn all_of(alloc: Global, found: &[Option<usize>]) -> Result<Option<Vec<usize>>, 
 
 /// The worker that took each line, where each of so many lines was taken once and no other line was. In `taken` the class is
 /// the worker, and the value is the line.
-pub fn owners(alloc: Global, lines: usize, taken: &[Valued]) -> Result<Option<Vec<usize>>, AllocError>
+pub fn owners(
+    alloc: Global,
+    lines: usize,
+    taken: &[Valued],
+) -> Result<Option<Vec<usize>>, AllocError>
     ensures shared_out { IfOk result (λ found. IsTrue (is_some found) ↔ AreSharedOut lines taken.now) }
     ensures owners { IfOk result (λ found. IfSome found (λ owners. AreOwners lines taken.now owners.items)) }
 {

@@ -10,5 +10,5 @@ abbrev pub invariant-loop-task : goal.invariant-loop-task
 invariant-loop-task l = record {
   done : AreDone l.initial.parts (take l.task-index l.tasks) (shown (λ own. own.items) (λ event. event.now) l.events.items) l.parts;
   rest : (events : List (List Event)) (behind : ℕ → ℕ → List Event) → AllFit l.initial.parts l.tasks events behind
-    → AllFitOn l.parts (drop l.task-index l.tasks) (shown (λ own. own.items) (λ event. event.now) l.events.items) events behind;
+      → AllFitOn l.parts (drop l.task-index l.tasks) (shown (λ own. own.items) (λ event. event.now) l.events.items) events behind;
 }

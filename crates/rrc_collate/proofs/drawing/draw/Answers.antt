@@ -20,11 +20,11 @@ returns-in-None-clause-none c =
     let is_hands = get_or_default parts operation.part hands [] in_parts in
     let none = subst (λ (l : List (List Event)). HasNoFirst (tag_at c.args.line place) operation.call (get_or l c.args.worker [])) is_hands c.in-None.ensures.none in
     let behind : drop place script ≡ operation ∷ drop (place + 1) script =
-      drop_more script place operation c.loop-place-test.true ∙ ap (λ o. o ∷ drop (place + 1) script) (sym here) in
+    drop_more script place operation c.loop-place-test.true ∙ ap (λ o. o ∷ drop (place + 1) script) (sym here) in
     λ events left fits.
-      let rest = c.loop-place.invariant.rest events left fits in
-      fits_none parts c.args.worker c.args.line place operation (drop (place + 1) script) rest.others left none
-      (subst (λ s. Fits parts c.args.worker c.args.line place s rest.others left) behind rest.fits)
+    let rest = c.loop-place.invariant.rest events left fits in
+    fits_none parts c.args.worker c.args.line place operation (drop (place + 1) script) rest.others left none
+    (subst (λ s. Fits parts c.args.worker c.args.line place s rest.others left) behind rest.fits)
 
 pub loop-place-preserved : goal.loop-place-preserved
 loop-place-preserved c =
@@ -48,25 +48,25 @@ loop-place-preserved c =
     let in_hands : worker < length (get_or parts operation.part hands) = omega (arith, has_worker, workers_stay, same_size) in
     let left = set parts operation.part c.take_next.new.hands in
     let took : Takes parts left operation.part worker =
-      takes parts operation.part worker (get_or parts operation.part hands) c.take_next.new.hands in_parts is_hands in_hands c.in-Some.ensures.rest in
+    takes parts operation.part worker (get_or parts operation.part hands) c.take_next.new.hands in_parts is_hands in_hands c.in-Some.ensures.rest in
     let behind : drop place script ≡ operation ∷ drop (place + 1) script =
-      drop_more script place operation c.loop-place-test.true ∙ ap (λ o. o ∷ drop (place + 1) script) (sym here) in
+    drop_more script place operation c.loop-place-test.true ∙ ap (λ o. o ∷ drop (place + 1) script) (sym here) in
     let more : take (place + 1) script ≡ take place script ++ operation ∷ [] =
-      take_more script place operation c.loop-place-test.true ∙ ap (λ o. take place script ++ o ∷ []) (sym here) in
+    take_more script place operation c.loop-place-test.true ∙ ap (λ o. take place script ++ o ∷ []) (sym here) in
     let now : Bor Event → Event = λ borrowed. borrowed.now in
     let events = map now c.loop-place.events.items in
     let pushed : map now c.push.new.self.items ≡ events ++ event.now ∷ [] =
-      ap (map now) c.in_ok-push-in-Some.ensures.items ∙ map-append now c.loop-place.events.items (event ∷ []) in
+    ap (map now) c.in_ok-push-in-Some.ensures.items ∙ map-append now c.loop-place.events.items (event ∷ []) in
     let size = length-take-le place script (omega (arith, c.loop-place-test.true)) in
     record {
       drawn =
-        subst (λ es. IsDrawn c.args.parts.now worker c.args.line (take (place + 1) script) es left) (sym pushed)
-        (subst (λ s. IsDrawn c.args.parts.now worker c.args.line s (events ++ event.now ∷ []) left) (sym more)
+          subst (λ es. IsDrawn c.args.parts.now worker c.args.line (take (place + 1) script) es left) (sym pushed)
+          (subst (λ s. IsDrawn c.args.parts.now worker c.args.line s (events ++ event.now ∷ []) left) (sym more)
           (drawn_more c.args.parts.now parts left worker c.args.line place (take place script) events operation event.now (sym size) took first drawn));
       rest = λ others behinds fits.
-        let rest = c.loop-place.invariant.rest others behinds fits in
-        subst (λ es. FitsOn left worker c.args.line (place + 1) (drop (place + 1) script) es others behinds) (sym pushed)
-        (fits_on parts left worker c.args.line place operation (drop (place + 1) script) event.now events others behinds took first.1
+          let rest = c.loop-place.invariant.rest others behinds fits in
+          subst (λ es. FitsOn left worker c.args.line (place + 1) (drop (place + 1) script) es others behinds) (sym pushed)
+          (fits_on parts left worker c.args.line place operation (drop (place + 1) script) event.now events others behinds took first.1
           (subst (λ s. FitsOn parts worker c.args.line place s events others behinds) behind rest));
     }
 
@@ -76,5 +76,5 @@ returns-clause-only c =
     let now : Bor Event → Event = λ borrowed. borrowed.now in
     let drawn = map now c.loop-place.events.items in
     λ events behind fits.
-      fits_all c.loop-place.parts c.args.worker c.args.line c.loop-place.place drawn events behind
-      (subst (λ s. FitsOn c.loop-place.parts c.args.worker c.args.line c.loop-place.place s drawn events behind) none (c.loop-place.invariant.rest events behind fits))
+    fits_all c.loop-place.parts c.args.worker c.args.line c.loop-place.place drawn events behind
+    (subst (λ s. FitsOn c.loop-place.parts c.args.worker c.args.line c.loop-place.place s drawn events behind) none (c.loop-place.invariant.rest events behind fits))

@@ -9,5 +9,5 @@ abbrev pub invariant-loop-place : goal.invariant-loop-place
 invariant-loop-place l = record {
   drawn : IsDrawn l.initial.parts l.worker l.line (take l.place l.script) (map (λ event. event.now) l.events.items) l.parts;
   rest : (events : List Event) (behind : ℕ → List Event) → Fits l.initial.parts l.worker l.line 0 l.script events behind
-    → FitsOn l.parts l.worker l.line l.place (drop l.place l.script) (map (λ event. event.now) l.events.items) events behind;
+      → FitsOn l.parts l.worker l.line l.place (drop l.place l.script) (map (λ event. event.now) l.events.items) events behind;
 }

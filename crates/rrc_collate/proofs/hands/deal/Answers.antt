@@ -14,7 +14,7 @@ loop-event-preserved c =
     let is_line : line ≡ (tag_of event).line = ap (λ (t : Tag). t.line) c.tag_of-line.ensures in
     let within : line < length c.args.owners.now = c.if-line-owners.false in
     let more : take (i + 1) events ≡ take i events ++ event ∷ [] =
-      take_more events i event c.loop-event-test.true ∙ ap (λ e. take i events ++ e ∷ []) (sym c.event-item.is) in
+    take_more events i event c.loop-event-test.true ∙ ap (λ e. take i events ++ e ∷ []) (sym c.event-item.is) in
     rw more (record {
       named = named_more (length c.args.owners.now) (take i events) event line is_line within c.loop-event.invariant.named;
       dealt = dealt_more c.args.workers c.args.owners.now (take i events) c.loop-event.hands c.put.new.self event line c.requires is_line within c.loop-event.invariant.dealt c.in_ok-put.ensures;

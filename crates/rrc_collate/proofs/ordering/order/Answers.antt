@@ -20,8 +20,8 @@ events_in-requires-clause-owners c =
     let found = subst (λ found. IfSome found (λ owners. AreOwners c.args.lines c.as_slice-2.result.now owners.items)) c.in-Some.is c.in_ok-owners.ensures.owners in
     let owners = c.as_slice-in-Some.result.now in
     let are : AreOwners c.args.lines (taken_by c.args.tasks.now) owners =
-      subst (λ taken. AreOwners c.args.lines taken owners) is_taken
-      (subst (λ items. AreOwners c.args.lines c.as_slice-2.result.now items) (sym c.as_slice-in-Some.ensures.value) found) in
+    subst (λ taken. AreOwners c.args.lines taken owners) is_taken
+    (subst (λ items. AreOwners c.args.lines c.as_slice-2.result.now items) (sym c.as_slice-in-Some.ensures.value) found) in
     owners_below c.args.lines c.args.workers c.args.tasks.now owners c.requires.workers are
 
 pub returns-clause-ordered : goal.returns-clause-ordered
@@ -30,8 +30,8 @@ returns-clause-ordered c =
     let found = subst (λ found. IfSome found (λ owners. AreOwners c.args.lines c.as_slice-2.result.now owners.items)) c.in-Some.is c.in_ok-owners.ensures.owners in
     let owners = c.as_slice-in-Some.result.now in
     let are : AreOwners c.args.lines (taken_by c.args.tasks.now) owners =
-      subst (λ taken. AreOwners c.args.lines taken owners) is_taken
-      (subst (λ items. AreOwners c.args.lines c.as_slice-2.result.now items) (sym c.as_slice-in-Some.ensures.value) found) in
+    subst (λ taken. AreOwners c.args.lines taken owners) is_taken
+    (subst (λ items. AreOwners c.args.lines c.as_slice-2.result.now items) (sym c.as_slice-in-Some.ensures.value) found) in
     let now : Bor Event → Event = λ borrowed. borrowed.now in
     let items : Vec (Bor Event) Global → List (Bor Event) = λ own. own.items in
     let show : Vec (Vec (Bor Event) Global) Global → List (List Event) = λ events. shown items now events.items in
@@ -45,8 +45,8 @@ returns-clause-only c =
     let found = subst (λ found. IfSome found (λ owners. AreOwners c.args.lines c.as_slice-2.result.now owners.items)) c.in-Some.is c.in_ok-owners.ensures.owners in
     let owners = c.as_slice-in-Some.result.now in
     let are : AreOwners c.args.lines (taken_by c.args.tasks.now) owners =
-      subst (λ taken. AreOwners c.args.lines taken owners) is_taken
-      (subst (λ items. AreOwners c.args.lines c.as_slice-2.result.now items) (sym c.as_slice-in-Some.ensures.value) found) in
+    subst (λ taken. AreOwners c.args.lines taken owners) is_taken
+    (subst (λ items. AreOwners c.args.lines c.as_slice-2.result.now items) (sym c.as_slice-in-Some.ensures.value) found) in
     let now : Bor Event → Event = λ borrowed. borrowed.now in
     let items : Vec (Bor Event) Global → List (Bor Event) = λ own. own.items in
     let show : Vec (Vec (Bor Event) Global) Global → List (List Event) = λ events. shown items now events.items in
@@ -58,6 +58,6 @@ returns-clause-strayed c =
     let found = subst (λ found. IfSome found (λ owners. AreOwners c.args.lines c.as_slice-2.result.now owners.items)) c.in-Some.is c.in_ok-owners.ensures.owners in
     let owners = c.as_slice-in-Some.result.now in
     let are : AreOwners c.args.lines (taken_by c.args.tasks.now) owners =
-      subst (λ taken. AreOwners c.args.lines taken owners) is_taken
-      (subst (λ items. AreOwners c.args.lines c.as_slice-2.result.now items) (sym c.as_slice-in-Some.ensures.value) found) in
+    subst (λ taken. AreOwners c.args.lines taken owners) is_taken
+    (subst (λ items. AreOwners c.args.lines c.as_slice-2.result.now items) (sym c.as_slice-in-Some.ensures.value) found) in
     strayed_by c.args.lines c.args.workers owners c.args.tasks.now (histories_of c.args.wholes.now) c.events_in.result are c.events_in.ensures.strayed

@@ -1,4 +1,4 @@
-use Rattle.std.proofs.Common.{ℕ, ◌≡◌, ◌<◌, Option, None, true, length, get_or, ap, sym, ◌∙◌, arith}
+use Rattle.std.proofs.Common.{◌≡◌, ◌<◌, None, true, length, get_or, ap, sym, ◌∙◌, arith}
 use Rattle.std.specs.Prelude.{is_some}
 use Rattle.std.proofs.lemmas.Bool.{false≢true}
 use Rattle.std.proofs.lemmas.List.{get_or_read, take_more}
@@ -17,9 +17,10 @@ returns-then-is_some-clause-apart c =
     let below : value < c.args.count = c.if-valued-count.false in
     let within : value < length classes = omega (arith, size, below) in
     let read = get_or_read classes value c.index.result.now within c.index.ensures None in
-    let some : is_some (get_or classes value None) ≡ true = ap is_some (sym read) ∙ (sym c.is_some.ensures ∙ c.if-is_some.true) in
-    (λ impossible. absurd (false≢true impossible),
-      λ apart. absurd (not_apart c.args.count values i d classes c.loop-valued-test.true c.loop-valued.invariant.classes below some apart))
+    let some : is_some (get_or classes value None) ≡ true = ap is_some (sym read) ∙ (sym c.is_some.ensures ∙ c.if-is_some.true) in (
+      λ impossible. absurd (false≢true impossible),
+      λ apart. absurd (not_apart c.args.count values i d classes c.loop-valued-test.true c.loop-valued.invariant.classes below some apart),
+    )
 
 pub loop-valued-preserved : goal.loop-valued-preserved
 loop-valued-preserved c =

@@ -1,4 +1,4 @@
-use Rattle.std.proofs.Common.{◌≡◌, List, ℕ, Option, Some, true, ap, refl, subst, sym, ◌∙◌}
+use Rattle.std.proofs.Common.{ap, subst, sym}
 use Rattle.std.specs.Prelude.{IfSome, is_some}
 use Rattle.rrc_collate.specs.Words.{AreClasses}
 use Rattle.rrc_collate.proofs.Classes.{is_shared_out, has_owners}
