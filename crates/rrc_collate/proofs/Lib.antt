@@ -7,3 +7,4 @@ pub mod Taking
 pub mod Tasking
 pub mod Writing
 pub mod Ordered
+pub mod Others

@@ -92,7 +92,7 @@ pub record IsCollated (lines workers : ℕ) (tasks : List Task) (histories event
   pub joined : All (λ task. IsJoinedTo tasks task.worker task.fate) tasks
   pub turns : All (λ history. NeverFalls (turns_in tasks histories history)) histories
 
--- the same, with a table of the lines' owners
+-- the same with a table of the lines' owners, which the clauses of a private function alone cite
 pub record AreWritten (workers : ℕ) (owners : List ℕ) (tasks : List Task) (histories events : List (List Event)) : Type 0 where
   pub named : All (λ history. AreNamed (length owners) history) histories
   pub calls : AllZip IsTaskOf tasks events

@@ -5,3 +5,4 @@ pub mod Hands
 pub mod Drawing
 pub mod Tasks
 pub mod Collated
+pub mod Joining
