@@ -8,3 +8,4 @@ pub mod Tasking
 pub mod Writing
 pub mod Ordered
 pub mod Others
+pub mod LinesLaw

@@ -6,3 +6,4 @@ pub mod Drawing
 pub mod Tasks
 pub mod Collated
 pub mod Joining
+pub mod Lines
