@@ -1,0 +1,28 @@
+//! Whether what workers say that they did fits the histories of a cache's parts: the words for it, and the checks.
+#![tactic(auto)]
+
+mod doing;
+mod drawing;
+mod falls;
+mod hands;
+mod joining;
+mod laws;
+mod ordering;
+mod owning;
+mod script;
+mod task;
+#[cfg(test)]
+mod tests;
+mod valued;
+
+pub use doing::draw_all;
+pub use drawing::draw;
+pub use falls::never_falls;
+pub use hands::{Hands, deal};
+pub use joining::have_others;
+pub use laws::each_line_stands;
+pub use ordering::order;
+pub use owning::owners;
+pub use script::{Call, Operation, is_call_of, tag_of};
+pub use task::{Fate, Task};
+pub use valued::Valued;
