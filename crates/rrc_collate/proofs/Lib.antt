@@ -9,3 +9,4 @@ pub mod Writing
 pub mod Ordered
 pub mod Others
 pub mod LinesLaw
+pub mod Fetched

@@ -7,3 +7,4 @@ pub mod Tasks
 pub mod Collated
 pub mod Joining
 pub mod Lines
+pub mod Fetches

@@ -4,6 +4,7 @@
 mod doing;
 mod drawing;
 mod falls;
+mod fetching;
 mod hands;
 mod joining;
 mod laws;
@@ -18,6 +19,7 @@ mod valued;
 pub use doing::draw_all;
 pub use drawing::draw;
 pub use falls::never_falls;
+pub use fetching::are_joined;
 pub use hands::{Hands, deal};
 pub use joining::have_others;
 pub use laws::each_line_stands;
