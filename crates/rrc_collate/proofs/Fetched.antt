@@ -19,7 +19,7 @@ picked_more pick (task ∷ tasks) next =
     ∙ sym (append_assoc (listed (pick task.worker task.fate)) (picked pick tasks) (listed (pick next.worker next.fate)))
 
 -- a predicate of what is picked, task by task
-with_listed : (P : Valued → Type 0) (o : Option Valued) (values : List Valued) → IfSome o P → All P values → All P (listed o ++ values)
+pub with_listed : (P : Valued → Type 0) (o : Option Valued) (values : List Valued) → IfSome o P → All P values → All P (listed o ++ values)
 with_listed P None values holds all = all
 with_listed P (Some valued) values holds all = All-cons P valued values holds all
 

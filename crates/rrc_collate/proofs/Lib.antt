@@ -10,3 +10,4 @@ pub mod Ordered
 pub mod Others
 pub mod LinesLaw
 pub mod Fetched
+pub mod Turned

@@ -8,3 +8,4 @@ pub mod Collated
 pub mod Joining
 pub mod Lines
 pub mod Fetches
+pub mod Turns

@@ -37,7 +37,7 @@ fn join_of(task: &Task) -> Option<Valued>
 }
 
 /// Puts a value behind others, if there is one.
-fn put(values: &mut Vec<Valued>, value: Option<Valued>) -> Result<(), AllocError>
+pub(crate) fn put(values: &mut Vec<Valued>, value: Option<Valued>) -> Result<(), AllocError>
     ensures { OnOk result (values.new.items ≡ values.old.items ++ listed value) }
 {
     match value {
