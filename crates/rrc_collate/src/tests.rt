@@ -3,10 +3,10 @@ ghost use Rattle.std.specs.List.{All};
 ghost use Rattle.rrc_collate.specs.Fetches.{IsNumbered};
 
 use crate::{
-    Call, Fate, Task, Valued, are_joined, deal, each_line_stands, have_others, is_call_of,
-    never_falls, owners, tag_of,
+    Call, Fate, Operation, Task, Valued, are_joined, collate, deal, each_line_stands, have_others,
+    is_call_of, never_falls, owners, tag_of,
 };
-use rrc_history::{Event, Tag};
+use rrc_history::{Event, Tag, Whole};
 use rrc_name::Sequence;
 use std::alloc::{AllocError, Global};
 use std::process::Abort;
@@ -191,6 +191,52 @@ fn a_join_needs_a_fetch_of_another_worker(rt: HostRuntime) -> Result<(), Fail> {
         let tasks = tasks_of(rt.alloc(), tasks.as_slice())?;
         assert!(rt; are_numbered(tasks.as_slice()));
         assert_eq!(rt; are_joined(rt.alloc(), 2, tasks.as_slice())?, *holds);
+    }
+    Ok(())
+}
+
+fn go_below(operations: &[Operation], parts: usize) -> bool
+    ensures { IsTrue result ↔ All (λ operation. operation.part < parts) operations.now }
+{
+    operations.iter().all(|operation| operation.part < parts)
+}
+
+fn all_go_below(tasks: &[Task], parts: usize) -> bool
+    ensures { IsTrue result ↔ All (λ task. All (λ operation. operation.part < parts) task.operations) tasks.now }
+{
+    tasks
+        .iter()
+        .all(|task| go_below(task.operations.as_slice(), parts))
+}
+
+fn are_workers(tasks: &[Task]) -> bool
+    ensures { IsTrue result ↔ All (λ task. task.worker < 2) tasks.now }
+{
+    tasks.iter().all(|task| task.worker < 2)
+}
+
+#[test]
+fn tasks_without_operations_are_collated(rt: HostRuntime) -> Result<(), Fail> {
+    let fetched = Fate::Fetched {
+        question: 1,
+        home: 0,
+    };
+    let joined = Fate::Joined { question: 1 };
+    let rows = [
+        ([(0, 0, fetched), (1, 1, joined)], true),
+        ([(0, 0, joined), (1, 1, Fate::Plain)], false),
+        ([(0, 0, Fate::Plain), (1, 0, Fate::Plain)], false),
+    ];
+    let alloc = rt.alloc();
+    let none: Vec<Whole> = Vec::new(alloc);
+    let wholes = none.as_slice();
+    for (tasks, holds) in rows.iter() {
+        let tasks = tasks_of(alloc, tasks.as_slice())?;
+        assert!(rt; are_workers(tasks.as_slice()));
+        assert!(rt; are_numbered(tasks.as_slice()));
+        assert!(rt; all_go_below(tasks.as_slice(), wholes.len()));
+        let found = collate(alloc, 2, 2, 2, wholes, tasks.as_slice())?;
+        assert_eq!(rt; found.is_some(), *holds);
     }
     Ok(())
 }
