@@ -9,3 +9,5 @@ pub mod Writing
 pub mod Ordered
 pub mod Others
 pub mod LinesLaw
+pub mod Fetched
+pub mod Turned

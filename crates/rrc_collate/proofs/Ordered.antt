@@ -4,15 +4,16 @@ use Rattle.std.specs.Prelude.{filter, slice_get, IfOk, IfSome, IfNone}
 use Rattle.std.specs.List.{All}
 use Rattle.std.proofs.lemmas.Bool.{cases_Bool, cond-true, cond-false}
 use Rattle.std.proofs.lemmas.Option.{slice_get-get_or}
-use Rattle.std.proofs.lemmas.List.Elements.{All-head, All-tail, All-map}
+use Rattle.std.proofs.lemmas.List.Elements.{All-nil, All-cons, All-head, All-tail, All-map}
 use Rattle.rrc_history.specs.declared.event.Event.{Event}
+use Rattle.rrc_history.specs.declared.chains.Whole.{Whole}
 use Rattle.rrc_collate.specs.declared.valued.Valued.{Valued}
 use Rattle.rrc_collate.specs.declared.task.Task.{Task}
 use Rattle.rrc_collate.specs.Words.{NeverFalls, class_of, AreSharedOut, AreOwners}
 use Rattle.rrc_collate.specs.Calls.{tag_of}
 use Rattle.rrc_collate.specs.Hands.{AreNamed, is_of, events_of}
-use Rattle.rrc_collate.specs.Collated.{taken_by, own_events, AreInOrder, AreWritten}
-use Rattle.rrc_collate.proofs.Writing.{IsBelow}
+use Rattle.rrc_collate.specs.Collated.{taken_by, own_events, AreInOrder, AreWritten, histories_of}
+use Rattle.rrc_collate.proofs.Writing.{IsBelow, named_wholes}
 
 filter_same : {X : Type 0} (p q : X → Bool) (xs : List X) → All (λ x. p x ≡ q x) xs → filter p xs ≡ filter q xs
 filter_same p q [] same = refl
@@ -98,3 +99,19 @@ strayed_by lines workers owners tasks histories (Err e) are strayed = tt
 strayed_by lines workers owners tasks histories (Ok (Some events)) are strayed = tt
 strayed_by lines workers owners tasks histories (Ok None) are strayed =
     λ others ordered. strayed others (written_from lines workers owners tasks histories others are ordered)
+
+-- what is in order has lines below their count
+lines_of : (lines : ℕ) (tasks : List Task) → All (λ (valued : Valued). valued.value < lines) (taken_by tasks) → All (λ (task : Task). task.line < lines) tasks
+lines_of lines [] below = All-nil (λ (task : Task). task.line < lines)
+lines_of lines (task ∷ tasks) below =
+    let taken : Valued = record { class = task.worker; value = task.line } in
+    All-cons (λ (task : Task). task.line < lines) task tasks (All-head (λ (valued : Valued). valued.value < lines) taken (taken_by tasks) below)
+    (lines_of lines tasks (All-tail (λ (valued : Valued). valued.value < lines) taken (taken_by tasks) below))
+
+pub lines_below : (lines workers : ℕ) (tasks : List Task) (histories events : List (List Event)) → AreInOrder lines workers tasks histories events
+    → All (λ (task : Task). task.line < lines) tasks
+lines_below lines workers tasks histories events ordered = lines_of lines tasks ordered.shared_out.below
+
+pub events_named : (lines workers : ℕ) (tasks : List Task) (wholes : List Whole) (events : List (List Event)) → AreInOrder lines workers tasks (histories_of wholes) events
+    → All (λ (whole : Whole). AreNamed lines whole.events) wholes
+events_named lines workers tasks wholes events ordered = named_wholes lines wholes ordered.named

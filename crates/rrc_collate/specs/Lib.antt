@@ -7,3 +7,5 @@ pub mod Tasks
 pub mod Collated
 pub mod Joining
 pub mod Lines
+pub mod Fetches
+pub mod Turns
