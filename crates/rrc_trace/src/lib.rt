@@ -23,7 +23,7 @@ mod writing;
 
 pub use answer::{Answer, Told};
 pub use fault::ReplayFault;
-pub use line::{Failed, Line, Put, Response};
+pub use line::{Failed, Fetch, Line, Put, Response};
 pub use name::names_are_spelled;
 pub use reading::{one_trace_or_fault, read_trace};
 pub use report::report_text;
