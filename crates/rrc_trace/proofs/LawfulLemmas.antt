@@ -13,8 +13,8 @@ use Rattle.rrc_trace.specs.Names.{name_of}
 use Rattle.rrc_trace.specs.Numbers.{number_of, at_most, moment_of, ttl_of, trust_of, kept_type, rtype_of}
 use Rattle.rrc_trace.specs.Words.{form_of, purpose_of, mode_of}
 use Rattle.rrc_trace.specs.Items.{items_of}
-use Rattle.rrc_trace.specs.Octets.{message_of}
-use Rattle.rrc_trace.specs.Lines.{ended, put_of, ask_of, fail_of, response_of, sweep_of, line_of, before_last, without_cr, bounded, line_of_piece}
+use Rattle.rrc_trace.specs.Octets.{message_of, fetched_of}
+use Rattle.rrc_trace.specs.Lines.{ended, put_of, ask_of, fail_of, response_of, fetch_of, sweep_of, line_of, before_last, without_cr, bounded, line_of_piece}
 use Rattle.rrc_trace.specs.Lawful.{IsLawful}
 use Rattle.rrc_trace.proofs.SaidLemmas.{said_first, said_last, says_field}
 use Rattle.rrc_trace.proofs.LawfulItems.{items-say}
@@ -101,6 +101,17 @@ response-lawful octets line is =
     let message = said_first (said_at message_of zone.0.1) _ line zone.1.1 in
     subst IsLawful (ended-says message.0.1 _ line message.1.1) (moment-says octets moment.0.0 moment.0.1 moment.1.0)
 
+fetch-lawful : (octets : List ℕ) (line : Line) → fetch_of octets ≡ Some line → IsLawful line
+unfolding fetch_of
+fetch-lawful octets line is =
+    let moment = said_first (said_at moment_of octets) _ line is in
+    let name = said_first (said_at name_of moment.0.1) _ line moment.1.1 in
+    let rtype = said_first (said_at rtype_of name.0.1) _ line name.1.1 in
+    let zone = said_first (said_at name_of rtype.0.1) _ line rtype.1.1 in
+    let message = said_first (said_at fetched_of zone.0.1) _ line zone.1.1 in
+    subst IsLawful (ended-says message.0.1 _ line message.1.1)
+    (record { timely = moment-says octets moment.0.0 moment.0.1 moment.1.0; kept = rtype-says name.0.1 rtype.0.0 rtype.0.1 rtype.1.0 })
+
 sweep-lawful : (octets : List ℕ) (line : Line) → sweep_of octets ≡ Some line → IsLawful line
 unfolding sweep_of
 sweep-lawful octets line is =
@@ -113,11 +124,12 @@ checkpoint-lawful octets line is = subst IsLawful (ended-says octets Checkpoint 
 line-lawful : (octets : List ℕ) (line : Line) → line_of octets ≡ Some line → IsLawful line
 line-lawful octets line is = let form = said_first (said_at form_of octets) _ line is in by form.0.0 form.0.1 form.1.1
   where
-    by : (form : Form) (rest : List ℕ) → elim form [ forms.Put ↦ put_of rest | forms.Ask ↦ ask_of rest | forms.Fail ↦ fail_of rest | forms.Response ↦ response_of rest | forms.Sweep ↦ sweep_of rest | forms.Checkpoint ↦ ended rest Checkpoint ] ≡ Some line → IsLawful line
+    by : (form : Form) (rest : List ℕ) → elim form [ forms.Put ↦ put_of rest | forms.Ask ↦ ask_of rest | forms.Fail ↦ fail_of rest | forms.Response ↦ response_of rest | forms.Fetch ↦ fetch_of rest | forms.Sweep ↦ sweep_of rest | forms.Checkpoint ↦ ended rest Checkpoint ] ≡ Some line → IsLawful line
     by forms.Put rest said = put-lawful rest line said
     by forms.Ask rest said = ask-lawful rest line said
     by forms.Fail rest said = fail-lawful rest line said
     by forms.Response rest said = response-lawful rest line said
+    by forms.Fetch rest said = fetch-lawful rest line said
     by forms.Sweep rest said = sweep-lawful rest line said
     by forms.Checkpoint rest said = checkpoint-lawful rest line said
 

@@ -129,6 +129,8 @@ stops faults.Read all old new lines number piece few read cut said = tt
 stops faults.Write all old new lines number piece few read cut said = absurd said
 stops faults.Memory all old new lines number piece few read cut said = tt
 stops (faults.Spent bad) all old new lines number piece few read cut said = absurd said
+stops faults.Strayed all old new lines number piece few read cut said = absurd said
+stops (faults.TooManyQuestions line) all old new lines number piece few read cut said = absurd said
 stops faults.NotLegal all old new lines number piece few read cut said = absurd said
 
 pub fails : (fault : ReplayFault) (all : Option (List ℕ)) → IsOfReading fault → IsFaultOfTrace all fault
@@ -138,6 +140,8 @@ fails faults.Read all of_reading = tt
 fails faults.Write all of_reading = absurd of_reading
 fails faults.Memory all of_reading = tt
 fails (faults.Spent bad) all of_reading = absurd of_reading
+fails faults.Strayed all of_reading = absurd of_reading
+fails (faults.TooManyQuestions line) all of_reading = absurd of_reading
 fails faults.NotLegal all of_reading = absurd of_reading
 
 -- nothing is left to read

@@ -3,7 +3,7 @@ use Rattle.std.proofs.Common.{◌≡◌, ℕ, suc, zero, ◌+◌, ◌⊎◌, Lis
 use Rattle.std.specs.List.{position_or_len}
 use Rattle.rrc_trace.specs.declared.line.Line.{Line}
 use Rattle.rrc_trace.specs.declared.fault.ReplayFault.{ReplayFault}
-use Rattle.rrc_trace.specs.declared.fault.ReplayFault.TheVariants.{BadLine, TooManyLines, Read, Write, Memory, Spent, NotLegal}
+use Rattle.rrc_trace.specs.declared.fault.ReplayFault.TheVariants.{BadLine, TooManyLines, Read, Write, Memory, Strayed, Spent, TooManyQuestions, NotLegal}
 use Rattle.rrc_trace.specs.Lines.{line_of_piece}
 use Rattle.rrc_trace.specs.Trace.{pieces_of, MOST_LINES, TraceOf, says_nothing, first_bad, IsFirstFault, OneTraceOrFault}
 use Rattle.rrc_trace.proofs.TraceLemmas.{lines_from, trace_of, position-none, trace_of-says, trace_of-bad, trace_of-many}
@@ -16,6 +16,8 @@ IsOfText Read = ⊥
 IsOfText Write = ⊥
 IsOfText Memory = ⊥
 IsOfText (Spent number) = ⊥
+IsOfText Strayed = ⊥
+IsOfText (TooManyQuestions line) = ⊥
 IsOfText NotLegal = ⊥
 
 abbrev fault_in : Result (List Line) ReplayFault → ReplayFault
@@ -42,6 +44,8 @@ either_of octets (Err Read) is = absurd (lines_from-only (pieces_of octets) 0 Re
 either_of octets (Err Write) is = absurd (lines_from-only (pieces_of octets) 0 Write is)
 either_of octets (Err Memory) is = absurd (lines_from-only (pieces_of octets) 0 Memory is)
 either_of octets (Err (Spent number)) is = absurd (lines_from-only (pieces_of octets) 0 (Spent number) is)
+either_of octets (Err Strayed) is = absurd (lines_from-only (pieces_of octets) 0 Strayed is)
+either_of octets (Err (TooManyQuestions line)) is = absurd (lines_from-only (pieces_of octets) 0 (TooManyQuestions line) is)
 either_of octets (Err NotLegal) is = absurd (lines_from-only (pieces_of octets) 0 NotLegal is)
 
 abbrev first_or : Line → List (Option Line) → Line
@@ -92,6 +96,8 @@ never_both octets lines Read trace is = is
 never_both octets lines Write trace is = is
 never_both octets lines Memory trace is = is
 never_both octets lines (Spent number) trace is = is
+never_both octets lines Strayed trace is = is
+never_both octets lines (TooManyQuestions line) trace is = is
 never_both octets lines NotLegal trace is = is
 
 abbrev place_in : Option ℕ → ℕ
@@ -107,11 +113,15 @@ one_of_faults octets Read other is also = absurd is
 one_of_faults octets Write other is also = absurd is
 one_of_faults octets Memory other is also = absurd is
 one_of_faults octets (Spent number) other is also = absurd is
+one_of_faults octets Strayed other is also = absurd is
+one_of_faults octets (TooManyQuestions line) other is also = absurd is
 one_of_faults octets NotLegal other is also = absurd is
 one_of_faults octets fault Read is also = absurd also
 one_of_faults octets fault Write is also = absurd also
 one_of_faults octets fault Memory is also = absurd also
 one_of_faults octets fault (Spent number) is also = absurd also
+one_of_faults octets fault Strayed is also = absurd also
+one_of_faults octets fault (TooManyQuestions line) is also = absurd also
 one_of_faults octets fault NotLegal is also = absurd also
 
 pub trace_or_fault : OneTraceOrFault

@@ -7,7 +7,7 @@ use Rattle.rrc_wire.specs.Layout.{is_kept}
 use Rattle.rrc_wire.specs.Plain.{IsPlain}
 use Rattle.rrc_wire.specs.Same.{same_rdata}
 use Rattle.rrc_trace.specs.declared.line.Line.{Line}
-use Rattle.rrc_trace.specs.declared.line.Line.TheVariants.{Put, Ask, Fail, Response, Sweep, Checkpoint}
+use Rattle.rrc_trace.specs.declared.line.Line.TheVariants.{Put, Ask, Fail, Response, Fetch, Sweep, Checkpoint}
 use Rattle.rrc_trace.specs.declared.line.Put.{Put as PutLine}
 use Rattle.rrc_trace.specs.Trace.{MOST_LINES}
 
@@ -29,6 +29,7 @@ IsLawful (Put put) = IsLawfulPut put
 IsLawful (Ask ask) = IsTimelyQuestion ask.moment ask.rtype
 IsLawful (Fail failed) = IsTimelyQuestion failed.moment failed.rtype
 IsLawful (Response response) = response.moment ≤ LAST_MOMENT
+IsLawful (Fetch fetch) = IsTimelyQuestion fetch.moment fetch.rtype
 IsLawful (Sweep moment) = moment ≤ LAST_MOMENT
 IsLawful Checkpoint = Unit {0}
 

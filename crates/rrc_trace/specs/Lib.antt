@@ -7,6 +7,7 @@ pub mod Octets
 pub mod Items
 pub mod Lines
 pub mod Trace
+pub mod Questions
 pub mod Lawful
 pub mod Report
 pub mod Writing

@@ -9,7 +9,7 @@ use Rattle.rrc_trace.specs.Fields.{said_at, has_field}
 use Rattle.rrc_trace.specs.Numbers.{moment_of, rtype_of, trust_of, ttl_of}
 use Rattle.rrc_trace.specs.Names.{name_of}
 use Rattle.rrc_trace.specs.Items.{items_of}
-use Rattle.rrc_trace.specs.Octets.{message_of}
+use Rattle.rrc_trace.specs.Octets.{message_of, fetched_of}
 use Rattle.rrc_trace.specs.Words.{form_of, purpose_of, mode_of}
 
 -- a line behind whose last field no other stands
@@ -53,6 +53,16 @@ response_of octets = do
   message ← said_at message_of zone.1
   ended message.1 (lines.Response (record { moment = moment.0; zone = zone.0; octets = message.0 }))
 
+-- the fields of a fetch: its moment, name, type, zone and message
+unfoldable pub fetch_of : List ℕ → Option Line
+fetch_of octets = do
+  moment ← said_at moment_of octets
+  name ← said_at name_of moment.1
+  rtype ← said_at rtype_of name.1
+  zone ← said_at name_of rtype.1
+  message ← said_at fetched_of zone.1
+  ended message.1 (lines.Fetch (record { moment = moment.0; name = name.0; rtype = rtype.0; zone = zone.0; octets = message.0 }))
+
 -- the field of a sweep: its moment
 unfoldable pub sweep_of : List ℕ → Option Line
 sweep_of octets = do
@@ -68,6 +78,7 @@ line_of octets = do
     | forms.Ask ↦ ask_of form.1
     | forms.Fail ↦ fail_of form.1
     | forms.Response ↦ response_of form.1
+    | forms.Fetch ↦ fetch_of form.1
     | forms.Sweep ↦ sweep_of form.1
     | forms.Checkpoint ↦ ended form.1 lines.Checkpoint
   ]

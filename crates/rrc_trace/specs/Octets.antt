@@ -2,6 +2,7 @@
 use Rattle.std.specs.Prelude.{ℕ, List, [], ◌∷◌, length, Option, Some, None, ◌==◌, bytes_eq, if◌then◌else◌}
 use Rattle.std.specs.Result.{result_ok}
 use Rattle.hex.specs.Hex.{decode_of}
+use Rattle.rrc_trace.specs.Gives.{◌>>=◌}
 
 -- the octets of hexadecimal digits of either case, or none for a dash; no digits spell nothing
 abbrev pub octets_of : List ℕ → Option (List ℕ)
@@ -13,3 +14,7 @@ octets_of digits =
 -- a message is octets of any length: whether they are one is not the line's matter
 abbrev pub message_of : List ℕ → Option (List ℕ)
 message_of field = octets_of field
+
+-- the octets of a message that was fetched, or a dash where no message came
+abbrev pub fetched_of : List ℕ → Option (Option (List ℕ))
+fetched_of field = if bytes_eq field (45 ∷ []) then Some None else octets_of field >>= λ octets. Some (Some octets)

@@ -3,7 +3,7 @@ use Rattle.std.specs.Prelude.{◌≡◌, ◌≢◌, ◌<◌, ◌≤◌, ℕ, Boo
 use Rattle.std.specs.Io.KnownBytes.{IsAtEnd}
 use Rattle.std.specs.List.{AllByRecursion}
 use Rattle.rrc_trace.specs.declared.fault.ReplayFault.{ReplayFault}
-use Rattle.rrc_trace.specs.declared.fault.ReplayFault.TheVariants.{BadLine, TooManyLines, Read, Write, Memory, Spent, NotLegal}
+use Rattle.rrc_trace.specs.declared.fault.ReplayFault.TheVariants.{BadLine, TooManyLines, Read, Write, Memory, Strayed, Spent, TooManyQuestions, NotLegal}
 use Rattle.rrc_trace.specs.declared.reading.Ending.{Ending}
 use Rattle.rrc_trace.specs.declared.reading.Ending.TheVariants.{Lf, Last, Endless}
 use Rattle.rrc_trace.specs.declared.line.Line.{Line}
@@ -53,6 +53,8 @@ IsOfReading Read = Unit {0}
 IsOfReading Write = ⊥
 IsOfReading Memory = Unit {0}
 IsOfReading (Spent number) = ⊥
+IsOfReading Strayed = ⊥
+IsOfReading (TooManyQuestions line) = ⊥
 IsOfReading NotLegal = ⊥
 
 -- the lines are those of the octets that a reader gives, where these are known
@@ -67,6 +69,8 @@ IsFaultOfTrace read Read = Unit {0}
 IsFaultOfTrace read Write = ⊥
 IsFaultOfTrace read Memory = Unit {0}
 IsFaultOfTrace read (Spent number) = ⊥
+IsFaultOfTrace read Strayed = ⊥
+IsFaultOfTrace read (TooManyQuestions line) = ⊥
 IsFaultOfTrace read NotLegal = ⊥
 
 -- the line is what its piece says, unless memory was refused
@@ -78,4 +82,6 @@ GivesLine number (Err Read) said = ⊥
 GivesLine number (Err Write) said = ⊥
 GivesLine number (Err Memory) said = Unit {0}
 GivesLine number (Err (Spent bad)) said = ⊥
+GivesLine number (Err Strayed) said = ⊥
+GivesLine number (Err (TooManyQuestions line)) said = ⊥
 GivesLine number (Err NotLegal) said = ⊥

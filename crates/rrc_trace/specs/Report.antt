@@ -80,13 +80,22 @@ outcomes_text (told ∷ others) = 32 ∷ (told_text told ++ outcomes_text others
 abbrev pub offers_text : List Told → List ℕ
 offers_text offers = decimal (length offers) ++ outcomes_text offers
 
+-- how many keys each part lost, each behind a space
+abbrev pub counts_text : List ℕ → List ℕ
+counts_text [] = []
+counts_text (count ∷ counts) = 32 ∷ (decimal count ++ counts_text counts)
+
 abbrev pub answer_text : Answer → List ℕ
 answer_text (answers.Put told) = codes "put " ++ told_text told
 answer_text (answers.Ask reply) = codes "ask " ++ reply_text reply
 answer_text (answers.Fail told) = codes "fail " ++ told_text told
 answer_text (answers.Response offers) = codes "response " ++ offers_text offers
 answer_text (answers.Refused fault) = codes "response refused " ++ decimal (number_of fault)
-answer_text (answers.Swept removed) = codes "sweep " ++ decimal removed
+answer_text (answers.Hit reply) = codes "fetch hit " ++ reply_text reply
+answer_text (answers.Held moment) = codes "fetch held " ++ decimal moment
+answer_text answers.Joined = codes "fetch joined"
+answer_text (answers.Fetched offers reply) = codes "fetch fetched " ++ (offers_text offers ++ (32 ∷ reply_text reply))
+answer_text (answers.Swept removed) = codes "sweep" ++ counts_text removed
 answer_text answers.Closed = codes "checkpoint"
 
 -- the number of a line, and what it got

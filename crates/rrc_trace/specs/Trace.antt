@@ -3,7 +3,7 @@ use Rattle.std.specs.Prelude.{◌≡◌, ◌<◌, ◌≤◌, ◌⊎◌, ℕ, Lis
 use Rattle.std.specs.Option.{is_none}
 use Rattle.rrc_trace.specs.declared.line.Line.{Line}
 use Rattle.rrc_trace.specs.declared.fault.ReplayFault.{ReplayFault}
-use Rattle.rrc_trace.specs.declared.fault.ReplayFault.TheVariants.{BadLine, TooManyLines, Read, Write, Memory, Spent, NotLegal}
+use Rattle.rrc_trace.specs.declared.fault.ReplayFault.TheVariants.{BadLine, TooManyLines, Read, Write, Memory, Strayed, Spent, TooManyQuestions, NotLegal}
 use Rattle.rrc_trace.specs.Lines.{line_of_piece}
 
 -- pieces, with one more octet in front of the first
@@ -40,6 +40,8 @@ IsFirstFault octets Read = ⊥
 IsFirstFault octets Write = ⊥
 IsFirstFault octets Memory = ⊥
 IsFirstFault octets (Spent number) = ⊥
+IsFirstFault octets Strayed = ⊥
+IsFirstFault octets (TooManyQuestions line) = ⊥
 IsFirstFault octets NotLegal = ⊥
 
 -- every text is the text of one list of lines, or it has one first fault, and never both

@@ -14,6 +14,7 @@ form_of word =
     else if bytes_eq word (codes "ask") then Some forms.Ask
     else if bytes_eq word (codes "fail") then Some forms.Fail
     else if bytes_eq word (codes "response") then Some forms.Response
+    else if bytes_eq word (codes "fetch") then Some forms.Fetch
     else if bytes_eq word (codes "sweep") then Some forms.Sweep
     else if bytes_eq word (codes "checkpoint") then Some forms.Checkpoint
     else None

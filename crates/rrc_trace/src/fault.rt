@@ -12,10 +12,14 @@ pub enum ReplayFault {
     Read,
     #[error("the report could not be written")]
     Write,
+    #[error("the workers strayed from the trace")]
+    Strayed,
     #[error("memory or a thread was refused")]
     Memory,
     #[error("line {0} met a part whose numbers are spent")]
     Spent(u64),
+    #[error("line {0} asks one question too many")]
+    TooManyQuestions(u64),
     #[error("the history of the replay is not legal")]
     NotLegal,
 }
@@ -24,7 +28,7 @@ impl ReplayFault {
     ghost use Rattle.std.specs.Prelude.{◌≡◌};
     ghost use Rattle.rrc_trace.specs.Faults.{fault_number};
 
-    /// The number by which the documents know the fault: 1 to 9, of which 5 and 8 are not used.
+    /// The number by which the documents know the fault: 1 to 9.
     pub fn number(&self) -> u8
         ensures { result ≡ fault_number self.now }
     {
@@ -33,8 +37,10 @@ impl ReplayFault {
             ReplayFault::TooManyLines => 2,
             ReplayFault::Read => 3,
             ReplayFault::Write => 4,
+            ReplayFault::Strayed => 5,
             ReplayFault::Memory => 6,
             ReplayFault::Spent(_) => 7,
+            ReplayFault::TooManyQuestions(_) => 8,
             ReplayFault::NotLegal => 9,
         }
     }

@@ -1,13 +1,13 @@
 ghost use Rattle.std.specs.Prelude.{◌≡◌, option_map};
 ghost use Rattle.rrc_trace.specs.Gives.{Gives};
-ghost use Rattle.rrc_trace.specs.Lines.{put_of, ask_of, fail_of, response_of, sweep_of, ended, line_of, before_last, without_cr, bounded, line_of_piece};
+ghost use Rattle.rrc_trace.specs.Lines.{put_of, ask_of, fail_of, response_of, fetch_of, sweep_of, ended, line_of, before_last, without_cr, bounded, line_of_piece};
 
 use crate::field::has_field;
 use crate::item::items_at;
 use crate::line_fault::LineFault;
 use crate::names::{Names, name_at};
 use crate::number::{moment_at, rtype_at, trust_at, ttl_at};
-use crate::octets::message_at;
+use crate::octets::{fetched_at, message_at};
 use crate::word::{Form, form_at, mode_at, purpose_at};
 use rrc_history::{Ask, Trust};
 use rrc_name::{Name, Octets, Sequence, Shared};
@@ -49,6 +49,19 @@ pub struct Response {
     pub octets: Octets,
 }
 
+/// A question that a resolver fetches from servers of a zone where its cache has no answer, at a moment in seconds.
+#[derive(Debug, Drop)]
+pub struct Fetch {
+    pub moment: u64,
+    /// The name, in the spelling of the line.
+    pub name: Name,
+    pub rtype: u16,
+    /// The zone, in the spelling of the line.
+    pub zone: Name,
+    /// The octets of the message that the servers send, or none where they send none.
+    pub octets: Option<Octets>,
+}
+
 /// A line of a trace.
 #[derive(Debug, Drop)]
 pub enum Line {
@@ -56,6 +69,7 @@ pub enum Line {
     Ask(Ask),
     Fail(Failed),
     Response(Response),
+    Fetch(Fetch),
     /// A sweep of what is dead at this moment, in seconds.
     Sweep(u64),
     /// The chapter that is open is closed.
@@ -144,6 +158,28 @@ fn response_in(alloc: Global, names: &mut Names, octets: &[u8]) -> Result<Line, 
     }))
 }
 
+/// The line whose first word was `fetch`.
+#[tactic(auto, unfolding(crate::specs::Lines::fetch_of))]
+fn fetch_in(alloc: Global, names: &mut Names, octets: &[u8]) -> Result<Line, LineFault>
+    ensures { Gives (λ line. line) result (fetch_of octets.now) }
+{
+    let (moment, rest) = moment_at(octets)?;
+    let (name, rest) = name_at(alloc, names, rest)?;
+    let (rtype, rest) = rtype_at(rest)?;
+    let (zone, rest) = name_at(alloc, names, rest)?;
+    let (octets, rest) = fetched_at(alloc, rest)?;
+    if has_field(rest) {
+        return Err(LineFault::NotOne);
+    }
+    Ok(Line::Fetch(Fetch {
+        moment,
+        name,
+        rtype,
+        zone,
+        octets,
+    }))
+}
+
 /// The line whose first word was `sweep`.
 #[tactic(auto, unfolding(crate::specs::Lines::sweep_of))]
 fn sweep_in(octets: &[u8]) -> Result<Line, LineFault>
@@ -176,6 +212,7 @@ fn line_in(alloc: Global, names: &mut Names, octets: &[u8]) -> Result<Line, Line
         Form::Ask => ask_in(alloc, names, rest),
         Form::Fail => fail_in(alloc, names, rest),
         Form::Response => response_in(alloc, names, rest),
+        Form::Fetch => fetch_in(alloc, names, rest),
         Form::Sweep => sweep_in(rest),
         Form::Checkpoint => checkpoint_in(rest),
     }

@@ -1,7 +1,7 @@
-ghost use Rattle.std.specs.Prelude.{◌≡◌, ◌++◌, IfOk, OnOk};
+ghost use Rattle.std.specs.Prelude.{◌≡◌, ◌∷◌, ◌++◌, IfOk, OnOk};
 ghost use Rattle.std.specs.String.{string_bytes};
 ghost use Rattle.rrc_name.specs.Text.{text_of};
-ghost use Rattle.rrc_trace.specs.Report.{outcome_text, item_text, items_text, set_text, soa_text, slot_text, key_text, told_text, outcomes_text, offers_text, reply_text, answer_text, line_text, report_text};
+ghost use Rattle.rrc_trace.specs.Report.{outcome_text, item_text, items_text, set_text, soa_text, slot_text, key_text, told_text, outcomes_text, offers_text, counts_text, reply_text, answer_text, line_text, report_text};
 
 use crate::answer::{Answer, Told};
 use rrc_history::{Outcome, Reply, RrSet, Soa};
@@ -150,6 +150,26 @@ fn push_offers(text: &mut String, offers: &[Told]) -> Result<(), AllocError>
     push_outcomes(text, offers)
 }
 
+/// How many keys each part lost, each behind a space.
+fn push_counts(text: &mut String, counts: &[usize]) -> Result<(), AllocError>
+    ensures { OnOk result (string_bytes text.new ≡ string_bytes text.old ++ counts_text counts.now) }
+{
+    for count in counts {
+        let count = *count;
+        write!(text, " {count}")?;
+    }
+    Ok(())
+}
+
+/// What became of the offers of a message that was fetched, and the reply behind them.
+fn push_fetched(text: &mut String, told: &[Told], reply: &Reply) -> Result<(), AllocError>
+    ensures { OnOk result (string_bytes text.new ≡ string_bytes text.old ++ (offers_text told.now ++ (32 ∷ reply_text reply.now))) }
+{
+    push_offers(text, told)?;
+    text.push(' ')?;
+    push_reply(text, reply)
+}
+
 fn push_answer(text: &mut String, answer: &Answer) -> Result<(), AllocError>
     ensures { OnOk result (string_bytes text.new ≡ string_bytes text.old ++ answer_text answer.now) }
 {
@@ -170,9 +190,19 @@ fn push_answer(text: &mut String, answer: &Answer) -> Result<(), AllocError>
             let number = fault.number();
             write!(text, "response refused {number}")
         }
+        Answer::Hit(reply) => {
+            text.push_str("fetch hit ")?;
+            push_reply(text, reply)
+        }
+        Answer::Held(moment) => write!(text, "fetch held {moment}"),
+        Answer::Joined => text.push_str("fetch joined"),
+        Answer::Fetched { told, reply } => {
+            text.push_str("fetch fetched ")?;
+            push_fetched(text, told.as_slice(), reply)
+        }
         Answer::Swept(removed) => {
-            let removed = *removed;
-            write!(text, "sweep {removed}")
+            text.push_str("sweep")?;
+            push_counts(text, removed.as_slice())
         }
         Answer::Closed => text.push_str("checkpoint"),
         Answer::Ask(reply) => {

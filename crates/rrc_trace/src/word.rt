@@ -13,6 +13,7 @@ pub(crate) enum Form {
     Ask,
     Fail,
     Response,
+    Fetch,
     Sweep,
     Checkpoint,
 }
@@ -30,6 +31,8 @@ pub(crate) fn form_at(octets: &[u8]) -> Result<(Form, &[u8]), LineFault>
         Ok((Form::Fail, rest))
     } else if field == b"response".as_slice() {
         Ok((Form::Response, rest))
+    } else if field == b"fetch".as_slice() {
+        Ok((Form::Fetch, rest))
     } else if field == b"sweep".as_slice() {
         Ok((Form::Sweep, rest))
     } else if field == b"checkpoint".as_slice() {

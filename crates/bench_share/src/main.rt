@@ -1,0 +1,141 @@
+//! Calls a shared cache by several threads at once and prints what it counted, and on standard error the nanoseconds that passed while they called, for a
+//! script that compares: `bench_share TASK THREADS PARTS CALLS`, where TASK is `hit`, `put`, `mix`, `hot` or `lent` and each thread makes
+//! CALLS. `hit` asks for names that are held, `put` replaces what is held, `mix` is nine asks to one put, `hot` asks for one name alone, and
+//! `lent` is `hit` by one thread on parts with no lock. Without arguments it does a few of each.
+#![tactic(auto)]
+
+mod calls;
+mod made;
+
+use crate::calls::{Turn, call_all, call_lent};
+use crate::made::{NAMES, asks, filled, lent, turns};
+use anyhow::{Context, Result, bail};
+use std::alloc::Global;
+use std::env;
+use std::rt::Env;
+use std::sync::Wait;
+use std::thread::{Threads, map_vec};
+use std::time::{Clock, Duration, Instant};
+
+const USAGE: &str = "TASK THREADS PARTS CALLS";
+
+/// What is called, by how many threads, on how many parts, and how often by each.
+#[derive(Clone, Copy)]
+struct Task<'a> {
+    name: &'a str,
+    threads: u32,
+    parts: usize,
+    calls: u32,
+}
+
+/// How many calls got an answer or kept an offer, and the time that passed.
+#[derive(Clone, Copy)]
+struct Done {
+    served: u64,
+    time: Duration,
+}
+
+/// How many of each ten calls are puts, and of how many names they are.
+fn kinds(name: &str) -> Result<(u32, u64)> {
+    match name {
+        "hit" | "lent" => Ok((0, NAMES)),
+        "put" => Ok((10, NAMES)),
+        "mix" => Ok((1, NAMES)),
+        "hot" => Ok((0, 1)),
+        _ => bail!("it does hit, put, mix, hot or lent"),
+    }
+}
+
+/// The calls of each thread.
+fn jobs<'a>(
+    alloc: Global,
+    task: &Task<'_>,
+    asks: &'a [rrc_history::Ask],
+) -> Result<Vec<Vec<Turn<'a>>>> {
+    let (puts, names) = kinds(task.name)?;
+    let mut jobs = Vec::new(alloc);
+    for thread in 0..task.threads {
+        jobs.push(turns(alloc, thread, asks, puts, names, task.calls)?)?;
+    }
+    Ok(jobs)
+}
+
+/// The calls by threads on a shared cache.
+fn shared<R: Threads + Wait + Sync + Clock>(
+    rt: &R,
+    alloc: Global,
+    task: &Task<'_>,
+) -> Result<Done> {
+    let asks = asks(alloc)?;
+    let jobs = jobs(alloc, task, asks.as_slice())?;
+    let cache = filled(rt, alloc, task.parts)?;
+    let cache = &cache;
+    let before = Instant::now(rt)?;
+    let served = map_vec(rt, jobs, &|turns| call_all(rt, cache, turns))?;
+    let time = before.elapsed(rt)?;
+    let mut all = 0_u64;
+    for one in served {
+        all = all.wrapping_add(one);
+    }
+    Ok(Done { served: all, time })
+}
+
+/// The calls by one thread on parts that no lock guards.
+fn lone<R: Clock>(rt: &R, alloc: Global, task: &Task<'_>) -> Result<Done> {
+    let asks = asks(alloc)?;
+    let turns = turns(alloc, 0, asks.as_slice(), 0, NAMES, task.calls)?;
+    let mut parts = lent(alloc, task.parts)?;
+    let before = Instant::now(rt)?;
+    let served = call_lent(parts.as_mut_slice(), turns);
+    let time = before.elapsed(rt)?;
+    Ok(Done { served, time })
+}
+
+fn report<R: Print + Eprint + Alloc<A = Global> + Threads + Wait + Sync + Clock>(
+    rt: &R,
+    task: &Task<'_>,
+) -> Result<()> {
+    if task.threads > 64 {
+        bail!("there are at most 64 threads");
+    }
+    let done = match task.name {
+        "lent" => lone(rt, rt.alloc(), task)?,
+        _ => shared(rt, rt.alloc(), task)?,
+    };
+    println!(rt; "{}: {} served", task.name, done.served)?;
+    eprintln!(rt; "{}", done.time.as_nanos())?;
+    Ok(())
+}
+
+fn run<R: Env + Print + Eprint + Alloc<A = Global> + Threads + Wait + Sync + Clock>(
+    rt: &R,
+) -> Result<()> {
+    let mut args = env::args(rt)?;
+    let _program = args.next();
+    let Some(name) = args.next() else {
+        for name in ["hit", "put", "mix", "hot", "lent"] {
+            let task = Task {
+                name,
+                threads: 2,
+                parts: 4,
+                calls: 100,
+            };
+            report(rt, &task)?;
+        }
+        return Ok(());
+    };
+    let threads = args.next().context(USAGE)?;
+    let parts = args.next().context(USAGE)?;
+    let calls = args.next().context(USAGE)?;
+    let task = Task {
+        name: name.as_str(),
+        threads: threads.as_str().parse::<u32>()?,
+        parts: parts.as_str().parse::<usize>()?,
+        calls: calls.as_str().parse::<u32>()?,
+    };
+    report(rt, &task)
+}
+
+fn main(rt: HostRuntime) -> Result<()> {
+    run(&rt)
+}
