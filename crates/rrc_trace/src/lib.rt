@@ -13,6 +13,7 @@ mod name;
 mod names;
 mod number;
 mod octets;
+mod questions;
 mod reading;
 mod report;
 #[cfg(test)]
@@ -25,6 +26,7 @@ pub use answer::{Answer, Told};
 pub use fault::ReplayFault;
 pub use line::{Failed, Fetch, Line, Put, Response};
 pub use name::names_are_spelled;
+pub use questions::Questions;
 pub use reading::{one_trace_or_fault, read_trace};
 pub use report::report_text;
 pub use trace::Trace;
