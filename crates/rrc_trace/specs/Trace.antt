@@ -42,7 +42,7 @@ says_nothing piece = is_none (line_of_piece piece)
 abbrev pub first_bad : List ℕ → Option ℕ
 first_bad octets = position says_nothing (take MOST_LINES (pieces_of octets))
 
--- a line in front of others, where there is one
+-- a line in front of others, or nothing where there is no line
 abbrev pub in_front : Option Line → List Line → List Line
 in_front None lines = []
 in_front (Some line) lines = line ∷ lines
