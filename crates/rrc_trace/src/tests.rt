@@ -172,6 +172,91 @@ fn responses_of_lines(rt: HostRuntime) -> Result<(), Fail> {
 }
 
 #[test]
+fn fetches_of_lines(rt: HostRuntime) -> Result<(), Fail> {
+    let text = "fetch 100 A.Example 0028 eXample. 00fF\n fetch 1 . 1 . - \r\n";
+    let trace = read_trace(rt.alloc(), &mut text.as_bytes())?;
+    let wanted = [
+        (100, "A.Example.", 28, "eXample.", Some([0, 255].as_slice())),
+        (1, ".", 1, ".", None),
+    ];
+    assert_eq!(rt; trace.lines.len(), wanted.len());
+    for (line, (moment, name, rtype, zone, octets)) in trace.lines.iter().zip(wanted) {
+        match line {
+            Line::Fetch(fetch) => {
+                assert_eq!(rt; (fetch.moment, fetch.rtype), (moment, rtype));
+                assert_eq!(rt; fetch.name.to_text()?.as_str(), name);
+                assert_eq!(rt; fetch.zone.to_text()?.as_str(), zone);
+                assert_eq!(rt; fetch.octets.as_ref().map(Octets::as_slice), octets);
+            }
+            _ => Err("each line is a fetch")?,
+        }
+    }
+    Ok(())
+}
+
+#[test]
+fn numbers_of_questions(rt: HostRuntime) -> Result<(), Fail> {
+    let text =
+        "fetch 1 B. 1 . -\nask 1 z. 1 any none\nfetch 2 b. 28 . -\nfetch 3 b. 1 b. 00\nfetch 4 a. 1 . -";
+    let trace = read_trace(rt.alloc(), &mut text.as_bytes())?;
+    let none = Questions::new(rt.alloc());
+    let questions = Questions::of(rt.alloc(), &trace)?;
+    assert_eq!(rt; questions.len(), 3);
+    let mut numbers = Vec::new(rt.alloc());
+    for line in &trace.lines {
+        match line {
+            Line::Fetch(fetch) => {
+                assert_eq!(rt; none.number(fetch)?, None);
+                numbers.push(questions.number(fetch)?)?;
+            }
+            _ => {}
+        }
+    }
+    assert_eq!(rt;
+        numbers.as_slice(),
+        [Some(0), Some(1), Some(0), Some(2)].as_slice()
+    );
+    Ok(())
+}
+
+/// The text of as many fetches as a trace has questions at most, each of another one.
+fn most_questions(alloc: Global) -> Result<String, Fail> {
+    let mut text = String::new(alloc);
+    for number in 0..4_096 {
+        write!(text, "fetch 1 n{number} 1 . -\n")?;
+    }
+    Ok(text)
+}
+
+/// Lines behind those of the most questions, and the fault.
+const BEHIND_MOST: [(&str, Option<ReplayFault>); 5] = [
+    // a repeat in other letters
+    ("fetch 1 N4095 1 a 00", None),
+    ("ask 1 n 1 any none", None),
+    (
+        "fetch 1 n0 28 . -",
+        Some(ReplayFault::TooManyQuestions(4_096)),
+    ),
+    // the first fault is told
+    (
+        "fetch 1 n 1 . -\n?",
+        Some(ReplayFault::TooManyQuestions(4_096)),
+    ),
+    ("fetch 1 n 1 . ?", Some(ReplayFault::BadLine(4_096))),
+];
+
+#[test]
+fn one_question_too_many(rt: HostRuntime) -> Result<(), Fail> {
+    for (lines, fault) in BEHIND_MOST {
+        let mut text = most_questions(rt.alloc())?;
+        text.push_str(lines)?;
+        let ended = read_trace(rt.alloc(), &mut text.as_bytes());
+        assert_eq!(rt; ended.err(), fault, "{lines}");
+    }
+    Ok(())
+}
+
+#[test]
 fn readers_that_never_end(rt: HostRuntime) -> Result<(), Fail> {
     let mut letters = Endless {
         octets: b"a",
@@ -297,6 +382,15 @@ fn replies(alloc: Global) -> Result<[Reply; 6], Fail> {
     ])
 }
 
+/// How many keys a sweep removed from each part.
+fn counts(alloc: Global, removed: &[usize]) -> Result<Sequence<usize>, Fail> {
+    let mut counts = Sequence::new(alloc);
+    for count in removed {
+        counts.push(*count)?;
+    }
+    Ok(counts)
+}
+
 #[test]
 fn texts_of_answers(rt: HostRuntime) -> Result<(), Fail> {
     let alloc = rt.alloc();
@@ -317,10 +411,10 @@ fn texts_of_answers(rt: HostRuntime) -> Result<(), Fail> {
     for reply in replies(alloc)? {
         answers.push(Answer::Ask(reply))?;
     }
-    answers.push(Answer::Swept(3))?;
+    answers.push(Answer::Swept(counts(alloc, &[1, 1, 0, 0])?))?;
     answers.push(Answer::Closed)?;
     let wanted =
-        "0 put kept\n1 put cleared\n2 put less\n3 fail kept-out:b.example./1\n4 fail kept-out:b.example./nx\n5 fail kept-out:b.example./failed28\n6 ask fresh 59 A.example. c00002fe,-\n7 ask stale 30 A.example. c00002fe,-\n8 ask nodata 300 Example. 000aff\n9 ask nxdomain 300 Example. 000aff\n10 ask miss\n11 ask miss 330\n12 sweep 3\n13 checkpoint\n";
+        "0 put kept\n1 put cleared\n2 put less\n3 fail kept-out:b.example./1\n4 fail kept-out:b.example./nx\n5 fail kept-out:b.example./failed28\n6 ask fresh 59 A.example. c00002fe,-\n7 ask stale 30 A.example. c00002fe,-\n8 ask nodata 300 Example. 000aff\n9 ask nxdomain 300 Example. 000aff\n10 ask miss\n11 ask miss 330\n12 sweep 1 1 0 0\n13 checkpoint\n";
     assert_eq!(rt; report_text(alloc, answers.as_slice())?.as_str(), wanted);
     Ok(())
 }
@@ -371,6 +465,51 @@ fn texts_of_responses(rt: HostRuntime) -> Result<(), Fail> {
     Ok(())
 }
 
+/// An address record's set.
+fn address(alloc: Global) -> Result<RrSet, Fail> {
+    let mut items = Sequence::new(alloc);
+    items.push(Octets::from_slice(alloc, &[192, 0, 2, 1])?)?;
+    Ok(RrSet {
+        owner: Name::from_text(alloc, "a.example.")?,
+        items: Shared::new(alloc, items)?,
+    })
+}
+
+/// What a fetch got whose message offered a set.
+fn fetched(alloc: Global) -> Result<Answer, Fail> {
+    let mut offers = Sequence::new(alloc);
+    offers.push(told(Outcome::Kept, None))?;
+    Ok(Answer::Fetched {
+        told: offers,
+        reply: Reply::Fresh {
+            set: address(alloc)?,
+            left: 60,
+        },
+    })
+}
+
+#[test]
+fn texts_of_fetches(rt: HostRuntime) -> Result<(), Fail> {
+    let alloc = rt.alloc();
+    let answers = [
+        Answer::Hit(Reply::Fresh {
+            set: set(alloc)?,
+            left: 59,
+        }),
+        Answer::Held(330),
+        Answer::Joined,
+        fetched(alloc)?,
+        Answer::Fetched {
+            told: Sequence::new(alloc),
+            reply: Reply::Miss { retry_from: None },
+        },
+    ];
+    let wanted =
+        "0 fetch hit fresh 59 A.example. c00002fe,-\n1 fetch held 330\n2 fetch joined\n3 fetch fetched 1 kept fresh 60 a.example. c0000201\n4 fetch fetched 0 miss\n";
+    assert_eq!(rt; report_text(alloc, answers.as_slice())?.as_str(), wanted);
+    Ok(())
+}
+
 #[test]
 fn writers_that_stumble_once(rt: HostRuntime) -> Result<(), Fail> {
     // The last call flushes, and the only one where there is nothing to write.
@@ -409,11 +548,21 @@ fn numbers_and_texts_of_faults(rt: HostRuntime) -> Result<(), Fail> {
         ),
         (ReplayFault::Read, 3, "the trace could not be read"),
         (ReplayFault::Write, 4, "the report could not be written"),
+        (
+            ReplayFault::Strayed,
+            5,
+            "the workers strayed from the trace",
+        ),
         (ReplayFault::Memory, 6, "memory or a thread was refused"),
         (
             ReplayFault::Spent(3),
             7,
             "line 3 met a part whose numbers are spent",
+        ),
+        (
+            ReplayFault::TooManyQuestions(3),
+            8,
+            "line 3 asks one question too many",
         ),
         (
             ReplayFault::NotLegal,
