@@ -1,19 +1,24 @@
+mod replies;
+
 use super::{AA, address, key};
 use crate::rechecks::{RecheckFault, recheck, recheck_seeded};
 use rrc_history::{
     Ask, Body, Entry, Event, FirstBad, Mode, Offer, Outcome, Purpose, Reply, RrSet, Rules,
-    Snapshot, Tag, Trust, audit,
+    Snapshot, Soa, Tag, Trust, audit,
 };
-use rrc_name::{Name, NameFault, Sequence, Slot};
+use rrc_name::{Key, Name, NameFault, Octets, Sequence, Shared, Slot};
 use std::alloc::{AllocError, Global};
 use std::test::Fail;
 
 const TAG: Tag = Tag { line: 0, place: 0 };
 
-/// The reply to an ask: the owner, the last octet of its address, and the time left.
+/// The reply to an ask: the owner, the last octet of its address or of its SOA record, and the time left.
 #[derive(Clone, Copy)]
 enum Replied<'a> {
     Fresh(&'a str, u8, u32),
+    Stale(&'a str, u8, u32),
+    NoData(&'a str, u8, u32),
+    NxDomain(&'a str, u8, u32),
     Miss(Option<u64>),
 }
 
@@ -25,6 +30,10 @@ type Question<'a> = (&'a str, u16, u64, Purpose, Mode);
 enum Told<'a> {
     /// An address was offered for 60 seconds under a name, of a rank, at a moment, with what became of it and what it evicted.
     Put(&'a str, Trust, u64, Outcome, Option<&'a str>),
+    /// That something does not exist was offered for 300 seconds under a name and a slot, at a moment.
+    Denied(&'a str, Slot, u64, Outcome),
+    /// That asking for addresses failed was offered for 30 seconds under a name, at a moment.
+    Failed(&'a str, u64, Outcome),
     Asked(Question<'a>, Replied<'a>),
     Swept(u64, &'a [&'a str]),
 }
@@ -59,13 +68,64 @@ fn put(
     })
 }
 
+/// An offer that evicted nothing.
+fn offered(key: Key, body: Body, moment: u64, outcome: Outcome) -> Result<Event, Fail> {
+    Ok(Event::Offered {
+        outcome,
+        tag: TAG,
+        offer: Offer::new(key, body, moment)?,
+        evicted: None,
+    })
+}
+
+/// The SOA record of an owner, whose data end with an octet.
+fn soa(alloc: Global, owner: &str, last: u8) -> Result<Soa, NameFault> {
+    Ok(Soa {
+        owner: Name::from_text(alloc, owner)?,
+        octets: Shared::new(alloc, Octets::from_slice(alloc, &[0, 0, 1, last])?)?,
+    })
+}
+
+fn denied(
+    alloc: Global,
+    owner: &str,
+    slot: Slot,
+    moment: u64,
+    outcome: Outcome,
+) -> Result<Event, Fail> {
+    let soa = soa(alloc, "example.", 44)?;
+    let body = Body::Negative {
+        soa_owner: soa.owner,
+        soa: soa.octets,
+        trust: AA,
+        ttl: 300,
+    };
+    offered(key(alloc, owner, slot)?, body, moment, outcome)
+}
+
+fn set(alloc: Global, owner: &str, host: u8) -> Result<RrSet, NameFault> {
+    Ok(RrSet {
+        owner: Name::from_text(alloc, owner)?,
+        items: address(alloc, host)?,
+    })
+}
+
 fn reply(alloc: Global, replied: Replied<'_>) -> Result<Reply, NameFault> {
     Ok(match replied {
         Replied::Fresh(owner, host, left) => Reply::Fresh {
-            set: RrSet {
-                owner: Name::from_text(alloc, owner)?,
-                items: address(alloc, host)?,
-            },
+            set: set(alloc, owner, host)?,
+            left,
+        },
+        Replied::Stale(owner, host, left) => Reply::Stale {
+            set: set(alloc, owner, host)?,
+            left,
+        },
+        Replied::NoData(owner, last, left) => Reply::NoData {
+            soa: soa(alloc, owner, last)?,
+            left,
+        },
+        Replied::NxDomain(owner, last, left) => Reply::NxDomain {
+            soa: soa(alloc, owner, last)?,
             left,
         },
         Replied::Miss(retry_from) => Reply::Miss { retry_from },
@@ -104,14 +164,19 @@ fn event(alloc: Global, told: Told<'_>) -> Result<Event, Fail> {
         Told::Put(owner, trust, moment, outcome, evicted) => {
             put(alloc, owner, trust, moment, outcome, evicted)
         }
+        Told::Denied(owner, slot, moment, outcome) => denied(alloc, owner, slot, moment, outcome),
+        Told::Failed(owner, moment, outcome) => {
+            let key = key(alloc, owner, Slot::Failed(1))?;
+            offered(key, Body::Failure { ttl: 30 }, moment, outcome)
+        }
         Told::Asked(question, replied) => Ok(asked(alloc, question, replied)?),
         Told::Swept(moment, owners) => Ok(swept(alloc, moment, owners)?),
     }
 }
 
-/// A snapshot for two keys in a chapter for one event: `b.example.` and `a.example.`, the first of them touched last.
-fn snapshot(alloc: Global) -> Result<Snapshot, Fail> {
-    let rules = Rules::new(2, 1, 86_400).ok_or("no rules")?;
+/// A snapshot for so many keys in a chapter for one event: `b.example.` and `a.example.`, the first of them touched last.
+fn snapshot(alloc: Global, capacity: u64) -> Result<Snapshot, Fail> {
+    let rules = Rules::new(capacity, 1, 86_400).ok_or("no rules")?;
     let mut entries = Vec::new(alloc);
     for (number, owner) in [(4, "b.example."), (7, "a.example.")] {
         entries.push(Entry {
@@ -128,8 +193,13 @@ const FRESH: Replied<'static> = Replied::Fresh("a.example.", 1, 50);
 
 const MISS: Replied<'static> = Replied::Miss(None);
 
-/// A legal history from that snapshot.
-const LEGAL: [Told<'static>; 6] = [
+/// A history: how many keys may be held, and the events from that snapshot.
+type History<'a> = (u64, &'a [Told<'a>]);
+
+/// A legal history, where two keys may be held.
+const LEGAL: History<'static> = (2, &EVENTS);
+
+const EVENTS: [Told<'static>; 6] = [
     Told::Put("a.example.", AA, 105, Outcome::Kept, None),
     Told::Asked(
         ("a.example.", 1, 115, Purpose::Answer, Mode::NoStale),
@@ -167,21 +237,32 @@ fn both_say(
     }
 }
 
-/// The first event that is not right where another stands at a place of the legal history.
-fn first_bad(alloc: Global, place: usize, told: Told<'_>) -> Result<Option<usize>, Fail> {
+/// An event that stands in place of another of a history.
+type Turned<'a> = (usize, Told<'a>);
+
+/// The first event of a history that is not right, once one is turned.
+fn first_bad(
+    alloc: Global,
+    (capacity, told): History<'_>,
+    (place, turned): Turned<'_>,
+) -> Result<Option<usize>, Fail> {
     let mut events = Vec::new(alloc);
-    for (each, legal) in LEGAL.iter().enumerate() {
-        events.push(event(alloc, if each == place { told } else { *legal })?)?;
+    for (each, legal) in told.iter().enumerate() {
+        events.push(event(alloc, if each == place { turned } else { *legal })?)?;
     }
-    let snapshot = snapshot(alloc)?;
+    let snapshot = snapshot(alloc, capacity)?;
     let rechecked = recheck_seeded(alloc, &snapshot, events.as_slice(), [7; 16]);
     both_say(audit(&snapshot, events.as_slice()), rechecked)
 }
 
 /// The first of these at which not just the event that was turned is found.
-fn astray(alloc: Global, turned: &[(usize, Told<'_>)]) -> Result<Option<usize>, Fail> {
+fn astray(
+    alloc: Global,
+    history: History<'_>,
+    turned: &[Turned<'_>],
+) -> Result<Option<usize>, Fail> {
     for (case, (place, told)) in turned.iter().enumerate() {
-        if first_bad(alloc, *place, *told)? != Some(*place) {
+        if first_bad(alloc, history, (*place, *told))? != Some(*place) {
             return Ok(Some(case));
         }
     }
@@ -190,7 +271,7 @@ fn astray(alloc: Global, turned: &[(usize, Told<'_>)]) -> Result<Option<usize>, 
 
 #[test]
 fn takes_a_legal_history_longer_than_a_chapter(rt: HostRuntime) -> Result<(), Fail> {
-    assert_eq!(rt; first_bad(rt.alloc(), 0, LEGAL[0])?, None);
+    assert_eq!(rt; first_bad(rt.alloc(), LEGAL, (0, EVENTS[0]))?, None);
     Ok(())
 }
 
@@ -224,7 +305,7 @@ fn finds_an_offer_with_one_field_turned(rt: HostRuntime) -> Result<(), Fail> {
             Told::Put("c.example.", AA, 130, Outcome::Kept, Some("c.example.")),
         ),
     ];
-    assert_eq!(rt; astray(rt.alloc(), &turned)?, None);
+    assert_eq!(rt; astray(rt.alloc(), LEGAL, &turned)?, None);
     Ok(())
 }
 
@@ -257,7 +338,7 @@ fn finds_an_ask_with_one_field_turned(rt: HostRuntime) -> Result<(), Fail> {
             Told::Asked((c, 1, 190, answer, no), Replied::Miss(Some(0))),
         ),
     ];
-    assert_eq!(rt; astray(rt.alloc(), &turned)?, None);
+    assert_eq!(rt; astray(rt.alloc(), LEGAL, &turned)?, None);
     Ok(())
 }
 
@@ -278,7 +359,7 @@ fn finds_a_sweep_with_one_field_turned(rt: HostRuntime) -> Result<(), Fail> {
         (5, Told::Swept(86_590, &["a.example."])),
         (5, Told::Swept(86_590, &[])),
     ];
-    assert_eq!(rt; astray(rt.alloc(), &turned)?, None);
+    assert_eq!(rt; astray(rt.alloc(), LEGAL, &turned)?, None);
     Ok(())
 }
 
@@ -297,7 +378,10 @@ fn finds_a_number_of_63_bits(rt: HostRuntime) -> Result<(), Fail> {
         events.push(asked(rt.alloc(), question, MISS)?)?;
         events.push(asked(rt.alloc(), question, MISS)?)?;
         let rechecked = recheck(rt.alloc(), &snapshot, events.as_slice());
-        assert_eq!(rt; bad_of(rechecked)?, bad);
+        assert_eq!(rt;
+            both_say(audit(&snapshot, events.as_slice()), rechecked)?,
+            bad
+        );
     }
     Ok(())
 }
