@@ -57,14 +57,16 @@ fn put(
     evicted: Option<&str>,
 ) -> Result<Event, Fail> {
     let body = body(alloc, owner, trust)?;
+    let offer = Offer::new(key(alloc, owner, Slot::Set(1))?, body, moment)?;
+    let evicted = match evicted {
+        None => None,
+        Some(evicted) => Some(key(alloc, evicted, Slot::Set(1))?),
+    };
     Ok(Event::Offered {
         outcome,
         tag: TAG,
-        offer: Offer::new(key(alloc, owner, Slot::Set(1))?, body, moment)?,
-        evicted: match evicted {
-            None => None,
-            Some(evicted) => Some(key(alloc, evicted, Slot::Set(1))?),
-        },
+        offer,
+        evicted,
     })
 }
 
@@ -103,11 +105,15 @@ fn denied(
     offered(key(alloc, owner, slot)?, body, moment, outcome)
 }
 
+fn failed(alloc: Global, owner: &str, moment: u64, outcome: Outcome) -> Result<Event, Fail> {
+    let key = key(alloc, owner, Slot::Failed(1))?;
+    offered(key, Body::Failure { ttl: 30 }, moment, outcome)
+}
+
 fn set(alloc: Global, owner: &str, host: u8) -> Result<RrSet, NameFault> {
-    Ok(RrSet {
-        owner: Name::from_text(alloc, owner)?,
-        items: address(alloc, host)?,
-    })
+    let owner = Name::from_text(alloc, owner)?;
+    let items = address(alloc, host)?;
+    Ok(RrSet { owner, items })
 }
 
 fn reply(alloc: Global, replied: Replied<'_>) -> Result<Reply, NameFault> {
@@ -165,10 +171,7 @@ fn event(alloc: Global, told: Told<'_>) -> Result<Event, Fail> {
             put(alloc, owner, trust, moment, outcome, evicted)
         }
         Told::Denied(owner, slot, moment, outcome) => denied(alloc, owner, slot, moment, outcome),
-        Told::Failed(owner, moment, outcome) => {
-            let key = key(alloc, owner, Slot::Failed(1))?;
-            offered(key, Body::Failure { ttl: 30 }, moment, outcome)
-        }
+        Told::Failed(owner, moment, outcome) => failed(alloc, owner, moment, outcome),
         Told::Asked(question, replied) => Ok(asked(alloc, question, replied)?),
         Told::Swept(moment, owners) => Ok(swept(alloc, moment, owners)?),
     }
@@ -193,6 +196,8 @@ const FRESH: Replied<'static> = Replied::Fresh("a.example.", 1, 50);
 
 const MISS: Replied<'static> = Replied::Miss(None);
 
+const LATE: u64 = (1 << 40) + 1;
+
 /// A history: how many keys may be held, and the events from that snapshot.
 type History<'a> = (u64, &'a [Told<'a>]);
 
@@ -201,10 +206,7 @@ const LEGAL: History<'static> = (2, &EVENTS);
 
 const EVENTS: [Told<'static>; 6] = [
     Told::Put("a.example.", AA, 105, Outcome::Kept, None),
-    Told::Asked(
-        ("a.example.", 1, 115, Purpose::Answer, Mode::NoStale),
-        FRESH,
-    ),
+    Told::Asked(ASKED, FRESH),
     Told::Asked(("b.example.", 1, 120, Purpose::Answer, Mode::NoStale), MISS),
     Told::Put("c.example.", AA, 130, Outcome::Kept, Some("b.example.")),
     Told::Asked(("c.example.", 1, 190, Purpose::Answer, Mode::NoStale), MISS),
@@ -287,10 +289,7 @@ fn finds_an_offer_with_one_field_turned(rt: HostRuntime) -> Result<(), Fail> {
             0,
             Told::Put("a.example.", AA, 105, Outcome::Kept, Some("b.example.")),
         ),
-        (
-            0,
-            Told::Put("a.example.", AA, (1 << 40) + 1, Outcome::Kept, None),
-        ),
+        (0, Told::Put("a.example.", AA, LATE, Outcome::Kept, None)),
         (
             3,
             Told::Put("a.example.", AA, 130, Outcome::Kept, Some("b.example.")),
@@ -309,36 +308,61 @@ fn finds_an_offer_with_one_field_turned(rt: HostRuntime) -> Result<(), Fail> {
     Ok(())
 }
 
+const ASKED: Question<'static> = ("a.example.", 1, 115, Purpose::Answer, Mode::NoStale);
+
+const ASKS: [Turned<'static>; 11] = [
+    (
+        1,
+        Told::Asked(
+            ("b.example.", 1, 115, Purpose::Answer, Mode::NoStale),
+            FRESH,
+        ),
+    ),
+    (
+        1,
+        Told::Asked(
+            ("a.example.", 28, 115, Purpose::Answer, Mode::NoStale),
+            FRESH,
+        ),
+    ),
+    (
+        1,
+        Told::Asked(
+            ("a.example.", 1, 116, Purpose::Answer, Mode::NoStale),
+            FRESH,
+        ),
+    ),
+    (
+        1,
+        Told::Asked(
+            ("a.example.", 1, LATE, Purpose::Answer, Mode::NoStale),
+            MISS,
+        ),
+    ),
+    (1, Told::Asked(ASKED, Replied::Fresh("A.example.", 1, 50))),
+    (1, Told::Asked(ASKED, Replied::Fresh("a.example.", 2, 50))),
+    (1, Told::Asked(ASKED, Replied::Fresh("a.example.", 1, 49))),
+    (1, Told::Asked(ASKED, MISS)),
+    (
+        2,
+        Told::Asked(("b.example.", 1, 120, Purpose::Any, Mode::NoStale), MISS),
+    ),
+    (
+        4,
+        Told::Asked(("c.example.", 1, 190, Purpose::Answer, Mode::Now), MISS),
+    ),
+    (
+        4,
+        Told::Asked(
+            ("c.example.", 1, 190, Purpose::Answer, Mode::NoStale),
+            Replied::Miss(Some(0)),
+        ),
+    ),
+];
+
 #[test]
 fn finds_an_ask_with_one_field_turned(rt: HostRuntime) -> Result<(), Fail> {
-    let (a, b, c) = ("a.example.", "b.example.", "c.example.");
-    let (answer, no) = (Purpose::Answer, Mode::NoStale);
-    let turned = [
-        (1, Told::Asked((b, 1, 115, answer, no), FRESH)),
-        (1, Told::Asked((a, 28, 115, answer, no), FRESH)),
-        (1, Told::Asked((a, 1, 116, answer, no), FRESH)),
-        (1, Told::Asked((a, 1, (1 << 40) + 1, answer, no), MISS)),
-        (
-            1,
-            Told::Asked((a, 1, 115, answer, no), Replied::Fresh("A.example.", 1, 50)),
-        ),
-        (
-            1,
-            Told::Asked((a, 1, 115, answer, no), Replied::Fresh(a, 2, 50)),
-        ),
-        (
-            1,
-            Told::Asked((a, 1, 115, answer, no), Replied::Fresh(a, 1, 49)),
-        ),
-        (1, Told::Asked((a, 1, 115, answer, no), MISS)),
-        (2, Told::Asked((b, 1, 120, Purpose::Any, no), MISS)),
-        (4, Told::Asked((c, 1, 190, answer, Mode::Now), MISS)),
-        (
-            4,
-            Told::Asked((c, 1, 190, answer, no), Replied::Miss(Some(0))),
-        ),
-    ];
-    assert_eq!(rt; astray(rt.alloc(), LEGAL, &turned)?, None);
+    assert_eq!(rt; astray(rt.alloc(), LEGAL, &ASKS)?, None);
     Ok(())
 }
 
@@ -346,7 +370,7 @@ fn finds_an_ask_with_one_field_turned(rt: HostRuntime) -> Result<(), Fail> {
 fn finds_a_sweep_with_one_field_turned(rt: HostRuntime) -> Result<(), Fail> {
     let turned: [(usize, Told<'_>); 7] = [
         (5, Told::Swept(86_589, &["a.example.", "c.example."])),
-        (5, Told::Swept((1 << 40) + 1, &["a.example.", "c.example."])),
+        (5, Told::Swept(LATE, &["a.example.", "c.example."])),
         (5, Told::Swept(86_590, &["c.example.", "a.example."])),
         (
             5,
@@ -363,25 +387,27 @@ fn finds_a_sweep_with_one_field_turned(rt: HostRuntime) -> Result<(), Fail> {
     Ok(())
 }
 
+/// The first event that is not right of two from a snapshot of nothing in front of event `first`.
+fn numbered_from(alloc: Global, first: u64) -> Result<Option<usize>, Fail> {
+    let rules = Rules::new(2, 4096, 86_400).ok_or("no rules")?;
+    let snapshot = Snapshot::new(rules, first, Vec::new(alloc))?;
+    let mut events = Vec::new(alloc);
+    for _ in 0..2 {
+        events.push(asked(alloc, ASKED, MISS)?)?;
+    }
+    let rechecked = recheck(alloc, &snapshot, events.as_slice());
+    both_say(audit(&snapshot, events.as_slice()), rechecked)
+}
+
 #[test]
 fn finds_a_number_of_63_bits(rt: HostRuntime) -> Result<(), Fail> {
-    let rules = Rules::new(2, 4096, 86_400).ok_or("no rules")?;
-    let question = ("a.example.", 1, 10, Purpose::Any, Mode::Now);
     for (first, bad) in [
         ((1 << 62) - 2, None),
         ((1 << 62) - 1, Some(1)),
         (1 << 62, Some(0)),
         (u64::MAX, Some(0)),
     ] {
-        let snapshot = Snapshot::new(rules, first, Vec::new(rt.alloc()))?;
-        let mut events = Vec::new(rt.alloc());
-        events.push(asked(rt.alloc(), question, MISS)?)?;
-        events.push(asked(rt.alloc(), question, MISS)?)?;
-        let rechecked = recheck(rt.alloc(), &snapshot, events.as_slice());
-        assert_eq!(rt;
-            both_say(audit(&snapshot, events.as_slice()), rechecked)?,
-            bad
-        );
+        assert_eq!(rt; numbered_from(rt.alloc(), first)?, bad);
     }
     Ok(())
 }

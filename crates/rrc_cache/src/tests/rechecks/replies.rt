@@ -1,4 +1,4 @@
-use super::{AA, History, Question, Replied, Told, Turned, astray, first_bad};
+use super::{AA, History, LATE, MISS, Question, Replied, Told, Turned, astray, first_bad};
 use rrc_history::{Mode, Outcome, Purpose};
 use rrc_name::Slot;
 use std::test::Fail;
@@ -21,8 +21,6 @@ const NO_DATA: Replied<'static> = Replied::NoData("example.", 44, 295);
 const STALE: Replied<'static> = Replied::Stale("a.example.", 1, 30);
 
 const RETRY: Replied<'static> = Replied::Miss(Some(200));
-
-const MISS: Replied<'static> = Replied::Miss(None);
 
 /// A legal history with answers that something does not exist, with stale answers, and with a miss after a failure.
 const LEGAL: History<'static> = (8, &EVENTS);
@@ -70,8 +68,6 @@ const OFFERS: [Turned<'static>; 8] = [
     (6, Told::Failed("a.example.", 170, Outcome::LessTrusted)),
     (6, Told::Failed("a.example.", LATE, Outcome::Kept)),
 ];
-
-const LATE: u64 = (1 << 40) + 1;
 
 #[test]
 fn finds_a_denial_or_a_failure_offered_with_one_field_turned(rt: HostRuntime) -> Result<(), Fail> {
