@@ -393,7 +393,8 @@ fn numbered_from(alloc: Global, first: u64) -> Result<Option<usize>, Fail> {
     let snapshot = Snapshot::new(rules, first, Vec::new(alloc))?;
     let mut events = Vec::new(alloc);
     for _ in 0..2 {
-        events.push(asked(alloc, ASKED, MISS)?)?;
+        let event = asked(alloc, ASKED, MISS)?;
+        events.push(event)?;
     }
     let rechecked = recheck(alloc, &snapshot, events.as_slice());
     both_say(audit(&snapshot, events.as_slice()), rechecked)
