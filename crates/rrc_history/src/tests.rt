@@ -313,7 +313,10 @@ fn clones_replies(rt: HostRuntime) -> Result<(), Fail> {
 
 /// Whether the clone of a body is like another.
 fn is_body_cloned(alloc: Global, one: Offered<'_>, other: Offered<'_>) -> Result<bool, NameFault> {
-    Ok(made(alloc, one)?.clone()? == made(alloc, other)?)
+    let one = made(alloc, one)?;
+    let copy = one.clone()?;
+    let other = made(alloc, other)?;
+    Ok(copy == other)
 }
 
 #[test]
