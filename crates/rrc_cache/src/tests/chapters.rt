@@ -42,11 +42,10 @@ fn the_next_chapter_has_room(rt: HostRuntime) -> Result<(), Fail> {
 /// The first two chapters of a part that was put an address at moment 10.
 fn two_chapters(alloc: Global) -> Result<(Chapter, Chapter), Fail> {
     let mut part = part(alloc, 1024, 4096)?;
-    if put(alloc, &mut part, 0, (10, "a.example.", AA, 60, 1))? != KEPT {
-        return Err("the offer was not kept")?;
-    }
+    put(alloc, &mut part, 0, (10, "a.example.", AA, 60, 1))??;
     let first = part.checkpoint()?;
-    Ok((first, part.checkpoint()?))
+    let second = part.checkpoint()?;
+    Ok((first, second))
 }
 
 /// How many events two chapters have as one history.

@@ -182,9 +182,11 @@ fn snapshot(alloc: Global, capacity: u64) -> Result<Snapshot, Fail> {
     let rules = Rules::new(capacity, 1, 86_400).ok_or("no rules")?;
     let mut entries = Vec::new(alloc);
     for (number, owner) in [(4, "b.example."), (7, "a.example.")] {
+        let key = key(alloc, owner, Slot::Set(1))?;
+        let body = body(alloc, owner, Trust::Additional)?;
         entries.push(Entry {
-            key: key(alloc, owner, Slot::Set(1))?,
-            body: body(alloc, owner, Trust::Additional)?,
+            key,
+            body,
             moment: 100,
             number,
         })?;
