@@ -69,13 +69,16 @@ fn put(
     set: Set<'_>,
 ) -> Result<Result<Outcome, Refusal>, Fail> {
     let (moment, name, trust, ttl, host) = set;
+    let owner = Name::from_text(alloc, name)?;
+    let items = address(alloc, host)?;
+    let key = key(alloc, name, Slot::Set(1))?;
     let body = Body::Positive {
-        owner: Name::from_text(alloc, name)?,
-        items: address(alloc, host)?,
+        owner,
+        items,
         trust,
         ttl,
     };
-    offer(part, line, key(alloc, name, Slot::Set(1))?, body, moment)
+    offer(part, line, key, body, moment)
 }
 
 /// That something does not exist: at a moment, of a name, under a slot, of a rank, for some seconds.

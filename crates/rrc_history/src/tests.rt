@@ -68,9 +68,14 @@ fn came_back(offer: Result<Offer, OfferFault>) -> (Option<u8>, Key, Body) {
     }
 }
 
+fn key_of(alloc: Global, owner: &str, slot: Slot) -> Result<Key, NameFault> {
+    let name = Name::from_text(alloc, owner)?;
+    Ok(Key::of(&name, slot)?)
+}
+
 /// The key of `a.example.` under a slot.
 fn key(alloc: Global, slot: Slot) -> Result<Key, NameFault> {
-    Ok(Key::of(&Name::from_text(alloc, "a.example.")?, slot)?)
+    key_of(alloc, "a.example.", slot)
 }
 
 fn offer(
@@ -241,10 +246,9 @@ fn clones_an_ask(rt: HostRuntime) -> Result<(), Fail> {
 
 /// The address 192.0.2.1 of `a.example.`, under the spelling `A.example.`.
 fn set(alloc: Global) -> Result<RrSet, NameFault> {
-    Ok(RrSet {
-        owner: Name::from_text(alloc, "A.example.")?,
-        items: addresses(alloc, true)?,
-    })
+    let items = addresses(alloc, true)?;
+    let owner = Name::from_text(alloc, "A.example.")?;
+    Ok(RrSet { owner, items })
 }
 
 fn soa(alloc: Global) -> Result<Soa, NameFault> {
@@ -309,7 +313,10 @@ fn clones_replies(rt: HostRuntime) -> Result<(), Fail> {
 
 /// Whether the clone of a body is like another.
 fn is_body_cloned(alloc: Global, one: Offered<'_>, other: Offered<'_>) -> Result<bool, NameFault> {
-    Ok(made(alloc, one)?.clone()? == made(alloc, other)?)
+    let one = made(alloc, one)?;
+    let copy = one.clone()?;
+    let other = made(alloc, other)?;
+    Ok(copy == other)
 }
 
 #[test]
@@ -342,7 +349,7 @@ type Kept<'a> = (&'a str, u32, u64, u64);
 fn entry(alloc: Global, kept: Kept<'_>) -> Result<Entry, NameFault> {
     let (owner, ttl, moment, number) = kept;
     Ok(Entry {
-        key: Key::of(&Name::from_text(alloc, owner)?, Slot::Set(1))?,
+        key: key_of(alloc, owner, Slot::Set(1))?,
         body: body(alloc, owner, true, ttl)?,
         moment,
         number,

@@ -198,7 +198,9 @@ fn prints_names(rt: HostRuntime) -> Result<(), Fail> {
 
 /// Whether two texts are of names that are the same but for case.
 fn are_same(alloc: Global, text: &str, other: &str) -> Result<bool, NameFault> {
-    Ok(Name::from_text(alloc, text)?.same(&Name::from_text(alloc, other)?))
+    let name = Name::from_text(alloc, text)?;
+    let other = Name::from_text(alloc, other)?;
+    Ok(name.same(&other))
 }
 
 #[test]
@@ -217,13 +219,6 @@ fn sees_no_case(rt: HostRuntime) -> Result<(), Fail> {
 }
 
 #[test]
-fn folds_a_name(rt: HostRuntime) -> Result<(), Fail> {
-    let mixed = Name::from_text(rt.alloc(), "wWw.EXAMPLE.Z-9.[")?;
-    assert!(rt; mixed.folded()? == Name::from_text(rt.alloc(), "www.example.z-9.[")?);
-    Ok(())
-}
-
-#[test]
 fn the_root_is_like_no_other(rt: HostRuntime) -> Result<(), Fail> {
     let low = Name::from_text(rt.alloc(), "www.example.z-9.[")?;
     assert!(rt; !Name::root(rt.alloc())?.same(&low));
@@ -231,7 +226,8 @@ fn the_root_is_like_no_other(rt: HostRuntime) -> Result<(), Fail> {
 }
 
 fn key(alloc: Global, text: &str, slot: Slot) -> Result<Key, NameFault> {
-    Ok(Key::of(&Name::from_text(alloc, text)?, slot)?)
+    let name = Name::from_text(alloc, text)?;
+    Ok(Key::of(&name, slot)?)
 }
 
 /// Whether the key of a text and a slot is that of `WWW.example` and `Set(1)`.

@@ -41,6 +41,7 @@ fn met(alloc: Global, values: &Sequence<u8>) -> Result<Vec<u8>, AllocError> {
 fn shows(values: &Sequence<u8>, wanted: &[u8]) -> bool {
     values.as_slice() == wanted
         && values.len() == wanted.len()
+        && values.is_empty() == wanted.is_empty()
         && values.iter().next() == wanted.first()
 }
 
@@ -49,12 +50,16 @@ fn is_kept(values: &Sequence<u8>) -> Result<bool, AllocError> {
     Ok(Sequence::from_vec(values.clone()?.into_vec()) == *values)
 }
 
+/// Whether a sequence of these values holds them in order.
+fn is_held(alloc: Global, wanted: &[u8]) -> Result<bool, Fail> {
+    let values = sequence(alloc, wanted)?;
+    let met = met(alloc, &values)?;
+    Ok(shows(&values, wanted) && met.as_slice() == wanted && is_kept(&values)?)
+}
+
 #[test]
 fn holds_values_in_order(rt: HostRuntime) -> Result<(), Fail> {
-    assert!(rt; sequence(rt.alloc(), &[])?.is_empty());
-    let values = sequence(rt.alloc(), &[3, 1, 2])?;
-    assert!(rt; shows(&values, &[3, 1, 2]));
-    assert!(rt; met(rt.alloc(), &values)?.as_slice() == [3, 1, 2].as_slice());
-    assert!(rt; is_kept(&values)?);
+    assert!(rt; is_held(rt.alloc(), &[3, 1, 2])?);
+    assert!(rt; is_held(rt.alloc(), &[])?);
     Ok(())
 }

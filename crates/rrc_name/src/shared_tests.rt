@@ -1,10 +1,9 @@
+use crate::fault::NameFault;
 use crate::name::Name;
 use crate::octets::Octets;
 use crate::sequence::Sequence;
 use crate::shared::Shared;
-use lru::LruCache;
 use std::alloc::AllocError;
-use std::num::NonZeroUsize;
 use std::ops::Deref;
 use std::test::Fail;
 
@@ -45,23 +44,6 @@ fn owners_stand_in_lists(rt: HostRuntime) -> Result<(), Fail> {
     Ok(())
 }
 
-/// A map of 1 and 2 under two keys.
-fn map(rt: &HostRuntime) -> Result<LruCache<Shared<Octets>, u8>, Fail> {
-    let room = NonZeroUsize::new(2).ok_or("no room")?;
-    let mut cache = LruCache::new(rt.alloc(), room)?;
-    cache.put(shared(rt, &[1, 2])?, 1)?;
-    cache.put(shared(rt, &[1, 3])?, 2)?;
-    Ok(cache)
-}
-
-#[test]
-fn owners_stand_in_maps(rt: HostRuntime) -> Result<(), Fail> {
-    let mut cache = map(&rt)?;
-    assert!(rt; cache.get(&shared(&rt, &[1, 2])?).copied() == Some(1));
-    assert!(rt; cache.get(&shared(&rt, &[2, 1])?).copied() == None);
-    Ok(())
-}
-
 #[test]
 fn an_owner_is_printed_as_its_value(rt: HostRuntime) -> Result<(), Fail> {
     let value = Octets::from_slice(rt.alloc(), &[1, 2])?;
@@ -71,13 +53,18 @@ fn an_owner_is_printed_as_its_value(rt: HostRuntime) -> Result<(), Fail> {
     Ok(())
 }
 
+/// The name of a text folded, and that folded again.
+fn folded_twice(rt: &HostRuntime, text: &str) -> Result<(Name, Name), NameFault> {
+    let mixed = Name::from_text(rt.alloc(), text)?;
+    let low = mixed.folded()?;
+    let again = low.folded()?;
+    Ok((low, again))
+}
+
 #[test]
 fn a_folded_name_is_shared(rt: HostRuntime) -> Result<(), Fail> {
-    let mixed = Name::from_text(rt.alloc(), "wWw.example")?;
-    let low = mixed.folded()?;
-    assert!(rt; mixed.as_slice() == b"\x03wWw\x07example\0".as_slice());
-    assert!(rt; low.as_slice() == b"\x03www\x07example\0".as_slice() && low.wire.owners() == 1);
-    let again = low.folded()?;
+    let (low, again) = folded_twice(&rt, "wWw.EXAMPLE.Z-9.[")?;
+    assert!(rt; low.as_slice() == b"\x03www\x07example\x03z-9\x01[\0".as_slice());
     assert!(rt; again == low && low.wire.owners() == 2);
     Ok(())
 }

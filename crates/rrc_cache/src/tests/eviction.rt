@@ -29,6 +29,7 @@ fn a_seed_changes_no_reply(rt: HostRuntime) -> Result<(), Fail> {
         Step::Evicted("a.example."),
         Step::Would((12, "b.example.", Purpose::Answer, Mode::NoStale), FRESH),
     ];
-    assert_eq!(rt; astray_in(rt.alloc(), &mut part, &steps)?, None);
+    let astray = astray_in(rt.alloc(), &mut part, &steps)?;
+    assert_eq!(rt; astray, None);
     Ok(())
 }

@@ -11,22 +11,15 @@ fn a_full_chapter_takes_nothing(rt: HostRuntime) -> Result<(), Fail> {
         Step::Put((100, "a.example.", AA, 60, 1), KEPT),
         Step::Room(false),
         Step::Put((101, "a.example.", AA, 60, 2), Err(Refusal::HistoryFull)),
+        // It is told before the moment, which is too large.
+        Step::Put(
+            ((1 << 40) + 1, "a.example.", AA, 60, 3),
+            Err(Refusal::HistoryFull),
+        ),
         Step::Ask(asked, Err(Refusal::HistoryFull)),
         Step::Would(asked, Seen::Fresh(1, 1)),
         Step::Only(1),
         Step::Room(false),
-    ];
-    assert_eq!(rt; astray(rt.alloc(), 1024, 1, &steps)?, None);
-    Ok(())
-}
-
-#[test]
-fn a_full_chapter_is_told_before_the_moment(rt: HostRuntime) -> Result<(), Fail> {
-    let late = ((1 << 40) + 1, "a.example.", AA, 60, 3);
-    let steps = [
-        Step::Put((100, "a.example.", AA, 60, 1), KEPT),
-        Step::Put(late, Err(Refusal::HistoryFull)),
-        Step::Only(0),
     ];
     assert_eq!(rt; astray(rt.alloc(), 1024, 1, &steps)?, None);
     Ok(())

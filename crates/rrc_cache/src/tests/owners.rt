@@ -17,7 +17,8 @@ fn an_answer_shares_what_is_kept(rt: HostRuntime) -> Result<(), Fail> {
     let mut part = part(alloc, 4, 8)?;
     let kept = put(alloc, &mut part, 0, (100, "A.example.", AA, 60, 1))?;
     let asked = question(alloc, (101, "a.example.", Purpose::Answer, Mode::NoStale))?;
+    let owners = owners(&mut part, &asked)?;
     // The offer and the answer as they were written, what is kept, and the answer handed out.
-    assert!(rt; kept == KEPT && owners(&mut part, &asked)? == (4, 4));
+    assert!(rt; kept == KEPT && owners == (4, 4));
     Ok(())
 }

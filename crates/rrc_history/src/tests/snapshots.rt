@@ -25,10 +25,8 @@ fn takes_a_snapshot(rt: HostRuntime) -> Result<(), Fail> {
     let kept = [("a.example.", 60, 10, 0), ("b.example.", 60, 11, 1)];
     let taken = snapshot(rt.alloc(), 2, 3, &kept)??;
     assert!(rt; taken.rules().capacity == 2 && taken.first == 3 && taken.entries.len() == 2);
-    assert_eq!(rt;
-        met(rt.alloc(), &taken)?.as_slice(),
-        [(10, 0), (11, 1)].as_slice()
-    );
+    let met = met(rt.alloc(), &taken)?;
+    assert_eq!(rt; met.as_slice(), [(10, 0), (11, 1)].as_slice());
     Ok(())
 }
 
