@@ -26,7 +26,7 @@ where_passed true x y h = (refl, cc)
 where_passed false x y h = absurd cc
 
 -- what comes first and what comes behind it
-joined_parts : {X : Type 0} (first : Option X) (rest : Option (List X)) (xs : List X) → joined first rest ≡ Some xs
+pub joined_parts : {X : Type 0} (first : Option X) (rest : Option (List X)) (xs : List X) → joined first rest ≡ Some xs
     → (x : X) × (behind : List X) × (first ≡ Some x) × (rest ≡ Some behind) × (xs ≡ x ∷ behind)
 joined_parts None rest xs h = absurd cc
 joined_parts (Some first) None xs h = absurd cc
