@@ -2,7 +2,7 @@
 use Rattle.std.proofs.Common.{◌≡◌, ℕ, zero, suc, ◌<◌, Bool, true, false, cond, List, [], ◌∷◌, ◌++◌, length, get_or, map, Option, Some, None, take, refl, sym, ap, ◌∙◌, ◌+◌, arith}
 use Rattle.std.specs.Prelude.{◌&&◌}
 use Rattle.std.proofs.lemmas.Bool.{false≢true, and_from, and_parts}
-use Rattle.std.proofs.lemmas.List.{get_or-map, length-map, take_more}
+use Rattle.std.proofs.lemmas.List.{get_or-map, length-map, map-append, take_more}
 use Rattle.rrc_history.specs.declared.event.Event.{Event}
 use Rattle.rrc_history.specs.declared.event.Reply.{Reply}
 use Rattle.rrc_trace.specs.declared.answer.Told.{Told}
@@ -142,3 +142,12 @@ told_apart now given events other = told_unlike given (map now events) (λ same.
 
 pub count_apart : {B : Type 0} (now : B → Event) (removed : List ℕ) (events : List B) → (length removed ≡ length events → ⊥) → all_count removed (map now events) ≡ false
 count_apart now removed events other = count_unlike removed (map now events) (λ same. other (same ∙ length-map events now))
+
+-- no events at all
+pub before_nothing : {B : Type 0} (now : B → Event) (given : List Told) (reply : Reply) (events : List B) → length events ≡ 0 → told_before given reply (map now events) ≡ None
+before_nothing now given reply [] none = before_none given reply
+before_nothing now given reply (event ∷ events) none = absurd (omega (arith, none))
+
+-- the last event and those before it
+pub split_now : {B : Type 0} (now : B → Event) (events before : List B) (last : B) → events ≡ before ++ last ∷ [] → map now events ≡ map now before ++ now last ∷ []
+split_now now events before last are = ap (map now) are ∙ map-append now before (last ∷ [])
