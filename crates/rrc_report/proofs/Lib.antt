@@ -1,3 +1,5 @@
 pub mod Completed
 pub mod ToldLaws
 pub mod ToldSteps
+pub mod WholeParts
+pub mod Zips
