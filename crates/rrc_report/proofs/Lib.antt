@@ -3,3 +3,4 @@ pub mod ToldLaws
 pub mod ToldSteps
 pub mod WholeParts
 pub mod Zips
+pub mod Tables
