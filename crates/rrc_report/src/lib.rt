@@ -9,6 +9,7 @@ mod report;
 mod script;
 mod scripting;
 mod tasking;
+mod telling;
 mod wholes;
 
 pub use collating::collate;
@@ -16,3 +17,4 @@ pub use config::Config;
 pub use done::{Answered, Done};
 pub use report::Report;
 pub use script::Script;
+pub use telling::one_completion;
