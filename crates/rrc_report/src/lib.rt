@@ -16,3 +16,4 @@ pub use config::Config;
 pub use done::{Answered, Done};
 pub use report::Report;
 pub use script::Script;
+pub use scripting::one_script;

@@ -7,6 +7,7 @@ ghost use Rattle.rrc_report.specs.Scripts.{HasScript, OneScript};
 use crate::config::Config;
 use crate::script::Script;
 use rrc_trace::{Answer, Line, Questions, ReplayFault};
+use rrc_wire::one_message_or_fault;
 use std::alloc::Global;
 
 /// What a line calls for, where it got an answer of this kind, or `None` where it can't get one.
@@ -23,4 +24,12 @@ pub(crate) fn script_of(
     ensures err { IfErr result (λ fault. fault ≡ faults.Memory) }
 {
     Err(ReplayFault::Memory)
+}
+
+/// A line has one script for an answer: so what a report of a trace tells is determined by its lines. The function does nothing; its
+/// contract is the law.
+pub fn one_script()
+    ensures { OneScript }
+{
+    one_message_or_fault();
 }
