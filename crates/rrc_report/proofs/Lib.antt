@@ -1,2 +1,5 @@
 pub mod Scripted
 pub mod Tasked
+pub mod ShareLaws
+pub mod TaskLaws
+pub mod ReportLaws
