@@ -1,5 +1,6 @@
 -- the report that is made of what was handed in, and that there is none where a step finds none
-use Rattle.std.proofs.Common.{◌≡◌, ℕ, List, [], ◌∷◌, length, map, refl, sym, ◌∙◌, ap, subst, arith}
+use Rattle.std.proofs.Common.{◌≡◌, ℕ, List, [], ◌∷◌, length, map, Option, Some, None, refl, sym, ◌∙◌, ap, subst}
+use Rattle.std.specs.Prelude.{IfSome, IfNone}
 use Rattle.std.specs.List.{All, AllZip}
 use Rattle.std.proofs.lemmas.List.{length-map}
 use Rattle.std.proofs.lemmas.Slice.Zip.{AllZip-long}
@@ -24,6 +25,14 @@ use Rattle.rrc_report.specs.Steps.{given_from, as_taken, AreTasks, AreParts, Are
 use Rattle.rrc_report.proofs.Tasked.{given_taken, tasks_taken, shares_taken}
 use Rattle.rrc_report.proofs.ShareLaws.{given_all, given_each}
 use Rattle.rrc_report.proofs.TaskLaws.{length_tasks, tasks_given, tasks_same, scripted_all, answered_all, given_complete, complete_all}
+
+-- ---- what was found, and what was not
+
+pub some_of : {X : Type 0} (P : X → Type 0) (found : Option X) (x : X) → found ≡ Some x → IfSome found P → P x
+some_of P found x is holds = subst (λ one. IfSome one P) is holds
+
+pub none_of : {X : Type 0} (Q : Type 0) (found : Option X) → found ≡ None → IfNone found Q → Q
+none_of Q found is holds = subst (λ one. IfNone one Q) is holds
 
 -- ---- the histories of shelves
 

@@ -6,6 +6,7 @@ use crate::completing::lines_of;
 use crate::config::Config;
 use crate::done::Done;
 use crate::report::Report;
+use crate::scripting::one_script;
 use crate::tasking::tasks_of;
 use crate::wholes::wholes_of;
 use rrc_name::Sequence;
@@ -35,6 +36,7 @@ pub fn collate(
     ensures holds { IfOk result (Holds shelves.items done.items) }
     ensures err { IfErr result (IsWhy config.now trace.now shelves.items done.items) }
 {
+    one_script();
     let count = trace.lines.len();
     if done.len() != config.workers || shelves.len() != config.parts {
         return Err(ReplayFault::Strayed);
@@ -61,6 +63,7 @@ pub fn collate(
     let Some(lines) = lines_of(alloc, count, done, events.as_slice())? else {
         return Err(ReplayFault::Strayed);
     };
+    drop(events);
     Ok(Report {
         lines,
         shares,
