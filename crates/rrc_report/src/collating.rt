@@ -14,11 +14,27 @@ use rrc_share::Shelf;
 use rrc_trace::{Questions, ReplayFault, Trace};
 use std::alloc::{AllocError, Global};
 
-/// The lines of each worker, in order.
-fn shares_of(_alloc: Global, _done: &[Done]) -> Result<Sequence<Sequence<usize>>, AllocError>
-    ensures { IfOk result (λ shares. shares ≡ map lines_done _done.now) }
+/// The lines that a worker says it did, in order.
+fn share_of(alloc: Global, done: &Done) -> Result<Sequence<usize>, AllocError>
+    ensures { IfOk result (λ share. share ≡ lines_done done.now) }
 {
-    Err(AllocError)
+    let answers = done.answers.as_slice();
+    let mut share = Vec::with_capacity(alloc, answers.len())?;
+    for answered in answers {
+        share.push(answered.line)?;
+    }
+    Ok(Sequence::from_vec(share))
+}
+
+/// The lines of each worker, in order.
+fn shares_of(alloc: Global, done: &[Done]) -> Result<Sequence<Sequence<usize>>, AllocError>
+    ensures { IfOk result (λ shares. shares ≡ map lines_done done.now) }
+{
+    let mut shares = Vec::with_capacity(alloc, done.len())?;
+    for one in done {
+        shares.push(share_of(alloc, one)?)?;
+    }
+    Ok(Sequence::from_vec(shares))
 }
 
 /// The report of a replay: what each line got, from what the workers say that they did and the shelves that they left.
