@@ -1,5 +1,6 @@
 pub mod Scripted
 pub mod Tasked
-pub mod ShareLaws
+pub mod Completed
+pub mod ToldLaws
 pub mod TaskLaws
 pub mod ReportLaws

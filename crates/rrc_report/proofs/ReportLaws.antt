@@ -1,7 +1,7 @@
 -- the report that is made of what was handed in, and that there is none where a step finds none
 use Rattle.std.proofs.Common.{◌≡◌, ℕ, List, [], ◌∷◌, length, map, Option, Some, None, refl, sym, ◌∙◌, ap, subst}
 use Rattle.std.specs.Prelude.{IfSome, IfNone}
-use Rattle.std.specs.List.{All, AllZip}
+use Rattle.std.specs.List.{AllZip}
 use Rattle.std.proofs.lemmas.List.{length-map}
 use Rattle.std.proofs.lemmas.Slice.Zip.{AllZip-long}
 use Rattle.rrc_history.specs.declared.event.Event.{Event}
@@ -12,19 +12,20 @@ use Rattle.rrc_trace.specs.declared.answer.Answer.{Answer}
 use Rattle.rrc_trace.specs.Questions.{questions_of}
 use Rattle.rrc_collate.specs.declared.task.Task.{Task}
 use Rattle.rrc_collate.specs.Words.{AreSharedOut}
-use Rattle.rrc_collate.specs.Collated.{taken_by, histories_of}
+use Rattle.rrc_collate.specs.Collated.{histories_of}
 use Rattle.rrc_collate.specs.Collated as collated
-use Rattle.rrc_collate.specs.Tasks as tasks_of
+use Rattle.rrc_collate.specs.Tasks as of_tasks
 use Rattle.rrc_report.specs.declared.config.Config.{Config}
 use Rattle.rrc_report.specs.declared.done.Done.{Done}
 use Rattle.rrc_report.specs.declared.report.Report.{Report}
 use Rattle.rrc_report.specs.Scripts.{OneScript}
-use Rattle.rrc_report.specs.Reports.{IsCollated, Holds, IsOfShelf, IsAnswered, lines_done, taken_from}
+use Rattle.rrc_report.specs.Reports.{IsCollated, Holds, IsOfShelf, lines_done, taken_from}
 use Rattle.rrc_report.specs.Collates.{Stray}
-use Rattle.rrc_report.specs.Steps.{given_from, as_taken, AreTasks, AreParts, AreComplete, StandsComplete}
+use Rattle.rrc_report.specs.Steps.{given_from, as_taken, AreTasks, AreParts, AreComplete}
+use Rattle.rrc_report.specs.Steps as steps
 use Rattle.rrc_report.proofs.Tasked.{given_taken, tasks_taken, shares_taken}
-use Rattle.rrc_report.proofs.ShareLaws.{given_all, given_each}
-use Rattle.rrc_report.proofs.TaskLaws.{length_tasks, tasks_given, tasks_same, scripted_all, answered_all, given_complete, complete_all}
+use Rattle.rrc_report.proofs.Completed.{each_given, complete_gives, complete_answers, complete_from, told_of_given}
+use Rattle.rrc_report.proofs.TaskLaws.{tasks_given, tasks_same, scripted_all}
 
 -- ---- what was found, and what was not
 
@@ -67,7 +68,7 @@ pub report_tasks : (config : Config) (lines : List Line) (shelves : List ShelfOf
 report_tasks config lines shelves done report holds is =
     tasks_given config lines report.lines (given_from 0 done) is.tasks
     (is.taken ∙ (ap (taken_from 0) holds.shares ∙ sym (given_taken 0 done)))
-    is.scripts (given_all report.lines 0 done holds.given)
+    is.scripts (each_given report.lines 0 done holds.given)
 
 pub task_stray : (config : Config) (lines : List Line) (shelves : List ShelfOf) (done : List Done)
     → ((tasks : List Task) → AreTasks config lines (questions_of lines) (given_from 0 done) tasks → ⊥) → Stray config lines shelves done
@@ -92,11 +93,10 @@ event_stray one_script config lines shelves done wholes tasks parts are none rep
 -- its answers complete those that were given
 pub report_complete : (config : Config) (lines : List Line) (shelves : List ShelfOf) (done : List Done) (report : Report) → Holds shelves done report
     → (is : IsCollated config lines report) → AreComplete (length lines) (given_from 0 done) is.events report.lines
-report_complete config lines shelves done report holds is = record {
-  size = is.answers;
-  each = complete_all config lines (questions_of lines) report.lines (given_from 0 done) is.tasks is.events
-      (report_tasks config lines shelves done report holds is) (given_all report.lines 0 done holds.given) is.told;
-}
+report_complete config lines shelves done report holds is =
+    complete_from (length lines) done is.events report.lines is.answers holds.given
+    (told_of_given config lines (questions_of lines) report.lines (given_from 0 done) is.tasks is.events
+    (report_tasks config lines shelves done report holds is) is.told)
 
 pub answer_stray : OneScript → (config : Config) (lines : List Line) (shelves : List ShelfOf) (done : List Done) (wholes : List WholeOf) (tasks : List Task) (events : List (List Event))
     → AreParts config.rules shelves wholes → AreTasks config lines (questions_of lines) (given_from 0 done) tasks
@@ -134,14 +134,14 @@ found_collated config lines shelves done wholes tasks events answers found = rec
   taken = shares_taken config lines (questions_of lines) done tasks found.tasks_are;
   scripts = scripted_all config lines answers (given_from 0 done) tasks events found.tasks_are found.complete.each;
   fits = found.fits;
-  told = answered_all config lines (questions_of lines) answers (given_from 0 done) tasks events found.tasks_are found.complete.each;
+  told = complete_answers config lines (questions_of lines) answers (given_from 0 done) tasks events found.tasks_are found.complete.each;
 }
 
 pub found_holds : (config : Config) (lines : List Line) (shelves : List ShelfOf) (done : List Done) (wholes : List WholeOf) (tasks : List Task) (events : List (List Event)) (answers : List Answer)
     → AreFound config lines shelves done wholes tasks events answers → Holds shelves done (report_of done wholes answers)
 found_holds config lines shelves done wholes tasks events answers found = record {
   shares = refl;
-  given = given_each answers 0 done (given_complete answers (given_from 0 done) events found.complete.each);
+  given = complete_gives (length lines) done events answers found.complete;
   wholes = found.parts.shelves_are;
 }
 
@@ -157,4 +157,4 @@ pub events_given : (config : Config) (lines : List Line) (done : List Done) (tas
     → AreTasks config lines (questions_of lines) (given_from 0 done) tasks → collated.IsCollated (length lines) config.workers tasks histories events
     → length events ≡ length (given_from 0 done)
 events_given config lines done tasks histories events are fits =
-    AllZip-long tasks_of.IsTaskOf tasks events fits.ordered.calls ∙ length_tasks config lines (questions_of lines) (given_from 0 done) tasks are
+    AllZip-long of_tasks.IsTaskOf tasks events fits.ordered.calls ∙ AllZip-long (steps.IsTaskOf config lines (questions_of lines)) (given_from 0 done) tasks are

@@ -1,5 +1,5 @@
 -- tasks of what workers say that they did: from a report, and to one
-use Rattle.std.proofs.Common.{◌≡◌, ℕ, ◌+◌, ◌<◌, List, [], ◌∷◌, length, map, Some, refl, sym, ◌∙◌, ap, subst, arith}
+use Rattle.std.proofs.Common.{◌≡◌, List, [], ◌∷◌, map, Some, refl, sym, ◌∙◌, ap, subst}
 use Rattle.std.specs.Prelude.{slice_get}
 use Rattle.std.specs.List.{All, AllZip}
 use Rattle.std.proofs.lemmas.List.Elements.{All-nil, All-cons, All-head, All-tail}
@@ -14,26 +14,17 @@ use Rattle.rrc_collate.specs.Collated.{taken_by}
 use Rattle.rrc_report.specs.declared.config.Config.{Config}
 use Rattle.rrc_report.specs.declared.script.Script.{Script}
 use Rattle.rrc_report.specs.Scripts.{HasScript, OneScript}
-use Rattle.rrc_report.specs.Answers.{IsTold, without_keys, Completes}
-use Rattle.rrc_report.specs.Reports.{IsScripted, IsAnswered, IsGiven}
+use Rattle.rrc_report.specs.Answers.{without_keys}
+use Rattle.rrc_report.specs.Reports.{IsScripted}
 use Rattle.rrc_report.specs.Steps.{Given, as_taken, IsTaskOf, AreTasks, StandsComplete}
 use Rattle.rrc_report.proofs.Scripted.{script_without_keys, script_with_keys}
-use Rattle.rrc_report.proofs.ShareLaws.{answered_by, AllGiven}
-
-pub length_tasks : (config : Config) (lines : List Line) (questions : List KeyOf) (given : List Given) (tasks : List Task) → AreTasks config lines questions given tasks
-    → length tasks ≡ length given
-length_tasks config lines questions [] [] are = refl
-length_tasks config lines questions [] (task ∷ tasks) are = absurd are
-length_tasks config lines questions (one ∷ given) [] are = absurd are
-length_tasks config lines questions (one ∷ given) (task ∷ tasks) are =
-    let rest = length_tasks config lines questions given tasks are.1 in
-    omega (arith, rest)
+use Rattle.rrc_report.proofs.Completed.{IsHeld}
 
 -- ---- tasks are those of a report
 
 -- the task of a line that a report has scripted and whose answer was given
 task_given : (config : Config) (lines : List Line) (answers : List Answer) (one : Given) (task : Task) → as_taken one ≡ record { class = task.worker; value = task.line }
-    → IsScripted config lines answers task → IsGiven answers (answered_by one) → IsTaskOf config lines (questions_of lines) one task
+    → IsScripted config lines answers task → IsHeld answers one → IsTaskOf config lines (questions_of lines) one task
 task_given config lines answers one task same scripted is_given =
     let worker_is : task.worker ≡ one.worker = sym (ap (λ (v : Valued). v.class) same) in
     let number_is : task.line ≡ one.line = sym (ap (λ (v : Valued). v.value) same) in
@@ -53,7 +44,7 @@ task_given config lines answers one task same scripted is_given =
 
 -- what a report's tasks took is what was given, so they are its tasks
 pub tasks_given : (config : Config) (lines : List Line) (answers : List Answer) (given : List Given) (tasks : List Task) → taken_by tasks ≡ map as_taken given
-    → All (IsScripted config lines answers) tasks → AllGiven answers given → AreTasks config lines (questions_of lines) given tasks
+    → All (IsScripted config lines answers) tasks → All (IsHeld answers) given → AreTasks config lines (questions_of lines) given tasks
 tasks_given config lines answers [] [] same scripted all = tt
 tasks_given config lines answers [] (task ∷ tasks) same scripted all = absurd cc
 tasks_given config lines answers (one ∷ given) [] same scripted all = absurd cc
@@ -61,9 +52,9 @@ tasks_given config lines answers (one ∷ given) (task ∷ tasks) same scripted 
     let first : Valued = record { class = task.worker; value = task.line } in
     let heads : as_taken one ≡ first = cc in
     let tails : taken_by tasks ≡ map as_taken given = cc in
-    let P : Given → Type 0 = λ one. IsGiven answers (answered_by one) in (
-      task_given config lines answers one task heads (All-head (IsScripted config lines answers) task tasks scripted) (All-head P one given all),
-      tasks_given config lines answers given tasks tails (All-tail (IsScripted config lines answers) task tasks scripted) (All-tail P one given all),
+    let P : Given → Type 0 = λ one. IsHeld answers one in (
+      task_given config lines answers one task heads (All-head (IsScripted config lines answers) task tasks scripted) (All-head (IsHeld answers) one given all),
+      tasks_given config lines answers given tasks tails (All-tail (IsScripted config lines answers) task tasks scripted) (All-tail (IsHeld answers) one given all),
     )
 
 -- ---- there are no other tasks
@@ -119,57 +110,3 @@ scripted_all config lines answers (one ∷ given) (task ∷ tasks) [] are stand 
 scripted_all config lines answers (one ∷ given) (task ∷ tasks) (own ∷ events) are stand =
     All-cons (IsScripted config lines answers) task tasks (scripted_one config lines answers one task own are.0 stand.0)
     (scripted_all config lines answers given tasks events are.1 stand.1)
-
-answered_one : (config : Config) (lines : List Line) (questions : List KeyOf) (answers : List Answer) (one : Given) (task : Task) (own : List Event)
-    → IsTaskOf config lines questions one task → StandsComplete answers one own → IsAnswered answers task own
-answered_one config lines questions answers one task own is stands = record {
-  answer = stands.answer;
-  answer_is = ap (slice_get answers) is.number_is ∙ stands.answer_is;
-  told = stands.completes.told;
-}
-
-pub answered_all : (config : Config) (lines : List Line) (questions : List KeyOf) (answers : List Answer) (given : List Given) (tasks : List Task) (events : List (List Event))
-    → AreTasks config lines questions given tasks → AllZip (StandsComplete answers) given events → AllZip (IsAnswered answers) tasks events
-answered_all config lines questions answers [] [] [] are stand = tt
-answered_all config lines questions answers [] [] (own ∷ events) are stand = absurd stand
-answered_all config lines questions answers [] (task ∷ tasks) events are stand = absurd are
-answered_all config lines questions answers (one ∷ given) [] events are stand = absurd are
-answered_all config lines questions answers (one ∷ given) (task ∷ tasks) [] are stand = absurd stand
-answered_all config lines questions answers (one ∷ given) (task ∷ tasks) (own ∷ events) are stand =
-    (answered_one config lines questions answers one task own are.0 stand.0, answered_all config lines questions answers given tasks events are.1 stand.1)
-
-given_one : (answers : List Answer) (one : Given) (own : List Event) → StandsComplete answers one own → IsGiven answers (answered_by one)
-given_one answers one own stands = record { answer = stands.answer; answer_is = stands.answer_is; same = stands.completes.same }
-
-pub given_complete : (answers : List Answer) (given : List Given) (events : List (List Event)) → AllZip (StandsComplete answers) given events → AllGiven answers given
-given_complete answers [] events stand = All-nil (λ (one : Given). IsGiven answers (answered_by one))
-given_complete answers (one ∷ given) [] stand = absurd stand
-given_complete answers (one ∷ given) (own ∷ events) stand =
-    All-cons (λ (one : Given). IsGiven answers (answered_by one)) one given (given_one answers one own stand.0) (given_complete answers given events stand.1)
-
--- ---- from a report's answers to complete ones
-
-complete_one : (config : Config) (lines : List Line) (questions : List KeyOf) (answers : List Answer) (one : Given) (task : Task) (own : List Event)
-    → IsTaskOf config lines questions one task → IsGiven answers (answered_by one) → IsAnswered answers task own → StandsComplete answers one own
-complete_one config lines questions answers one task own is is_given answered =
-    let there : Some is_given.answer ≡ Some answered.answer =
-    sym is_given.answer_is ∙ (ap (slice_get answers) (sym is.number_is) ∙ answered.answer_is) in
-    let one_answer : is_given.answer ≡ answered.answer = cc in
-    record {
-      answer = answered.answer;
-      answer_is = ap (slice_get answers) (sym is.number_is) ∙ answered.answer_is;
-      completes = record { told = answered.told; same = is_given.same ∙ ap without_keys one_answer };
-    }
-
-pub complete_all : (config : Config) (lines : List Line) (questions : List KeyOf) (answers : List Answer) (given : List Given) (tasks : List Task) (events : List (List Event))
-    → AreTasks config lines questions given tasks → AllGiven answers given → AllZip (IsAnswered answers) tasks events → AllZip (StandsComplete answers) given events
-complete_all config lines questions answers [] [] [] are all told = tt
-complete_all config lines questions answers [] [] (own ∷ events) are all told = absurd told
-complete_all config lines questions answers [] (task ∷ tasks) events are all told = absurd are
-complete_all config lines questions answers (one ∷ given) [] events are all told = absurd are
-complete_all config lines questions answers (one ∷ given) (task ∷ tasks) [] are all told = absurd told
-complete_all config lines questions answers (one ∷ given) (task ∷ tasks) (own ∷ events) are all told =
-    let P : Given → Type 0 = λ one. IsGiven answers (answered_by one) in (
-      complete_one config lines questions answers one task own are.0 (All-head P one given all) told.0,
-      complete_all config lines questions answers given tasks events are.1 (All-tail P one given all) told.1,
-    )

@@ -9,6 +9,7 @@ mod report;
 mod script;
 mod scripting;
 mod tasking;
+mod telling;
 mod wholes;
 
 pub use collating::collate;
@@ -17,3 +18,4 @@ pub use done::{Answered, Done};
 pub use report::Report;
 pub use script::Script;
 pub use scripting::one_script;
+pub use telling::one_completion;
