@@ -2,5 +2,6 @@ pub mod Scripted
 pub mod Tasked
 pub mod Completed
 pub mod ToldLaws
+pub mod ToldSteps
 pub mod TaskLaws
 pub mod ReportLaws

@@ -1,6 +1,6 @@
 -- The answer that events complete is the one that they tell and that was given.
 use Rattle.std.proofs.Common.{◌≡◌, ℕ, ◌+◌, ◌<◌, Bool, true, false, cond, List, [], ◌∷◌, ◌++◌, length, map, Option, Some, None, refl, sym, ap, subst, ◌∙◌}
-use Rattle.std.specs.Prelude.{◌&&◌, ◌==◌}
+use Rattle.std.specs.Prelude.{◌&&◌, ◌==◌, Result, Ok, Err, IfOk, IfSome, IfNone}
 use Rattle.std.specs.Option.{option_map}
 use Rattle.std.proofs.lemmas.Bool.{false≢true, cases_Bool, cond-true, and_from, and_parts}
 use Rattle.std.proofs.lemmas.Bool.Decides.{Decides-eqb}
@@ -26,7 +26,7 @@ where_passed true x y h = (refl, cc)
 where_passed false x y h = absurd cc
 
 -- what comes first and what comes behind it
-joined_parts : {X : Type 0} (first : Option X) (rest : Option (List X)) (xs : List X) → joined first rest ≡ Some xs
+pub joined_parts : {X : Type 0} (first : Option X) (rest : Option (List X)) (xs : List X) → joined first rest ≡ Some xs
     → (x : X) × (behind : List X) × (first ≡ Some x) × (rest ≡ Some behind) × (xs ≡ x ∷ behind)
 joined_parts None rest xs h = absurd cc
 joined_parts (Some first) None xs h = absurd cc
@@ -271,3 +271,17 @@ complete-one given answer other events completes also =
     let two = complete-found given other events also in
     let same : Some answer ≡ Some other = sym one ∙ two in
     cc
+
+-- ---- what `completed` answers
+
+pub completed_some : {E : Type 0} (given : Answer) (events : List Event) (result : Result (Option Answer) E) → IfOk result (λ found. found ≡ complete given events)
+    → IfOk result (λ found. IfSome found (λ answer. Completes given answer events))
+completed_some given events (Err e) is = tt
+completed_some given events (Ok None) is = tt
+completed_some given events (Ok (Some answer)) is = complete-told given answer events (sym is)
+
+pub completed_none : {E : Type 0} (given : Answer) (events : List Event) (result : Result (Option Answer) E) → IfOk result (λ found. found ≡ complete given events)
+    → IfOk result (λ found. IfNone found ((answer : Answer) → Completes given answer events → ⊥))
+completed_none given events (Err e) is = tt
+completed_none given events (Ok (Some answer)) is = tt
+completed_none given events (Ok None) is = λ answer completes. let one = complete-found given answer events completes in let bad : None ≡ Some answer = is ∙ one in absurd cc
