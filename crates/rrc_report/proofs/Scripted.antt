@@ -2,6 +2,8 @@
 use Rattle.std.proofs.Common.{◌≡◌, ◌⊎◌, ℕ, List, [], ◌∷◌, map, sym, ap, ◌∙◌, inl, inr, Option, Some, None}
 use Rattle.rrc_name.specs.Key.{KeyOf}
 use Rattle.rrc_wire.specs.declared.fault.WireFault.{WireFault}
+use Rattle.rrc_wire.specs.declared.message.Message.{Message}
+use Rattle.rrc_wire.specs.Grammar.{MessageOf}
 use Rattle.rrc_wire.specs.Message.{FirstFault}
 use Rattle.rrc_wire.specs.Law.{BeginsWithMessage, HasFault}
 use Rattle.rrc_history.specs.Fits.{OfferOf}
@@ -37,21 +39,20 @@ one_bring law limits octets zone moment offers others brings also = by (law octe
     by (inr fault) = absurd (fault.no_message brings.message brings.begins)
 
 -- octets that begin with a message have no fault
-pub not_both : OneMessageOrFault → (limits : Limits) (octets zone : List ℕ) (moment : ℕ) (offers : List OfferOf) (fault : WireFault)
-    → Brings limits octets zone moment offers → FirstFault octets fault → ⊥
-not_both law limits octets zone moment offers fault brings first = by (law octets)
+pub not_both : OneMessageOrFault → (octets : List ℕ) (message : Message) (fault : WireFault) → MessageOf octets message → FirstFault octets fault → ⊥
+not_both law octets message fault begins first = by (law octets)
   where
     by : BeginsWithMessage octets ⊎ HasFault octets → ⊥
     by (inl one) = one.no_fault fault first
-    by (inr has) = has.no_message brings.message brings.begins
+    by (inr has) = has.no_message message begins
 
 -- a fetch brings one list of offers
 one_fetched : OneMessageOrFault → (limits : Limits) (fetch : Fetch) (octets : Option (List ℕ)) (offers others : List OfferOf) → BringsOctets limits fetch octets offers
     → BringsOctets limits fetch octets others → offers ≡ others
 one_fetched law limits fetch None offers others brings also = brings ∙ sym also
 one_fetched law limits fetch (Some octets) offers others (inl brings) (inl also) = one_bring law limits octets fetch.zone fetch.moment offers others brings also
-one_fetched law limits fetch (Some octets) offers others (inl brings) (inr also) = absurd (not_both law limits octets fetch.zone fetch.moment offers also.0 brings also.1.0)
-one_fetched law limits fetch (Some octets) offers others (inr brings) (inl also) = absurd (not_both law limits octets fetch.zone fetch.moment others brings.0 also brings.1.0)
+one_fetched law limits fetch (Some octets) offers others (inl brings) (inr also) = absurd (not_both law octets brings.message also.0 brings.begins also.1.0)
+one_fetched law limits fetch (Some octets) offers others (inr brings) (inl also) = absurd (not_both law octets also.message brings.0 also.begins brings.1.0)
 one_fetched law limits fetch (Some octets) offers others (inr brings) (inr also) = brings.1.1 ∙ sym also.1.1
 
 -- ---- a line has one script
