@@ -1,5 +1,6 @@
 pub mod Scripted
 pub mod Tasked
+pub mod TaskLemmas
 pub mod Completed
 pub mod ToldLaws
 pub mod ToldSteps

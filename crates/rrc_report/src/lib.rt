@@ -10,6 +10,8 @@ mod report;
 mod script;
 mod scripting;
 mod tasking;
+#[cfg(test)]
+mod tasking_tests;
 mod telling;
 mod wholes;
 
