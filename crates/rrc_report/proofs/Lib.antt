@@ -4,5 +4,7 @@ pub mod TaskLemmas
 pub mod Completed
 pub mod ToldLaws
 pub mod ToldSteps
-pub mod TaskLaws
+pub mod WholeParts
+pub mod Zips
+pub mod ReportTasks
 pub mod ReportLaws

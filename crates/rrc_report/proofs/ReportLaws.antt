@@ -25,7 +25,7 @@ use Rattle.rrc_report.specs.Steps.{given_from, as_taken, AreTasks, AreParts, Are
 use Rattle.rrc_report.specs.Steps as steps
 use Rattle.rrc_report.proofs.Tasked.{given_taken, tasks_taken, shares_taken}
 use Rattle.rrc_report.proofs.Completed.{each_given, complete_gives, complete_answers, complete_from, told_of_given}
-use Rattle.rrc_report.proofs.TaskLaws.{tasks_given, tasks_same, scripted_all}
+use Rattle.rrc_report.proofs.ReportTasks.{tasks_given, tasks_same, scripted_all}
 
 -- ---- what was found, and what was not
 

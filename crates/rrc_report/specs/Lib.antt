@@ -5,3 +5,4 @@ pub mod Reports
 pub mod Collates
 pub mod Steps
 pub mod Completing
+pub mod Wholes

@@ -1,24 +1,75 @@
-ghost use Rattle.std.specs.Prelude.{List, IfOk, IfErr, IfSome, IfNone};
+ghost use Rattle.std.specs.Prelude.{◌≡◌, List, [], ◌∷◌, IfOk, IfErr, IfSome, IfNone};
 ghost use Rattle.rrc_history.specs.Chains.{WholeOf};
+ghost use Rattle.rrc_history.specs.Same.{snapshot_eq};
+ghost use Rattle.rrc_report.specs.Reports.{empty_under};
 ghost use Rattle.rrc_report.specs.Steps.{AreParts, CanNotClose};
+ghost use Rattle.rrc_report.specs.Wholes.{IsKeptBy};
 
-use rrc_history::{Rules, Whole};
+use rrc_cache::Refusal;
+use rrc_history::{ChainFault, Rules, Snapshot, Whole, chain};
 use rrc_name::Sequence;
-use rrc_share::Shelf;
+use rrc_share::{Shelf, on_shelf_checkpoint};
 use rrc_trace::ReplayFault;
 use std::alloc::Global;
+
+/// The whole history of a shelf, over all its chapters. `Spent` of the number of lines where the chapter that is open can't be closed.
+fn whole_of(alloc: Global, lines: u64, shelf: Shelf) -> Result<Whole, ReplayFault>
+    ensures whole { IfOk result (IsKeptBy shelf) }
+    ensures err { IfErr result (CanNotClose lines (shelf ∷ [])) }
+{
+    let mut shelf = shelf;
+    match on_shelf_checkpoint(&mut shelf) {
+        Ok(()) => {}
+        Err(Refusal::HistoryFull) => return Err(ReplayFault::Spent(lines)),
+        Err(Refusal::MomentTooLarge | Refusal::Memory) => return Err(ReplayFault::Memory),
+    }
+    match chain(alloc, shelf.take_chapters()) {
+        Ok(whole) => Ok(whole),
+        Err(ChainFault::Memory) => Err(ReplayFault::Memory),
+        Err(ChainFault::NumberGap(_) | ChainFault::NotTheSameContents(_)) => {
+            Err(ReplayFault::NotLegal)
+        }
+    }
+}
+
+/// The snapshot of a new part, which holds nothing.
+fn empty_under(alloc: Global, rules: Rules) -> Snapshot
+    ensures { result ≡ empty_under rules }
+{
+    Snapshot {
+        rules,
+        first: 0,
+        entries: Sequence::new(alloc),
+    }
+}
+
+/// Whether a history begins with a snapshot, octet for octet.
+fn begins_with(whole: &Whole, snapshot: &Snapshot) -> bool
+    ensures { result ≡ snapshot_eq whole.now.snapshot snapshot.now }
+{
+    *whole.snapshot == *snapshot
+}
 
 /// The whole histories of shelves, over all their chapters, or `None` where one does not begin with an empty part that has these rules.
 /// `Spent` of the number of lines where a part's last chapter can't be closed.
 pub(crate) fn wholes_of(
-    _alloc: Global,
-    _rules: &Rules,
-    _lines: u64,
-    _shelves: Vec<Shelf>,
+    alloc: Global,
+    rules: &Rules,
+    lines: u64,
+    shelves: Vec<Shelf>,
 ) -> Result<Option<Sequence<Whole>>, ReplayFault>
-    ensures some { IfOk result (λ found. IfSome found (λ wholes. AreParts _rules.now _shelves.items wholes)) }
-    ensures none { IfOk result (λ found. IfNone found ((wholes : List WholeOf) → AreParts _rules.now _shelves.items wholes → ⊥)) }
-    ensures err { IfErr result (CanNotClose _lines _shelves.items) }
+    ensures some { IfOk result (λ found. IfSome found (λ wholes. AreParts rules.now shelves.items wholes)) }
+    ensures none { IfOk result (λ found. IfNone found ((wholes : List WholeOf) → AreParts rules.now shelves.items wholes → ⊥)) }
+    ensures err { IfErr result (CanNotClose lines shelves.items) }
 {
-    Err(ReplayFault::Memory)
+    let empty = empty_under(alloc, *rules);
+    let mut wholes = Vec::with_capacity(alloc, shelves.len())?;
+    for shelf in shelves {
+        let whole = whole_of(alloc, lines, shelf)?;
+        if !begins_with(&whole, &empty) {
+            return Ok(None);
+        }
+        wholes.push(whole)?;
+    }
+    Ok(Some(Sequence::from_vec(wholes)))
 }
