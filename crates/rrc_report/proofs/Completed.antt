@@ -81,7 +81,7 @@ complete_answers config lines questions answers given tasks events are all =
 
 -- ---- to what is complete
 
-each_given : (answers : List Answer) (worker : ℕ) (done : List Done) → All (λ one. All (IsGiven answers) one.answers) done → All (IsHeld answers) (given_from worker done)
+pub each_given : (answers : List Answer) (worker : ℕ) (done : List Done) → All (λ one. All (IsGiven answers) one.answers) done → All (IsHeld answers) (given_from worker done)
 each_given answers worker [] all = All-nil (IsHeld answers)
 each_given answers worker (one ∷ done) all =
     All-append (IsHeld answers) (map (given_by worker) one.answers) (given_from (worker + 1) done)

@@ -1,6 +1,11 @@
+pub mod Scripted
+pub mod Tasked
+pub mod TaskLemmas
 pub mod Completed
 pub mod ToldLaws
 pub mod ToldSteps
 pub mod WholeParts
 pub mod Zips
 pub mod Tables
+pub mod ReportTasks
+pub mod ReportLaws

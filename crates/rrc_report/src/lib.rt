@@ -5,16 +5,21 @@ mod collating;
 mod completing;
 mod config;
 mod done;
+mod offering;
 mod report;
 mod script;
 mod scripting;
 mod tasking;
+#[cfg(test)]
+mod tasking_tests;
 mod telling;
 mod wholes;
 
 pub use collating::collate;
 pub use config::Config;
 pub use done::{Answered, Done};
+pub use offering::{ask_at, failure_at, offer_at, offers_fetched, offers_in};
 pub use report::Report;
 pub use script::Script;
+pub use scripting::one_script;
 pub use telling::one_completion;
