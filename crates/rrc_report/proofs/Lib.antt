@@ -1,0 +1,4 @@
+pub mod OneRun
+pub mod OneLine
+pub mod OneTurn
+pub mod OneReport
