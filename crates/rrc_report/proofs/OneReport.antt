@@ -1,11 +1,14 @@
 -- With one worker a trace has one report.
-use Rattle.std.proofs.Common.{◌≡◌, ℕ, zero, suc, ◌+◌, ◌<◌, ◌≤◌, Bool, true, eqb, List, [], ◌∷◌, ◌++◌, reverse, length, get_or, slice_get, filter, Some, All, refl, sym, ap, subst, ◌∙◌, ⊎_elim, arith}
+use Rattle.std.proofs.Common.{◌≡◌, ℕ, zero, suc, ◌+◌, ◌<◌, ◌≤◌, Bool, true, eqb, List, [], ◌∷◌, ◌++◌, map, reverse, length, get_or, slice_get, filter, Some, All, refl, sym, ap, subst, ◌∙◌, ⊎_elim, arith}
 use Rattle.std.specs.List.{AllZip}
 use Rattle.std.proofs.lemmas.Bool.{cases_eq, eq-eqb, cond-true}
 use Rattle.rrc_history.specs.declared.event.Event.{Event}
 use Rattle.rrc_history.specs.declared.rules.Rules.{Rules}
+use Rattle.rrc_history.specs.declared.snapshot.Snapshot.{Snapshot}
 use Rattle.rrc_history.specs.Chains.{WholeOf}
+use Rattle.rrc_history.specs.Chapters.{IsClosing, LeadTo}
 use Rattle.rrc_history.specs.Right.{IsLegal}
+use Rattle.rrc_history.specs.lemmas.OneHistory.{one_contents}
 use Rattle.rrc_trace.specs.declared.line.Line.{Line}
 use Rattle.rrc_trace.specs.declared.answer.Answer.{Answer}
 use Rattle.rrc_trace.specs.Questions.{questions_of}
@@ -21,7 +24,7 @@ use Rattle.rrc_collate.specs.Collated.{taken_by, own_events, IsJoinedTo, histori
 use Rattle.rrc_report.specs.declared.config.Config.{Config}
 use Rattle.rrc_report.specs.declared.report.Report.{Report}
 use Rattle.rrc_report.specs.Answers.{IsTold}
-use Rattle.rrc_report.specs.Reports.{empty_under, IsPartOf, IsScripted, IsAnswered, IsCollated}
+use Rattle.rrc_report.specs.Reports.{empty_under, IsPartOf, taken_from, IsScripted, IsAnswered, IsCollated}
 use Rattle.rrc_report.specs.OneWorker.{OneReportByOneWorker}
 use Rattle.rrc_report.proofs.OneRun.{AreRight, all_right, with_events, right_behind}
 use Rattle.rrc_report.proofs.OneLine.{OneMessageOrFault, IsAlone, IsLineDone, AreSame, line_same}
@@ -259,12 +262,100 @@ same_lists (x ∷ xs) (y ∷ ys) size same =
     let rest : xs ≡ ys = same_lists xs ys (omega (arith, size)) (λ k within. same (suc k) (omega (arith, within))) in
     λ i. first i ∷ rest i
 
+-- what is in turn is so in one way
+turns_same : (number : ℕ) (values others : List Valued) → length values ≡ length others → AreInTurn number values → AreInTurn number others → values ≡ others
+turns_same number [] [] size turn other_turn = refl
+turns_same number [] (other ∷ others) size turn other_turn = absurd (omega (arith, size))
+turns_same number (valued ∷ values) [] size turn other_turn = absurd (omega (arith, size))
+turns_same number (valued ∷ values) (other ∷ others) size turn other_turn =
+    let first : valued ≡ other = turn.0 ∙ sym other_turn.0 in
+    let rest : values ≡ others = turns_same (number + 1) values others (omega (arith, size)) turn.1 other_turn.1 in
+    λ i. first i ∷ rest i
+
+abbrev by_first : ℕ → Valued
+by_first line = record { class = 0; value = line }
+
+heads : {X : Type 0} (x y : X) (xs ys : List X) → x ∷ xs ≡ y ∷ ys → (x ≡ y) × (xs ≡ ys)
+heads x y xs ys is = (cc, cc)
+
+share_same : (share other : List ℕ) → map by_first share ++ [] ≡ map by_first other ++ [] → share ≡ other
+share_same [] [] is = refl
+share_same [] (line ∷ other) is = absurd cc
+share_same (line ∷ share) [] is = absurd cc
+share_same (line ∷ share) (also ∷ other) is =
+    let parts = heads (by_first line) (by_first also) (map by_first share ++ []) (map by_first other ++ []) is in
+    let first : line ≡ also = ap (λ (v : Valued). v.value) parts.0 in
+    let rest : share ≡ other = share_same share other parts.1 in
+    λ i. first i ∷ rest i
+
+-- the share of a worker alone is told by what it took
+shares_same : (shares others : List (List ℕ)) → length shares ≡ 1 → length others ≡ 1 → taken_from 0 shares ≡ taken_from 0 others → shares ≡ others
+shares_same [] others size other_size is = absurd (omega (arith, size))
+shares_same (share ∷ (next ∷ shares)) others size other_size is = absurd (omega (arith, size))
+shares_same (share ∷ []) [] size other_size is = absurd (omega (arith, other_size))
+shares_same (share ∷ []) (other ∷ (next ∷ others)) size other_size is = absurd (omega (arith, other_size))
+shares_same (share ∷ []) (other ∷ []) size other_size is = ap (λ l. l ∷ []) (share_same share other is)
+
+-- a past leads to one closing
+closing_same : (snapshot : Snapshot) (past : List Event) (closing other : Snapshot) → IsClosing snapshot past closing → IsClosing snapshot past other → closing ≡ other
+closing_same snapshot past closing other closes other_closes =
+    let rules = closes.rules ∙ sym other_closes.rules in
+    let first = closes.first ∙ sym other_closes.first in
+    let entries = one_contents snapshot past closing.entries other.entries closes.contents other_closes.contents in
+    λ i. record { rules = rules i; first = first i; entries = entries i }
+
+-- events are those of one history of a part
+whole_same : (rules : Rules) (whole other : WholeOf) → whole.events ≡ other.events → IsPartOf rules whole → IsPartOf rules other → whole ≡ other
+whole_same rules whole other events part other_part =
+    let snapshot = part.opening ∙ sym other_part.opening in
+    let leads : LeadTo (empty_under rules) other.events whole.closing =
+    subst (λ es. LeadTo (empty_under rules) es whole.closing) events (subst (λ s. LeadTo s whole.events whole.closing) part.opening part.leads) in
+    let other_leads : LeadTo (empty_under rules) other.events other.closing = subst (λ s. LeadTo s other.events other.closing) other_part.opening other_part.leads in
+    let closing = closing_same (empty_under rules) (reverse other.events) whole.closing other.closing leads.closes other_leads.closes in
+    λ i. record { snapshot = snapshot i; events = events i; closing = closing i }
+
+wholes_same : (rules : Rules) (wholes others : List WholeOf) → length wholes ≡ length others → All (IsPartOf rules) wholes → All (IsPartOf rules) others
+    → ((part : ℕ) → part < length wholes → get_or (histories_of wholes) part [] ≡ get_or (histories_of others) part []) → wholes ≡ others
+wholes_same rules [] [] size parts other_parts same = refl
+wholes_same rules [] (other ∷ others) size parts other_parts same = absurd (omega (arith, size))
+wholes_same rules (whole ∷ wholes) [] size parts other_parts same = absurd (omega (arith, size))
+wholes_same rules (whole ∷ wholes) (other ∷ others) size parts other_parts same =
+    let first : whole ≡ other = whole_same rules whole other (same 0 (omega arith)) (parts 0 whole (omega arith)) (other_parts 0 other (omega arith)) in
+    let rest : wholes ≡ others =
+    wholes_same rules wholes others (omega (arith, size)) (λ k d within. parts (suc k) d (omega (arith, within))) (λ k d within. other_parts (suc k) d (omega (arith, within)))
+    (λ part within. same (suc part) (omega (arith, within))) in
+    λ i. first i ∷ rest i
+
 pub one_report : OneMessageOrFault → OneReportByOneWorker
-one_report law config lines report other one is other_is =
-    let count = task_count config lines report one is in
-    let other_count = task_count config lines other one other_is in
-    let size = is.answers in
-    let other_size = other_is.answers in
-    let same = runs_are_one law config lines report.lines other.lines 0 (λ part. []) is.tasks other_is.tasks is.events other_is.events (omega (arith, count, other_count))
-    (run_of config lines report one is) (run_of config lines other one other_is) in
-    same_lists report.lines other.lines (omega (arith, size, other_size)) (λ k within. same.answers_are k (omega arith) (omega (arith, within, size, count)))
+one_report law config lines report other one is other_is = λ i. record { lines = answers_are i; shares = shares_are i; wholes = wholes_are i }
+  where
+    run : IsRun config lines report.lines 0 (λ part. []) is.tasks is.events
+    run = run_of config lines report one is
+
+    other_run : IsRun config lines other.lines 0 (λ part. []) other_is.tasks other_is.events
+    other_run = run_of config lines other one other_is
+
+    size : length is.tasks ≡ length other_is.tasks
+    size = task_count config lines report one is ∙ sym (task_count config lines other one other_is)
+
+    same : AreOne report.lines other.lines 0 is.tasks other_is.tasks is.events other_is.events
+    same = runs_are_one law config lines report.lines other.lines 0 (λ part. []) is.tasks other_is.tasks is.events other_is.events size run other_run
+
+    answers_are : report.lines ≡ other.lines
+    answers_are =
+        let count = task_count config lines report one is in
+        let answers = is.answers in
+        same_lists report.lines other.lines (answers ∙ sym other_is.answers) (λ k within. same.answers_are k (omega arith) (omega (arith, within, answers, count)))
+
+    shares_are : report.shares ≡ other.shares
+    shares_are =
+        let taken = turns_same 0 (taken_by is.tasks) (taken_by other_is.tasks) (as_many_tasks is.tasks ∙ (size ∙ sym (as_many_tasks other_is.tasks))) run.turn other_run.turn in
+        shares_same report.shares other.shares (is.shares ∙ one) (other_is.shares ∙ one) (sym is.taken ∙ (taken ∙ other_is.taken))
+
+    wholes_are : report.wholes ≡ other.wholes
+    wholes_are =
+        wholes_same config.rules report.wholes other.wholes (is.parts ∙ sym other_is.parts) is.histories other_is.histories
+        (λ part within.
+        let parts = is.parts in
+        let below : part < config.parts = omega (arith, within, parts) in
+        written_is config lines report one is part below ∙ (same.written part ∙ sym (written_is config lines other one other_is part below)))
