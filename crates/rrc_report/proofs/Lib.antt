@@ -1,3 +1,10 @@
+pub mod Scripted
+pub mod Tasked
+pub mod Completed
+pub mod ToldLaws
+pub mod ToldSteps
+pub mod TaskLaws
+pub mod ReportLaws
 pub mod OneRun
 pub mod OneLine
 pub mod OneTurn

@@ -4,4 +4,5 @@ pub mod Answers
 pub mod Reports
 pub mod Collates
 pub mod Steps
+pub mod Completing
 pub mod OneWorker
