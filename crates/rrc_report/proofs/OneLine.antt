@@ -1,12 +1,11 @@
 -- One line: behind the same pasts of the parts it has one answer, one list of operations, and one list of events.
-use Rattle.std.proofs.Common.{◌≡◌, ◌⊎◌, ℕ, zero, suc, ◌+◌, ◌<◌, ◌≤◌, List, [], ◌∷◌, ◌++◌, map, Option, Some, None, refl, sym, ap, subst, ◌∙◌, inl, inr, Err, Result, arith}
+use Rattle.std.proofs.Common.{◌≡◌, ◌⊎◌, ℕ, zero, suc, ◌+◌, ◌<◌, ◌≤◌, List, [], ◌∷◌, ◌++◌, map, Some, None, refl, sym, ap, subst, ◌∙◌, inl, inr, Err, Result, arith}
 use Rattle.std.proofs.lemmas.Nat.{mod_below}
 use Rattle.rrc_name.specs.Key.{KeyOf}
 use Rattle.rrc_name.specs.Wire.{folded}
 use Rattle.rrc_wire.specs.declared.fault.WireFault.{WireFault}
 use Rattle.rrc_wire.specs.declared.message.Message.{Message}
 use Rattle.rrc_wire.specs.Message.{FirstFault}
-use Rattle.rrc_wire.specs.Law.{BeginsWithMessage, HasFault}
 use Rattle.rrc_history.specs.declared.event.Event.{Event}
 use Rattle.rrc_history.specs.declared.event.Event.TheVariants.{Offered, Asked, Swept}
 use Rattle.rrc_history.specs.declared.event.Reply.{Reply}
@@ -14,8 +13,6 @@ use Rattle.rrc_history.specs.declared.event.Reply.TheVariants.{Fresh, Stale, NoD
 use Rattle.rrc_history.specs.declared.snapshot.Snapshot.{Snapshot}
 use Rattle.rrc_history.specs.Asked.{AskOf}
 use Rattle.rrc_history.specs.Fits.{OfferOf}
-use Rattle.rrc_sets.specs.declared.limits.Limits.{Limits}
-use Rattle.rrc_sets.specs.Offers.{offers_of}
 use Rattle.rrc_sets.specs.Parts.{part_of, hash_of}
 use Rattle.rrc_trace.specs.declared.line.Line.{Line}
 use Rattle.rrc_trace.specs.declared.line.Line.TheVariants as lines
@@ -32,33 +29,12 @@ use Rattle.rrc_collate.specs.declared.task.Fate.TheVariants as fates
 use Rattle.rrc_collate.specs.Calls.{AreCalls}
 use Rattle.rrc_report.specs.declared.config.Config.{Config}
 use Rattle.rrc_report.specs.declared.script.Script.{Script}
-use Rattle.rrc_report.specs.Scripts.{offer_of, failure_of, Brings, BringsOctets, Fetches, offering, asking, sweeping, plain, first_ask, last_ask, fetching, HasScript}
+use Rattle.rrc_report.specs.Scripts.{offer_of, failure_of, Brings, offering, asking, sweeping, plain, first_ask, last_ask, fetching, HasScript}
 use Rattle.rrc_report.specs.Answers.{Tells, Replies, Counts, TellAll, TellFetched, CountAll, RepliesAlone, IsHit, IsTold}
+use Rattle.rrc_report.proofs.Scripted.{OneMessageOrFault, not_both, one_script}
 use Rattle.rrc_report.proofs.OneRun.{GoRight, AreHome, one_first, one_run}
 
--- octets begin with one message or have one first fault
-abbrev pub OneMessageOrFault : Type 0
-OneMessageOrFault = (octets : List ℕ) → BeginsWithMessage octets ⊎ HasFault octets
-
 -- ---- what octets bring
-
-one_bring : OneMessageOrFault → (limits : Limits) (octets zone : List ℕ) (moment : ℕ) (offers others : List OfferOf) → Brings limits octets zone moment offers
-    → Brings limits octets zone moment others → offers ≡ others
-one_bring law limits octets zone moment offers others brings also = by (law octets)
-  where
-    by : BeginsWithMessage octets ⊎ HasFault octets → offers ≡ others
-    by (inl one) =
-        brings.offered
-        ∙ (ap (λ m. offers_of m zone moment limits) (one.only brings.message brings.begins ∙ sym (one.only also.message also.begins))
-        ∙ sym also.offered)
-    by (inr fault) = absurd (fault.no_message brings.message brings.begins)
-
-not_both : OneMessageOrFault → (limits : Limits) (octets zone : List ℕ) (moment : ℕ) (offers : List OfferOf) (fault : WireFault) → Brings limits octets zone moment offers → FirstFault octets fault → ⊥
-not_both law limits octets zone moment offers fault brings first = by (law octets)
-  where
-    by : BeginsWithMessage octets ⊎ HasFault octets → ⊥
-    by (inl one) = one.no_fault fault first
-    by (inr has) = has.no_message brings.message brings.begins
 
 abbrev refused : WireFault → Result Message WireFault
 refused fault = Err fault
@@ -69,22 +45,6 @@ err_is a b e = cc
 one_fault : (octets : List ℕ) (fault other : WireFault) → FirstFault octets fault → FirstFault octets other → fault ≡ other
 one_fault octets fault other is also = err_is fault other (sym is ∙ also)
 
--- what a fetch brings, with octets or none
-abbrev BringsOne : Limits → Fetch → List ℕ → List OfferOf → Type 0
-BringsOne limits fetch octets offers = BringsOctets limits fetch (Some octets) offers
-
-one_octets : OneMessageOrFault → (limits : Limits) (fetch : Fetch) (octets : List ℕ) (offers others : List OfferOf) → BringsOne limits fetch octets offers
-    → BringsOne limits fetch octets others → offers ≡ others
-one_octets law limits fetch octets offers others (inl one) (inl two) = one_bring law limits octets fetch.zone fetch.moment offers others one two
-one_octets law limits fetch octets offers others (inl one) (inr two) = absurd (not_both law limits octets fetch.zone fetch.moment offers two.0 one two.1.0)
-one_octets law limits fetch octets offers others (inr one) (inl two) = absurd (not_both law limits octets fetch.zone fetch.moment others one.0 two one.1.0)
-one_octets law limits fetch octets offers others (inr one) (inr two) = one.1.1 ∙ sym two.1.1
-
-one_fetch : OneMessageOrFault → (limits : Limits) (fetch : Fetch) (octets : Option (List ℕ)) (offers others : List OfferOf) → BringsOctets limits fetch octets offers
-    → BringsOctets limits fetch octets others → offers ≡ others
-one_fetch law limits fetch None offers others one two = one ∙ sym two
-one_fetch law limits fetch (Some octets) offers others one two = one_octets law limits fetch octets offers others one two
-
 -- ---- what events tell
 
 one_told : (told other : Told) (event : Event) → Tells told event → Tells other event → told ≡ other
@@ -92,7 +52,7 @@ one_told told other (Offered outcome tag offer evicted) one two = one ∙ sym tw
 one_told told other (Asked tag ask reply) one two = absurd one
 one_told told other (Swept tag moment gone) one two = absurd one
 
-pub one_reply : (reply other : Reply) (event : Event) → Replies reply event → Replies other event → reply ≡ other
+one_reply : (reply other : Reply) (event : Event) → Replies reply event → Replies other event → reply ≡ other
 one_reply reply other (Offered outcome tag offer evicted) one two = absurd one
 one_reply reply other (Asked tag ask replied) one two = one ∙ sym two
 one_reply reply other (Swept tag moment gone) one two = absurd one
@@ -101,11 +61,6 @@ one_count : (count other : ℕ) (event : Event) → Counts count event → Count
 one_count count other (Offered outcome tag offer evicted) one two = absurd one
 one_count count other (Asked tag ask reply) one two = absurd one
 one_count count other (Swept tag moment gone) one two = one ∙ sym two
-
-told_or_replied : (told : Told) (reply : Reply) (event : Event) → Tells told event → Replies reply event → ⊥
-told_or_replied told reply (Offered outcome tag offer evicted) one two = two
-told_or_replied told reply (Asked tag ask replied) one two = one
-told_or_replied told reply (Swept tag moment gone) one two = one
 
 all_told : (told others : List Told) (events : List Event) → TellAll told events → TellAll others events → told ≡ others
 all_told [] [] events one two = refl
@@ -288,21 +243,33 @@ of_response config questions response (answers.Refused fault) script has =
     inr (fault, (has.0, record { value = tt; answer_is = refl; operations_are = operations_in script (plain []) has.1 }))
 of_response config questions response answer script has = absurd has
 
+-- answers of one kind, which call for the same whatever they say, have one plan
+same_plan : OneMessageOrFault → (X : Type 0) (make : X → Answer) (config : Config) (questions : List KeyOf) (line : Line) (planned more : List Operation) (answer other : Answer)
+    (script also : Script) → ((x y : X) (s : Script) → HasScript config questions line (make x) s → HasScript config questions line (make y) s)
+    → IsMade X make answer script.operations planned → IsMade X make other also.operations more → HasScript config questions line answer script
+    → HasScript config questions line other also → IsMade X make other also.operations planned
+same_plan law X make config questions line planned more answer other script also whatever one two has also_has =
+    let here : HasScript config questions line (make one.value) script = subst (λ a. HasScript config questions line a script) one.answer_is has in
+    let there : HasScript config questions line (make two.value) also = subst (λ a. HasScript config questions line a also) two.answer_is also_has in
+    let same : also ≡ script = one_script law config questions line (make one.value) also script (whatever two.value one.value also there) here in
+    record { value = two.value; answer_is = two.answer_is; operations_are = operations_in also script same ∙ one.operations_are }
+
 response_same : OneMessageOrFault → (snapshot : Snapshot) (config : Config) (questions : List KeyOf) (pasts : ℕ → List Event) (number : ℕ) (response : Response) (answer other : Answer)
     (operations others : List Operation) (events also : List Event) → 1 ≤ config.parts → WasAnswered config response answer operations ⊎ WasRefused config response answer operations
     → WasAnswered config response other others ⊎ WasRefused config response other others
     → IsLineDone snapshot config questions pasts number (lines.Response response) answer operations events
     → IsLineDone snapshot config questions pasts number (lines.Response response) other others also → AreSame answer other operations others events also
 response_same law snapshot config questions pasts number response answer other operations others events also some (inl one) (inl two) done other_done =
-    let offers : two.0 ≡ one.0 = one_bring law config.limits response.octets response.zone response.moment two.0 one.0 two.1.0 one.1.0 in
-    let same_plan : IsMade (List Told) answers.Response other others (map (offering config.parts) one.0) =
-    subst (λ os. IsMade (List Told) answers.Response other others (map (offering config.parts) os)) offers two.1.1 in
-    made_same (List Told) answers.Response (map (offering config.parts) one.0) snapshot config questions pasts number (lines.Response response) answer other operations others events also
-    all_told (offers_home config.parts one.0 some) one.1.1 same_plan done other_done
+    let planned = map (offering config.parts) one.0 in
+    let plan : IsMade (List Told) answers.Response other others planned =
+    same_plan law (List Told) answers.Response config questions (lines.Response response) planned (map (offering config.parts) two.0) answer other (script_of operations done.fate)
+    (script_of others other_done.fate) (λ told more script has. has) one.1.1 two.1.1 done.script other_done.script in
+    made_same (List Told) answers.Response planned snapshot config questions pasts number (lines.Response response) answer other operations others events also
+    all_told (offers_home config.parts one.0 some) one.1.1 plan done other_done
 response_same law snapshot config questions pasts number response answer other operations others events also some (inl one) (inr two) done other_done =
-    absurd (not_both law config.limits response.octets response.zone response.moment one.0 two.0 one.1.0 two.1.0)
+    absurd (not_both law response.octets one.1.0.message two.0 one.1.0.begins two.1.0)
 response_same law snapshot config questions pasts number response answer other operations others events also some (inr one) (inl two) done other_done =
-    absurd (not_both law config.limits response.octets response.zone response.moment two.0 one.0 two.1.0 one.1.0)
+    absurd (not_both law response.octets two.1.0.message one.0 two.1.0.begins one.1.0)
 response_same law snapshot config questions pasts number response answer other operations others events also some (inr one) (inr two) done other_done =
     let fault : two.0 ≡ one.0 = one_fault response.octets two.0 one.0 two.1.0 one.1.0 in
     let same_fault : IsMade (Unit {0}) (λ unit. answers.Refused one.0) other others [] = subst (λ f. IsMade (Unit {0}) (λ unit. answers.Refused f) other others []) fault two.1.1 in
@@ -354,7 +321,6 @@ record WasFound (config : Config) (fetch : Fetch) (answer : Answer) (operations 
 -- a fetch that was made
 record WasFetched (config : Config) (fetch : Fetch) (answer : Answer) (operations : List Operation) : Type 0 where
   offers : List OfferOf
-  brought : Fetches config.limits fetch offers
   made : IsMade (List Told × Reply) got_by answer operations (fetching config.parts fetch offers)
 
 hit_known : (reply : Reply) → IsHit reply → reply ≡ Miss None → ⊥
@@ -382,7 +348,6 @@ of_fetch config questions fetch answers.Joined script events has alone told = ab
 of_fetch config questions fetch (answers.Fetched told_all reply) script events has alone told =
     inr (record {
       offers = has.offers;
-      brought = has.brought;
       made = record {
         value = (told_all, reply);
         answer_is = refl;
@@ -432,11 +397,12 @@ fetch_same law snapshot config questions pasts number fetch answer other operati
 fetch_same law snapshot config questions pasts number fetch answer other operations others events also some (inr one) (inl two) done other_done =
     absurd (found_or_fetched snapshot config questions pasts number fetch other answer others operations also events some two one other_done done)
 fetch_same law snapshot config questions pasts number fetch answer other operations others events also some (inr one) (inr two) done other_done =
-    let offers : two.offers ≡ one.offers = one_fetch law config.limits fetch fetch.octets two.offers one.offers two.brought one.brought in
-    let same_plan : IsMade (List Told × Reply) got_by other others (fetching config.parts fetch one.offers) =
-    subst (λ os. IsMade (List Told × Reply) got_by other others (fetching config.parts fetch os)) offers two.made in
-    made_same (List Told × Reply) got_by (fetching config.parts fetch one.offers) snapshot config questions pasts number (lines.Fetch fetch) answer other operations others events also
-    one_got (part_below (folded fetch.name) config.parts some, fetch_home config.parts fetch one.offers some) one.made same_plan done other_done
+    let planned = fetching config.parts fetch one.offers in
+    let plan : IsMade (List Told × Reply) got_by other others planned =
+    same_plan law (List Told × Reply) got_by config questions (lines.Fetch fetch) planned (fetching config.parts fetch two.offers) answer other (script_of operations done.fate)
+    (script_of others other_done.fate) (λ got more script has. has) one.made two.made done.script other_done.script in
+    made_same (List Told × Reply) got_by planned snapshot config questions pasts number (lines.Fetch fetch) answer other operations others events also
+    one_got (part_below (folded fetch.name) config.parts some, fetch_home config.parts fetch one.offers some) one.made plan done other_done
 
 -- ---- any line
 

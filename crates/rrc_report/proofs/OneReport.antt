@@ -26,8 +26,9 @@ use Rattle.rrc_report.specs.declared.report.Report.{Report}
 use Rattle.rrc_report.specs.Answers.{IsTold}
 use Rattle.rrc_report.specs.Reports.{empty_under, IsPartOf, taken_from, IsScripted, IsAnswered, IsCollated}
 use Rattle.rrc_report.specs.OneWorker.{OneReportByOneWorker}
+use Rattle.rrc_report.proofs.Scripted.{OneMessageOrFault}
 use Rattle.rrc_report.proofs.OneRun.{AreRight, all_right, with_events, right_behind}
-use Rattle.rrc_report.proofs.OneLine.{OneMessageOrFault, IsAlone, IsLineDone, AreSame, line_same}
+use Rattle.rrc_report.proofs.OneLine.{IsAlone, IsLineDone, AreSame, line_same}
 use Rattle.rrc_report.proofs.OneTurn.{AreInTurn, AreFirst, all_between, in_turn, as_many, first_class, class_first}
 
 some_is : {X : Type 0} (a b : X) → Some a ≡ Some b → a ≡ b

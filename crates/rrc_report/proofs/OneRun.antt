@@ -69,9 +69,6 @@ go_on : (snapshot : Snapshot) (parts : ℕ) (pasts : ℕ → List Event) (operat
     → GoRight snapshot parts pasts (operation ∷ operations) (event ∷ events) behind → GoRight snapshot parts (with_event pasts operation.part event) operations events behind
 go_on snapshot parts pasts operation operations event events behind right part below = by (eqb operation.part part) (right part below)
   where
-    going : List Event
-    going = going_to part operations events
-
     by : (same : Bool) → AreRight snapshot (pasts part) (cond same (event ∷ going_to part operations events) (going_to part operations events) ++ behind part)
         → AreRight snapshot (cond same (event ∷ pasts part) (pasts part)) (going_to part operations events ++ behind part)
     by true are = are.1
