@@ -9,3 +9,7 @@ pub mod Zips
 pub mod Tables
 pub mod ReportTasks
 pub mod ReportLaws
+pub mod OneRun
+pub mod OneLine
+pub mod OneTurn
+pub mod OneReport

@@ -7,3 +7,4 @@ pub mod Steps
 pub mod Completing
 pub mod Wholes
 pub mod Filling
+pub mod OneWorker
