@@ -1,8 +1,9 @@
 -- The questions that the lines of a trace fetch.
-use Rattle.std.specs.Prelude.{ℕ, List, [], ◌∷◌, ◌++◌, position, Option, Some, None, if◌then◌else◌}
+use Rattle.std.specs.BTreeMap as map
+use Rattle.std.specs.Prelude.{◌≡◌, ℕ, List, [], ◌∷◌, ◌++◌, position, Option, Some, None, if◌then◌else◌}
 use Rattle.std.specs.List.{list_any}
 use Rattle.rrc_name.specs.Wire.{folded}
-use Rattle.rrc_name.specs.Key.{KeyOf, key_eq}
+use Rattle.rrc_name.specs.Key.{KeyOf, key_eq, key_order}
 use Rattle.rrc_name.specs.declared.slot.Slot.TheVariants as slots
 use Rattle.rrc_trace.specs.declared.line.Fetch.{Fetch as FetchLine}
 use Rattle.rrc_trace.specs.declared.line.Line.{Line}
@@ -39,3 +40,7 @@ questions_of lines = questions_behind [] lines
 -- the number of a question: its place among those of the lines
 abbrev pub number_among : List KeyOf → KeyOf → Option ℕ
 number_among questions question = position (key_eq question) questions
+
+-- the map has the number of each question, and nothing else
+abbrev pub FindsNumbers : map.BTreeMap KeyOf ℕ → List KeyOf → Type 0
+FindsNumbers numbers questions = (question : KeyOf) → map.get key_order numbers question ≡ number_among questions question
