@@ -1,5 +1,5 @@
 -- Questions, and the numbers under which a map has them.
-use Rattle.std.proofs.Common.{◌≡◌, ℕ, suc, ◌+◌, ◌||◌, List, [], ◌∷◌, ◌++◌, length, Option, Some, None, Bool, true, false, cond, refl, sym, ap, ◌∙◌, arith, nat_lt, position}
+use Rattle.std.proofs.Common.{◌≡◌, ℕ, zero, suc, ◌+◌, ◌≤◌, ◌||◌, List, [], ◌∷◌, ◌++◌, length, take, length-append, Option, Some, None, Bool, true, false, cond, refl, sym, ap, ◌∙◌, arith, nat_lt, position}
 use Rattle.std.specs.List.{position_or_len, list_any}
 use Rattle.std.specs.Option.{option_map, is_some}
 use Rattle.std.specs.Ordering.{is_eq}
@@ -96,3 +96,32 @@ pub questions-push : (questions : List KeyOf) (lines : List Line) (line : Line)
     → questions_behind questions (lines ++ line ∷ []) ≡ with_question (questions_behind questions lines) (fetched_by line)
 questions-push questions [] line = refl
 questions-push questions (first ∷ lines) line = questions-push (with_question questions (fetched_by first)) lines line
+
+-- one more question, or none, leaves no fewer
+with_question-grows : (questions : List KeyOf) (question : Option KeyOf) → length questions ≤ length (with_question questions question)
+with_question-grows questions None = omega arith
+with_question-grows questions (Some question) = by (list_any (key_eq question) questions)
+  where
+    by : (has : Bool) → length questions ≤ length (cond has questions (questions ++ question ∷ []))
+    by true = omega arith
+    by false = omega (arith, length-append questions (question ∷ []))
+
+-- more lines fetch no fewer questions
+questions-grow : (questions : List KeyOf) (lines : List Line) → length questions ≤ length (questions_behind questions lines)
+questions-grow questions [] = omega arith
+questions-grow questions (line ∷ lines) =
+    omega (arith, with_question-grows questions (fetched_by line), questions-grow (with_question questions (fetched_by line)) lines)
+
+pub questions-between : (questions : List KeyOf) (few more : ℕ) (lines : List Line) → few ≤ more
+    → length (questions_behind questions (take few lines)) ≤ length (questions_behind questions (take more lines))
+questions-between questions zero more lines within = questions-grow questions (take more lines)
+questions-between questions (suc few) zero lines within = absurd (omega (arith, within))
+questions-between questions (suc few) (suc more) [] within = omega arith
+questions-between questions (suc few) (suc more) (line ∷ lines) within =
+    questions-between (with_question questions (fetched_by line)) few more lines (omega (arith, within))
+
+pub questions-prefix : (questions : List KeyOf) (few : ℕ) (lines : List Line)
+    → length (questions_behind questions (take few lines)) ≤ length (questions_behind questions lines)
+questions-prefix questions zero lines = questions-grow questions lines
+questions-prefix questions (suc few) [] = omega arith
+questions-prefix questions (suc few) (line ∷ lines) = questions-prefix (with_question questions (fetched_by line)) few lines

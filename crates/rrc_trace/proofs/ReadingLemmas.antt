@@ -8,10 +8,13 @@ use Rattle.std.proofs.lemmas.List.{append-nil}
 use Rattle.std.proofs.lemmas.List.Elements.{All-nil, All-push}
 use Rattle.rrc_trace.specs.declared.line.Line.{Line}
 use Rattle.rrc_trace.specs.declared.fault.ReplayFault.{ReplayFault}
-use Rattle.rrc_trace.specs.declared.fault.ReplayFault.TheVariants.{BadLine, TooManyLines}
+use Rattle.rrc_trace.specs.declared.fault.ReplayFault.TheVariants.{BadLine, TooManyLines, TooManyQuestions}
 use Rattle.rrc_trace.specs.Lines.{before_last, line_ended, line_of_piece}
-use Rattle.rrc_trace.specs.Trace.{with_octet, pieces_of, MOST_LINES}
-use Rattle.rrc_trace.proofs.TraceLemmas.{with_line, lines_from, trace_of, trace_of-says, trace_of-bad, trace_of-many}
+use Rattle.rrc_name.specs.Key.{KeyOf}
+use Rattle.rrc_trace.specs.Questions.{fetched_by, with_question, questions_of}
+use Rattle.rrc_trace.specs.Trace.{with_octet, pieces_of, MOST_LINES, MOST_QUESTIONS, HaveFewQuestions}
+use Rattle.rrc_trace.proofs.QuestionLemmas.{questions-push}
+use Rattle.rrc_trace.proofs.TraceLemmas.{with_line, lines_from, trace_of, read-many, read-bad, read-crowded, read-more, trace_of-says, trace_of-bad, trace_of-many, trace_of-crowded}
 use Rattle.rrc_trace.specs.declared.reading.Ending.TheVariants.{Lf, Last, Endless}
 use Rattle.rrc_trace.specs.Lawful.{IsLawful, AreLawful}
 use Rattle.rrc_trace.proofs.LawfulLemmas.{says_lawful}
@@ -26,7 +29,7 @@ lines_behind front (Err fault) = Err fault
 abbrev pub IsReadTo : Option (List ℕ) → Option (List ℕ) → List Line → ℕ → Type 0
 IsReadTo None now lines number = ⊤
 IsReadTo (Some all) None lines number = ⊥
-IsReadTo (Some all) (Some rest) lines number = lines_behind lines (lines_from number (pieces_of rest)) ≡ trace_of all
+IsReadTo (Some all) (Some rest) lines number = lines_behind lines (lines_from number (questions_of lines) (pieces_of rest)) ≡ trace_of all
 
 pieces_of-ended : (front rest : List ℕ) → IsUnended front → pieces_of (front ++ 10 ∷ rest) ≡ (front ++ 10 ∷ []) ∷ pieces_of rest
 pieces_of-ended [] rest unended = refl
@@ -50,31 +53,42 @@ with_line-behind front line (Err fault) = refl
 
 -- one piece is read
 one_piece : (front : List Line) (number : ℕ) (piece : List ℕ) (pieces : List (List ℕ)) (line : Line) → number < 1000000 → line_of_piece piece ≡ Some line
-    → lines_behind front (lines_from number (piece ∷ pieces)) ≡ lines_behind (front ++ line ∷ []) (lines_from (number + 1) pieces)
-one_piece front number piece pieces line few is =
-    let more : nat_le 1000000 number ≡ false = grind (arith, nat_tests) in
-    rw (more, is) (with_line-behind front line (lines_from (number + 1) pieces))
+    → length (with_question (questions_of front) (fetched_by line)) ≤ MOST_QUESTIONS
+    → lines_behind front (lines_from number (questions_of front) (piece ∷ pieces))
+    ≡ lines_behind (front ++ line ∷ []) (lines_from (number + 1) (questions_of (front ++ line ∷ [])) pieces)
+one_piece front number piece pieces line few is fits =
+    ap (lines_behind front) (read-more number (questions_of front) piece pieces line few is fits)
+    ∙ (with_line-behind front line (lines_from (number + 1) (with_question (questions_of front) (fetched_by line)) pieces)
+    ∙ ap (λ (questions : List KeyOf). lines_behind (front ++ line ∷ []) (lines_from (number + 1) questions pieces)) (sym (questions-push [] front line)))
 
 -- more pieces than a trace may have lines
-too_many : (front : List Line) (number octet : ℕ) (octets : List ℕ) → MOST_LINES ≤ number → lines_behind front (lines_from number (pieces_of (octet ∷ octets))) ≡ Err TooManyLines
+too_many : (front : List Line) (number octet : ℕ) (octets : List ℕ) → MOST_LINES ≤ number
+    → lines_behind front (lines_from number (questions_of front) (pieces_of (octet ∷ octets))) ≡ Err TooManyLines
 too_many front number octet octets many = by (octet == 10) refl (pieces_of octets) refl
   where
-    over : nat_le MOST_LINES number ≡ true
-    over = grind (arith, nat_tests, many)
+    over : (piece : List ℕ) (pieces : List (List ℕ)) → lines_behind front (lines_from number (questions_of front) (piece ∷ pieces)) ≡ Err TooManyLines
+    over piece pieces = ap (lines_behind front) (read-many number (questions_of front) piece pieces many)
 
     by : (lf : Bool) → (octet == 10) ≡ lf → (pieces : List (List ℕ)) → pieces_of octets ≡ pieces
-        → lines_behind front (lines_from number (pieces_of (octet ∷ octets))) ≡ Err TooManyLines
-    by true is pieces are = rw (is, over) refl
-    by false is [] are = rw (is, are, over) refl
-    by false is (piece ∷ pieces) are = rw (is, are, over) refl
+        → lines_behind front (lines_from number (questions_of front) (pieces_of (octet ∷ octets))) ≡ Err TooManyLines
+    by true is pieces are = rw is (over (octet ∷ []) (pieces_of octets))
+    by false is [] are = rw (is, are) (over (octet ∷ []) [])
+    by false is (piece ∷ pieces) are = rw (is, are) (over (octet ∷ piece) pieces)
 
 bad_piece : (front : List Line) (number : ℕ) (piece : List ℕ) (pieces : List (List ℕ)) → number < 1000000 → line_of_piece piece ≡ None
-    → lines_behind front (lines_from number (piece ∷ pieces)) ≡ Err (BadLine number)
-bad_piece front number piece pieces few is =
-    let more : nat_le 1000000 number ≡ false = grind (arith, nat_tests) in rw (more, is) refl
+    → lines_behind front (lines_from number (questions_of front) (piece ∷ pieces)) ≡ Err (BadLine number)
+bad_piece front number piece pieces few is = ap (lines_behind front) (read-bad number (questions_of front) piece pieces few is)
+
+crowded_piece : (front : List Line) (number : ℕ) (piece : List ℕ) (pieces : List (List ℕ)) (line : Line) → number < 1000000 → line_of_piece piece ≡ Some line
+    → MOST_QUESTIONS < length (with_question (questions_of front) (fetched_by line))
+    → lines_behind front (lines_from number (questions_of front) (piece ∷ pieces)) ≡ Err (TooManyQuestions number)
+crowded_piece front number piece pieces line few is crowded = ap (lines_behind front) (read-crowded number (questions_of front) piece pieces line few is crowded)
 
 abbrev err_at : ℕ → Result (List Line) ReplayFault
 err_at number = Err (BadLine number)
+
+abbrev crowded_at : ℕ → Result (List Line) ReplayFault
+crowded_at number = Err (TooManyQuestions number)
 
 -- a whole piece was read
 abbrev pub ReadsCut : Option (List ℕ) → Option (List ℕ) → List ℕ → Type 0
@@ -104,34 +118,45 @@ IsReadTo-none (Some all) =
     elim (trace_of all) as (λ said. lines_behind [] said ≡ said) [ Ok lines ↦ refl | Err fault ↦ refl ]
 
 pub IsReadTo-more : (all old new : Option (List ℕ)) (lines : List Line) (number : ℕ) (piece : List ℕ) (line : Line) → number < 1000000
-    → IsReadTo all old lines number → ReadsCut old new piece → line_of_piece piece ≡ Some line → IsReadTo all new (lines ++ line ∷ []) (number + 1)
-IsReadTo-more None old new lines number piece line few read cut is = tt
-IsReadTo-more (Some all) None new lines number piece line few read cut is = absurd read
-IsReadTo-more (Some all) (Some octets) None lines number piece line few read cut is = absurd cut
-IsReadTo-more (Some all) (Some octets) (Some rest) lines number piece line few read cut is =
-    sym (one_piece lines number piece (pieces_of rest) line few is) ∙ sym (ap (λ ps. lines_behind lines (lines_from number ps)) cut) ∙ read
+    → IsReadTo all old lines number → ReadsCut old new piece → line_of_piece piece ≡ Some line → length (with_question (questions_of lines) (fetched_by line)) ≤ MOST_QUESTIONS
+    → IsReadTo all new (lines ++ line ∷ []) (number + 1)
+IsReadTo-more None old new lines number piece line few read cut is fits = tt
+IsReadTo-more (Some all) None new lines number piece line few read cut is fits = absurd read
+IsReadTo-more (Some all) (Some octets) None lines number piece line few read cut is fits = absurd cut
+IsReadTo-more (Some all) (Some octets) (Some rest) lines number piece line few read cut is fits =
+    sym (one_piece lines number piece (pieces_of rest) line few is fits) ∙ sym (ap (λ ps. lines_behind lines (lines_from number (questions_of lines) ps)) cut) ∙ read
 
-stopped : (all octets : List ℕ) (lines : List Line) (number : ℕ) (piece : List ℕ) (pieces : List (List ℕ)) → number < 1000000
-    → lines_behind lines (lines_from number (pieces_of octets)) ≡ trace_of all → pieces_of octets ≡ piece ∷ pieces → line_of_piece piece ≡ None
-    → trace_of all ≡ Err (BadLine number)
-stopped all octets lines number piece pieces few read cut is =
-    sym read ∙ ap (λ ps. lines_behind lines (lines_from number ps)) cut ∙ bad_piece lines number piece pieces few is
+module _ (all octets : List ℕ) (lines : List Line) (number : ℕ) (piece : List ℕ) (pieces : List (List ℕ)) (few : number < 1000000)
+    (read : lines_behind lines (lines_from number (questions_of lines) (pieces_of octets)) ≡ trace_of all) (cut : pieces_of octets ≡ piece ∷ pieces) where
+  next : lines_behind lines (lines_from number (questions_of lines) (piece ∷ pieces)) ≡ trace_of all
+  next = sym (ap (λ ps. lines_behind lines (lines_from number (questions_of lines) ps)) cut) ∙ read
 
-pub stops : (fault : ReplayFault) (all old new : Option (List ℕ)) (lines : List Line) (number : ℕ) (piece : List ℕ) → number < MOST_LINES
-    → IsReadTo all old lines number → ReadsCut old new piece → GivesLine number (Err fault) (line_of_piece piece) → IsFaultOfTrace all fault
-stops (faults.BadLine bad) None old new lines number piece few read cut said = tt
-stops (faults.BadLine bad) (Some all) None new lines number piece few read cut said = absurd read
-stops (faults.BadLine bad) (Some all) (Some octets) None lines number piece few read cut said = absurd cut
-stops (faults.BadLine bad) (Some all) (Some octets) (Some rest) lines number piece few read cut said =
+  stopped : line_of_piece piece ≡ None → trace_of all ≡ Err (BadLine number)
+  stopped is = sym next ∙ bad_piece lines number piece pieces few is
+
+  crowded : (line : Line) → line_of_piece piece ≡ Some line → MOST_QUESTIONS < length (with_question (questions_of lines) (fetched_by line))
+      → trace_of all ≡ Err (TooManyQuestions number)
+  crowded line is more = sym next ∙ crowded_piece lines number piece pieces line few is more
+
+stops_at : (fault : ReplayFault) (all old new : Option (List ℕ)) (lines : List Line) (number : ℕ) (piece : List ℕ) (after : List KeyOf) → number < MOST_LINES
+    → IsReadTo all old lines number → ReadsCut old new piece → GivesLine number (questions_of lines) after (Err fault) (line_of_piece piece) → IsFaultOfTrace all fault
+stops_at (faults.BadLine bad) None old new lines number piece after few read cut said = tt
+stops_at (faults.BadLine bad) (Some all) None new lines number piece after few read cut said = absurd read
+stops_at (faults.BadLine bad) (Some all) (Some octets) None lines number piece after few read cut said = absurd cut
+stops_at (faults.BadLine bad) (Some all) (Some octets) (Some rest) lines number piece after few read cut said =
     trace_of-bad all bad (stopped all octets lines number piece (pieces_of rest) few read cut said.1 ∙ ap (λ (n : ℕ). err_at n) (sym said.0))
-stops faults.TooManyLines all old new lines number piece few read cut said = absurd said
-stops faults.Read all old new lines number piece few read cut said = tt
-stops faults.Write all old new lines number piece few read cut said = absurd said
-stops faults.Memory all old new lines number piece few read cut said = tt
-stops (faults.Spent bad) all old new lines number piece few read cut said = absurd said
-stops faults.Strayed all old new lines number piece few read cut said = absurd said
-stops (faults.TooManyQuestions line) all old new lines number piece few read cut said = absurd said
-stops faults.NotLegal all old new lines number piece few read cut said = absurd said
+stops_at faults.TooManyLines all old new lines number piece after few read cut said = absurd said
+stops_at faults.Read all old new lines number piece after few read cut said = tt
+stops_at faults.Write all old new lines number piece after few read cut said = absurd said
+stops_at faults.Memory all old new lines number piece after few read cut said = tt
+stops_at (faults.Spent bad) all old new lines number piece after few read cut said = absurd said
+stops_at faults.Strayed all old new lines number piece after few read cut said = absurd said
+stops_at (faults.TooManyQuestions bad) None old new lines number piece after few read cut said = tt
+stops_at (faults.TooManyQuestions bad) (Some all) None new lines number piece after few read cut said = absurd read
+stops_at (faults.TooManyQuestions bad) (Some all) (Some octets) None lines number piece after few read cut said = absurd cut
+stops_at (faults.TooManyQuestions bad) (Some all) (Some octets) (Some rest) lines number piece after few read cut said =
+    trace_of-crowded all bad (crowded all octets lines number piece (pieces_of rest) few read cut said.1.0 said.1.1 said.1.2 ∙ ap (λ (n : ℕ). crowded_at n) (sym said.0))
+stops_at faults.NotLegal all old new lines number piece after few read cut said = absurd said
 
 pub fails : (fault : ReplayFault) (all : Option (List ℕ)) → IsOfReading fault → IsFaultOfTrace all fault
 fails (faults.BadLine bad) all of_reading = absurd of_reading
@@ -149,7 +174,7 @@ pub ends : (all now : Option (List ℕ)) (lines : List Line) (number : ℕ) → 
 ends None now lines number read end few = tt
 ends (Some all) None lines number read end few = absurd read
 ends (Some all) (Some rest) lines number read end few =
-    trace_of-says all lines (sym read ∙ ap (λ r. lines_behind lines (lines_from number (pieces_of r))) end ∙ ap wrapped (append-nil lines))
+    trace_of-says all lines (sym read ∙ ap (λ r. lines_behind lines (lines_from number (questions_of lines) (pieces_of r))) end ∙ ap wrapped (append-nil lines))
 
 -- octets are left behind the last line that a trace may have
 pub goes_on : (all old known : Option (List ℕ)) (ahead : List ℕ) (lines : List Line) (number : ℕ) → MOST_LINES ≤ number → IsReadTo all old lines number
@@ -160,14 +185,14 @@ goes_on (Some all) (Some octets) None ahead lines number many read kept some = a
 goes_on (Some all) (Some octets) (Some rest) [] lines number many read kept some = absurd (omega arith)
 goes_on (Some all) (Some octets) (Some rest) (octet ∷ ahead) lines number many read kept some =
     trace_of-many all
-    (sym read ∙ ap (λ o. lines_behind lines (lines_from number (pieces_of o))) (sym kept) ∙ too_many lines number octet (ahead ++ rest) many)
+    (sym read ∙ ap (λ o. lines_behind lines (lines_from number (questions_of lines) (pieces_of o))) (sym kept) ∙ too_many lines number octet (ahead ++ rest) many)
 
 -- what is left to read stays
 pub stays : (all old new : Option (List ℕ)) (lines : List Line) (number : ℕ) → IsReadTo all old lines number → Keeps old new → IsReadTo all new lines number
 stays None old new lines number read kept = tt
 stays (Some all) None new lines number read kept = absurd read
 stays (Some all) (Some octets) None lines number read kept = absurd kept
-stays (Some all) (Some octets) (Some rest) lines number read kept = ap (λ o. lines_behind lines (lines_from number (pieces_of o))) kept ∙ read
+stays (Some all) (Some octets) (Some rest) lines number read kept = ap (λ o. lines_behind lines (lines_from number (questions_of lines) (pieces_of o))) kept ∙ read
 
 -- an octet of an unended piece
 unended-at : (piece : List ℕ) (place : ℕ) → IsUnended piece → place < length piece → get_or piece place 0 ≢ 10
@@ -228,7 +253,7 @@ pieces_of-onto octet (next ∷ octets) rest unended =
     rw no (ap (with_octet octet) (pieces_of-onto next octets rest unended.1) ∙ onto-cons octet (next ∷ octets) (pieces_of rest))
 
 endless_in : (all octets : List ℕ) (lines : List Line) (number : ℕ) (piece : List ℕ) (pieces : List (List ℕ)) → number < 1000000
-    → lines_behind lines (lines_from number (pieces_of octets)) ≡ trace_of all → IsUnended piece → 140000 < length piece
+    → lines_behind lines (lines_from number (questions_of lines) (pieces_of octets)) ≡ trace_of all → IsUnended piece → 140000 < length piece
     → pieces_of octets ≡ onto piece pieces → trace_of all ≡ Err (BadLine number)
 endless_in all octets lines number piece [] few read unended long cut =
     stopped all octets lines number piece [] few read cut
@@ -252,28 +277,44 @@ pub nothing : (all old new : Option (List ℕ)) (lines : List Line) (number : �
 nothing None old new lines number read was = tt
 nothing (Some all) None new lines number read was = absurd read
 nothing (Some all) (Some octets) None lines number read was = absurd was
-nothing (Some all) (Some octets) (Some rest) lines number read was = ap (λ o. lines_behind lines (lines_from number (pieces_of o))) (sym was.0) ∙ read
+nothing (Some all) (Some octets) (Some rest) lines number read was = ap (λ o. lines_behind lines (lines_from number (questions_of lines) (pieces_of o))) (sym was.0) ∙ read
 
--- the lines so far are lawful, as many as their number says, and what is left to read says the others
-pub record IsReadSoFar (all now : Option (List ℕ)) (lines : List Line) (number : ℕ) : Type 0 where
+-- the lines so far are lawful, as many as their number says, their questions are these, and what is left to read says the others
+pub record IsReadSoFar (all now : Option (List ℕ)) (lines : List Line) (number : ℕ) (questions : List KeyOf) : Type 0 where
   pub read : IsReadTo all now lines number
   pub lawful : All IsLawful lines
   pub count : length lines ≡ number
+  pub fetched : questions ≡ questions_of lines
+  pub few : HaveFewQuestions lines
 
-pub so_far_none : (all : Option (List ℕ)) → IsReadSoFar all (prepend_known [] all) [] 0
-so_far_none all = record { read = IsReadTo-none all; lawful = All-nil IsLawful; count = refl }
+pub so_far_none : (all : Option (List ℕ)) → IsReadSoFar all (prepend_known [] all) [] 0 []
+so_far_none all = record { read = IsReadTo-none all; lawful = All-nil IsLawful; count = refl; fetched = refl; few = omega arith }
 
-pub so_far_more : (all old new : Option (List ℕ)) (lines : List Line) (number : ℕ) (piece : List ℕ) (line : Line) → number < MOST_LINES
-    → IsReadSoFar all old lines number → ReadsCut old new piece → line_of_piece piece ≡ Some line → IsReadSoFar all new (lines ++ line ∷ []) (number + 1)
-so_far_more all old new lines number piece line few far cut is = record {
-  read = IsReadTo-more all old new lines number piece line few far.read cut is;
-  lawful = All-push IsLawful lines line far.lawful (says_lawful piece line is);
-  count = length-append lines (line ∷ []) ∙ ap (λ n. n + 1) far.count;
-}
+pub stops : (fault : ReplayFault) (all old new : Option (List ℕ)) (lines : List Line) (number : ℕ) (questions after : List KeyOf) (piece : List ℕ) → number < MOST_LINES
+    → IsReadSoFar all old lines number questions → ReadsCut old new piece → GivesLine number questions after (Err fault) (line_of_piece piece) → IsFaultOfTrace all fault
+stops fault all old new lines number questions after piece few far cut given =
+    stops_at fault all old new lines number piece after few far.read cut
+    (subst (λ (qs : List KeyOf). GivesLine number qs after (Err fault) (line_of_piece piece)) far.fetched given)
+
+pub so_far_more : (all old new : Option (List ℕ)) (lines : List Line) (number : ℕ) (questions after : List KeyOf) (piece : List ℕ) (line : Line) → number < MOST_LINES
+    → IsReadSoFar all old lines number questions → ReadsCut old new piece → GivesLine number questions after (Ok line) (line_of_piece piece)
+    → IsReadSoFar all new (lines ++ line ∷ []) (number + 1) after
+so_far_more all old new lines number questions after piece line few far cut given =
+    let fetched : after ≡ with_question (questions_of lines) (fetched_by line) = given.1 ∙ ap (λ (qs : List KeyOf). with_question qs (fetched_by line)) far.fetched in
+    let fits : length (with_question (questions_of lines) (fetched_by line)) ≤ MOST_QUESTIONS = subst (λ (qs : List KeyOf). length qs ≤ MOST_QUESTIONS) fetched given.2 in
+    let whole : after ≡ questions_of (lines ++ line ∷ []) = fetched ∙ sym (questions-push [] lines line) in
+    record {
+      read = IsReadTo-more all old new lines number piece line few far.read cut given.0 fits;
+      lawful = All-push IsLawful lines line far.lawful (says_lawful piece line given.0);
+      count = length-append lines (line ∷ []) ∙ ap (λ n. n + 1) far.count;
+      fetched = whole;
+      few = subst (λ (qs : List KeyOf). length qs ≤ MOST_QUESTIONS) whole given.2;
+    }
 
 -- lines so far are a trace's where no more are than may be
-pub are_lawful : (all now : Option (List ℕ)) (lines : List Line) (number : ℕ) → IsReadSoFar all now lines number → number ≤ MOST_LINES → AreLawful lines
-are_lawful all now lines number far few = record { few = omega (arith, far.count, few); each = far.lawful }
+pub are_lawful : (all now : Option (List ℕ)) (lines : List Line) (number : ℕ) (questions : List KeyOf) → IsReadSoFar all now lines number questions → number ≤ MOST_LINES
+    → AreLawful lines
+are_lawful all now lines number questions far few = record { few = omega (arith, far.count, few); questions = far.few; each = far.lawful }
 
 pub some_octets : (piece : List ℕ) → (length piece == 0) ≡ false → piece ≢ []
 some_octets [] h = λ e. absurd cc

@@ -9,7 +9,7 @@ use Rattle.rrc_wire.specs.Same.{same_rdata}
 use Rattle.rrc_trace.specs.declared.line.Line.{Line}
 use Rattle.rrc_trace.specs.declared.line.Line.TheVariants.{Put, Ask, Fail, Response, Fetch, Sweep, Checkpoint}
 use Rattle.rrc_trace.specs.declared.line.Put.{Put as PutLine}
-use Rattle.rrc_trace.specs.Trace.{MOST_LINES}
+use Rattle.rrc_trace.specs.Trace.{MOST_LINES, HaveFewQuestions}
 
 -- a question is about a type that is kept, at a moment that a part takes
 pub record IsTimelyQuestion (moment rtype : ℕ) : Type 0 where
@@ -33,7 +33,8 @@ IsLawful (Fetch fetch) = IsTimelyQuestion fetch.moment fetch.rtype
 IsLawful (Sweep moment) = moment ≤ LAST_MOMENT
 IsLawful Checkpoint = Unit {0}
 
--- a trace has a million lines at most
+-- a trace has a million lines at most, which fetch 4,096 questions at most
 pub record AreLawful (lines : List Line) : Type 0 where
   pub few : length lines ≤ MOST_LINES
+  pub questions : HaveFewQuestions lines
   pub each : All IsLawful lines

@@ -7,7 +7,9 @@ use Rattle.rrc_trace.specs.declared.fault.ReplayFault.TheVariants.{BadLine, TooM
 use Rattle.rrc_trace.specs.declared.reading.Ending.{Ending}
 use Rattle.rrc_trace.specs.declared.reading.Ending.TheVariants.{Lf, Last, Endless}
 use Rattle.rrc_trace.specs.declared.line.Line.{Line}
-use Rattle.rrc_trace.specs.Trace.{TraceOf, IsFirstFault}
+use Rattle.rrc_name.specs.Key.{KeyOf}
+use Rattle.rrc_trace.specs.Questions.{fetched_by, with_question}
+use Rattle.rrc_trace.specs.Trace.{TraceOf, IsFirstFault, MOST_QUESTIONS}
 
 -- no octet ends a line
 abbrev pub IsUnended : List ℕ → Type 0
@@ -70,18 +72,19 @@ IsFaultOfTrace read Write = ⊥
 IsFaultOfTrace read Memory = Unit {0}
 IsFaultOfTrace read (Spent number) = ⊥
 IsFaultOfTrace read Strayed = ⊥
-IsFaultOfTrace read (TooManyQuestions line) = ⊥
+IsFaultOfTrace read (TooManyQuestions number) = IfSome read (λ octets. IsFirstFault octets (TooManyQuestions number))
 IsFaultOfTrace read NotLegal = ⊥
 
--- the line is what its piece says, unless memory was refused
-abbrev pub GivesLine : ℕ → Result Line ReplayFault → Option Line → Type 0
-GivesLine number (Ok line) said = said ≡ Some line
-GivesLine number (Err (BadLine bad)) said = (bad ≡ number) × (said ≡ None)
-GivesLine number (Err TooManyLines) said = ⊥
-GivesLine number (Err Read) said = ⊥
-GivesLine number (Err Write) said = ⊥
-GivesLine number (Err Memory) said = Unit {0}
-GivesLine number (Err (Spent bad)) said = ⊥
-GivesLine number (Err Strayed) said = ⊥
-GivesLine number (Err (TooManyQuestions line)) said = ⊥
-GivesLine number (Err NotLegal) said = ⊥
+-- the line is what its piece says, unless memory was refused, and its question stands among those before it, which stay few
+abbrev pub GivesLine : ℕ → List KeyOf → List KeyOf → Result Line ReplayFault → Option Line → Type 0
+GivesLine number before after (Ok line) said = (said ≡ Some line) × (after ≡ with_question before (fetched_by line)) × (length after ≤ MOST_QUESTIONS)
+GivesLine number before after (Err (BadLine bad)) said = (bad ≡ number) × (said ≡ None)
+GivesLine number before after (Err TooManyLines) said = ⊥
+GivesLine number before after (Err Read) said = ⊥
+GivesLine number before after (Err Write) said = ⊥
+GivesLine number before after (Err Memory) said = Unit {0}
+GivesLine number before after (Err (Spent bad)) said = ⊥
+GivesLine number before after (Err Strayed) said = ⊥
+GivesLine number before after (Err (TooManyQuestions bad)) said =
+    (bad ≡ number) × ((line : Line) × (said ≡ Some line) × (MOST_QUESTIONS < length (with_question before (fetched_by line))))
+GivesLine number before after (Err NotLegal) said = ⊥

@@ -9,6 +9,7 @@ use crate::fault::ReplayFault;
 use crate::line::{Line, MOST_OCTETS, line_of_piece};
 use crate::line_fault::LineFault;
 use crate::names::Names;
+use crate::questions::Questions;
 use crate::trace::Trace;
 use memchr::memchr;
 use rrc_name::Sequence;
@@ -17,6 +18,9 @@ use std::io::Read;
 
 /// The most lines of a trace.
 const MOST_LINES: u64 = 1_000_000;
+
+/// The most questions that the lines of a trace fetch.
+const MOST_QUESTIONS: usize = 4_096;
 
 /// How a piece of a trace ends.
 #[derive(Clone, Copy)]
@@ -87,22 +91,35 @@ fn piece_from<R: Read>(
     Ok(Ending::Endless)
 }
 
-/// The line of a piece, which has this number.
-fn line_at(alloc: Global, names: &mut Names, number: u64, piece: &[u8]) -> Result<Line, ReplayFault>
-    ensures { GivesLine number result (line_of_piece piece.now) }
+/// The line of a piece, which has this number. The question that it fetches is put to those before it.
+fn line_at(
+    alloc: Global,
+    names: &mut Names,
+    questions: &mut Questions,
+    number: u64,
+    piece: &[u8],
+) -> Result<Line, ReplayFault>
+    ensures { GivesLine number questions.old questions.new result (line_of_piece piece.now) }
 {
-    match line_of_piece(alloc, names, piece) {
-        Ok(line) => Ok(line),
-        Err(LineFault::NotOne) => Err(ReplayFault::BadLine(number)),
-        Err(LineFault::Memory) => Err(ReplayFault::Memory),
+    let line = match line_of_piece(alloc, names, piece) {
+        Ok(line) => line,
+        Err(LineFault::NotOne) => return Err(ReplayFault::BadLine(number)),
+        Err(LineFault::Memory) => return Err(ReplayFault::Memory),
+    };
+    questions.add(&line)?;
+    if questions.len() <= MOST_QUESTIONS {
+        Ok(line)
+    } else {
+        Err(ReplayFault::TooManyQuestions(number))
     }
 }
 
 /// The trace that a reader gives, to its end.
 ///
-/// `BadLine(n)` where line n, from 0 on, is none; `TooManyLines` where an octet follows the millionth line, and the lines
-/// before it are lines; `Read` where a read failed before a fault of the text was met. The first fault is answered. Octets behind a
-/// fault may have been read too.
+/// `BadLine(n)` where line n, from 0 on, is none; `TooManyQuestions(n)` where line n is one, and with it the lines so far fetch
+/// more than 4,096 questions; `TooManyLines` where an octet follows the millionth line, and none of the lines before it has a fault;
+/// `Read` where a read failed before a fault of the text was met. The first fault is answered. Octets behind a fault may have been
+/// read too.
 pub fn read_trace<R: Read>(alloc: Global, reader: &mut R) -> Result<Trace, ReplayFault>
     ensures ok { IfOk result (IsTraceFrom (R.remaining reader.old)) }
     ensures whole { OnOk result (IsAtEnd (R.remaining reader.new)) }
@@ -112,15 +129,19 @@ pub fn read_trace<R: Read>(alloc: Global, reader: &mut R) -> Result<Trace, Repla
     let mut ahead = Ahead::new(alloc)?;
     let mut piece = Vec::new(alloc);
     let mut names = Names::new(alloc)?;
+    let mut questions = Questions::new(alloc);
     for number in 0..MOST_LINES {
         match piece_from(reader, &mut ahead, &mut piece)? {
-            Ending::Lf => lines.push(line_at(alloc, &mut names, number, piece.as_slice())?)?,
+            Ending::Lf => {
+                let octets = piece.as_slice();
+                lines.push(line_at(alloc, &mut names, &mut questions, number, octets)?)?;
+            }
             Ending::Last => {
                 let octets = piece.as_slice();
                 if octets.is_empty() {
                     return Ok(Trace { lines });
                 }
-                lines.push(line_at(alloc, &mut names, number, octets)?)?;
+                lines.push(line_at(alloc, &mut names, &mut questions, number, octets)?)?;
                 return Ok(Trace { lines });
             }
             Ending::Endless => return Err(ReplayFault::BadLine(number)),

@@ -2,7 +2,7 @@ use crate::line::Line;
 use rrc_name::Sequence;
 use std::marker::Model;
 
-/// The lines of a trace, in order: at most 1,000,000. Each has a moment of at most 2^40 seconds, and a type that it names is one that
+/// The lines of a trace, in order: at most 1,000,000, which fetch at most 4,096 questions. Each has a moment of at most 2^40 seconds, and a type that it names is one that
 /// is kept. A put has 1 to 256 data, each of them plain data of its type, as `plain_rdata` takes them, and no two of them the same by
 /// `same_rdata`. Contracts see the list of lines.
 #[derive(Debug, Drop)]

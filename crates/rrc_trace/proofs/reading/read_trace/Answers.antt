@@ -13,9 +13,9 @@ returns-in_err-line_at-in-Lf-clause-err g c =
     let new = prepend_known c.piece_from.new.ahead (known c.piece_from.new.reader) in
     let piece = c.piece_from.new.piece.items in
     let was = rw c.in-Lf.is at c.in_ok-piece_from.ensures.ok in
-    let given = rw c.as_slice.ensures.value at c.in_err-line_at-in-Lf.ensures in
+    let given = rw c.as_slice-octets.ensures.value at c.in_err-line_at-in-Lf.ensures in
     let p = err_from_is_err_and c.from_residual-in_err-line_at-in-Lf.result c.from_residual-in_err-line_at-in-Lf.ensures.1 in
-    rw (p.1, p.2) (stops c.in_err-line_at-in-Lf.field-0.0 all old new c.loop-number.lines c.loop-number.number piece (omega arith) c.loop-number.invariant.read (reads_lf old new piece was) given)
+    rw (p.1, p.2) (stops c.in_err-line_at-in-Lf.field-0.0 all old new c.loop-number.lines c.loop-number.number c.loop-number.questions c.line_at.new.questions piece (omega arith) c.loop-number.invariant (reads_lf old new piece was) given)
 
 pub loop-number-preserved : goal.loop-number-preserved
 loop-number-preserved g c =
@@ -25,9 +25,9 @@ loop-number-preserved g c =
     let new = prepend_known c.piece_from.new.ahead (known c.piece_from.new.reader) in
     let piece = c.piece_from.new.piece.items in
     let was = rw c.in-Lf.is at c.in_ok-piece_from.ensures.ok in
-    let given = rw c.as_slice.ensures.value at c.in_ok-line_at-in-Lf.ensures in
+    let given = rw c.as_slice-octets.ensures.value at c.in_ok-line_at-in-Lf.ensures in
     rw c.in_ok-push-in-Lf.ensures.ok
-    (so_far_more all old new c.loop-number.lines c.loop-number.number piece c.in_ok-line_at-in-Lf.field-0 (omega arith) c.loop-number.invariant (reads_lf old new piece was) given)
+    (so_far_more all old new c.loop-number.lines c.loop-number.number c.loop-number.questions c.line_at.new.questions piece c.in_ok-line_at-in-Lf.field-0 (omega arith) c.loop-number.invariant (reads_lf old new piece was) given)
 
 pub returns-in-Endless-clause-err : goal.returns-in-Endless-clause-err
 returns-in-Endless-clause-err g c =
@@ -44,24 +44,24 @@ returns-in_err-line_at-in-Last-clause-err g c =
     let new = prepend_known c.piece_from.new.ahead (known c.piece_from.new.reader) in
     let piece = c.piece_from.new.piece.items in
     let was = rw c.in-Last.is at c.in_ok-piece_from.ensures.ok in
-    let some = some_octets piece (rw c.as_slice-octets.ensures.value at (sym c.is_empty.ensures ∙ c.if-is_empty.false)) in
-    let given = rw c.as_slice-octets.ensures.value at c.in_err-line_at-in-Last.ensures in
+    let some = some_octets piece (rw c.as_slice-octets-in-Last.ensures.value at (sym c.is_empty.ensures ∙ c.if-is_empty.false)) in
+    let given = rw c.as_slice-octets-in-Last.ensures.value at c.in_err-line_at-in-Last.ensures in
     let p = err_from_is_err_and c.from_residual-in_err-line_at-in-Last.result c.from_residual-in_err-line_at-in-Last.ensures.1 in
-    rw (p.1, p.2) (stops c.in_err-line_at-in-Last.field-0.0 all old new c.loop-number.lines c.loop-number.number piece (omega arith) c.loop-number.invariant.read (reads_last old new piece was some) given)
+    rw (p.1, p.2) (stops c.in_err-line_at-in-Last.field-0.0 all old new c.loop-number.lines c.loop-number.number c.loop-number.questions c.line_at-in-Last.new.questions piece (omega arith) c.loop-number.invariant (reads_last old new piece was some) given)
 
 pub loop-number-init : goal.loop-number-init
-loop-number-init g c = rw (c.new-lines.ensures, c.in_ok-ahead.ensures) (so_far_none (g.R.Read.remaining c.args.reader.now))
+loop-number-init g c = rw (c.new-lines.ensures, c.in_ok-ahead.ensures, c.new-questions.ensures) (so_far_none (g.R.Read.remaining c.args.reader.now))
 
 pub invariant_of-result : goal.invariant_of-result
 invariant_of-result g c =
     let known = g.R.Read.remaining in
-    are_lawful (known c.args.reader.now) (prepend_known c.loop-number.ahead (known c.loop-number.reader)) c.loop-number.lines c.loop-number.number c.loop-number.invariant (omega arith)
+    are_lawful (known c.args.reader.now) (prepend_known c.loop-number.ahead (known c.loop-number.reader)) c.loop-number.lines c.loop-number.number c.loop-number.questions c.loop-number.invariant (omega arith)
 
 pub returns-then-is_empty-clause-ok : goal.returns-then-is_empty-clause-ok
 returns-then-is_empty-clause-ok g c =
     let known = g.R.Read.remaining in
     let piece = c.piece_from.new.piece.items in
-    let empty : piece ≡ [] = no_octets piece (rw c.as_slice-octets.ensures.value at (sym c.is_empty.ensures ∙ c.if-is_empty.true)) in
+    let empty : piece ≡ [] = no_octets piece (rw c.as_slice-octets-in-Last.ensures.value at (sym c.is_empty.ensures ∙ c.if-is_empty.true)) in
     let was = rw (c.in-Last.is, empty) at c.in_ok-piece_from.ensures.ok in
     let last = rw c.in-Last.is at c.in_ok-piece_from.ensures.last in
     ends (known c.args.reader.now) (prepend_known c.piece_from.new.ahead (known c.piece_from.new.reader)) c.loop-number.lines c.loop-number.number
@@ -77,10 +77,10 @@ invariant_of-result-in-Last g c =
     let piece = c.piece_from.new.piece.items in
     let line = c.in_ok-line_at-in-Last.field-0 in
     let was = rw c.in-Last.is at c.in_ok-piece_from.ensures.ok in
-    let some = some_octets piece (rw c.as_slice-octets.ensures.value at (sym c.is_empty.ensures ∙ c.if-is_empty.false)) in
-    let given = rw c.as_slice-octets.ensures.value at c.in_ok-line_at-in-Last.ensures in
-    let far = so_far_more all old new c.loop-number.lines c.loop-number.number piece line (omega arith) c.loop-number.invariant (reads_last old new piece was some) given in
-    rw c.in_ok-push-in-Last.ensures.ok (are_lawful all new (c.loop-number.lines ++ line ∷ []) (c.loop-number.number + 1) far (omega arith))
+    let some = some_octets piece (rw c.as_slice-octets-in-Last.ensures.value at (sym c.is_empty.ensures ∙ c.if-is_empty.false)) in
+    let given = rw c.as_slice-octets-in-Last.ensures.value at c.in_ok-line_at-in-Last.ensures in
+    let far = so_far_more all old new c.loop-number.lines c.loop-number.number c.loop-number.questions c.line_at-in-Last.new.questions piece line (omega arith) c.loop-number.invariant (reads_last old new piece was some) given in
+    rw c.in_ok-push-in-Last.ensures.ok (are_lawful all new (c.loop-number.lines ++ line ∷ []) (c.loop-number.number + 1) c.line_at-in-Last.new.questions far (omega arith))
 
 pub returns-in-Last-clause-ok : goal.returns-in-Last-clause-ok
 returns-in-Last-clause-ok g c =
@@ -91,9 +91,9 @@ returns-in-Last-clause-ok g c =
     let piece = c.piece_from.new.piece.items in
     let line = c.in_ok-line_at-in-Last.field-0 in
     let was = rw c.in-Last.is at c.in_ok-piece_from.ensures.ok in
-    let some = some_octets piece (rw c.as_slice-octets.ensures.value at (sym c.is_empty.ensures ∙ c.if-is_empty.false)) in
-    let given = rw c.as_slice-octets.ensures.value at c.in_ok-line_at-in-Last.ensures in
-    let far = so_far_more all old new c.loop-number.lines c.loop-number.number piece line (omega arith) c.loop-number.invariant (reads_last old new piece was some) given in
+    let some = some_octets piece (rw c.as_slice-octets-in-Last.ensures.value at (sym c.is_empty.ensures ∙ c.if-is_empty.false)) in
+    let given = rw c.as_slice-octets-in-Last.ensures.value at c.in_ok-line_at-in-Last.ensures in
+    let far = so_far_more all old new c.loop-number.lines c.loop-number.number c.loop-number.questions c.line_at-in-Last.new.questions piece line (omega arith) c.loop-number.invariant (reads_last old new piece was some) given in
     let last = rw c.in-Last.is at c.in_ok-piece_from.ensures.last in
     rw c.in_ok-push-in-Last.ensures.ok (ends all new (c.loop-number.lines ++ line ∷ []) (c.loop-number.number + 1) far.read last (omega arith))
 
@@ -101,7 +101,7 @@ pub invariant_of-result-else-branch : goal.invariant_of-result-else-branch
 invariant_of-result-else-branch g c =
     let known = g.R.Read.remaining in
     are_lawful (known c.args.reader.now) (prepend_known c.loop-number.ahead (known c.loop-number.reader)) c.loop-number.lines c.loop-number.number
-    c.loop-number.invariant (omega arith)
+    c.loop-number.questions c.loop-number.invariant (omega arith)
 
 pub returns-in-Last-clause-whole : goal.returns-in-Last-clause-whole
 returns-in-Last-clause-whole g c =

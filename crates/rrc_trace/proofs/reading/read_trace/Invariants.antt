@@ -4,4 +4,4 @@ use Rattle.std.specs.Io.KnownBytes.{prepend_known}
 use Rattle.rrc_trace.proofs.reading.read_trace.Given as goal
 
 abbrev pub invariant-loop-number : goal.invariant-loop-number
-invariant-loop-number g l = IsReadSoFar (g.R.Read.remaining l.fn.reader) (prepend_known l.ahead (g.R.Read.remaining l.reader)) l.lines l.number
+invariant-loop-number g l = IsReadSoFar (g.R.Read.remaining l.fn.reader) (prepend_known l.ahead (g.R.Read.remaining l.reader)) l.lines l.number l.questions
