@@ -69,7 +69,12 @@ fn fetched<R: Wait, G>(
     let found = fetch_offers(alloc, &common.config.limits, fetch)?;
     let told = tell_all(rt, alloc, common.cache, tag(line, 1), found)?;
     let place = 1 + told.as_slice().len() as u64;
-    let reply = reply(rt, common.cache, tag(line, place), &question(fetch, Mode::Now)?)?;
+    let reply = reply(
+        rt,
+        common.cache,
+        tag(line, place),
+        &question(fetch, Mode::Now)?,
+    )?;
     Ok(Answer::Fetched { told, reply })
 }
 
@@ -117,7 +122,12 @@ fn answer_fetch<R: Wait, G: Gate>(
     ensures free { pass.new.view.held ≡ [] }
     ensures turns { pass.new.view.turns ≡ pass.old.view.turns }
 {
-    match reply(rt, common.cache, tag(line, 0), &question(fetch, Mode::Failed)?)? {
+    match reply(
+        rt,
+        common.cache,
+        tag(line, 0),
+        &question(fetch, Mode::Failed)?,
+    )? {
         Reply::Miss {
             retry_from: Some(moment),
         } => Ok(Answer::Held(moment)),

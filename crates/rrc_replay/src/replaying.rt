@@ -82,10 +82,12 @@ fn first_fault(worked: &[Worked]) -> Option<ReplayFault>
     }
     match first {
         None => None,
-        Some(Stop {
-            line,
-            why: Refused::Spent,
-        }) => Some(ReplayFault::Spent(line as u64)),
+        Some(
+            Stop {
+                line,
+                why: Refused::Spent,
+            },
+        ) => Some(ReplayFault::Spent(line as u64)),
         Some(_) => Some(ReplayFault::Memory),
     }
 }

@@ -1,6 +1,18 @@
-use Rattle.std.proofs.Common.{rules, ◌≡◌, IfErr, ℕ, ◌+◌, ◌-◌, ◌*◌, ◌<◌, ◌≤◌, length, ◌/◌, ◌%◌, Bool, true, false, nat_eq, nat_lt, List, [], ◌∷◌, ◌++◌, slice_index_or, slice_set, bit_and, bit_or, Fits, w8, w32, w64, Bor, MutBor}
+use Rattle.std.proofs.Common.{ℕ, List, subst}
+use Rattle.rrc_history.specs.declared.event.Event.{Event}
+use Rattle.rrc_history.specs.declared.snapshot.Snapshot.{Snapshot}
+use Rattle.rrc_history.specs.Audits.{IsFirstBad}
+use Rattle.rrc_cache.specs.Rechecks.{IsFault}
+use Rattle.rrc_replay.proofs.AuditLemmas.{never_bad}
 use Rattle.rrc_replay.proofs.auditing.audit_whole.Goals as goal
 
--- src/auditing.rt:19:1
 pub returns-in-Err-FirstBad : goal.returns-in-Err-FirstBad
-returns-in-Err-FirstBad c = ?
+returns-in-Err-FirstBad c =
+    let snapshot : Snapshot = c.whole.inside.snapshot in
+    let events : List Event = c.whole.inside.events in
+    let place : ℕ = c.in-Err-FirstBad.field-0-0.0 in
+    let told : IsFirstBad c.deref.result.now c.as_slice.result.now place =
+    subst (IsFault c.deref.result.now c.as_slice.result.now) c.in-Err-FirstBad.field-0-is c.in-Err-FirstBad.ensures.err in
+    let of_events : IsFirstBad c.deref.result.now events place = subst (λ es. IsFirstBad c.deref.result.now es place) c.as_slice.ensures told in
+    let bad : IsFirstBad snapshot events place = subst (λ s. IsFirstBad s events place) c.deref.ensures of_events in
+    absurd (never_bad snapshot events place c.whole.invariant.legal bad)
