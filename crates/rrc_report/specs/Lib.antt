@@ -4,3 +4,4 @@ pub mod Answers
 pub mod Reports
 pub mod Collates
 pub mod Steps
+pub mod Completing

@@ -6,6 +6,7 @@ use crate::completing::lines_of;
 use crate::config::Config;
 use crate::done::Done;
 use crate::report::Report;
+use crate::scripting::one_script;
 use crate::tasking::tasks_of;
 use crate::wholes::wholes_of;
 use rrc_name::Sequence;
@@ -13,11 +14,27 @@ use rrc_share::Shelf;
 use rrc_trace::{Questions, ReplayFault, Trace};
 use std::alloc::{AllocError, Global};
 
-/// The lines of each worker, in order.
-fn shares_of(_alloc: Global, _done: &[Done]) -> Result<Sequence<Sequence<usize>>, AllocError>
-    ensures { IfOk result (λ shares. shares ≡ map lines_done _done.now) }
+/// The lines that a worker says it did, in order.
+fn share_of(alloc: Global, done: &Done) -> Result<Sequence<usize>, AllocError>
+    ensures { IfOk result (λ share. share ≡ lines_done done.now) }
 {
-    Err(AllocError)
+    let answers = done.answers.as_slice();
+    let mut share = Vec::with_capacity(alloc, answers.len())?;
+    for answered in answers {
+        share.push(answered.line)?;
+    }
+    Ok(Sequence::from_vec(share))
+}
+
+/// The lines of each worker, in order.
+fn shares_of(alloc: Global, done: &[Done]) -> Result<Sequence<Sequence<usize>>, AllocError>
+    ensures { IfOk result (λ shares. shares ≡ map lines_done done.now) }
+{
+    let mut shares = Vec::with_capacity(alloc, done.len())?;
+    for one in done {
+        shares.push(share_of(alloc, one)?)?;
+    }
+    Ok(Sequence::from_vec(shares))
 }
 
 /// The report of a replay: what each line got, from what the workers say that they did and the shelves that they left.
@@ -35,6 +52,7 @@ pub fn collate(
     ensures holds { IfOk result (Holds shelves.items done.items) }
     ensures err { IfErr result (IsWhy config.now trace.now shelves.items done.items) }
 {
+    one_script();
     let count = trace.lines.len();
     if done.len() != config.workers || shelves.len() != config.parts {
         return Err(ReplayFault::Strayed);
@@ -61,6 +79,7 @@ pub fn collate(
     let Some(lines) = lines_of(alloc, count, done, events.as_slice())? else {
         return Err(ReplayFault::Strayed);
     };
+    drop(events);
     Ok(Report {
         lines,
         shares,

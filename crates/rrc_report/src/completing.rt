@@ -1,7 +1,6 @@
 ghost use Rattle.std.specs.Prelude.{◌≡◌, List, length, map, IfOk, IfSome, IfNone};
 ghost use Rattle.rrc_trace.specs.declared.answer.Answer.{Answer};
 ghost use Rattle.rrc_collate.specs.Words.{AreSharedOut};
-ghost use Rattle.rrc_report.specs.Answers.{Completes};
 ghost use Rattle.rrc_report.specs.Steps.{given_from, as_taken, AreComplete};
 
 use crate::done::Done;
@@ -9,14 +8,6 @@ use rrc_history::Event;
 use rrc_name::Sequence;
 use rrc_trace::Answer;
 use std::alloc::{AllocError, Global};
-
-/// The answer that events complete, with whom its offers evicted, or `None` where they tell another one.
-pub(crate) fn completed(_given: Answer, _events: &[&Event]) -> Result<Option<Answer>, AllocError>
-    ensures some { IfOk result (λ found. IfSome found (λ answer. Completes _given answer (map (λ event. event.now) _events.now))) }
-    ensures none { IfOk result (λ found. IfNone found ((answer : Answer) → Completes _given answer (map (λ event. event.now) _events.now) → ⊥)) }
-{
-    Err(AllocError)
-}
 
 /// What each of so many lines got, in order, completed by their events; or `None` where the events tell other answers.
 pub(crate) fn lines_of(

@@ -1,26 +1,272 @@
-ghost use Rattle.std.specs.Prelude.{◌≡◌, IfOk, IfErr, IfSome, IfNone};
+ghost use Rattle.std.specs.Prelude.{◌≡◌, [], ◌∷◌, ◌++◌, map, IfOk, IfErr, IfSome, IfNone, OnOk};
+ghost use Rattle.rrc_wire.specs.Message.{FirstFault};
 ghost use Rattle.rrc_trace.specs.Lawful.{IsLawful};
 ghost use Rattle.rrc_trace.specs.declared.fault.ReplayFault.TheVariants as faults;
 ghost use Rattle.rrc_report.specs.declared.script.Script.{Script};
-ghost use Rattle.rrc_report.specs.Scripts.{HasScript, OneScript};
+ghost use Rattle.rrc_report.specs.Scripts.{offer_of, failure_of, offering, asking, sweeping, plain, first_ask, fetching, Joins, Gets, Responds, HasScript, OneScript};
 
 use crate::config::Config;
+use crate::offering::{ask_at, failure_at, offer_at, offers_fetched, offers_in};
 use crate::script::Script;
-use rrc_trace::{Answer, Line, Questions, ReplayFault};
-use std::alloc::Global;
+use rrc_collate::{Call, Fate, Operation};
+use rrc_history::{Ask, Mode, Offer};
+use rrc_name::Sequence;
+use rrc_sets::part_of;
+use rrc_trace::{Answer, Fetch, Line, Questions, ReplayFault, Response};
+use rrc_wire::{WireFault, one_message_or_fault, read_message};
+use std::alloc::{AllocError, Global};
+
+/// An offer, to the part that its name lies in.
+fn offering(config: &Config, offer: Offer) -> Operation
+    ensures { result ≡ offering config.now.parts offer }
+{
+    Operation {
+        part: part_of(offer.key.name(), config.parts),
+        call: Call::Offer(offer),
+    }
+}
+
+/// An ask, of the part that its name lies in.
+fn asking(config: &Config, ask: Ask) -> Operation
+    ensures { result ≡ asking config.now.parts ask }
+{
+    Operation {
+        part: part_of(&ask.name, config.parts),
+        call: Call::Ask(ask),
+    }
+}
+
+/// Puts offers behind operations, in order.
+fn add_offers(
+    config: &Config,
+    operations: &mut Sequence<Operation>,
+    offers: Vec<Offer>,
+) -> Result<(), AllocError>
+    ensures { OnOk result (operations.new ≡ operations.old ++ map (offering config.now.parts) offers.items) }
+{
+    for offer in offers {
+        operations.push(offering(config, offer))?;
+    }
+    Ok(())
+}
+
+/// A script of one operation, of a line that fetches nothing.
+fn plain_one(alloc: Global, operation: Operation) -> Result<Script, AllocError>
+    ensures { IfOk result (λ script. script ≡ plain (operation ∷ [])) }
+{
+    // No room to spare: a trace may have as many of these lists as lines.
+    let mut operations = Sequence::from_vec(Vec::with_capacity(alloc, 1)?);
+    operations.push(operation)?;
+    Ok(Script {
+        operations,
+        fate: Fate::Plain,
+    })
+}
+
+/// The script of a response that is a message, or `None` where it is none.
+fn response_script(
+    alloc: Global,
+    config: &Config,
+    response: &Response,
+) -> Result<Option<Script>, AllocError>
+    ensures some { IfOk result (λ found. IfSome found (Responds config.now response.now.octets response.now.zone response.now.moment)) }
+    ensures none { IfOk result (λ found. IfNone found ((script : Script) → Responds config.now response.now.octets response.now.zone response.now.moment script → ⊥)) }
+{
+    let octets = response.octets.as_slice();
+    let offers = match offers_in(
+        alloc,
+        octets,
+        &response.zone,
+        response.moment,
+        &config.limits,
+    ) {
+        Ok(offers) => offers,
+        Err(WireFault::Memory) => return Err(AllocError),
+        Err(_) => {
+            one_message_or_fault();
+            return Ok(None);
+        }
+    };
+    let mut operations = Sequence::from_vec(Vec::with_capacity(alloc, offers.len())?);
+    add_offers(config, &mut operations, offers)?;
+    Ok(Some(Script {
+        operations,
+        fate: Fate::Plain,
+    }))
+}
+
+/// The script of a response whose octets have this first fault, or `None` where they have not.
+fn refused_script(
+    alloc: Global,
+    response: &Response,
+    fault: WireFault,
+) -> Result<Option<Script>, AllocError>
+    ensures some { IfOk result (λ found. IfSome found (λ script. FirstFault response.now.octets fault × (script ≡ plain []))) }
+    ensures none { IfOk result (λ found. IfNone found (FirstFault response.now.octets fault → ⊥)) }
+{
+    match read_message(alloc, response.octets.as_slice()) {
+        Ok(_) => {
+            one_message_or_fault();
+            Ok(None)
+        }
+        Err(WireFault::Memory) => Err(AllocError),
+        Err(found) if found == fault => Ok(Some(Script {
+            operations: Sequence::new(alloc),
+            fate: Fate::Plain,
+        })),
+        Err(_) => Ok(None),
+    }
+}
+
+/// What a fetch asks first.
+fn first_ask(config: &Config, fetch: &Fetch) -> Result<Operation, AllocError>
+    ensures { IfOk result (λ operation. operation ≡ first_ask config.now.parts fetch.now) }
+{
+    Ok(asking(config, ask_at(fetch, Mode::Failed)?))
+}
+
+/// The operations of a fetch that was made.
+fn fetching(
+    alloc: Global,
+    config: &Config,
+    fetch: &Fetch,
+    offers: Vec<Offer>,
+) -> Result<Sequence<Operation>, AllocError>
+    ensures { IfOk result (λ operations. operations ≡ fetching config.now.parts fetch.now offers.items) }
+{
+    let mut operations = Sequence::from_vec(Vec::with_capacity(alloc, offers.len() + 2)?);
+    operations.push(first_ask(config, fetch)?)?;
+    add_offers(config, &mut operations, offers)?;
+    operations.push(asking(config, ask_at(fetch, Mode::Now)?))?;
+    Ok(operations)
+}
+
+/// The script of a fetch that another one of its question stood in for, or `None` where its question has no number.
+fn joined_script(
+    alloc: Global,
+    config: &Config,
+    questions: &Questions,
+    fetch: &Fetch,
+) -> Result<Option<Script>, AllocError>
+    ensures some { IfOk result (λ found. IfSome found (Joins config.now questions.now fetch.now)) }
+    ensures none { IfOk result (λ found. IfNone found ((script : Script) → Joins config.now questions.now fetch.now script → ⊥)) }
+{
+    let Some(question) = questions.number(fetch)? else {
+        return Ok(None);
+    };
+    let script = plain_one(alloc, first_ask(config, fetch)?)?;
+    Ok(Some(Script {
+        operations: script.operations,
+        fate: Fate::Joined { question },
+    }))
+}
+
+/// The script of a fetch that was made, or `None` where its question has no number.
+fn fetched_script(
+    alloc: Global,
+    config: &Config,
+    questions: &Questions,
+    fetch: &Fetch,
+) -> Result<Option<Script>, ReplayFault>
+    ensures some { IfOk result (λ found. IfSome found (Gets config.now questions.now fetch.now)) }
+    ensures none { IfOk result (λ found. IfNone found ((script : Script) → Gets config.now questions.now fetch.now script → ⊥)) }
+    ensures err { IfErr result (λ fault. fault ≡ faults.Memory) }
+{
+    let Some(question) = questions.number(fetch)? else {
+        return Ok(None);
+    };
+    let offers = offers_fetched(alloc, fetch, &config.limits)?;
+    let operations = fetching(alloc, config, fetch, offers)?;
+    let home = part_of(&fetch.name, config.parts);
+    Ok(Some(Script {
+        operations,
+        fate: Fate::Fetched { question, home },
+    }))
+}
+
+/// The script of a sweep: one of each part, in order.
+fn sweep_script(alloc: Global, config: &Config, moment: u64) -> Result<Script, AllocError>
+    ensures { IfOk result (λ script. script ≡ plain (sweeping moment 0 config.now.parts)) }
+{
+    let mut operations = Sequence::from_vec(Vec::with_capacity(alloc, config.parts)?);
+    for part in 0..config.parts {
+        operations.push(Operation {
+            part,
+            call: Call::Sweep(moment),
+        })?;
+    }
+    Ok(Script {
+        operations,
+        fate: Fate::Plain,
+    })
+}
+
+/// What a fetch calls for, where it got an answer of this kind, or `None` where it can't get one.
+fn fetch_script(
+    alloc: Global,
+    config: &Config,
+    questions: &Questions,
+    fetch: &Fetch,
+    answer: &Answer,
+) -> Result<Option<Script>, ReplayFault>
+    ensures some { IfOk result (λ found. IfSome found (HasScript config.now questions.now (Line.Fetch fetch.now) answer.now)) }
+    ensures none { IfOk result (λ found. IfNone found ((script : Script) → HasScript config.now questions.now (Line.Fetch fetch.now) answer.now script → ⊥)) }
+    ensures err { IfErr result (λ fault. fault ≡ faults.Memory) }
+{
+    match answer {
+        Answer::Hit(_) => Ok(Some(plain_one(alloc, first_ask(config, fetch)?)?)),
+        Answer::Held(_) => Ok(Some(plain_one(alloc, first_ask(config, fetch)?)?)),
+        Answer::Joined => Ok(joined_script(alloc, config, questions, fetch)?),
+        Answer::Fetched { .. } => fetched_script(alloc, config, questions, fetch),
+        _ => Ok(None),
+    }
+}
 
 /// What a line calls for, where it got an answer of this kind, or `None` where it can't get one.
 pub(crate) fn script_of(
-    _alloc: Global,
-    _config: &Config,
-    _questions: &Questions,
-    _line: &Line,
-    _answer: &Answer,
+    alloc: Global,
+    config: &Config,
+    questions: &Questions,
+    line: &Line,
+    answer: &Answer,
 ) -> Result<Option<Script>, ReplayFault>
-    requires { IsLawful _line.now }
-    ensures some { IfOk result (λ found. IfSome found (HasScript _config.now _questions.now _line.now _answer.now)) }
-    ensures none { IfOk result (λ found. IfNone found ((script : Script) → HasScript _config.now _questions.now _line.now _answer.now script → ⊥)) }
+    requires { IsLawful line.now }
+    ensures some { IfOk result (λ found. IfSome found (HasScript config.now questions.now line.now answer.now)) }
+    ensures none { IfOk result (λ found. IfNone found ((script : Script) → HasScript config.now questions.now line.now answer.now script → ⊥)) }
     ensures err { IfErr result (λ fault. fault ≡ faults.Memory) }
 {
-    Err(ReplayFault::Memory)
+    let limits = &config.limits;
+    match (line, answer) {
+        (Line::Put(put), Answer::Put(_)) => {
+            Ok(Some(plain_one(alloc, offering(config, offer_at(put, limits)?))?))
+        }
+        (Line::Ask(ask), Answer::Ask(_)) => {
+            Ok(Some(plain_one(alloc, asking(config, ask.clone()?))?))
+        }
+        (Line::Fail(failed), Answer::Fail(_)) => {
+            let offer = failure_at(failed.moment, &failed.name, failed.rtype, limits)?;
+            Ok(Some(plain_one(alloc, offering(config, offer))?))
+        }
+        (Line::Response(response), Answer::Response(_)) => Ok(response_script(
+            alloc, config, response,
+        )?),
+        (Line::Response(response), Answer::Refused(fault)) => Ok(refused_script(
+            alloc, response, *fault,
+        )?),
+        (Line::Fetch(fetch), _) => fetch_script(alloc, config, questions, fetch, answer),
+        (Line::Sweep(moment), Answer::Swept(_)) => Ok(Some(sweep_script(alloc, config, *moment)?)),
+        (Line::Checkpoint, Answer::Closed) => Ok(Some(Script {
+            operations: Sequence::new(alloc),
+            fate: Fate::Plain,
+        })),
+        _ => Ok(None),
+    }
+}
+
+/// A line has one script for an answer: so what a report of a trace tells is determined by its lines. The function does nothing; its
+/// contract is the law.
+pub fn one_script()
+    ensures { OneScript }
+{
+    one_message_or_fault();
 }

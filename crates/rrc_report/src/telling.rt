@@ -1,0 +1,282 @@
+ghost use Rattle.std.specs.Prelude.{◌≡◌, ◌&&◌, ◌==◌, map, length, Some, None, IfOk, IfSome, IfNone, if◌then◌else◌};
+ghost use Rattle.rrc_history.specs.Auditing.{outcome_eq, set_eq, soa_eq, moment_eq, reply_eq};
+ghost use Rattle.rrc_trace.specs.declared.answer.Answer.{Answer};
+ghost use Rattle.rrc_report.specs.Answers.{Completes, OneCompletion};
+ghost use Rattle.rrc_report.specs.Completing.{told_by, replies, counts, is_hit, all_told_by, all_count, is_empty, replies_alone, one_told_by, told_before, fetched_by, only_where, complete};
+
+use rrc_history::{Event, Outcome, Reply, RrSet, Soa};
+use rrc_name::Sequence;
+use rrc_trace::{Answer, Told};
+use std::alloc::{AllocError, Global};
+
+fn is_same_outcome(outcome: Outcome, other: Outcome) -> bool
+    ensures { result ≡ outcome_eq outcome other }
+{
+    match (outcome, other) {
+        (Outcome::Kept, Outcome::Kept) => true,
+        (Outcome::Cleared, Outcome::Cleared) => true,
+        (Outcome::LessTrusted, Outcome::LessTrusted) => true,
+        _ => false,
+    }
+}
+
+fn is_same_moment(moment: Option<u64>, other: Option<u64>) -> bool
+    ensures { result ≡ moment_eq moment other }
+{
+    match (moment, other) {
+        (None, None) => true,
+        (Some(moment), Some(other)) => moment == other,
+        _ => false,
+    }
+}
+
+fn is_same_set(set: &RrSet, other: &RrSet) -> bool
+    ensures { result ≡ set_eq set.now other.now }
+{
+    set.owner == other.owner && set.items == other.items
+}
+
+fn is_same_soa(soa: &Soa, other: &Soa) -> bool
+    ensures { result ≡ soa_eq soa.now other.now }
+{
+    soa.owner == other.owner && soa.octets == other.octets
+}
+
+/// Whether replies are the same, octet for octet.
+fn is_same_reply(reply: &Reply, other: &Reply) -> bool
+    ensures { result ≡ reply_eq reply.now other.now }
+{
+    match (reply, other) {
+        (Reply::Fresh { set, left }, Reply::Fresh { set: s, left: l }) => {
+            is_same_set(set, s) && *left == *l
+        }
+        (Reply::Stale { set, left }, Reply::Stale { set: s, left: l }) => {
+            is_same_set(set, s) && *left == *l
+        }
+        (Reply::NoData { soa, left }, Reply::NoData { soa: s, left: l }) => {
+            is_same_soa(soa, s) && *left == *l
+        }
+        (Reply::NxDomain { soa, left }, Reply::NxDomain { soa: s, left: l }) => {
+            is_same_soa(soa, s) && *left == *l
+        }
+        (Reply::Miss { retry_from }, Reply::Miss { retry_from: other }) => {
+            is_same_moment(*retry_from, *other)
+        }
+        _ => false,
+    }
+}
+
+/// Whether an event tells a reply.
+fn replies(reply: &Reply, event: &Event) -> bool
+    ensures { result ≡ replies reply.now event.now }
+{
+    match event {
+        Event::Asked { reply: other, .. } => is_same_reply(reply, other),
+        Event::Offered { .. } | Event::Swept { .. } => false,
+    }
+}
+
+/// Whether an event tells that a sweep removed so many keys.
+fn counts(count: usize, event: &Event) -> bool
+    ensures { result ≡ counts count event.now }
+{
+    match event {
+        Event::Swept { gone, .. } => count == gone.len(),
+        Event::Offered { .. } | Event::Asked { .. } => false,
+    }
+}
+
+fn is_hit(reply: &Reply) -> bool
+    ensures { result ≡ is_hit reply.now }
+{
+    match reply {
+        Reply::Fresh { .. } | Reply::Stale { .. } | Reply::NoData { .. } | Reply::NxDomain { .. } =>
+            true,
+        Reply::Miss { .. } => false,
+    }
+}
+
+/// What became of an offer, with whom its event says that it evicted. `None` where that event tells another outcome or is of another
+/// call, or where an evicted key was told already.
+fn told_by(told: &Told, event: &Event) -> Result<Option<Told>, AllocError>
+    ensures { IfOk result (λ found. found ≡ told_by told.now event.now) }
+{
+    let (outcome, evicted) = match event {
+        Event::Offered {
+            outcome,
+            evicted,
+            ..
+        } => (*outcome, evicted),
+        Event::Asked { .. } | Event::Swept { .. } => return Ok(None),
+    };
+    if !is_same_outcome(told.outcome, outcome) || told.evicted.is_some() {
+        return Ok(None);
+    }
+    let evicted = match evicted {
+        None => None,
+        Some(key) => Some(key.clone()?),
+    };
+    Ok(Some(Told { outcome, evicted }))
+}
+
+/// Whether the events are one, and it tells a reply.
+fn replies_alone(reply: &Reply, events: &[&Event]) -> bool
+    ensures { result ≡ replies_alone reply.now (map (λ event. event.now) events.now) }
+{
+    if events.len() != 1 {
+        return false;
+    }
+    replies(reply, events[0])
+}
+
+/// What became of an offer, where the events are one and tell it.
+fn one_told_by(told: &Told, events: &[&Event]) -> Result<Option<Told>, AllocError>
+    ensures { IfOk result (λ found. found ≡ one_told_by told.now (map (λ event. event.now) events.now)) }
+{
+    if events.len() != 1 {
+        return Ok(None);
+    }
+    told_by(told, events[0])
+}
+
+/// What became of offers, each by its event.
+fn all_told_by(
+    alloc: Global,
+    told: &[Told],
+    events: &[&Event],
+) -> Result<Option<Sequence<Told>>, AllocError>
+    ensures { IfOk result (λ found. found ≡ all_told_by told.now (map (λ event. event.now) events.now)) }
+{
+    if told.len() != events.len() {
+        return Ok(None);
+    }
+    let mut all = Vec::with_capacity(alloc, told.len())?;
+    for (place, one) in told.iter().enumerate() {
+        match told_by(one, events[place])? {
+            None => return Ok(None),
+            Some(told) => all.push(told)?,
+        }
+    }
+    Ok(Some(Sequence::from_vec(all)))
+}
+
+/// Whether each event tells that a sweep removed so many keys, in order.
+fn all_count(removed: &[usize], events: &[&Event]) -> bool
+    ensures { result ≡ all_count removed.now (map (λ event. event.now) events.now) }
+{
+    if removed.len() != events.len() {
+        return false;
+    }
+    for (place, count) in removed.iter().enumerate() {
+        if !counts(*count, events[place]) {
+            return false;
+        }
+    }
+    true
+}
+
+/// What became of offers, each by its event, behind which the last one tells a reply.
+fn told_before(
+    alloc: Global,
+    told: &[Told],
+    reply: &Reply,
+    events: &[&Event],
+) -> Result<Option<Sequence<Told>>, AllocError>
+    ensures { IfOk result (λ found. found ≡ told_before told.now reply.now (map (λ event. event.now) events.now)) }
+{
+    match events.split_last() {
+        None => Ok(None),
+        Some((last, before)) => {
+            if !replies(reply, last) {
+                return Ok(None);
+            }
+            all_told_by(alloc, told, before)
+        }
+    }
+}
+
+/// What became of the offers of a fetch: it missed first, then offered, and then was told a reply.
+fn fetched_by(
+    alloc: Global,
+    told: &[Told],
+    reply: &Reply,
+    events: &[&Event],
+) -> Result<Option<Sequence<Told>>, AllocError>
+    ensures { IfOk result (λ found. found ≡ fetched_by told.now reply.now (map (λ event. event.now) events.now)) }
+{
+    match events.split_first() {
+        None => Ok(None),
+        Some((first, behind)) => {
+            if !replies(&Reply::Miss { retry_from: None }, first) {
+                return Ok(None);
+            }
+            told_before(alloc, told, reply, behind)
+        }
+    }
+}
+
+/// An answer, where the events tell it.
+fn only_where(told: bool, answer: Answer) -> Option<Answer>
+    ensures { result ≡ only_where told answer }
+{
+    if told { Some(answer) } else { None }
+}
+
+/// The answer that events complete.
+fn complete(alloc: Global, given: Answer, events: &[&Event]) -> Result<Option<Answer>, AllocError>
+    ensures { IfOk result (λ found. found ≡ complete given (map (λ event. event.now) events.now)) }
+{
+    match given {
+        Answer::Put(told) => Ok(one_told_by(&told, events)?.map(Answer::Put)),
+        Answer::Fail(told) => Ok(one_told_by(&told, events)?.map(Answer::Fail)),
+        Answer::Response(told) => {
+            Ok(all_told_by(alloc, told.as_slice(), events)?.map(Answer::Response))
+        }
+        Answer::Fetched { told, reply } => {
+            match fetched_by(alloc, told.as_slice(), &reply, events)? {
+                None => Ok(None),
+                Some(told) => Ok(Some(Answer::Fetched { told, reply })),
+            }
+        }
+        Answer::Ask(reply) => {
+            let told = replies_alone(&reply, events);
+            Ok(only_where(told, Answer::Ask(reply)))
+        }
+        Answer::Hit(reply) => {
+            let told = is_hit(&reply) && replies_alone(&reply, events);
+            Ok(only_where(told, Answer::Hit(reply)))
+        }
+        Answer::Held(moment) => {
+            let missed = Reply::Miss {
+                retry_from: Some(moment),
+            };
+            Ok(only_where(replies_alone(&missed, events), given))
+        }
+        Answer::Joined => {
+            let missed = Reply::Miss { retry_from: None };
+            Ok(only_where(replies_alone(&missed, events), Answer::Joined))
+        }
+        Answer::Swept(counts) => {
+            let told = all_count(counts.as_slice(), events);
+            Ok(only_where(told, Answer::Swept(counts)))
+        }
+        Answer::Refused(_) | Answer::Closed => Ok(only_where(events.is_empty(), given)),
+    }
+}
+
+/// The answer that events complete, with whom its offers evicted, or `None` where they tell another one.
+pub(crate) fn completed(
+    alloc: Global,
+    given: Answer,
+    events: &[&Event],
+) -> Result<Option<Answer>, AllocError>
+    ensures some { IfOk result (λ found. IfSome found (λ answer. Completes given answer (map (λ event. event.now) events.now))) }
+    ensures none { IfOk result (λ found. IfNone found ((answer : Answer) → Completes given answer (map (λ event. event.now) events.now) → ⊥)) }
+{
+    complete(alloc, given, events)
+}
+
+/// Events complete an answer in one way. The function does nothing; its contract is the law.
+pub fn one_completion()
+    ensures { OneCompletion }
+{}
