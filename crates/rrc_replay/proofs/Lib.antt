@@ -1,6 +1,2 @@
 pub mod OfferMoments
-pub mod FewOffers
-pub mod CallLemmas
-pub mod ReplayLemmas
 pub mod AuditLemmas
-pub mod AnswersLaw

@@ -1,5 +1,3 @@
 pub mod Limits
-pub mod Replay
-pub mod Answers
-pub mod Calls
+pub mod Faults
 pub mod Run

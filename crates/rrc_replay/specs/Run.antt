@@ -1,51 +1,55 @@
 -- What a run reads and writes.
 use Rattle.std.specs.Prelude.{ℕ, List, Option}
 use Rattle.std.specs.Io.KnownBytes.{Appends, Keeps}
-use Rattle.rrc_history.specs.declared.rules.Rules.{Rules}
 use Rattle.rrc_trace.specs.declared.fault.ReplayFault.{ReplayFault}
-use Rattle.rrc_trace.specs.declared.fault.ReplayFault.TheVariants.{BadLine, TooManyLines, Read, Write, Memory, Spent, NotLegal}
+use Rattle.rrc_trace.specs.declared.fault.ReplayFault.TheVariants.{BadLine, TooManyLines, Read, Write, Strayed, Memory, Spent, TooManyQuestions, NotLegal}
 use Rattle.rrc_trace.specs.declared.line.Line.{Line}
-use Rattle.rrc_trace.specs.declared.answer.Answer.{Answer}
-use Rattle.rrc_replay.specs.Answers.{AreAnswers}
 use Rattle.rrc_trace.specs.Reading.{IsTraceFrom, IsFaultOfTrace}
 use Rattle.rrc_trace.specs.Report.{report_text}
 use Rattle.rrc_trace.specs.Writing.{AppendsFront}
+use Rattle.rrc_report.specs.declared.config.Config.{Config}
+use Rattle.rrc_report.specs.declared.report.Report.{Report}
+use Rattle.rrc_report.specs.Reports.{IsCollated}
 
--- a trace was read, and the cache of one thread gives these answers to it
-pub record Replays (rules : Rules) (read : Option (List ℕ)) (lines : List Line) (answers : List Answer) : Type 0 where
+-- a trace was read, and this is a report of it
+pub record Replays (config : Config) (read : Option (List ℕ)) (lines : List Line) (report : Report) : Type 0 where
   pub trace : IsTraceFrom read lines
-  pub answered : AreAnswers rules lines answers
+  pub collated : IsCollated config lines report
 
--- what was read is a trace, and what was written is the text of its report, and nothing else
-pub record Reports (rules : Rules) (read old new : Option (List ℕ)) : Type 0 where
+-- what was read is a trace, and what was written is the text of a report of it, and nothing else
+pub record Reports (config : Config) (read old new : Option (List ℕ)) : Type 0 where
   pub lines : List Line
-  pub answers : List Answer
-  pub replays : Replays rules read lines answers
-  pub written : Appends old new (report_text answers)
+  pub report : Report
+  pub replays : Replays config read lines report
+  pub written : Appends old new (report_text report.lines)
 
--- what was read is a trace, and what was written is a beginning of the text of its report
-pub record BeginsReport (rules : Rules) (read old new : Option (List ℕ)) : Type 0 where
+-- what was read is a trace, and what was written is a beginning of the text of a report of it
+pub record BeginsReport (config : Config) (read old new : Option (List ℕ)) : Type 0 where
   pub lines : List Line
-  pub answers : List Answer
-  pub replays : Replays rules read lines answers
-  pub begun : AppendsFront old new (report_text answers)
+  pub report : Report
+  pub replays : Replays config read lines report
+  pub begun : AppendsFront old new (report_text report.lines)
 
--- a fault is the first one of the text, or of a read, of a write or of memory; no trace has so many lines that a part's numbers are spent
+-- a fault of the text is its first one; each other one is of a read, of a write, of memory or threads, of workers, or of numbers that are spent
 abbrev pub IsFirstFaultOf : Option (List ℕ) → ReplayFault → Type 0
 IsFirstFaultOf read (BadLine number) = IsFaultOfTrace read (BadLine number)
 IsFirstFaultOf read TooManyLines = IsFaultOfTrace read TooManyLines
 IsFirstFaultOf read Read = Unit {0}
 IsFirstFaultOf read Write = Unit {0}
+IsFirstFaultOf read Strayed = Unit {0}
 IsFirstFaultOf read Memory = Unit {0}
-IsFirstFaultOf read (Spent number) = ⊥
+IsFirstFaultOf read (Spent number) = Unit {0}
+IsFirstFaultOf read (TooManyQuestions number) = IsFaultOfTrace read (TooManyQuestions number)
 IsFirstFaultOf read NotLegal = ⊥
 
--- before the fault of a write a beginning of the report went out, before any other nothing
-abbrev pub LeavesWriter : Rules → Option (List ℕ) → Option (List ℕ) → Option (List ℕ) → ReplayFault → Type 0
-LeavesWriter rules read old new (BadLine number) = Keeps old new
-LeavesWriter rules read old new TooManyLines = Keeps old new
-LeavesWriter rules read old new Read = Keeps old new
-LeavesWriter rules read old new Write = BeginsReport rules read old new
-LeavesWriter rules read old new Memory = Keeps old new
-LeavesWriter rules read old new (Spent number) = Keeps old new
-LeavesWriter rules read old new NotLegal = Keeps old new
+-- before the fault of a write a beginning of a report went out, before any other nothing
+abbrev pub LeavesWriter : Config → Option (List ℕ) → Option (List ℕ) → Option (List ℕ) → ReplayFault → Type 0
+LeavesWriter config read old new (BadLine number) = Keeps old new
+LeavesWriter config read old new TooManyLines = Keeps old new
+LeavesWriter config read old new Read = Keeps old new
+LeavesWriter config read old new Write = BeginsReport config read old new
+LeavesWriter config read old new Strayed = Keeps old new
+LeavesWriter config read old new Memory = Keeps old new
+LeavesWriter config read old new (Spent number) = Keeps old new
+LeavesWriter config read old new (TooManyQuestions number) = Keeps old new
+LeavesWriter config read old new NotLegal = Keeps old new

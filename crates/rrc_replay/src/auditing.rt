@@ -1,10 +1,7 @@
-ghost use Rattle.std.specs.Prelude.{◌≡◌, reverse, IfOk, IfErr};
-ghost use Rattle.rrc_history.specs.Right.{IsLegal};
-ghost use Rattle.rrc_replay.specs.Calls.{HasNumbers};
+ghost use Rattle.std.specs.Prelude.{◌≡◌, IfErr};
 
 use rrc_cache::{RecheckFault, recheck_seeded};
-use rrc_history::{ChainFault, Whole, chain};
-use rrc_share::{Shelf, on_shelf_checkpoint};
+use rrc_history::Whole;
 use rrc_trace::ReplayFault;
 use std::alloc::Global;
 
@@ -17,33 +14,34 @@ pub enum Audit {
     Made,
 }
 
-/// The whole history of a shelf, over all its chapters.
-fn whole(alloc: Global, shelf: Shelf) -> Result<Whole, ReplayFault>
-    requires { HasNumbers shelf 1 }
-    ensures legal { IfOk result (λ whole. IsLegal whole.snapshot (reverse whole.events)) }
-    ensures err { IfErr result (λ fault. fault ≡ ReplayFault.Memory) }
+/// Makes each call of a part's whole history again, and compares what that writes (`rrc_cache::recheck`). It finds the history legal,
+/// as each part's is, unless memory is refused: `NotLegal` never comes.
+fn audit_whole(alloc: Global, whole: &Whole, seed: [u8; 16]) -> Result<(), ReplayFault>
+    ensures { IfErr result (λ fault. fault ≡ ReplayFault.Memory) }
 {
-    let mut shelf = shelf;
-    if on_shelf_checkpoint(&mut shelf).is_err() {
-        return Err(ReplayFault::Memory);
-    }
-    match chain(alloc, shelf.take_chapters()) {
-        Ok(whole) => Ok(whole),
-        Err(ChainFault::Memory) => Err(ReplayFault::Memory),
-        Err(_) => Err(ReplayFault::NotLegal),
-    }
-}
-
-/// Makes each call of a shelf's whole history again, and compares what that writes (`rrc_cache::recheck`). It finds the history legal,
-/// as each shelf's is, unless memory is refused: `NotLegal` never comes.
-pub(crate) fn audit_whole(alloc: Global, shelf: Shelf, seed: [u8; 16]) -> Result<(), ReplayFault>
-    requires { HasNumbers shelf 1 }
-    ensures err { IfErr result (λ fault. fault ≡ ReplayFault.Memory) }
-{
-    let whole = whole(alloc, shelf)?;
     match recheck_seeded(alloc, &whole.snapshot, whole.events.as_slice(), seed) {
         Ok(()) => Ok(()),
         Err(RecheckFault::FirstBad(_)) => Err(ReplayFault::NotLegal),
         Err(RecheckFault::Memory) => Err(ReplayFault::Memory),
     }
+}
+
+/// Audits the whole history of each part, where that is wanted.
+pub(crate) fn audit_all(
+    alloc: Global,
+    wholes: &[Whole],
+    seed: [u8; 16],
+    audit: Audit,
+) -> Result<(), ReplayFault>
+    ensures { IfErr result (λ fault. fault ≡ ReplayFault.Memory) }
+{
+    match audit {
+        Audit::Skipped => {}
+        Audit::Made => {
+            for whole in wholes {
+                audit_whole(alloc, whole, seed)?;
+            }
+        }
+    }
+    Ok(())
 }

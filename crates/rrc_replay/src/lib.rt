@@ -1,15 +1,22 @@
-//! Replays traces: what the cache of one thread answers the lines of a trace, and a whole run from its trace to its report.
+//! Replays traces by many workers on one cache that they share, and a whole run from its trace to its report.
 #![tactic(auto)]
 
+mod answering;
 mod auditing;
 mod calls;
+mod gate;
 mod limits;
+mod offering;
 mod replaying;
 mod running;
 #[cfg(test)]
 mod tests;
+mod working;
 
 pub use auditing::Audit;
-pub use replaying::{one_list_of_answers, replay};
+pub use gate::{Gate, OpenGate};
+pub use limits::usual_limits;
+pub use replaying::replay;
+pub use rrc_report as report;
 pub use rrc_trace as trace;
 pub use running::run;

@@ -1,139 +1,165 @@
-ghost use Rattle.std.specs.Prelude.{◌≡◌, ◌≤◌, IfOk, IfErr};
-ghost use Rattle.rrc_history.specs.Lives.{LAST_MOMENT};
-ghost use Rattle.rrc_replay.specs.Answers.{AreAnswers, OneListOfAnswers};
-ghost use Rattle.rrc_replay.specs.Calls.{Answers, HasNumbers, MOST_CALLS};
-ghost use Rattle.rrc_trace.specs.Lawful.{IsLawful};
+ghost use Rattle.std.specs.Prelude.{◌≡◌, ◌<◌, ◌+◌, ◌*◌, IfOk, IfErr, IfSome};
+ghost use Rattle.rrc_marks.specs.Seen.{IsPassOf};
+ghost use Rattle.rrc_marks.specs.Views.{opening_view};
+ghost use Rattle.rrc_report.specs.Reports.{IsCollated};
+ghost use Rattle.rrc_replay.specs.Faults.{IsOfReplay};
 
-use crate::auditing::{Audit, audit_whole};
-use crate::calls::{failure_at, fault_at, offer_at, tell, tell_all};
-use crate::limits::limits;
-use rrc_cache::Part;
-use rrc_history::{Rules, Tag};
-use rrc_name::Sequence;
-use rrc_sets::offers;
-use rrc_share::{Shelf, on_shelf_ask, on_shelf_checkpoint, on_shelf_sweep};
-use rrc_trace::{Answer, Line, ReplayFault, Response, Trace};
-use rrc_wire::{WireFault, one_message_or_fault, read_message};
-use std::alloc::Global;
+use crate::calls::Refused;
+use crate::gate::Gate;
+use crate::working::{Common, Stop, Worked, Worker, work};
+use rrc_marks::{Marks, MarksFault, Pass};
+use rrc_report::{Config, Done, Report, collate};
+use rrc_share::SharedCache;
+use rrc_trace::{Questions, ReplayFault, Trace};
+use std::alloc::{AllocError, Global};
+use std::sync::Wait;
+use std::thread;
+use std::thread::Threads;
 
-/// Offers what a response offers, in order, and answers what became of each, or the first fault of its octets.
-fn respond(
+/// The workers, each with so many turns from a pass that has those of one worker more.
+fn hired<'a, G>(
     alloc: Global,
-    shelf: &mut Shelf,
-    number: u64,
-    response: &Response,
-) -> Result<Answer, ReplayFault>
-    requires timely { response.now.moment ≤ LAST_MOMENT }
-    requires numbers { HasNumbers shelf.old MOST_CALLS }
-    ensures ok { IfOk result (Answers shelf.old shelf.new number (Line.Response response.now)) }
-    ensures err { IfErr result (λ fault. fault ≡ ReplayFault.Memory) }
+    common: &'a Common<'a, G>,
+    turns: u64,
+    pass: Pass,
+) -> Result<Vec<Worker<'a, G>>, AllocError>
+    requires some { 0 < turns }
+    requires own { IsPassOf common.now.marks.now pass }
+    requires view { pass.view ≡ opening_view ((common.now.config.now.workers + 1) * turns) }
 {
-    let message = match read_message(alloc, response.octets.as_slice()) {
-        Ok(message) => message,
-        Err(WireFault::Memory) => return Err(ReplayFault::Memory),
-        Err(fault) => return Ok(Answer::Refused(fault)),
-    };
-    let zone = &response.zone;
-    let Ok(offers) = offers(alloc, &message, zone, response.moment, &limits()) else {
-        return Err(ReplayFault::Memory);
-    };
-    Ok(Answer::Response(tell_all(alloc, shelf, number, offers)?))
+    let mut pass = pass;
+    let mut workers = Vec::with_capacity(alloc, common.config.workers)?;
+    for _ in 0..common.config.workers {
+        let own = common.marks.split(&mut pass, turns);
+        workers.push(Worker { common, pass: own })?;
+    }
+    Ok(workers)
 }
 
-/// Makes a line's calls, and answers what they got, as their events tell it.
-fn answer_at(
+/// Has each worker work in a thread of its own, and waits for all of them. No thread is made twice, and where one is refused none is made
+/// behind it.
+fn all_worked<R: Threads + Wait + Sync, G: Gate + Sync>(
+    rt: &R,
     alloc: Global,
-    shelf: &mut Shelf,
-    number: u64,
-    line: &Line,
-) -> Result<Answer, ReplayFault>
-    requires lawful { IsLawful line.now }
-    requires numbers { HasNumbers shelf.old MOST_CALLS }
-    ensures ok { IfOk result (Answers shelf.old shelf.new number line.now) }
-    ensures err { IfErr result (λ fault. fault ≡ ReplayFault.Memory) }
+    workers: Vec<Worker<'_, G>>,
+) -> Result<Vec<Worked>, AllocError> {
+    let count = workers.len();
+    let mut handles = Vec::with_capacity(alloc, count)?;
+    let mut worked = Vec::with_capacity(alloc, count)?;
+    thread::scope(
+        thread::scope_env(),
+        rt,
+        move |scope| -> Result<Vec<Worked>, AllocError> {
+            let mut made = true;
+            for worker in workers {
+                if !made {
+                    break;
+                }
+                match scope.spawn(move || work(rt, alloc, worker)) {
+                    Ok(handle) => handles.push(handle)?,
+                    Err(_) => made = false,
+                }
+            }
+            for handle in handles {
+                worked.push(handle.join(rt))?;
+            }
+            if made { Ok(worked) } else { Err(AllocError) }
+        },
+    )
+}
+
+/// The fault of the lowest line that was refused, if one was.
+fn first_fault(worked: &[Worked]) -> Option<ReplayFault>
+    ensures { IfSome result IsOfReplay }
 {
-    let tag = Tag {
-        line: number,
-        place: 0,
-    };
-    match line {
-        Line::Put(put) => Ok(Answer::Put(tell(shelf, tag, offer_at(put)?)?)),
-        Line::Fail(failed) => Ok(Answer::Fail(tell(shelf, tag, failure_at(failed)?)?)),
-        Line::Response(response) => respond(alloc, shelf, number, response),
-        Line::Ask(ask) => match on_shelf_ask(shelf, tag, ask) {
-            Ok(reply) => Ok(Answer::Ask(reply)),
-            Err(refusal) => Err(fault_at(number, refusal)),
-        },
-        Line::Sweep(moment) => match on_shelf_sweep(shelf, tag, *moment) {
-            Ok(removed) => Ok(Answer::Swept(removed)),
-            Err(refusal) => Err(fault_at(number, refusal)),
-        },
-        Line::Checkpoint => match on_shelf_checkpoint(shelf) {
-            Ok(()) => Ok(Answer::Closed),
-            Err(refusal) => Err(fault_at(number, refusal)),
-        },
+    let mut first: Option<Stop> = None;
+    for one in worked {
+        first = match (first, one.stop) {
+            (Some(first), Some(stop)) if first.line < stop.line => Some(first),
+            (first, None) => first,
+            (_, stop) => stop,
+        };
+    }
+    match first {
+        None => None,
+        Some(
+            Stop {
+                line,
+                why: Refused::Spent,
+            },
+        ) => Some(ReplayFault::Spent(line as u64)),
+        Some(_) => Some(ReplayFault::Memory),
     }
 }
 
-/// What a replay leaves: the answers of the lines, and the shelf whose history tells them.
-#[derive(Drop)]
-struct Replayed {
-    answers: Sequence<Answer>,
-    shelf: Shelf,
+/// What each worker did, or the fault of the lowest line that was refused.
+fn done_by(alloc: Global, worked: Vec<Worked>) -> Result<Vec<Done>, ReplayFault>
+    ensures { IfErr result IsOfReplay }
+{
+    if let Some(fault) = first_fault(worked.as_slice()) {
+        return Err(fault);
+    }
+    let mut done = Vec::with_capacity(alloc, worked.len())?;
+    for one in worked {
+        done.push(one.done)?;
+    }
+    Ok(done)
 }
 
-/// Answers the lines of a trace on a shelf whose part is empty at first.
-fn replay_lines(
+/// Has so many workers do the lines of a trace on a cache that they share.
+fn all_done<R: Threads + Wait + Sync, G: Gate + Sync>(
+    rt: &R,
     alloc: Global,
     trace: &Trace,
-    rules: &Rules,
-    seed: [u8; 16],
-) -> Result<Replayed, ReplayFault>
-    ensures ok { IfOk result (λ replayed. AreAnswers rules.now trace.now replayed.answers) }
-    ensures numbers { IfOk result (λ replayed. HasNumbers replayed.shelf 1) }
-    ensures err { IfErr result (λ fault. fault ≡ ReplayFault.Memory) }
+    config: &Config,
+    cache: &SharedCache,
+    gate: &G,
+) -> Result<Vec<Done>, ReplayFault>
+    ensures { IfErr result IsOfReplay }
 {
-    let Ok(part) = Part::seeded(alloc, *rules, seed) else {
-        return Err(ReplayFault::Memory);
+    let questions = Questions::of(alloc, trace)?;
+    let marks = questions.len().max(1);
+    let lines = trace.lines.len() as u64;
+    let turns = lines + 1;
+    let all_turns = (config.workers as u64 + 1) * turns;
+    let (marks, pass) = match Marks::new(alloc, marks, lines, all_turns) {
+        Ok(made) => made,
+        Err(MarksFault::BadNumber) => unreachable!(),
+        Err(MarksFault::Memory) => return Err(ReplayFault::Memory),
     };
-    let mut shelf = Shelf::new(alloc, part);
-    let mut answers = Sequence::new(alloc);
-    for (number, line) in trace.lines.as_slice().iter().enumerate() {
-        answers.push(answer_at(alloc, &mut shelf, number as u64, line)?)?;
-    }
-    Ok(Replayed { answers, shelf })
+    let common = Common {
+        trace,
+        config,
+        questions: &questions,
+        cache,
+        marks: &marks,
+        gate,
+    };
+    let workers = hired(alloc, &common, turns, pass)?;
+    done_by(alloc, all_worked(rt, alloc, workers)?)
 }
 
-/// What the cache of one thread with these rules answers the lines of a trace, in order. Each line makes its calls on one shelf, whose
-/// part is empty at first: a response one for each of its offers, any other line one. A chapter that is full is closed before the
-/// next call. The history of these calls, over all its chapters, is legal, and keeps the laws of trust and of life. Keys are hashed
-/// behind the seed: under one that nobody can foresee no names make the replay slow. No answer depends on it, nor on whether an audit
-/// is made: a history that is not legal would be `NotLegal`, and never is.
+/// Replays a trace by many workers, each in a thread of its own, on a cache that they share, and tells what each line got. A worker draws one
+/// line after another, so a line that takes long holds up no other one, and makes the line's calls, each under the lock of one part. What
+/// the workers did is then held against the histories of the parts (`rrc_report::collate`). Keys are hashed behind the seed: under
+/// one that nobody can foresee no names make the replay slow. The gate is called at some places of each line.
 ///
-/// `Memory` where memory was refused, and no other fault: no trace has so many lines that the numbers of events or of chapters, 2^62
-/// each, are spent.
-pub fn replay(
+/// `Strayed` where the workers did not do just what the trace calls for; `Spent` of the lowest line that met a part whose numbers are spent, or of
+/// the number of lines where a part's last chapter can't be closed; `Memory` where memory or a thread was refused. No other fault comes.
+pub fn replay<R: Threads + Wait + Sync, G: Gate + Sync>(
+    rt: &R,
     alloc: Global,
     trace: &Trace,
-    rules: &Rules,
+    config: &Config,
     seed: [u8; 16],
-    audit: Audit,
-) -> Result<Sequence<Answer>, ReplayFault>
-    ensures ok { IfOk result (AreAnswers rules.now trace.now) }
-    ensures err { IfErr result (λ fault. fault ≡ ReplayFault.Memory) }
+    gate: &G,
+) -> Result<Report, ReplayFault>
+    ensures collated { IfOk result (IsCollated config.now trace.now) }
+    ensures err { IfErr result IsOfReplay }
 {
-    let Replayed { answers, shelf } = replay_lines(alloc, trace, rules, seed)?;
-    match audit {
-        Audit::Skipped => {}
-        Audit::Made => audit_whole(alloc, shelf, seed)?,
-    }
-    Ok(answers)
-}
-
-/// The cache of one thread has one list of answers to a trace: so a report is determined by the trace and the rules. The
-/// function does nothing; its contract is the law.
-pub fn one_list_of_answers()
-    ensures { OneListOfAnswers }
-{
-    one_message_or_fault();
+    let Ok(cache) = SharedCache::seeded(alloc, config.parts, config.rules, seed) else {
+        return Err(ReplayFault::Memory);
+    };
+    let done = all_done(rt, alloc, trace, config, &cache, gate)?;
+    collate(alloc, trace, config, cache.into_parts(), done)
 }
