@@ -2,6 +2,8 @@
 #![tactic(auto)]
 
 mod collating;
+#[cfg(test)]
+mod collating_tests;
 mod completing;
 mod config;
 mod done;
