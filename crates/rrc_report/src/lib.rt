@@ -10,6 +10,8 @@ mod script;
 mod scripting;
 mod tasking;
 mod telling;
+#[cfg(test)]
+mod tests;
 mod wholes;
 
 pub use collating::collate;
