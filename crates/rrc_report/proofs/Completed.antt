@@ -13,6 +13,7 @@ use Rattle.rrc_report.specs.declared.done.Answered.{Answered}
 use Rattle.rrc_report.specs.declared.done.Done.{Done}
 use Rattle.rrc_report.specs.Answers.{IsTold, without_keys, Completes}
 use Rattle.rrc_report.specs.Reports.{IsAnswered, IsGiven}
+use Rattle.rrc_report.proofs.Zips.{all_left, all_right, all_unmap}
 use Rattle.rrc_report.specs.Steps.{Given, given_by, given_from, IsTaskOf, AreTasks, StandsComplete, AreComplete}
 
 -- what a given line got in the report is what its events tell
@@ -27,20 +28,6 @@ as_answered given = record { line = given.line; answer = given.answer }
 -- the report holds what was given of a line
 abbrev pub IsHeld : List Answer → Given → Type 0
 IsHeld answers given = IsGiven answers (as_answered given)
-
--- ---- lists
-
-all_left : {X : Type 0} (P : X → Type 0) (xs ys : List X) → All P (xs ++ ys) → All P xs
-all_left P [] ys all = All-nil P
-all_left P (x ∷ xs) ys all = All-cons P x xs (All-head P x (xs ++ ys) all) (all_left P xs ys (All-tail P x (xs ++ ys) all))
-
-all_right : {X : Type 0} (P : X → Type 0) (xs ys : List X) → All P (xs ++ ys) → All P ys
-all_right P [] ys all = all
-all_right P (x ∷ xs) ys all = all_right P xs ys (All-tail P x (xs ++ ys) all)
-
-all_unmap : {X Y : Type 0} (P : X → Type 0) (f : Y → X) (ys : List Y) → All P (map f ys) → All (λ y. P (f y)) ys
-all_unmap P f [] all = All-nil (λ y. P (f y))
-all_unmap P f (y ∷ ys) all = All-cons (λ y. P (f y)) y ys (All-head P (f y) (map f ys) all) (all_unmap P f ys (All-tail P (f y) (map f ys) all))
 
 -- ---- from what is complete
 

@@ -8,3 +8,4 @@ pub mod WholeParts
 pub mod Zips
 pub mod ReportTasks
 pub mod ReportLaws
+pub mod Tables

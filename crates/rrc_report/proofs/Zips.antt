@@ -1,7 +1,8 @@
 -- Two lists, place by place, and elements of a list.
-use Rattle.std.proofs.Common.{◌≡◌, ℕ, zero, suc, ◌<◌, List, [], ◌∷◌, ◌++◌, length, get_or, refl, sym, ap, subst, ◌∙◌, arith}
-use Rattle.std.specs.List.{All, AllZip, Any}
-use Rattle.std.proofs.lemmas.List.Elements.{All-head, All-tail}
+use Rattle.std.proofs.Common.{◌≡◌, ℕ, zero, suc, ◌<◌, List, [], ◌∷◌, ◌++◌, length, get_or, take, drop, map, refl, sym, ap, subst, ◌∙◌, arith}
+use Rattle.std.proofs.lemmas.List.{append-nil, drop_all, take_all}
+use Rattle.std.specs.List.{All, AllPairs, AllZip, Any}
+use Rattle.std.proofs.lemmas.List.Elements.{All-nil, All-cons, All-head, All-tail}
 
 pub zip_push : {A B : Type 0} (R : A → B → Type 0) (xs : List A) (ys : List B) (x : A) (y : B) → AllZip R xs ys → R x y → AllZip R (xs ++ x ∷ []) (ys ++ y ∷ [])
 zip_push R [] [] x y all last = (last, tt)
@@ -43,3 +44,36 @@ any_within P (y ∷ before) x behind p =
 pub any_alone : {X : Type 0} (P : X → Type 0) (x : X) → Any P (x ∷ []) → P x
 any_alone P x (zero, y, within, is, p) = subst P (sym is) p
 any_alone P x (suc k, y, within, is, p) = absurd (omega (arith, within))
+
+-- ---- what holds of each element
+
+pub all_left : {X : Type 0} (P : X → Type 0) (xs ys : List X) → All P (xs ++ ys) → All P xs
+all_left P [] ys all = All-nil P
+all_left P (x ∷ xs) ys all = All-cons P x xs (All-head P x (xs ++ ys) all) (all_left P xs ys (All-tail P x (xs ++ ys) all))
+
+pub all_right : {X : Type 0} (P : X → Type 0) (xs ys : List X) → All P (xs ++ ys) → All P ys
+all_right P [] ys all = all
+all_right P (x ∷ xs) ys all = all_right P xs ys (All-tail P x (xs ++ ys) all)
+
+pub all_unmap : {X Y : Type 0} (P : X → Type 0) (f : Y → X) (ys : List Y) → All P (map f ys) → All (λ y. P (f y)) ys
+all_unmap P f [] all = All-nil (λ y. P (f y))
+all_unmap P f (y ∷ ys) all = All-cons (λ y. P (f y)) y ys (All-head P (f y) (map f ys) all) (all_unmap P f ys (All-tail P (f y) (map f ys) all))
+
+pairs_head : {X : Type 0} (R : X → X → Type 0) (x : X) (xs : List X) → AllPairs R (x ∷ xs) → All (R x) xs
+pairs_head R x xs pairs k d within = pairs 0 (suc k) d (omega arith) (omega arith)
+
+pairs_tail : {X : Type 0} (R : X → X → Type 0) (x : X) (xs : List X) → AllPairs R (x ∷ xs) → AllPairs R xs
+pairs_tail R x xs pairs i j d below within = pairs (suc i) (suc j) d (omega arith) (omega arith)
+
+-- each element before one, and that one
+pub pairs_before : {X : Type 0} (R : X → X → Type 0) (xs : List X) (y : X) (zs : List X) → AllPairs R (xs ++ y ∷ zs) → All (λ x. R x y) xs
+pairs_before R [] y zs pairs = All-nil (λ x. R x y)
+pairs_before R (x ∷ xs) y zs pairs =
+    All-cons (λ x. R x y) x xs (All-head (R x) y zs (all_right (R x) xs (y ∷ zs) (pairs_head R x (xs ++ y ∷ zs) pairs)))
+    (pairs_before R xs y zs (pairs_tail R x (xs ++ y ∷ zs) pairs))
+
+-- a slice of all values of a vector, written back
+pub written_back : {X : Type 0} (n : ℕ) (values items : List X) → length values ≡ n → length items ≡ n → take n (values ++ drop (length values) items) ≡ values
+written_back n values items size as_many =
+    ap (λ l. take n (values ++ l)) (drop_all (length values) items (omega (arith, size, as_many)))
+    ∙ (ap (take n) (append-nil values) ∙ take_all n values (omega (arith, size)))

@@ -6,3 +6,4 @@ pub mod Collates
 pub mod Steps
 pub mod Completing
 pub mod Wholes
+pub mod Filling

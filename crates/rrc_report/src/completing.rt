@@ -1,25 +1,95 @@
-ghost use Rattle.std.specs.Prelude.{◌≡◌, List, length, map, IfOk, IfSome, IfNone};
+ghost use Rattle.std.specs.Prelude.{◌≡◌, ◌≢◌, ◌<◌, List, length, map, Some, None, IfOk, IfSome, IfNone, true, false};
+ghost use Rattle.std.specs.Option.{MatchOption};
+ghost use Rattle.std.specs.List.{All, AllPairs, Contains};
 ghost use Rattle.rrc_trace.specs.declared.answer.Answer.{Answer};
 ghost use Rattle.rrc_collate.specs.Words.{AreSharedOut};
+ghost use Rattle.rrc_report.specs.Filling.{answered_by, AreIn, IsMissed};
 ghost use Rattle.rrc_report.specs.Steps.{given_from, as_taken, AreComplete};
 
-use crate::done::Done;
+use crate::done::{Answered, Done};
+use crate::telling::completed;
 use rrc_history::Event;
 use rrc_name::Sequence;
 use rrc_trace::Answer;
 use std::alloc::{AllocError, Global};
 
-/// What each of so many lines got, in order, completed by their events; or `None` where the events tell other answers.
-pub(crate) fn lines_of(
-    _alloc: Global,
-    _count: usize,
-    _done: Vec<Done>,
-    _events: &[Vec<&Event>],
-) -> Result<Option<Sequence<Answer>>, AllocError>
-    requires shared_out { AreSharedOut _count (map as_taken (given_from 0 _done.items)) }
-    requires size { length _events.now ≡ length (given_from 0 _done.items) }
-    ensures some { IfOk result (λ found. IfSome found (AreComplete _count (given_from 0 _done.items) (map (λ own. map (λ event. event.now) own.items) _events.now))) }
-    ensures none { IfOk result (λ found. IfNone found ((answers : List Answer) → AreComplete _count (given_from 0 _done.items) (map (λ own. map (λ event. event.now) own.items) _events.now) answers → ⊥)) }
+/// What workers say that they did, worker by worker.
+fn answered_by(alloc: Global, done: Vec<Done>) -> Result<Vec<Answered>, AllocError>
+    ensures { IfOk result (λ all. all.items ≡ answered_by done.items) }
 {
-    Err(AllocError)
+    let mut all = Vec::new(alloc);
+    for one in done {
+        all.append(&mut one.answers.into_vec())?;
+    }
+    Ok(all)
+}
+
+/// A table with so many places, and nothing in them.
+fn empty_table(alloc: Global, count: usize) -> Result<Vec<Option<Answer>>, AllocError>
+    ensures { IfOk result (λ table. length table.items ≡ count) }
+{
+    let mut table = Vec::with_capacity(alloc, count)?;
+    for _ in 0..count {
+        table.push(None)?;
+    }
+    Ok(table)
+}
+
+/// Puts the answer of each line into its place, completed by the line's events. `false` where the events tell another answer.
+fn fill(
+    alloc: Global,
+    table: &mut [Option<Answer>],
+    given: Vec<Answered>,
+    events: &[Vec<&Event>],
+) -> Result<bool, AllocError>
+    requires below { All (λ one. one.line < length table.old) given.items }
+    requires once { AllPairs (λ earlier later. earlier.line ≢ later.line) given.items }
+    requires size { length events.now ≡ length given.items }
+    ensures filled { IfOk result (λ is. is ≡ true → AreIn table.new given.items (map (λ own. map (λ event. event.now) own.items) events.now)) }
+    ensures missed { IfOk result (λ is. is ≡ false → IsMissed given.items (map (λ own. map (λ event. event.now) own.items) events.now)) }
+{
+    let mut place = 0;
+    for one in given {
+        match completed(alloc, one.answer, events[place].as_slice())? {
+            None => return Ok(false),
+            Some(answer) => table[one.line] = Some(answer),
+        }
+        place += 1;
+    }
+    Ok(true)
+}
+
+/// What is there, where all of it is.
+fn all_of(alloc: Global, table: Vec<Option<Answer>>) -> Result<Option<Sequence<Answer>>, AllocError>
+    ensures { IfOk result (λ all. MatchOption all (Contains table.items None) (λ answers. map Some answers ≡ table.items)) }
+{
+    let mut answers = Vec::with_capacity(alloc, table.len())?;
+    for found in table {
+        match found {
+            None => return Ok(None),
+            Some(answer) => answers.push(answer)?,
+        }
+    }
+    Ok(Some(Sequence::from_vec(answers)))
+}
+
+/// What each of so many lines got, in order, completed by their events; or `None` where the events tell other answers. Its time is
+/// linear in lines and events.
+pub(crate) fn lines_of(
+    alloc: Global,
+    count: usize,
+    done: Vec<Done>,
+    events: &[Vec<&Event>],
+) -> Result<Option<Sequence<Answer>>, AllocError>
+    requires shared_out { AreSharedOut count (map as_taken (given_from 0 done.items)) }
+    requires size { length events.now ≡ length (given_from 0 done.items) }
+    ensures some { IfOk result (λ found. IfSome found (AreComplete count (given_from 0 done.items) (map (λ own. map (λ event. event.now) own.items) events.now))) }
+    ensures none { IfOk result (λ found. IfNone found ((answers : List Answer) → AreComplete count (given_from 0 done.items) (map (λ own. map (λ event. event.now) own.items) events.now) answers → ⊥)) }
+{
+    let given = answered_by(alloc, done)?;
+    let mut table = empty_table(alloc, count)?;
+    if !fill(alloc, table.as_mut_slice(), given, events)? {
+        return Ok(None);
+    }
+    all_of(alloc, table)
 }

@@ -15,6 +15,8 @@ mod tasking;
 #[cfg(test)]
 mod tasking_tests;
 mod telling;
+#[cfg(test)]
+mod tests;
 mod wholes;
 
 pub use collating::collate;

@@ -1,5 +1,3 @@
-use Rattle.rrc_report.proofs.ToldSteps.{told_more}
-use Rattle.rrc_report.proofs.Completed.{complete_gives}
 use Rattle.rrc_report.proofs.ToldLaws.{complete-one}
 use Rattle.rrc_report.proofs.telling.one_completion.Goals as goal
 
