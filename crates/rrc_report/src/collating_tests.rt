@@ -132,8 +132,9 @@ fn ask_in(
     home: usize,
     mode: Mode,
 ) -> Result<(), Fail> {
+    let key = Key::of(&Name::from_text(alloc, "a.example.")?, Slot::Set(1))?;
     let ask = Ask {
-        name: Name::from_text(alloc, "a.example.")?.folded()?,
+        name: key.name().clone()?,
         rtype: 1,
         moment: 100,
         purpose: Purpose::Answer,
