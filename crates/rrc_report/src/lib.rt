@@ -2,6 +2,8 @@
 #![tactic(auto)]
 
 mod collating;
+#[cfg(test)]
+mod collating_tests;
 mod completing;
 mod config;
 mod done;
@@ -14,6 +16,8 @@ mod tasking;
 #[cfg(test)]
 mod tasking_tests;
 mod telling;
+#[cfg(test)]
+mod tests;
 mod wholes;
 
 pub use collating::collate;

@@ -50,17 +50,24 @@ fn add_offers(
     Ok(())
 }
 
-/// A script of one operation, of a line that fetches nothing.
-fn plain_one(alloc: Global, operation: Operation) -> Result<Script, AllocError>
-    ensures { IfOk result (λ script. script ≡ plain (operation ∷ [])) }
+/// One operation alone.
+fn alone(alloc: Global, operation: Operation) -> Result<Sequence<Operation>, AllocError>
+    ensures { IfOk result (λ operations. operations ≡ operation ∷ []) }
 {
     // No room to spare: a trace may have as many of these lists as lines.
     let mut operations = Sequence::from_vec(Vec::with_capacity(alloc, 1)?);
     operations.push(operation)?;
-    Ok(Script {
+    Ok(operations)
+}
+
+/// The script of a line that fetches nothing.
+fn plain(operations: Sequence<Operation>) -> Script
+    ensures { result ≡ plain operations }
+{
+    Script {
         operations,
         fate: Fate::Plain,
-    })
+    }
 }
 
 /// The script of a response that is a message, or `None` where it is none.
@@ -68,9 +75,10 @@ fn response_script(
     alloc: Global,
     config: &Config,
     response: &Response,
-) -> Result<Option<Script>, AllocError>
+) -> Result<Option<Script>, ReplayFault>
     ensures some { IfOk result (λ found. IfSome found (Responds config.now response.now.octets response.now.zone response.now.moment)) }
     ensures none { IfOk result (λ found. IfNone found ((script : Script) → Responds config.now response.now.octets response.now.zone response.now.moment script → ⊥)) }
+    ensures err { IfErr result (λ fault. fault ≡ faults.Memory) }
 {
     let octets = response.octets.as_slice();
     let offers = match offers_in(
@@ -81,7 +89,7 @@ fn response_script(
         &config.limits,
     ) {
         Ok(offers) => offers,
-        Err(WireFault::Memory) => return Err(AllocError),
+        Err(WireFault::Memory) => return Err(ReplayFault::Memory),
         Err(_) => {
             one_message_or_fault();
             return Ok(None);
@@ -89,10 +97,7 @@ fn response_script(
     };
     let mut operations = Sequence::from_vec(Vec::with_capacity(alloc, offers.len())?);
     add_offers(config, &mut operations, offers)?;
-    Ok(Some(Script {
-        operations,
-        fate: Fate::Plain,
-    }))
+    Ok(Some(plain(operations)))
 }
 
 /// The script of a response whose octets have this first fault, or `None` where they have not.
@@ -100,20 +105,18 @@ fn refused_script(
     alloc: Global,
     response: &Response,
     fault: WireFault,
-) -> Result<Option<Script>, AllocError>
+) -> Result<Option<Script>, ReplayFault>
     ensures some { IfOk result (λ found. IfSome found (λ script. FirstFault response.now.octets fault × (script ≡ plain []))) }
     ensures none { IfOk result (λ found. IfNone found (FirstFault response.now.octets fault → ⊥)) }
+    ensures err { IfErr result (λ fault. fault ≡ faults.Memory) }
 {
     match read_message(alloc, response.octets.as_slice()) {
         Ok(_) => {
             one_message_or_fault();
             Ok(None)
         }
-        Err(WireFault::Memory) => Err(AllocError),
-        Err(found) if found == fault => Ok(Some(Script {
-            operations: Sequence::new(alloc),
-            fate: Fate::Plain,
-        })),
+        Err(WireFault::Memory) => Err(ReplayFault::Memory),
+        Err(found) if found == fault => Ok(Some(plain(Sequence::new(alloc)))),
         Err(_) => Ok(None),
     }
 }
@@ -147,16 +150,16 @@ fn joined_script(
     config: &Config,
     questions: &Questions,
     fetch: &Fetch,
-) -> Result<Option<Script>, AllocError>
+) -> Result<Option<Script>, ReplayFault>
     ensures some { IfOk result (λ found. IfSome found (Joins config.now questions.now fetch.now)) }
     ensures none { IfOk result (λ found. IfNone found ((script : Script) → Joins config.now questions.now fetch.now script → ⊥)) }
+    ensures err { IfErr result (λ fault. fault ≡ faults.Memory) }
 {
     let Some(question) = questions.number(fetch)? else {
         return Ok(None);
     };
-    let script = plain_one(alloc, first_ask(config, fetch)?)?;
     Ok(Some(Script {
-        operations: script.operations,
+        operations: alone(alloc, first_ask(config, fetch)?)?,
         fate: Fate::Joined { question },
     }))
 }
@@ -184,9 +187,9 @@ fn fetched_script(
     }))
 }
 
-/// The script of a sweep: one of each part, in order.
-fn sweep_script(alloc: Global, config: &Config, moment: u64) -> Result<Script, AllocError>
-    ensures { IfOk result (λ script. script ≡ plain (sweeping moment 0 config.now.parts)) }
+/// A sweep of each part, in order.
+fn sweeping(alloc: Global, config: &Config, moment: u64) -> Result<Sequence<Operation>, AllocError>
+    ensures { IfOk result (λ operations. operations ≡ sweeping moment 0 config.now.parts) }
 {
     let mut operations = Sequence::from_vec(Vec::with_capacity(alloc, config.parts)?);
     for part in 0..config.parts {
@@ -195,10 +198,7 @@ fn sweep_script(alloc: Global, config: &Config, moment: u64) -> Result<Script, A
             call: Call::Sweep(moment),
         })?;
     }
-    Ok(Script {
-        operations,
-        fate: Fate::Plain,
-    })
+    Ok(operations)
 }
 
 /// What a fetch calls for, where it got an answer of this kind, or `None` where it can't get one.
@@ -214,9 +214,9 @@ fn fetch_script(
     ensures err { IfErr result (λ fault. fault ≡ faults.Memory) }
 {
     match answer {
-        Answer::Hit(_) => Ok(Some(plain_one(alloc, first_ask(config, fetch)?)?)),
-        Answer::Held(_) => Ok(Some(plain_one(alloc, first_ask(config, fetch)?)?)),
-        Answer::Joined => Ok(joined_script(alloc, config, questions, fetch)?),
+        Answer::Hit(_) => Ok(Some(plain(alone(alloc, first_ask(config, fetch)?)?))),
+        Answer::Held(_) => Ok(Some(plain(alone(alloc, first_ask(config, fetch)?)?))),
+        Answer::Joined => joined_script(alloc, config, questions, fetch),
         Answer::Fetched { .. } => fetched_script(alloc, config, questions, fetch),
         _ => Ok(None),
     }
@@ -238,27 +238,25 @@ pub(crate) fn script_of(
     let limits = &config.limits;
     match (line, answer) {
         (Line::Put(put), Answer::Put(_)) => {
-            Ok(Some(plain_one(alloc, offering(config, offer_at(put, limits)?))?))
+            let offer = offer_at(put, limits)?;
+            Ok(Some(plain(alone(alloc, offering(config, offer))?)))
         }
         (Line::Ask(ask), Answer::Ask(_)) => {
-            Ok(Some(plain_one(alloc, asking(config, ask.clone()?))?))
+            Ok(Some(plain(alone(alloc, asking(config, ask.clone()?))?)))
         }
         (Line::Fail(failed), Answer::Fail(_)) => {
             let offer = failure_at(failed.moment, &failed.name, failed.rtype, limits)?;
-            Ok(Some(plain_one(alloc, offering(config, offer))?))
+            Ok(Some(plain(alone(alloc, offering(config, offer))?)))
         }
-        (Line::Response(response), Answer::Response(_)) => Ok(response_script(
-            alloc, config, response,
-        )?),
-        (Line::Response(response), Answer::Refused(fault)) => Ok(refused_script(
+        (Line::Response(response), Answer::Response(_)) => response_script(alloc, config, response),
+        (Line::Response(response), Answer::Refused(fault)) => refused_script(
             alloc, response, *fault,
-        )?),
+        ),
         (Line::Fetch(fetch), _) => fetch_script(alloc, config, questions, fetch, answer),
-        (Line::Sweep(moment), Answer::Swept(_)) => Ok(Some(sweep_script(alloc, config, *moment)?)),
-        (Line::Checkpoint, Answer::Closed) => Ok(Some(Script {
-            operations: Sequence::new(alloc),
-            fate: Fate::Plain,
-        })),
+        (Line::Sweep(moment), Answer::Swept(_)) => {
+            Ok(Some(plain(sweeping(alloc, config, *moment)?)))
+        }
+        (Line::Checkpoint, Answer::Closed) => Ok(Some(plain(Sequence::new(alloc)))),
         _ => Ok(None),
     }
 }

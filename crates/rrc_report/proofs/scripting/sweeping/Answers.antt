@@ -2,8 +2,8 @@ use Rattle.std.proofs.Common.{◌≡◌, ℕ, suc, ◌+◌, ◌++◌, List, [], 
 use Rattle.std.proofs.lemmas.List.{append_assoc, append-nil}
 use Rattle.rrc_collate.specs.declared.script.Operation.{Operation}
 use Rattle.rrc_collate.specs.declared.script.Call.TheVariants as calls
-use Rattle.rrc_report.specs.Scripts.{sweeping, plain}
-use Rattle.rrc_report.proofs.scripting.sweep_script.Goals as goal
+use Rattle.rrc_report.specs.Scripts.{sweeping}
+use Rattle.rrc_report.proofs.scripting.sweeping.Goals as goal
 
 -- the next sweep, put behind those before it, stands in front of those that are left
 sweep_more : (moment part rest : ℕ) (before after all : List Operation) → after ≡ before ++ record { part = part; call = calls.Sweep moment } ∷ []
@@ -20,4 +20,4 @@ loop-part-preserved c =
 
 pub returns : goal.returns
 returns c =
-    ap plain (sym (append-nil c.loop-part.operations) ∙ c.loop-part.invariant 0 (omega (arith, c.loop-part-test.false, c.loop-part.auto.part-end)))
+    sym (append-nil c.loop-part.operations) ∙ c.loop-part.invariant 0 (omega (arith, c.loop-part-test.false, c.loop-part.auto.part-end))
