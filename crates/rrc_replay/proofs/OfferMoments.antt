@@ -1,5 +1,5 @@
 -- What a message offers is offered at one moment.
-use Rattle.std.proofs.Common.{◌≡◌, ℕ, List, [], ◌∷◌, ◌++◌, ◌≤◌, Bool, true, false, cond, Option, Some, None, option_map, option_and_then, refl, subst, sym}
+use Rattle.std.proofs.Common.{◌≡◌, ℕ, List, [], ◌∷◌, ◌++◌, ◌≤◌, Bool, true, false, cond, Option, Some, None, option_map, option_and_then, refl, subst, sym, inl, inr}
 use Rattle.std.specs.Prelude.{IfSome, ◌||◌, ◌==◌}
 use Rattle.std.specs.List.{All, filter_map, cons_option}
 use Rattle.std.specs.Option.{option_to_list}
@@ -14,6 +14,8 @@ use Rattle.rrc_sets.specs.Life.{set_life}
 use Rattle.rrc_sets.specs.Sets.{SetOf, sets_of}
 use Rattle.rrc_sets.specs.Aliases.{final_name}
 use Rattle.rrc_sets.specs.Denials.{denied, soa_of, negative_offer}
+use Rattle.rrc_trace.specs.declared.line.Fetch.{Fetch}
+use Rattle.rrc_report.specs.Scripts.{failure_by, Brings, BringsOctets, Fetches}
 use Rattle.rrc_sets.specs.Offers.{living_offer, set_offer, records_of, section_offers, answer_offers, failure_offers, is_silent, offers_of}
 
 -- the offer is of this moment
@@ -96,3 +98,28 @@ pub timely : (message : Message) (zone : List ℕ) (moment : ℕ) (limits : Limi
 timely message zone moment limits offers are within =
     All-weaker (IsAt moment) (λ offer. offer.moment ≤ LAST_MOMENT) (λ offer is. subst (λ m. m ≤ LAST_MOMENT) (sym is) within) offers
     (All-same (IsAt moment) offers (offers_of message zone moment limits) are (of_message message zone moment limits))
+
+-- ---- what lines offer
+
+-- it is of a moment that a part takes
+abbrev pub IsTimely : OfferOf → Type 0
+IsTimely offer = offer.moment ≤ LAST_MOMENT
+
+-- what octets offer at a moment that a part takes is of such a moment
+pub brought : (limits : Limits) (octets zone : List ℕ) (moment : ℕ) (offers : List OfferOf) → Brings limits octets zone moment offers → moment ≤ LAST_MOMENT
+    → All (λ offer. offer.moment ≤ LAST_MOMENT) offers
+brought limits octets zone moment offers brings within = timely brings.message zone moment limits offers brings.offered within
+
+failed_alone : (limits : Limits) (fetch : Fetch) (offers : List OfferOf) → offers ≡ failure_by limits fetch ∷ [] → fetch.moment ≤ LAST_MOMENT → All IsTimely offers
+failed_alone limits fetch offers is within = subst (All IsTimely) (sym is) (All-cons IsTimely (failure_by limits fetch) [] within (All-nil IsTimely))
+
+of_octets : (limits : Limits) (fetch : Fetch) (octets : Option (List ℕ)) (offers : List OfferOf) → BringsOctets limits fetch octets offers → fetch.moment ≤ LAST_MOMENT
+    → All IsTimely offers
+of_octets limits fetch None offers is within = failed_alone limits fetch offers is within
+of_octets limits fetch (Some octets) offers (inl brings) within = brought limits octets fetch.zone fetch.moment offers brings within
+of_octets limits fetch (Some octets) offers (inr failed) within = failed_alone limits fetch offers failed.1.1 within
+
+-- so is what a fetch offers
+pub fetched : (limits : Limits) (fetch : Fetch) (offers : List OfferOf) → Fetches limits fetch offers → fetch.moment ≤ LAST_MOMENT
+    → All (λ offer. offer.moment ≤ LAST_MOMENT) offers
+fetched limits fetch offers fetches within = of_octets limits fetch fetch.octets offers fetches within

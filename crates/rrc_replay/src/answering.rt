@@ -1,15 +1,16 @@
-ghost use Rattle.std.specs.Prelude.{◌≡◌, ◌<◌, ◌≤◌, [], length, IfOk};
+ghost use Rattle.std.specs.Prelude.{◌≡◌, ◌<◌, ◌≤◌, [], length};
 ghost use Rattle.rrc_marks.specs.Seen.{IsPassOf};
 ghost use Rattle.rrc_history.specs.Lives.{LAST_MOMENT};
 
 use crate::calls::{Refused, close, reply, sweep, tell, tell_all};
 use crate::gate::Gate;
-use crate::offering::{failure_offer, fetch_offers, message_offers, put_offer};
 use crate::working::Common;
-use rrc_history::{Ask, Mode, Purpose, Reply, Tag};
+use rrc_history::{Mode, Reply, Tag};
 use rrc_marks::{Began, Pass};
+use rrc_report::{ask_at, failure_at, offer_at, offers_fetched, offers_in};
 use rrc_trace::{Answer, Fetch, Line, Response};
-use std::alloc::{AllocError, Global};
+use rrc_wire::WireFault;
+use std::alloc::Global;
 use std::sync::Wait;
 
 /// The tag of a line's operation.
@@ -23,6 +24,7 @@ fn tag(line: usize, place: u64) -> Tag
 }
 
 /// Offers what a response offers, or tells the first fault of its octets.
+#[tactic(auto, using(crate::proofs::OfferMoments::brought))]
 fn respond<R: Wait, G>(
     rt: &R,
     alloc: Global,
@@ -32,31 +34,20 @@ fn respond<R: Wait, G>(
 ) -> Result<Answer, Refused>
     requires { response.now.moment ≤ LAST_MOMENT }
 {
-    let limits = &common.config.limits;
     let octets = response.octets.as_slice();
-    match message_offers(alloc, limits, octets, &response.zone, response.moment)? {
-        Ok(found) => {
-            let told = tell_all(rt, alloc, common.cache, tag(line, 0), found)?;
+    let limits = &common.config.limits;
+    match offers_in(alloc, octets, &response.zone, response.moment, limits) {
+        Ok(offers) => {
+            let told = tell_all(rt, alloc, common.cache, tag(line, 0), offers)?;
             Ok(Answer::Response(told))
         }
+        Err(WireFault::Memory) => Err(Refused::Memory),
         Err(fault) => Ok(Answer::Refused(fault)),
     }
 }
 
-/// What a fetch asks for its question.
-fn question(fetch: &Fetch, mode: Mode) -> Result<Ask, AllocError>
-    ensures { IfOk result (λ ask. ask.moment ≡ fetch.now.moment) }
-{
-    Ok(Ask {
-        name: fetch.name.folded()?,
-        rtype: fetch.rtype,
-        moment: fetch.moment,
-        purpose: Purpose::Answer,
-        mode,
-    })
-}
-
 /// Offers what a fetch got, and asks again.
+#[tactic(auto, using(crate::proofs::OfferMoments::fetched))]
 fn fetched<R: Wait, G>(
     rt: &R,
     alloc: Global,
@@ -66,15 +57,12 @@ fn fetched<R: Wait, G>(
 ) -> Result<Answer, Refused>
     requires { fetch.now.moment ≤ LAST_MOMENT }
 {
-    let found = fetch_offers(alloc, &common.config.limits, fetch)?;
-    let told = tell_all(rt, alloc, common.cache, tag(line, 1), found)?;
-    let place = 1 + told.as_slice().len() as u64;
-    let reply = reply(
-        rt,
-        common.cache,
-        tag(line, place),
-        &question(fetch, Mode::Now)?,
-    )?;
+    let Ok(offers) = offers_fetched(alloc, fetch, &common.config.limits) else {
+        return Err(Refused::Memory);
+    };
+    let told = tell_all(rt, alloc, common.cache, tag(line, 1), offers)?;
+    let last = tag(line, 1 + told.as_slice().len() as u64);
+    let reply = reply(rt, common.cache, last, &ask_at(fetch, Mode::Now)?)?;
     Ok(Answer::Fetched { told, reply })
 }
 
@@ -95,6 +83,7 @@ fn fetch_or_join<R: Wait, G: Gate>(
     ensures turns { pass.new.view.turns ≡ pass.old.view.turns }
 {
     let Some(mark) = common.questions.number(fetch)? else {
+        // Each fetch of the trace has its question there; were there none, no other fetch would show for this answer, and the replay strayed.
         return Ok(Answer::Joined);
     };
     if common.marks.begin(pass, mark) == Began::Taken {
@@ -126,7 +115,7 @@ fn answer_fetch<R: Wait, G: Gate>(
         rt,
         common.cache,
         tag(line, 0),
-        &question(fetch, Mode::Failed)?,
+        &ask_at(fetch, Mode::Failed)?,
     )? {
         Reply::Miss {
             retry_from: Some(moment),
@@ -156,10 +145,10 @@ pub(crate) fn answer<R: Wait, G: Gate>(
     let trace = common.trace;
     let first = tag(number, 0);
     match &trace.lines.as_slice()[number] {
-        Line::Put(put) => Ok(Answer::Put(tell(rt, cache, first, put_offer(limits, put)?)?)),
+        Line::Put(put) => Ok(Answer::Put(tell(rt, cache, first, offer_at(put, limits)?)?)),
         Line::Ask(ask) => Ok(Answer::Ask(reply(rt, cache, first, ask)?)),
         Line::Fail(failed) => {
-            let offer = failure_offer(limits, failed.moment, &failed.name, failed.rtype)?;
+            let offer = failure_at(failed.moment, &failed.name, failed.rtype, limits)?;
             Ok(Answer::Fail(tell(rt, cache, first, offer)?))
         }
         Line::Response(response) => respond(rt, alloc, common, number, response),

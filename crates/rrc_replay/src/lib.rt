@@ -6,7 +6,6 @@ mod auditing;
 mod calls;
 mod gate;
 mod limits;
-mod offering;
 mod replaying;
 mod running;
 #[cfg(test)]

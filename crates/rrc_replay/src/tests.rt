@@ -1,3 +1,172 @@
 mod fakes;
+mod gates;
 
 use super::*;
+use fakes::{FailsOnce, Stumble, Stumbling};
+use gates::{Crowd, Pair};
+use rrc_history::Rules;
+use rrc_report::Config;
+use rrc_trace::ReplayFault;
+use std::test::Fail;
+
+/// Three sets, a sweep that removes none and one that removes all; and the report.
+const SWEEPS: &str =
+    "put 10 Z.a.example. 1 4 1 c0000201\nput 10 example. 1 4 1 c0000202\nput 10 a.example. 1 4 1 c0000203\nsweep 86410\nsweep 86411\n";
+
+const SWEEPS_REPORT: &str = "0 put kept\n1 put kept\n2 put kept\n3 sweep 0\n4 sweep 3\n";
+
+/// A response with one address, one of no octets, and a question; and the report (RFC 1035 section 4.1).
+const RESPONSES: &str =
+    "response 200 example. 1234840000010001000000000161076578616d706c650000010001c00c000100010000003c0004c0000201\nresponse 201 example. -\nask 259 A.example. 1 answer none\n";
+
+const RESPONSES_REPORT: &str =
+    "0 response 1 kept\n1 response refused 1\n2 ask fresh 1 a.example. c0000201\n";
+
+/// Two fetches of one question, each of which would get one address.
+const FETCHES: &str =
+    "fetch 100 a.example. 1 example. 1234840000010001000000000161076578616d706c650000010001c00c000100010000003c0004c0000201\nfetch 100 a.example. 1 example. 1234840000010001000000000161076578616d706c650000010001c00c000100010000003c0004c0000201\n";
+
+const FETCHES_BY_ONE: &str =
+    "0 fetch fetched 1 kept fresh 60 a.example. c0000201\n1 fetch hit fresh 60 a.example. c0000201\n";
+
+const FETCHES_BY_TWO: &str =
+    "0 fetch fetched 1 kept fresh 60 a.example. c0000201\n1 fetch joined\n";
+
+/// Four questions that nothing answers.
+const ASKS: &str =
+    "ask 1 a.example. 1 answer none\nask 1 a.example. 1 answer none\nask 1 a.example. 1 answer none\nask 1 a.example. 1 answer none\n";
+
+const ASKS_REPORT: &str = "0 ask miss\n1 ask miss\n2 ask miss\n3 ask miss\n";
+
+/// So many workers over one part, by the usual rules.
+fn by(workers: usize) -> Option<Config> {
+    Config::new(workers, 1, Rules::new(1024, 4096, 86_400)?, usual_limits())
+}
+
+#[test]
+fn a_run_writes_the_report(rt: HostRuntime) -> Result<(), Fail> {
+    let config = by(1).ok_or("the config is in range")?;
+    for (trace, wanted, audit) in [
+        (SWEEPS, SWEEPS_REPORT, Audit::Made),
+        (RESPONSES, RESPONSES_REPORT, Audit::Skipped),
+        (FETCHES, FETCHES_BY_ONE, Audit::Made),
+    ] {
+        let mut written = Vec::new(rt.alloc());
+        run(
+            &rt,
+            rt.alloc(),
+            &mut trace.as_bytes(),
+            &mut written,
+            &config,
+            [0; 16],
+            audit,
+            &OpenGate,
+        )?;
+        assert_eq!(rt; written.as_slice(), wanted.as_bytes());
+    }
+    Ok(())
+}
+
+#[test]
+fn a_fetch_joins_another_one(rt: HostRuntime) -> Result<(), Fail> {
+    let config = by(2).ok_or("the config is in range")?;
+    let gate = Pair::new();
+    let mut written = Vec::new(rt.alloc());
+    run(
+        &rt,
+        rt.alloc(),
+        &mut FETCHES.as_bytes(),
+        &mut written,
+        &config,
+        [0; 16],
+        Audit::Made,
+        &gate,
+    )?;
+    assert_eq!(rt; written.as_slice(), FETCHES_BY_TWO.as_bytes());
+    assert!(rt; !gate.ran_out());
+    Ok(())
+}
+
+#[test]
+fn as_many_lines_at_once_as_workers(rt: HostRuntime) -> Result<(), Fail> {
+    for (workers, trace, wanted) in [
+        (
+            2,
+            &ASKS[..ASKS.len() / 2],
+            &ASKS_REPORT[..ASKS_REPORT.len() / 2],
+        ),
+        (4, ASKS, ASKS_REPORT),
+    ] {
+        let config = by(workers).ok_or("the config is in range")?;
+        let gate = Crowd::new(workers as u64);
+        let mut written = Vec::new(rt.alloc());
+        run(
+            &rt,
+            rt.alloc(),
+            &mut trace.as_bytes(),
+            &mut written,
+            &config,
+            [0; 16],
+            Audit::Skipped,
+            &gate,
+        )?;
+        assert_eq!(rt; written.as_slice(), wanted.as_bytes());
+        assert!(rt; !gate.ran_out(), "by {workers}");
+    }
+    Ok(())
+}
+
+#[test]
+fn readers_that_fail_once(rt: HostRuntime) -> Result<(), Fail> {
+    let config = by(1).ok_or("the config is in range")?;
+    for reads in 0..=SWEEPS.len() {
+        let mut reader = FailsOnce {
+            octets: SWEEPS.as_bytes(),
+            reads: Some(reads),
+        };
+        let mut written = Vec::new(rt.alloc());
+        let ended = run(
+            &rt,
+            rt.alloc(),
+            &mut reader,
+            &mut written,
+            &config,
+            [7; 16],
+            Audit::Skipped,
+            &OpenGate,
+        );
+        assert_eq!(rt; ended, Err(ReplayFault::Read), "at {reads}");
+        assert!(rt; written.is_empty());
+    }
+    Ok(())
+}
+
+#[test]
+fn writers_that_stumble_once(rt: HostRuntime) -> Result<(), Fail> {
+    let config = by(1).ok_or("the config is in range")?;
+    // The last call flushes; of an empty report it is the only one.
+    for (trace, wanted) in [(SWEEPS, SWEEPS_REPORT), ("", "")] {
+        for stumble in [Stumble::Fails, Stumble::TakesNothing] {
+            for calls in 0..=wanted.len() {
+                let mut writer = Stumbling {
+                    taken: Vec::new(rt.alloc()),
+                    calls: Some(calls),
+                    stumble,
+                };
+                let ended = run(
+                    &rt,
+                    rt.alloc(),
+                    &mut trace.as_bytes(),
+                    &mut writer,
+                    &config,
+                    [0; 16],
+                    Audit::Skipped,
+                    &OpenGate,
+                );
+                assert_eq!(rt; ended, Err(ReplayFault::Write), "{stumble:?} at {calls}");
+                assert_eq!(rt; writer.taken.as_slice(), &wanted.as_bytes()[..calls]);
+            }
+        }
+    }
+    Ok(())
+}

@@ -1,13 +1,16 @@
-//! Replays a trace of cache operations from standard input, and writes its report to standard output.
+//! Replays a trace of cache operations from standard input by many workers, and writes its report to standard output.
 #![tactic(auto)]
 
 mod options;
 
 use clap::error::ErrorKind;
+use rrc_replay::OpenGate;
 use rrc_replay::trace::ReplayFault;
 use std::io::BufReader;
 use std::process::ExitCode;
 use std::random::RandomSource;
+use std::sync::Wait;
+use std::thread::Threads;
 use std::{env, io};
 
 /// How the program ends: the status of a fault, which is told, or of the arguments, which are.
@@ -37,7 +40,12 @@ fn random_seed(rt: &HostRuntime) -> io::Result<[u8; 16]> {
     Ok(seed)
 }
 
-fn replayed(rt: &HostRuntime, words: &[String]) -> Result<ExitCode, ReplayFault> {
+/// Replays the trace on standard input, with threads from a handle that may start them.
+fn replayed<T: Threads + Wait + Sync>(
+    rt: &HostRuntime,
+    threads: &T,
+    words: &[String],
+) -> Result<ExitCode, ReplayFault> {
     let alloc = rt.alloc();
     let matches = match options::command(alloc)?.try_get_matches_from(words) {
         Ok(matches) => matches,
@@ -51,7 +59,7 @@ fn replayed(rt: &HostRuntime, words: &[String]) -> Result<ExitCode, ReplayFault>
             }));
         }
     };
-    let Some(rules) = options::rules_in(&matches) else {
+    let Some(config) = options::config_in(&matches) else {
         return Ok(ExitCode::from(WRONG_ARGUMENTS));
     };
     let mut reader = BufReader::new(alloc, rt.reader()).map_err(|_| ReplayFault::Memory)?;
@@ -61,7 +69,16 @@ fn replayed(rt: &HostRuntime, words: &[String]) -> Result<ExitCode, ReplayFault>
         return Ok(ExitCode::from(FAULT));
     };
     let audit = options::audit_in(&matches);
-    rrc_replay::run(alloc, &mut reader, &mut writer, &rules, seed, audit)?;
+    rrc_replay::run(
+        threads,
+        alloc,
+        &mut reader,
+        &mut writer,
+        &config,
+        seed,
+        audit,
+        &OpenGate,
+    )?;
     Ok(ExitCode::SUCCESS)
 }
 
@@ -73,7 +90,7 @@ fn main(rt: HostRuntime) -> ExitCode {
         }
         Err(_) => return no_text(&rt),
     };
-    match replayed(&rt, words.as_slice()) {
+    match replayed(&rt, &rt, words.as_slice()) {
         Ok(code) => code,
         Err(fault) => told(&rt, fault),
     }

@@ -1,10 +1,25 @@
 use clap::{Arg, ArgAction, ArgMatches, Command, value_parser};
 use rrc_history::Rules;
-use rrc_replay::Audit;
+use rrc_replay::report::Config;
+use rrc_replay::{Audit, usual_limits};
 use std::alloc::{AllocError, Global};
 
 /// The command line of the program.
 pub(crate) fn command<'a>(alloc: Global) -> Result<Command<'a>, AllocError> {
+    let workers = Arg::new(alloc, "workers")
+        .long("workers")
+        .value_name("N")
+        .help("How many threads take the lines of the trace")
+        .action(ArgAction::Set)
+        .default_value("1")
+        .value_parser(value_parser!(u64).range(1..=64));
+    let parts = Arg::new(alloc, "parts")
+        .long("parts")
+        .value_name("N")
+        .help("How many parts the cache has, each under a lock of its own")
+        .action(ArgAction::Set)
+        .default_value("1")
+        .value_parser(value_parser!(u64).range(1..=64));
     let capacity = Arg::new(alloc, "capacity")
         .long("capacity")
         .value_name("N")
@@ -34,18 +49,23 @@ pub(crate) fn command<'a>(alloc: Global) -> Result<Command<'a>, AllocError> {
         .about(
             "Replays a trace of cache operations from standard input, and writes its report to standard output",
         )
+        .arg(workers)?
+        .arg(parts)?
         .arg(capacity)?
         .arg(chapter)?
         .arg(stale)?
         .arg(audit)
 }
 
-/// The rules that the arguments give.
-pub(crate) fn rules_in(matches: &ArgMatches<'_>) -> Option<Rules> {
+/// The workers, the parts and the rules that the arguments give, with the usual limits.
+pub(crate) fn config_in(matches: &ArgMatches<'_>) -> Option<Config> {
+    let workers = matches.get_one::<u64>("workers")?;
+    let parts = matches.get_one::<u64>("parts")?;
     let capacity = matches.get_one::<u64>("capacity")?;
     let chapter = matches.get_one::<u64>("chapter")?;
     let stale = matches.get_one::<u64>("stale")?;
-    Rules::new(capacity, chapter, stale)
+    let rules = Rules::new(capacity, chapter, stale)?;
+    Config::new(workers as usize, parts as usize, rules, usual_limits())
 }
 
 /// Whether the arguments want an audit.

@@ -1,12 +1,22 @@
 use super::*;
 use std::test::Fail;
 
-/// The capacity, the chapter and the stale limit that arguments give, or the exit status of their fault.
-fn read(alloc: Global, words: &[&str]) -> Result<Result<(u64, u64, u64), i32>, Fail> {
+/// The workers, the parts, the capacity, the chapter and the stale limit that arguments give, or the exit status of their fault.
+fn read(
+    alloc: Global,
+    words: &[&str],
+) -> Result<Result<(usize, usize, u64, u64, u64), i32>, Fail> {
     match command(alloc)?.try_get_matches_from(words) {
         Ok(matches) => {
-            let rules = rules_in(&matches).ok_or("the rules are in range")?;
-            Ok(Ok((rules.capacity, rules.chapter, rules.stale)))
+            let config = config_in(&matches).ok_or("the numbers are in range")?;
+            let rules = config.rules;
+            Ok(Ok((
+                config.workers,
+                config.parts,
+                rules.capacity,
+                rules.chapter,
+                rules.stale,
+            )))
         }
         Err(error) => Ok(Err(error.exit_code())),
     }
@@ -14,22 +24,29 @@ fn read(alloc: Global, words: &[&str]) -> Result<Result<(u64, u64, u64), i32>, F
 
 #[test]
 fn arguments_in_range(rt: HostRuntime) -> Result<(), Fail> {
-    assert_eq!(rt; read(rt.alloc(), &["rrcache"])?, Ok((1024, 4096, 86_400)));
+    assert_eq!(rt;
+        read(rt.alloc(), &["rrcache"])?,
+        Ok((1, 1, 1024, 4096, 86_400))
+    );
     let options = [
-        ("--capacity=1", (1, 4096, 86_400)),
-        ("--capacity=300", (300, 4096, 86_400)),
-        ("--capacity=65536", (65_536, 4096, 86_400)),
-        ("--chapter=1", (1024, 1, 86_400)),
-        ("--chapter=300", (1024, 300, 86_400)),
-        ("--chapter=1048576", (1024, 1_048_576, 86_400)),
-        ("--stale=0", (1024, 4096, 0)),
-        ("--stale=300", (1024, 4096, 300)),
-        ("--stale=604800", (1024, 4096, 604_800)),
+        ("--workers=1", (1, 1, 1024, 4096, 86_400)),
+        ("--workers=64", (64, 1, 1024, 4096, 86_400)),
+        ("--parts=1", (1, 1, 1024, 4096, 86_400)),
+        ("--parts=64", (1, 64, 1024, 4096, 86_400)),
+        ("--capacity=1", (1, 1, 1, 4096, 86_400)),
+        ("--capacity=300", (1, 1, 300, 4096, 86_400)),
+        ("--capacity=65536", (1, 1, 65_536, 4096, 86_400)),
+        ("--chapter=1", (1, 1, 1024, 1, 86_400)),
+        ("--chapter=300", (1, 1, 1024, 300, 86_400)),
+        ("--chapter=1048576", (1, 1, 1024, 1_048_576, 86_400)),
+        ("--stale=0", (1, 1, 1024, 4096, 0)),
+        ("--stale=300", (1, 1, 1024, 4096, 300)),
+        ("--stale=604800", (1, 1, 1024, 4096, 604_800)),
     ];
-    for (option, rules) in options {
+    for (option, numbers) in options {
         assert_eq!(rt;
             read(rt.alloc(), &["rrcache", option])?,
-            Ok(rules),
+            Ok(numbers),
             "at {option}"
         );
     }
@@ -41,8 +58,12 @@ fn arguments_in_range(rt: HostRuntime) -> Result<(), Fail> {
         "6",
         "--capacity",
         "7",
+        "--parts",
+        "8",
+        "--workers",
+        "9",
     ];
-    assert_eq!(rt; read(rt.alloc(), &words)?, Ok((7, 6, 5)));
+    assert_eq!(rt; read(rt.alloc(), &words)?, Ok((9, 8, 7, 6, 5)));
     Ok(())
 }
 
@@ -71,8 +92,11 @@ fn arguments_refused(rt: HostRuntime) -> Result<(), Fail> {
         "--chapter=1048577",
         "--stale=-1",
         "--stale=604801",
-        "--parts=1",
-        "--workers=1",
+        "--parts=0",
+        "--parts=65",
+        "--workers=0",
+        "--workers=65",
+        "--workers=many",
     ];
     for option in options {
         assert_eq!(rt;
