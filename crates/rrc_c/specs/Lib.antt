@@ -1,0 +1,6 @@
+pub mod Sealed
+pub mod Statuses
+pub mod Handles
+pub mod Made
+pub mod Told
+pub mod Asked
