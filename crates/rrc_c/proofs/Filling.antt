@@ -63,3 +63,10 @@ fills_next owner items i at item d before old new below is (filled, here) writes
     let next : text ++ datum item ≡ owner ++ data_text (take (i + 1) items) = append_assoc owner (data_text (take i items)) (datum item) ∙ ap (λ octets. owner ++ octets) (sym more) in
     let size = ap length (sym next) ∙ length-append text (datum item) in
     (subst (λ octets. IsFilled before octets new) next (writes before text (sym here) filled), omega (arith, here, size))
+
+-- a datum moved from the octets that are left to the items
+pub moved : (items more : List (List ℕ)) (item rest behind octets : List ℕ) → data_text items ++ rest ≡ octets → rest ≡ datum item ++ behind → more ≡ items ++ item ∷ []
+    → data_text more ++ behind ≡ octets
+moved items more item rest behind octets all first is =
+    ap (λ xs. data_text xs ++ behind) is ∙ ap (λ xs. xs ++ behind) (data_more items item) ∙ append_assoc (data_text items) (datum item) behind
+    ∙ ap (λ xs. data_text items ++ xs) (sym first) ∙ all

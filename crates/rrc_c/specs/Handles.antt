@@ -14,3 +14,9 @@ IsKept None None = Unit {0}
 IsKept None (Some after) = ⊥
 IsKept (Some before) None = ⊥
 IsKept (Some before) (Some after) = IsLeft before after
+
+-- the handle held no shelf, and holds none
+abbrev pub HoldsNone : Option ShelfOf → Option ShelfOf → Type 0
+HoldsNone None None = Unit {0}
+HoldsNone None (Some after) = ⊥
+HoldsNone (Some before) after = ⊥

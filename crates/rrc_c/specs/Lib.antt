@@ -4,3 +4,5 @@ pub mod Handles
 pub mod Made
 pub mod Told
 pub mod Asked
+pub mod Offered
+pub mod Kept

@@ -3,8 +3,11 @@
 
 mod asking;
 mod calls;
+mod counts;
 mod handle;
+mod keeping;
 mod making;
+mod offering;
 mod seal;
 mod status;
 mod text;
