@@ -1,0 +1,481 @@
+/* Tests of the library for C: each call on its happy path, each status that a caller can bring about, and what a refusal leaves.
+
+   The last line is 'N passed, M failed'. Where the program is linked with --wrap for malloc, realloc and free, each allocation is
+   refused in turn as well. */
+#include "rrcache.h"
+
+#include <stdio.h>
+#include <stdlib.h>
+#include <string.h>
+
+static unsigned passed, failed;
+
+static void expect(bool holds, const char *what, int line)
+{
+    if (holds) {
+        passed++;
+    } else {
+        failed++;
+        printf("FAIL line %d: %s\n", line, what);
+    }
+}
+
+#define EXPECT(holds) expect((holds), #holds, __LINE__)
+
+/* ---- What is offered and asked. */
+
+static const uint8_t SEED[16] = {3, 1, 4, 1, 5, 9, 2, 6, 5, 3, 5, 8, 9, 7, 9, 3};
+static const uint8_t NAME[] = "\3www\7example";     /* the last octet is the literal's own 0 */
+static const uint8_t UPPER[] = "\3WWW\7Example";
+static const uint8_t ZONE[] = "\7example";
+static const uint8_t OTHER[] = "\5other\7example";
+static const uint8_t NO_NAME[] = {3, 'w', 'w'};
+static const struct rrcache_limits LIMITS = {86400, 3600, 30};
+static const uint64_t FIRST = 1000;
+
+enum { A = 1, SOA = 6, TXT = 16, OPT = 41 };
+
+/* A response to www.example A: two addresses of www.example for 300 seconds, authoritative (RFC 1035 section 4.1). */
+static const uint8_t ANSWER[] = {
+    0x12, 0x34, 0x84, 0x00, 0, 1, 0, 2, 0, 0, 0, 0,
+    3, 'w', 'w', 'w', 7, 'e', 'x', 'a', 'm', 'p', 'l', 'e', 0, 0, 1, 0, 1,
+    0xc0, 12, 0, 1, 0, 1, 0, 0, 1, 44, 0, 4, 192, 0, 2, 1,
+    0xc0, 12, 0, 1, 0, 1, 0, 0, 1, 44, 0, 4, 192, 0, 2, 2,
+};
+/* The reply's octets: the owner, and each address behind its length. */
+static const uint8_t ADDRESSES[] = {
+    3, 'w', 'w', 'w', 7, 'e', 'x', 'a', 'm', 'p', 'l', 'e', 0, 0, 4, 192, 0, 2, 1, 0, 4, 192, 0, 2, 2,
+};
+/* An address behind its length. */
+static const uint8_t ADDRESS[] = {0, 4, 192, 0, 2, 9};
+/* The data of a SOA record: two roots and five numbers, the last of them 60. */
+static const uint8_t SOA_DATA[] = {0, 0, 0, 0, 0, 1, 0, 0, 0, 2, 0, 0, 0, 3, 0, 0, 0, 4, 0, 0, 0, 60};
+
+static uint32_t make(struct rrcache_shelf *shelf)
+{
+    return rrcache_make(shelf, 100, 4, 3600, SEED);
+}
+
+static uint32_t offer_answer(struct rrcache_shelf *shelf, uint64_t moment, struct rrcache_counts *counts)
+{
+    return rrcache_offer_message(shelf, ANSWER, sizeof ANSWER, ZONE, sizeof ZONE, moment, &LIMITS, 1, counts);
+}
+
+static uint32_t ask(struct rrcache_shelf *shelf, uint64_t moment, struct rrcache_told *told, uint8_t *buffer, size_t size)
+{
+    return rrcache_ask(shelf, NAME, sizeof NAME, A, moment, RRCACHE_QUESTION, RRCACHE_NO_STALE, 2, told, buffer, size);
+}
+
+static uint32_t peek(struct rrcache_shelf *shelf, uint64_t moment, struct rrcache_told *told, uint8_t *buffer, size_t size)
+{
+    return rrcache_peek(shelf, NAME, sizeof NAME, A, moment, RRCACHE_QUESTION, RRCACHE_NO_STALE, told, buffer, size);
+}
+
+static uint64_t events(struct rrcache_shelf *shelf)
+{
+    uint64_t open = 0, chapters = 0;
+    EXPECT(rrcache_sizes(shelf, &open, &chapters) == RRCACHE_DONE);
+    return open + 1000 * chapters;
+}
+
+/* ---- Calls on their happy path. */
+
+static void test_layout(void)
+{
+    EXPECT(sizeof(struct rrcache_shelf) == 16 && offsetof(struct rrcache_shelf, is_live) == 8);
+    EXPECT(sizeof(struct rrcache_told) == 32 && sizeof(struct rrcache_counts) == 24 && sizeof(struct rrcache_limits) == 12);
+}
+
+static void test_answers(void)
+{
+    struct rrcache_shelf shelf = {0};
+    struct rrcache_counts counts = {9, 9, 9};
+    struct rrcache_told told = {0};
+    uint8_t buffer[64];
+    EXPECT(make(&shelf) == RRCACHE_DONE);
+    EXPECT(ask(&shelf, FIRST, &told, NULL, 0) == RRCACHE_DONE);
+    EXPECT(told.kind == RRCACHE_MISS && told.left == 0 && told.owner_size == 0 && told.data_size == 0);
+    EXPECT(events(&shelf) == 1);
+    EXPECT(offer_answer(&shelf, FIRST, &counts) == RRCACHE_DONE);
+    EXPECT(counts.kept == 1 && counts.cleared == 0 && counts.refused == 0 && events(&shelf) == 2);
+
+    memset(buffer, 0xee, sizeof buffer);
+    EXPECT(ask(&shelf, FIRST + 100, &told, buffer, sizeof buffer) == RRCACHE_DONE);
+    EXPECT(told.kind == RRCACHE_FRESH && told.left == 200 && told.retry_from == 0);
+    EXPECT(told.owner_size == sizeof NAME && told.owner_size + told.data_size == sizeof ADDRESSES);
+    EXPECT(memcmp(buffer, ADDRESSES, sizeof ADDRESSES) == 0);
+    EXPECT(buffer[sizeof ADDRESSES] == 0xee && buffer[sizeof buffer - 1] == 0xee);
+    EXPECT(events(&shelf) == 3);
+
+    /* The name is asked for in any case, and a buffer of just the size will do. */
+    memset(buffer, 0xee, sizeof buffer);
+    EXPECT(rrcache_ask(&shelf, UPPER, sizeof UPPER, A, FIRST, 0, 0, 3, &told, buffer, sizeof ADDRESSES) == RRCACHE_DONE);
+    EXPECT(memcmp(buffer, ADDRESSES, sizeof ADDRESSES) == 0 && events(&shelf) == 4);
+    EXPECT(rrcache_free(&shelf) == RRCACHE_DONE && shelf.at == NULL && !shelf.is_live);
+}
+
+static void test_small_buffers(void)
+{
+    struct rrcache_shelf shelf = {0};
+    struct rrcache_counts counts;
+    struct rrcache_told told = {0};
+    uint8_t buffer[sizeof ADDRESSES];
+    EXPECT(make(&shelf) == RRCACHE_DONE && offer_answer(&shelf, FIRST, &counts) == RRCACHE_DONE);
+    for (size_t size = 0; size < sizeof ADDRESSES; size++) {
+        memset(buffer, 0xee, sizeof buffer);
+        memset(&told, 0, sizeof told);
+        EXPECT(ask(&shelf, FIRST, &told, buffer, size) == RRCACHE_SMALL);
+        EXPECT(told.kind == RRCACHE_FRESH && told.owner_size + told.data_size == sizeof ADDRESSES);
+        EXPECT(peek(&shelf, FIRST, &told, buffer, size) == RRCACHE_SMALL);
+        EXPECT(buffer[0] == 0xee && buffer[sizeof buffer - 1] == 0xee && events(&shelf) == 1);
+    }
+    EXPECT(rrcache_free(&shelf) == RRCACHE_DONE);
+}
+
+static void test_peek(void)
+{
+    struct rrcache_shelf shelf = {0};
+    struct rrcache_counts counts;
+    struct rrcache_told told = {0};
+    uint8_t buffer[64];
+    EXPECT(make(&shelf) == RRCACHE_DONE && offer_answer(&shelf, FIRST, &counts) == RRCACHE_DONE);
+    EXPECT(peek(&shelf, FIRST + 1, &told, buffer, sizeof buffer) == RRCACHE_DONE);
+    EXPECT(told.kind == RRCACHE_FRESH && told.left == 299 && memcmp(buffer, ADDRESSES, sizeof ADDRESSES) == 0);
+    EXPECT(events(&shelf) == 1);
+    EXPECT(rrcache_free(&shelf) == RRCACHE_DONE);
+}
+
+static void test_offers(void)
+{
+    struct rrcache_shelf shelf = {0};
+    struct rrcache_told told = {0};
+    uint32_t outcome = 0;
+    uint8_t buffer[64];
+    EXPECT(make(&shelf) == RRCACHE_DONE);
+    EXPECT(rrcache_offer_set(&shelf, NAME, sizeof NAME, A, RRCACHE_AUTHORITATIVE_ANSWER, 60, ADDRESS, sizeof ADDRESS, FIRST, 1, &outcome)
+           == RRCACHE_DONE);
+    EXPECT(outcome == RRCACHE_KEPT);
+    EXPECT(rrcache_offer_set(&shelf, NAME, sizeof NAME, A, RRCACHE_ADDITIONAL, 60, ADDRESS, sizeof ADDRESS, FIRST, 2, &outcome) == RRCACHE_DONE);
+    EXPECT(outcome == RRCACHE_LESS_TRUSTED);
+    EXPECT(peek(&shelf, FIRST, &told, buffer, sizeof buffer) == RRCACHE_DONE && told.kind == RRCACHE_FRESH && told.left == 60);
+    EXPECT(told.data_size == sizeof ADDRESS && memcmp(buffer + told.owner_size, ADDRESS, sizeof ADDRESS) == 0);
+    EXPECT(rrcache_offer_set(&shelf, NAME, sizeof NAME, A, RRCACHE_AUTHORITATIVE_ANSWER, 0, ADDRESS, sizeof ADDRESS, FIRST, 3, &outcome)
+           == RRCACHE_DONE);
+    EXPECT(outcome == RRCACHE_CLEARED);
+
+    EXPECT(rrcache_offer_negative(&shelf, NAME, sizeof NAME, A, RRCACHE_DENIES_TYPE, RRCACHE_AUTHORITY, 60, ZONE, sizeof ZONE, SOA_DATA,
+                                  sizeof SOA_DATA, FIRST, 4, &outcome) == RRCACHE_DONE && outcome == RRCACHE_KEPT);
+    EXPECT(peek(&shelf, FIRST + 1, &told, buffer, sizeof buffer) == RRCACHE_DONE && told.kind == RRCACHE_NO_DATA && told.left == 59);
+    EXPECT(told.owner_size == sizeof ZONE && memcmp(buffer, ZONE, sizeof ZONE) == 0 && told.data_size == sizeof SOA_DATA + 2);
+    EXPECT(buffer[sizeof ZONE + 1] == sizeof SOA_DATA && memcmp(buffer + sizeof ZONE + 2, SOA_DATA, sizeof SOA_DATA) == 0);
+
+    EXPECT(rrcache_offer_negative(&shelf, OTHER, sizeof OTHER, A, RRCACHE_DENIES_NAME, RRCACHE_AUTHORITY, 60, ZONE, sizeof ZONE, SOA_DATA,
+                                  sizeof SOA_DATA, FIRST, 5, &outcome) == RRCACHE_DONE);
+    EXPECT(rrcache_peek(&shelf, OTHER, sizeof OTHER, TXT, FIRST, 1, 0, &told, buffer, sizeof buffer) == RRCACHE_DONE);
+    EXPECT(told.kind == RRCACHE_NO_NAME);
+
+    EXPECT(rrcache_offer_failure(&shelf, NAME, sizeof NAME, TXT, 30, FIRST, 6, &outcome) == RRCACHE_DONE && outcome == RRCACHE_KEPT);
+    EXPECT(rrcache_peek(&shelf, NAME, sizeof NAME, TXT, FIRST + 1, 1, 0, &told, buffer, sizeof buffer) == RRCACHE_DONE);
+    EXPECT(told.kind == RRCACHE_MISS_FAILED && told.retry_from == FIRST + 30 && told.left == 0);
+    EXPECT(rrcache_free(&shelf) == RRCACHE_DONE);
+}
+
+static void test_stale(void)
+{
+    struct rrcache_shelf shelf = {0};
+    struct rrcache_counts counts;
+    struct rrcache_told told = {0};
+    uint64_t removed = 9;
+    uint8_t buffer[64];
+    EXPECT(make(&shelf) == RRCACHE_DONE && offer_answer(&shelf, FIRST, &counts) == RRCACHE_DONE);
+    EXPECT(ask(&shelf, FIRST + 300, &told, buffer, sizeof buffer) == RRCACHE_DONE && told.kind == RRCACHE_MISS);
+    EXPECT(rrcache_ask(&shelf, NAME, sizeof NAME, A, FIRST + 300, 1, RRCACHE_STALE_NOW, 3, &told, buffer, sizeof buffer) == RRCACHE_DONE);
+    EXPECT(told.kind == RRCACHE_STALE && told.left == 30 && memcmp(buffer, ADDRESSES, sizeof ADDRESSES) == 0);
+    EXPECT(rrcache_sweep(&shelf, FIRST + 300, 4, &removed) == RRCACHE_DONE && removed == 0);
+    EXPECT(rrcache_sweep(&shelf, FIRST + 4000, 5, &removed) == RRCACHE_DONE && removed == 1);
+    EXPECT(rrcache_free(&shelf) == RRCACHE_DONE);
+}
+
+static void test_chapters(void)
+{
+    struct rrcache_shelf shelf = {0};
+    struct rrcache_counts counts;
+    struct rrcache_told told = {0};
+    uint64_t dropped = 9;
+    uint8_t buffer[64];
+    EXPECT(make(&shelf) == RRCACHE_DONE && offer_answer(&shelf, FIRST, &counts) == RRCACHE_DONE);
+    for (int n = 0; n < 8; n++)
+        EXPECT(ask(&shelf, FIRST, &told, buffer, sizeof buffer) == RRCACHE_DONE);
+    /* Nine events in chapters of four. */
+    EXPECT(events(&shelf) == 2001);
+    EXPECT(rrcache_drop_chapters(&shelf, &dropped) == RRCACHE_DONE && dropped == 2 && events(&shelf) == 1);
+    EXPECT(rrcache_drop_chapters(&shelf, &dropped) == RRCACHE_DONE && dropped == 0);
+    EXPECT(peek(&shelf, FIRST, &told, buffer, sizeof buffer) == RRCACHE_DONE && told.kind == RRCACHE_FRESH);
+    EXPECT(rrcache_free(&shelf) == RRCACHE_DONE);
+}
+
+static void test_octets(void)
+{
+    uint32_t fault = 9;
+    uint64_t part = 99, other = 98;
+    EXPECT(rrcache_fault(ANSWER, sizeof ANSWER, &fault) == RRCACHE_DONE && fault == 0);
+    EXPECT(rrcache_fault(ANSWER, sizeof ANSWER - 1, &fault) == RRCACHE_DONE && fault == 1);
+    EXPECT(rrcache_fault(NULL, 0, &fault) == RRCACHE_DONE && fault == 1);
+    uint8_t query[sizeof ANSWER];
+    memcpy(query, ANSWER, sizeof query);
+    query[2] = 0;
+    EXPECT(rrcache_fault(query, sizeof query, &fault) == RRCACHE_DONE && fault == 6);
+    EXPECT(rrcache_part_of(NAME, sizeof NAME, 64, &part) == RRCACHE_DONE && part < 64);
+    EXPECT(rrcache_part_of(UPPER, sizeof UPPER, 64, &other) == RRCACHE_DONE && other == part);
+    EXPECT(rrcache_part_of(NAME, sizeof NAME, 1, &part) == RRCACHE_DONE && part == 0);
+    EXPECT(rrcache_part_of(NAME, sizeof NAME, 0, &part) == RRCACHE_BAD_RULES && rrcache_part_of(NAME, sizeof NAME, 65, &part) == RRCACHE_BAD_RULES);
+    EXPECT(rrcache_part_of(NO_NAME, sizeof NO_NAME, 4, &part) == RRCACHE_BAD_NAME && part == 0);
+}
+
+/* ---- Refusals. */
+
+static void test_no_shelf(void)
+{
+    struct rrcache_shelf shelf = {0};
+    struct rrcache_counts counts = {7, 7, 7};
+    struct rrcache_told told = {7, 7, 7, 7, 7};
+    uint32_t outcome = 7;
+    uint64_t number = 7, other = 7;
+    uint8_t buffer[64] = {7};
+    EXPECT(rrcache_free(&shelf) == RRCACHE_NO_SHELF);
+    EXPECT(offer_answer(&shelf, FIRST, &counts) == RRCACHE_NO_SHELF && counts.kept == 7);
+    EXPECT(rrcache_offer_set(&shelf, NAME, sizeof NAME, A, 4, 60, ADDRESS, sizeof ADDRESS, FIRST, 1, &outcome) == RRCACHE_NO_SHELF);
+    EXPECT(rrcache_offer_negative(&shelf, NAME, sizeof NAME, A, 0, 3, 60, ZONE, sizeof ZONE, SOA_DATA, sizeof SOA_DATA, FIRST, 4, &outcome)
+           == RRCACHE_NO_SHELF);
+    EXPECT(rrcache_offer_failure(&shelf, NAME, sizeof NAME, A, 30, FIRST, 6, &outcome) == RRCACHE_NO_SHELF && outcome == 7);
+    EXPECT(ask(&shelf, FIRST, &told, buffer, sizeof buffer) == RRCACHE_NO_SHELF);
+    EXPECT(peek(&shelf, FIRST, &told, buffer, sizeof buffer) == RRCACHE_NO_SHELF && told.kind == 7 && buffer[0] == 7);
+    EXPECT(rrcache_sweep(&shelf, FIRST, 1, &number) == RRCACHE_NO_SHELF && rrcache_drop_chapters(&shelf, &number) == RRCACHE_NO_SHELF);
+    EXPECT(rrcache_sizes(&shelf, &number, &other) == RRCACHE_NO_SHELF && number == 7 && other == 7);
+    EXPECT(make(&shelf) == RRCACHE_DONE && rrcache_free(&shelf) == RRCACHE_DONE && rrcache_free(&shelf) == RRCACHE_NO_SHELF);
+}
+
+static void test_making_refused(void)
+{
+    struct rrcache_shelf shelf = {0};
+    EXPECT(rrcache_make(&shelf, 0, 4, 0, SEED) == RRCACHE_BAD_RULES && rrcache_make(&shelf, 65537, 4, 0, SEED) == RRCACHE_BAD_RULES);
+    EXPECT(rrcache_make(&shelf, 1, 0, 0, SEED) == RRCACHE_BAD_RULES && rrcache_make(&shelf, 1, 1048577, 0, SEED) == RRCACHE_BAD_RULES);
+    EXPECT(rrcache_make(&shelf, 1, 1, 604801, SEED) == RRCACHE_BAD_RULES);
+    EXPECT(rrc_make(&shelf, 1, 1, 0, SEED, 15) == RRCACHE_BAD_SEED && shelf.at == NULL && !shelf.is_live);
+    EXPECT(rrcache_make(&shelf, 65536, 1048576, 604800, SEED) == RRCACHE_DONE);
+    EXPECT(make(&shelf) == RRCACHE_HAS_SHELF && rrcache_free(&shelf) == RRCACHE_DONE);
+}
+
+static void test_refusals(void)
+{
+    struct rrcache_shelf shelf = {0};
+    struct rrcache_counts counts = {7, 7, 7};
+    struct rrcache_told told = {7, 7, 7, 7, 7};
+    uint32_t outcome = 7;
+    uint64_t removed = 7;
+    uint8_t buffer[64] = {7};
+    const uint64_t late = (1ULL << 40) + 1;
+    const struct rrcache_limits bad = {86400, 3600, 301};
+    EXPECT(make(&shelf) == RRCACHE_DONE);
+
+    EXPECT(rrcache_offer_message(&shelf, ANSWER, 30, ZONE, sizeof ZONE, FIRST, &LIMITS, 1, &counts) == RRCACHE_BAD_MESSAGE);
+    EXPECT(counts.kept == 0 && counts.cleared == 0 && counts.refused == 0);
+    EXPECT(rrcache_offer_message(&shelf, ANSWER, sizeof ANSWER, ZONE, sizeof ZONE, FIRST, &bad, 1, &counts) == RRCACHE_BAD_LIMITS);
+    EXPECT(rrcache_offer_message(&shelf, ANSWER, sizeof ANSWER, NO_NAME, sizeof NO_NAME, FIRST, &LIMITS, 1, &counts) == RRCACHE_BAD_NAME);
+    EXPECT(offer_answer(&shelf, late, &counts) == RRCACHE_MOMENT_TOO_LARGE && counts.kept == 0);
+
+    EXPECT(ask(&shelf, late, &told, buffer, sizeof buffer) == RRCACHE_MOMENT_TOO_LARGE);
+    EXPECT(rrcache_ask(&shelf, NO_NAME, sizeof NO_NAME, A, FIRST, 0, 0, 1, &told, buffer, sizeof buffer) == RRCACHE_BAD_NAME);
+    EXPECT(rrcache_ask(&shelf, NAME, sizeof NAME, A, FIRST, 2, 0, 1, &told, buffer, sizeof buffer) == RRCACHE_BAD_CHOICE);
+    EXPECT(rrcache_ask(&shelf, NAME, sizeof NAME, A, FIRST, 0, 3, 1, &told, buffer, sizeof buffer) == RRCACHE_BAD_CHOICE);
+    EXPECT(rrcache_peek(&shelf, NAME, sizeof NAME, A, FIRST, 0, 3, &told, buffer, sizeof buffer) == RRCACHE_BAD_CHOICE);
+    EXPECT(told.kind == 7 && told.owner_size == 7 && buffer[0] == 7);
+
+    EXPECT(rrcache_offer_set(&shelf, NAME, sizeof NAME, A, 0, 60, ADDRESS, sizeof ADDRESS, FIRST, 1, &outcome) == RRCACHE_BAD_CHOICE);
+    EXPECT(rrcache_offer_set(&shelf, NAME, sizeof NAME, A, 5, 60, ADDRESS, sizeof ADDRESS, FIRST, 1, &outcome) == RRCACHE_BAD_CHOICE);
+    EXPECT(rrcache_offer_set(&shelf, NAME, sizeof NAME, OPT, 4, 60, ADDRESS, sizeof ADDRESS, FIRST, 1, &outcome) == RRCACHE_BAD_TYPE);
+    EXPECT(rrcache_offer_set(&shelf, NAME, sizeof NAME, A, 4, 60, ADDRESS, sizeof ADDRESS - 1, FIRST, 1, &outcome) == RRCACHE_BAD_DATA);
+    EXPECT(rrcache_offer_set(&shelf, NAME, sizeof NAME, A, 4, 60, ADDRESS, 1, FIRST, 1, &outcome) == RRCACHE_BAD_DATA);
+    EXPECT(rrcache_offer_set(&shelf, NAME, sizeof NAME, SOA, 4, 60, ADDRESS, sizeof ADDRESS, FIRST, 1, &outcome) == RRCACHE_BAD_DATA);
+    EXPECT(rrcache_offer_set(&shelf, NAME, sizeof NAME, A, 4, 60, NULL, 0, FIRST, 1, &outcome) == RRCACHE_WRONG_BODY);
+    EXPECT(rrcache_offer_set(&shelf, NAME, sizeof NAME, A, 4, 1u << 31, ADDRESS, sizeof ADDRESS, FIRST, 1, &outcome) == RRCACHE_WRONG_BODY);
+    EXPECT(rrcache_offer_set(&shelf, NO_NAME, sizeof NO_NAME, A, 4, 60, ADDRESS, sizeof ADDRESS, FIRST, 1, &outcome) == RRCACHE_BAD_NAME);
+    EXPECT(rrcache_offer_set(&shelf, NAME, sizeof NAME, A, 4, 60, ADDRESS, sizeof ADDRESS, late, 1, &outcome) == RRCACHE_MOMENT_TOO_LARGE);
+    EXPECT(rrcache_offer_negative(&shelf, NAME, sizeof NAME, A, 2, 3, 60, ZONE, sizeof ZONE, SOA_DATA, sizeof SOA_DATA, FIRST, 1, &outcome)
+           == RRCACHE_BAD_CHOICE);
+    EXPECT(rrcache_offer_negative(&shelf, NAME, sizeof NAME, A, 0, 3, 60, ZONE, sizeof ZONE, SOA_DATA, 21, FIRST, 1, &outcome) == RRCACHE_BAD_DATA);
+    EXPECT(rrcache_offer_failure(&shelf, NAME, sizeof NAME, OPT, 30, FIRST, 1, &outcome) == RRCACHE_BAD_TYPE);
+    EXPECT(rrcache_offer_failure(&shelf, NAME, sizeof NAME, A, 1u << 31, FIRST, 1, &outcome) == RRCACHE_WRONG_BODY && outcome == 7);
+    EXPECT(rrcache_sweep(&shelf, late, 1, &removed) == RRCACHE_MOMENT_TOO_LARGE && removed == 7);
+
+    EXPECT(events(&shelf) == 0);
+    EXPECT(rrcache_free(&shelf) == RRCACHE_DONE);
+}
+
+static void test_null(void)
+{
+    struct rrcache_shelf shelf = {0};
+    struct rrcache_counts counts;
+    struct rrcache_told told;
+    uint32_t number;
+    uint64_t wide;
+    uint8_t buffer[64] = {0};
+    EXPECT(rrcache_make(NULL, 1, 1, 0, SEED) == RRCACHE_NULL && rrcache_make(&shelf, 1, 1, 0, NULL) == RRCACHE_NULL);
+    EXPECT(rrcache_free(NULL) == RRCACHE_NULL && make(&shelf) == RRCACHE_DONE);
+    EXPECT(rrcache_offer_message(&shelf, NULL, 1, ZONE, sizeof ZONE, FIRST, &LIMITS, 1, &counts) == RRCACHE_NULL);
+    EXPECT(rrcache_offer_message(&shelf, ANSWER, sizeof ANSWER, ZONE, sizeof ZONE, FIRST, NULL, 1, &counts) == RRCACHE_NULL);
+    EXPECT(rrcache_offer_set(&shelf, NAME, sizeof NAME, A, 4, 60, ADDRESS, sizeof ADDRESS, FIRST, 1, NULL) == RRCACHE_NULL);
+    EXPECT(rrcache_offer_negative(&shelf, NAME, sizeof NAME, A, 0, 3, 60, NULL, 1, SOA_DATA, sizeof SOA_DATA, FIRST, 1, &number) == RRCACHE_NULL);
+    EXPECT(rrcache_offer_failure(NULL, NAME, sizeof NAME, A, 30, FIRST, 1, &number) == RRCACHE_NULL);
+    EXPECT(ask(&shelf, FIRST, NULL, buffer, sizeof buffer) == RRCACHE_NULL && ask(&shelf, FIRST, &told, NULL, 1) == RRCACHE_NULL);
+    EXPECT(peek(NULL, FIRST, &told, buffer, sizeof buffer) == RRCACHE_NULL);
+    EXPECT(rrcache_ask(&shelf, buffer, 13, A, FIRST, 0, 0, 1, &told, buffer, sizeof buffer) == RRCACHE_NULL);
+    EXPECT(rrcache_peek(&shelf, buffer + 8, 13, A, FIRST, 0, 0, &told, buffer, 9) == RRCACHE_NULL);
+    EXPECT(rrcache_sweep(&shelf, FIRST, 1, NULL) == RRCACHE_NULL && rrcache_drop_chapters(&shelf, NULL) == RRCACHE_NULL);
+    EXPECT(rrcache_sizes(&shelf, &wide, NULL) == RRCACHE_NULL && rrcache_sizes(&shelf, &wide, &wide) == RRCACHE_NULL);
+    EXPECT(rrcache_fault(NULL, 1, &number) == RRCACHE_NULL && rrcache_part_of(NAME, sizeof NAME, 1, NULL) == RRCACHE_NULL);
+    EXPECT(events(&shelf) == 0 && rrcache_free(&shelf) == RRCACHE_DONE);
+}
+
+#ifdef REFUSE
+/* ---- Each allocation refused in turn. */
+
+void *__real_malloc(size_t size);
+void *__real_realloc(void *old, size_t size);
+void __real_free(void *old);
+
+/* How many allocations are granted before one is refused, and how many blocks are out. */
+static long granted = -1, blocks;
+
+static bool is_refused(void)
+{
+    return granted >= 0 && granted-- == 0;
+}
+
+void *__wrap_malloc(size_t size)
+{
+    void *made = is_refused() ? NULL : __real_malloc(size);
+    blocks += made != NULL;
+    return made;
+}
+
+void *__wrap_realloc(void *old, size_t size)
+{
+    void *made = is_refused() ? NULL : __real_realloc(old, size);
+    blocks += made != NULL && old == NULL;
+    return made;
+}
+
+void __wrap_free(void *old)
+{
+    blocks -= old != NULL;
+    __real_free(old);
+}
+
+/* What a shelf answers, and how many events it has. */
+struct state {
+    uint64_t events;
+    uint32_t status;
+    struct rrcache_told told;
+    uint8_t buffer[64];
+};
+
+static struct state state_of(struct rrcache_shelf *shelf)
+{
+    struct state state;
+    long before = granted;
+    granted = -1;
+    memset(&state, 0, sizeof state);
+    uint64_t open = 0, chapters = 0;
+    rrcache_sizes(shelf, &open, &chapters);
+    /* A chapter that was full may be closed by a call that is refused, so events are counted over all chapters of four. */
+    state.events = open + 4 * chapters;
+    state.status = peek(shelf, FIRST, &state.told, state.buffer, sizeof state.buffer);
+    granted = before;
+    return state;
+}
+
+enum { CALLS = 8 };
+
+static uint32_t call(int number, struct rrcache_shelf *shelf)
+{
+    struct rrcache_counts counts;
+    struct rrcache_told told;
+    uint32_t outcome;
+    uint64_t removed;
+    uint8_t buffer[64];
+    switch (number) {
+    case 0: return offer_answer(shelf, FIRST, &counts);
+    case 1: return rrcache_ask(shelf, UPPER, sizeof UPPER, A, FIRST, 1, 0, 2, &told, buffer, sizeof buffer);
+    case 2: return rrcache_offer_set(shelf, OTHER, sizeof OTHER, A, 4, 60, ADDRESS, sizeof ADDRESS, FIRST, 3, &outcome);
+    case 3: return rrcache_offer_negative(shelf, OTHER, sizeof OTHER, TXT, 0, 3, 60, ZONE, sizeof ZONE, SOA_DATA, sizeof SOA_DATA, FIRST, 4, &outcome);
+    case 4: return rrcache_offer_failure(shelf, NAME, sizeof NAME, TXT, 30, FIRST, 5, &outcome);
+    case 5: return rrcache_sweep(shelf, FIRST + 10000, 6, &removed);
+    case 6: return rrcache_fault(ANSWER, sizeof ANSWER, &outcome);
+    default: return rrcache_part_of(UPPER, sizeof UPPER, 16, &removed);
+    }
+}
+
+/* Makes the calls with one allocation refused, and answers whether all were made with none refused. */
+static bool run_refused(long refused)
+{
+    struct rrcache_shelf shelf = {0};
+    bool is_whole = true, right = true;
+    granted = refused;
+    uint32_t made = make(&shelf);
+    if (made == RRCACHE_MEMORY) {
+        is_whole = false;
+        right = right && shelf.at == NULL && !shelf.is_live && blocks == 0;
+        made = make(&shelf);
+    }
+    right = right && made == RRCACHE_DONE;
+    for (int number = 0; number < CALLS; number++) {
+        struct state before = state_of(&shelf);
+        uint32_t status = call(number, &shelf);
+        struct state after = state_of(&shelf);
+        if (status == RRCACHE_MEMORY) {
+            is_whole = false;
+            right = right && memcmp(&before, &after, sizeof before) == 0;
+            status = call(number, &shelf);
+        }
+        right = right && status == RRCACHE_DONE;
+    }
+    granted = -1;
+    right = right && rrcache_free(&shelf) == RRCACHE_DONE && blocks == 0;
+    EXPECT(right);
+    return is_whole;
+}
+
+static void test_refused_memory(void)
+{
+    long refused = 0;
+    long out = blocks;
+    blocks = 0;
+    while (refused < 1000 && !run_refused(refused))
+        refused++;
+    EXPECT(refused > 20 && refused < 1000);
+    printf("refused each of %ld allocations in turn\n", refused);
+    blocks = out;
+}
+#endif
+
+int main(void)
+{
+    test_layout();
+    test_answers();
+    test_small_buffers();
+    test_peek();
+    test_offers();
+    test_stale();
+    test_chapters();
+    test_octets();
+    test_no_shelf();
+    test_making_refused();
+    test_refusals();
+    test_null();
+#ifdef REFUSE
+    test_refused_memory();
+#endif
+    printf("%u passed, %u failed\n", passed, failed);
+    return failed != 0;
+}

@@ -1,0 +1,4 @@
+pub mod AsBox
+pub mod Filling
+pub mod Answering
+pub mod Taking

@@ -1,0 +1,48 @@
+-- Offers that are made one after another.
+use Rattle.std.proofs.Common.{◌≡◌, ℕ, ◌+◌, inr, inl, List, [], ◌∷◌, ◌++◌, length, reverse, Result, Ok, Err, refl, sym, ap, subst, ◌∙◌, arith}
+use Rattle.std.proofs.lemmas.List.{length-reverse, reverse-append, length-append}
+use Rattle.std.specs.Prelude.{OnOk, OnErr}
+use Rattle.rrc_history.specs.Fits.{OfferOf}
+use Rattle.rrc_history.specs.declared.event.Outcome.{Outcome}
+use Rattle.rrc_history.specs.declared.event.Outcome.TheVariants.{Kept, Cleared, LessTrusted}
+use Rattle.rrc_share.specs.Shelf.{ShelfOf, AppendsOffer, IsLeft}
+use Rattle.rrc_c.specs.declared.counts.Counts.{Counts}
+use Rattle.rrc_c.specs.Offered.{Takes, TakesAll, TakesFirst, count_more, counts_of, total}
+
+-- one more is counted
+pub total_more : (outcome : Outcome) (counts : Counts) → total (count_more outcome counts) ≡ total counts + 1
+total_more Kept counts = omega arith
+total_more Cleared counts = omega arith
+total_more LessTrusted counts = omega arith
+
+-- one more offer
+pub takes_more : (line : ℕ) (offers : List OfferOf) (offer : OfferOf) (outcome : Outcome) (counts after : Counts) (old middle new : ShelfOf) (place : ℕ)
+    → TakesAll line offers counts old middle × (total counts ≡ length offers) → place ≡ total counts
+    → AppendsOffer middle new (record { line = line; place = place }) offer outcome → after ≡ count_more outcome counts
+    → TakesAll line (offers ++ offer ∷ []) after old new × (total after ≡ length (offers ++ offer ∷ []))
+takes_more line offers offer outcome counts after old middle new place (all, sized) here appended counted =
+    let back : reverse (offers ++ offer ∷ []) ≡ offer ∷ reverse offers = reverse-append offers (offer ∷ []) in
+    let at : place ≡ length (reverse offers) = here ∙ sized ∙ sym (length-reverse offers) in
+    let last = subst (λ n. AppendsOffer middle new (record { line = line; place = n }) offer outcome) at appended in
+    let takes : Takes line (reverse (offers ++ offer ∷ [])) (outcome ∷ all.outcomes) old new =
+    subst (λ xs. Takes line xs (outcome ∷ all.outcomes) old new) (sym back) (middle, all.takes, last) in
+    let sum : total after ≡ total counts + 1 = ap total counted ∙ total_more outcome counts in
+    (record { outcomes = outcome ∷ all.outcomes; takes = takes; counted = counted ∙ ap (count_more outcome) all.counted }, sum ∙ ap (λ n. n + 1) sized ∙ sym (length-append offers (offer ∷ [])))
+
+-- the next one was refused
+pub takes_first : (line : ℕ) (offers taken others : List OfferOf) (counts : Counts) (old middle new : ShelfOf) → offers ≡ taken ++ others
+    → TakesAll line taken counts old middle → IsLeft middle new → TakesFirst line offers counts old new
+takes_first line offers taken others counts old middle new parts all left =
+    record { taken = taken; others = others; parts = parts; middle = middle; all = all; left = left }
+
+pub on_err : {A B : Type 0} (result : Result A B) (X : Type 0) → X → OnErr result X
+on_err (Ok done) X x = tt
+on_err (Err refusal) X x = x
+
+pub map_ok : {A B : Type 0} (result : Result A B) (X Y : Type 0) → (X → Y) → OnOk result X → OnOk result Y
+map_ok (Ok done) X Y f x = f x
+map_ok (Err refusal) X Y f x = tt
+
+pub map_err : {A B : Type 0} (result : Result A B) (X Y : Type 0) → (X → Y) → OnErr result X → OnErr result Y
+map_err (Ok done) X Y f x = tt
+map_err (Err refusal) X Y f x = f x

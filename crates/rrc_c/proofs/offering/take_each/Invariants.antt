@@ -1,0 +1,6 @@
+use Rattle.std.proofs.Common.{◌≡◌, List, reverse, length}
+use Rattle.rrc_c.specs.Offered.{Takes, TakesAll, counts_of, total}
+use Rattle.rrc_c.proofs.offering.take_each.Given as goal
+
+abbrev pub invariant-loop-offer : goal.invariant-loop-offer
+invariant-loop-offer l = TakesAll l.line l.yielded l.counts l.initial.shelf l.shelf × (total l.counts ≡ length l.yielded)

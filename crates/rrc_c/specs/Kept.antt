@@ -1,0 +1,35 @@
+-- What C is told of octets, and of what a shelf holds.
+use Rattle.std.specs.Prelude.{◌≡◌, ℕ, ◌⊎◌, List, [], length}
+use Rattle.rrc_share.specs.Shelf.{ShelfOf}
+use Rattle.rrc_wire.specs.Fault.{number_of}
+use Rattle.rrc_wire.specs.Grammar.{MessageOf}
+use Rattle.rrc_wire.specs.Message.{FirstFault}
+use Rattle.rrc_wire.specs.declared.fault.WireFault.{WireFault}
+use Rattle.rrc_wire.specs.declared.message.Message.{Message}
+
+-- octets are a message
+pub record IsMessage (octets : List ℕ) (number : ℕ) : Type 0 where
+  pub message : Message
+  pub is : MessageOf octets message
+  pub none : number ≡ 0
+
+-- octets have a first fault, of this number
+pub record HasFault (octets : List ℕ) (number : ℕ) : Type 0 where
+  pub fault : WireFault
+  pub first : FirstFault octets fault
+  pub told : number ≡ number_of fault
+
+-- 0 where octets are a message, and else the number of their first fault
+abbrev pub TellsFault : List ℕ → ℕ → Type 0
+TellsFault octets number = IsMessage octets number ⊎ HasFault octets number
+
+-- how many events the open chapter has, and how many chapters are closed
+pub record TellsSizes (events chapters : ℕ) (old new : ShelfOf) : Type 0 where
+  pub kept : new ≡ old
+  pub events_are : events ≡ length old.part.events
+  pub chapters_are : chapters ≡ length old.closed
+
+-- the closed chapters were dropped, and as many of them are told
+pub record DropsChapters (chapters : ℕ) (old new : ShelfOf) : Type 0 where
+  pub left : new ≡ record { closed = []; part = old.part }
+  pub told : chapters ≡ length old.closed

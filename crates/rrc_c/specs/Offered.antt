@@ -1,0 +1,133 @@
+-- What C offers, and what it is told of it.
+use Rattle.std.specs.Prelude.{◌≡◌, ℕ, ◌+◌, ◌≤◌, ◌⊎◌, List, [], ◌∷◌, ◌++◌, length, reverse, if◌then◌else◌, ◌==◌}
+use Rattle.rrc_name.specs.Wire.{folded}
+use Rattle.rrc_name.specs.declared.slot.Slot.{Slot}
+use Rattle.rrc_name.specs.declared.slot.Slot.TheVariants.{Set, Nx, Failed}
+use Rattle.rrc_history.specs.Fits.{OfferOf}
+use Rattle.rrc_history.specs.declared.body.Body.TheVariants.{Positive, Negative, Failure}
+use Rattle.rrc_history.specs.declared.body.Trust.{Trust}
+use Rattle.rrc_history.specs.declared.body.Trust.TheVariants.{Additional, NonAuthoritativeAnswer, Authority, AuthoritativeAnswer}
+use Rattle.rrc_history.specs.declared.event.Outcome.{Outcome}
+use Rattle.rrc_history.specs.declared.event.Outcome.TheVariants.{Kept, Cleared, LessTrusted}
+use Rattle.rrc_share.specs.Shelf.{ShelfOf, AppendsOffer, IsLeft}
+use Rattle.rrc_sets.specs.Limits.{Are}
+use Rattle.rrc_sets.specs.Offers.{offers_of}
+use Rattle.rrc_sets.specs.declared.limits.Limits.{Limits}
+use Rattle.rrc_wire.specs.Grammar.{MessageOf}
+use Rattle.rrc_wire.specs.declared.message.Message.{Message}
+use Rattle.rrc_c.specs.Told.{data_text}
+use Rattle.rrc_c.specs.declared.counts.Counts.{Counts}
+use Rattle.rrc_c.specs.declared.counts.Bounds.{Bounds}
+
+-- ---- one offer
+
+-- the trust of a number, 1 to 4 from low to high
+abbrev pub trust_of : ℕ → Trust
+trust_of number = if number == 1 then Additional else (if number == 2 then NonAuthoritativeAnswer else (if number == 3 then Authority else AuthoritativeAnswer))
+
+-- the number is of a trust
+pub record IsTrust (number : ℕ) : Type 0 where
+  pub least : 1 ≤ number
+  pub most : number ≤ 4
+
+-- what a denial is of: of data of a type, by 0, or of the name, by 1
+abbrev pub denied : ℕ → ℕ → Slot
+denied denial rtype = if denial == 0 then Set rtype else Nx
+
+-- the number of what became of an offer
+abbrev pub outcome_number : Outcome → ℕ
+outcome_number Kept = 1
+outcome_number Cleared = 2
+outcome_number LessTrusted = 3
+
+-- a set is offered, whose data stand in some octets each behind its length
+pub record IsSetOffer (owner : List ℕ) (rtype trust ttl : ℕ) (octets : List ℕ) (at : ℕ) (offer : OfferOf) : Type 0 where
+  pub items : List (List ℕ)
+  pub stand : data_text items ≡ octets
+  pub is : offer ≡ record { key = record { name = folded owner; slot = Set rtype }; body = Positive (trust_of trust) ttl owner items; moment = at }
+
+-- that a name has no data of a type, or does not exist, with the SOA record that says so
+abbrev pub denial_offer : List ℕ → ℕ → ℕ → ℕ → ℕ → List ℕ → List ℕ → ℕ → OfferOf
+denial_offer name rtype denial trust ttl soa_owner soa at =
+    record { key = record { name = folded name; slot = denied denial rtype }; body = Negative (trust_of trust) ttl soa_owner soa; moment = at }
+
+-- that asking for data of a type failed
+abbrev pub failure_offer : List ℕ → ℕ → ℕ → ℕ → OfferOf
+failure_offer name rtype ttl at = record { key = record { name = folded name; slot = Failed rtype }; body = Failure ttl; moment = at }
+
+-- an offer is written, which is one event, and what became of it is told by its number
+pub record TakesOne (line : ℕ) (offer : OfferOf) (number : ℕ) (old new : ShelfOf) : Type 0 where
+  pub outcome : Outcome
+  pub appended : AppendsOffer old new (record { line = line; place = 0 }) offer outcome
+  pub told : number ≡ outcome_number outcome
+
+-- the same of an offer of a set
+pub record TakesSet (line : ℕ) (owner : List ℕ) (rtype trust ttl : ℕ) (octets : List ℕ) (at number : ℕ) (old new : ShelfOf) : Type 0 where
+  pub offer : OfferOf
+  pub is_offer : IsSetOffer owner rtype trust ttl octets at offer
+  pub takes : TakesOne line offer number old new
+
+-- ---- a whole message
+
+-- one more outcome counted
+abbrev pub count_more : Outcome → Counts → Counts
+count_more Kept counts = record { kept = counts.kept + 1; cleared = counts.cleared; refused = counts.refused }
+count_more Cleared counts = record { kept = counts.kept; cleared = counts.cleared + 1; refused = counts.refused }
+count_more LessTrusted counts = record { kept = counts.kept; cleared = counts.cleared; refused = counts.refused + 1 }
+
+-- how many offers were kept, cleared and refused for want of trust
+abbrev pub counts_of : List Outcome → Counts
+counts_of [] = record { kept = 0; cleared = 0; refused = 0 }
+counts_of (outcome ∷ before) = count_more outcome (counts_of before)
+
+-- offers were written, each as one event with its place among them; the last offer comes first
+abbrev pub Takes : ℕ → List OfferOf → List Outcome → ShelfOf → ShelfOf → Type 0
+Takes line [] [] old new = new ≡ old
+Takes line [] (outcome ∷ before) old new = ⊥
+Takes line (offer ∷ earlier) [] old new = ⊥
+Takes line (offer ∷ earlier) (outcome ∷ before) old new =
+    (middle : ShelfOf) × Takes line earlier before old middle × AppendsOffer middle new (record { line = line; place = length earlier }) offer outcome
+
+-- all offers were written, and what became of them is counted
+pub record TakesAll (line : ℕ) (offers : List OfferOf) (counts : Counts) (old new : ShelfOf) : Type 0 where
+  pub outcomes : List Outcome
+  pub takes : Takes line (reverse offers) outcomes old new
+  pub counted : counts ≡ counts_of outcomes
+
+-- the first of the offers were written, and what became of them is counted; the next one was refused
+pub record TakesFirst (line : ℕ) (offers : List OfferOf) (counts : Counts) (old new : ShelfOf) : Type 0 where
+  pub taken : List OfferOf
+  pub others : List OfferOf
+  pub parts : offers ≡ taken ++ others
+  pub middle : ShelfOf
+  pub all : TakesAll line taken counts old middle
+  pub left : IsLeft middle new
+
+-- all that a message offers was written
+pub record TakesMessage (line : ℕ) (octets zone : List ℕ) (at : ℕ) (bounds : Bounds) (counts : Counts) (old new : ShelfOf) : Type 0 where
+  pub message : Message
+  pub is_message : MessageOf octets message
+  pub limits : Limits
+  pub are_limits : Are limits bounds.cap bounds.negative_cap bounds.recheck
+  pub takes : TakesAll line (offers_of message zone at limits) counts old new
+
+-- the first of what a message offers was written
+pub record TakesBeginning (line : ℕ) (octets zone : List ℕ) (at : ℕ) (bounds : Bounds) (counts : Counts) (old new : ShelfOf) : Type 0 where
+  pub message : Message
+  pub is_message : MessageOf octets message
+  pub limits : Limits
+  pub are_limits : Are limits bounds.cap bounds.negative_cap bounds.recheck
+  pub takes : TakesFirst line (offers_of message zone at limits) counts old new
+
+-- nothing was written and nothing counted
+pub record TakesNone (counts : Counts) (old new : ShelfOf) : Type 0 where
+  pub counted : counts ≡ counts_of []
+  pub kept : new ≡ old
+
+-- what a refusal leaves: nothing was written, or the first of what the message offers
+abbrev pub TakesSome : ℕ → List ℕ → List ℕ → ℕ → Bounds → Counts → ShelfOf → ShelfOf → Type 0
+TakesSome line octets zone at bounds counts old new = TakesNone counts old new ⊎ TakesBeginning line octets zone at bounds counts old new
+
+-- how many offers were counted
+abbrev pub total : Counts → ℕ
+total counts = counts.kept + counts.cleared + counts.refused

@@ -1,0 +1,77 @@
+-- A reply as C is told it: a record of numbers, and the octets of a buffer.
+use Rattle.std.specs.Prelude.{◌≡◌, ℕ, ◌+◌, ◌/◌, ◌%◌, ◌≤◌, List, [], ◌∷◌, ◌++◌, length, drop, Option, None, Some}
+use Rattle.rrc_history.specs.declared.event.Reply.{Reply}
+use Rattle.rrc_history.specs.declared.event.Reply.TheVariants.{Fresh, Stale, NoData, NxDomain, Miss}
+use Rattle.rrc_c.specs.declared.told.Told.{Told}
+
+-- a datum behind its length, of 16 bits, the high octet first
+abbrev pub datum : List ℕ → List ℕ
+datum octets = length octets / 256 ∷ length octets % 256 ∷ octets
+
+-- data, one behind another
+abbrev pub data_text : List (List ℕ) → List ℕ
+data_text [] = []
+data_text (octets ∷ behind) = datum octets ++ data_text behind
+
+-- the owner of a reply's data, in wire form; a miss has none
+abbrev pub owner_of : Reply → List ℕ
+owner_of (Fresh set left) = set.owner
+owner_of (Stale set left) = set.owner
+owner_of (NoData soa left) = soa.owner
+owner_of (NxDomain soa left) = soa.owner
+owner_of (Miss retry_from) = []
+
+-- the data of a reply: those of a set, or the one of a SOA record
+abbrev pub data_of : Reply → List (List ℕ)
+data_of (Fresh set left) = set.items
+data_of (Stale set left) = set.items
+data_of (NoData soa left) = soa.octets ∷ []
+data_of (NxDomain soa left) = soa.octets ∷ []
+data_of (Miss retry_from) = []
+
+-- what a reply is, by its number
+abbrev pub kind_of : Reply → ℕ
+kind_of (Fresh set left) = 1
+kind_of (Stale set left) = 2
+kind_of (NoData soa left) = 3
+kind_of (NxDomain soa left) = 4
+kind_of (Miss None) = 5
+kind_of (Miss (Some moment)) = 6
+
+-- for how many seconds a reply holds
+abbrev pub left_of : Reply → ℕ
+left_of (Fresh set left) = left
+left_of (Stale set left) = left
+left_of (NoData soa left) = left
+left_of (NxDomain soa left) = left
+left_of (Miss retry_from) = 0
+
+-- from when on asking that has failed may be tried again
+abbrev pub retry_of : Reply → ℕ
+retry_of (Fresh set left) = 0
+retry_of (Stale set left) = 0
+retry_of (NoData soa left) = 0
+retry_of (NxDomain soa left) = 0
+retry_of (Miss None) = 0
+retry_of (Miss (Some moment)) = moment
+
+-- the octets of a reply: its owner, and behind it its data
+abbrev pub text_of : Reply → List ℕ
+text_of reply = owner_of reply ++ data_text (data_of reply)
+
+-- the record of a reply
+abbrev pub told_of : Reply → Told
+told_of reply = record { kind = kind_of reply; left = left_of reply; retry_from = retry_of reply; owner_size = length (owner_of reply); data_size = length (data_text (data_of reply)) }
+
+-- a buffer begins with these octets, and is behind them as it was
+abbrev pub IsFilled : List ℕ → List ℕ → List ℕ → Type 0
+IsFilled before text after = after ≡ text ++ drop (length text) before
+
+-- each datum has at most as many octets as 16 bits can tell
+abbrev pub AreNarrow : List (List ℕ) → Type 0
+AreNarrow [] = Unit {0}
+AreNarrow (octets ∷ behind) = (length octets ≤ 65535) × AreNarrow behind
+
+-- where a buffer begins with so many octets of one's own, it begins with them and these after
+abbrev pub WritesOn : ℕ → List ℕ → List ℕ → List ℕ → Type 0
+WritesOn size more old new = (before text : List ℕ) → length text ≡ size → IsFilled before text old → IsFilled before (text ++ more) new

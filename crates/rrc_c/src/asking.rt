@@ -1,0 +1,177 @@
+ghost use Rattle.std.specs.Prelude.{◌≡◌, ◌+◌, ◌≤◌, ◌↔◌, length, IsTrue, IfOk, OnOk, OnErr};
+ghost use Rattle.rrc_c.specs.Asked.{asked, purpose_of, mode_of, reply_of, AreChoices, AreKept, AnswersOr, ShowsOr};
+ghost use Rattle.rrc_c.specs.Told.{told_of, data_of, AreNarrow};
+ghost use Rattle.rrc_share.specs.Shelf.{AppendsAsk, IsLeft};
+
+use crate::status::Status;
+use crate::text::fill;
+use crate::told::{Told, data_of, owner_of, told_of};
+use rrc_history::{Ask, Mode, Purpose, Reply, Tag};
+use rrc_name::{Name, WireNameFault};
+use rrc_share::{Shelf, on_shelf_ask};
+use std::alloc::Global;
+
+/// The name whose wire form some octets are.
+pub(crate) fn name_of(alloc: Global, octets: &[u8]) -> Result<Name, Status>
+    ensures { IfOk result (λ name. name ≡ octets.now) }
+{
+    match Name::from_wire(alloc, octets) {
+        Ok(name) => Ok(name),
+        Err(WireNameFault::Memory) => Err(Status::Memory),
+        Err(_) => Err(Status::BadName),
+    }
+}
+
+fn purpose_of(number: u32) -> Purpose
+    ensures { result ≡ purpose_of number }
+{
+    if number == 0 {
+        Purpose::Any
+    } else {
+        Purpose::Answer
+    }
+}
+
+fn mode_of(number: u32) -> Mode
+    ensures { result ≡ mode_of number }
+{
+    if number == 0 {
+        Mode::NoStale
+    } else if number == 1 {
+        Mode::Failed
+    } else {
+        Mode::Now
+    }
+}
+
+/// The question that C asks.
+pub(crate) fn ask_of(
+    alloc: Global,
+    name: &[u8],
+    rtype: u16,
+    moment: u64,
+    purpose: u32,
+    mode: u32,
+) -> Result<Ask, Status>
+    ensures ask { IfOk result (λ ask. ask ≡ asked name.now rtype moment purpose mode) }
+    ensures choices { OnOk result (AreChoices purpose mode) }
+{
+    if purpose > 1 || mode > 2 {
+        return Err(Status::BadChoice);
+    }
+    Ok(Ask {
+        name: name_of(alloc, name)?.folded()?,
+        rtype,
+        moment,
+        purpose: purpose_of(purpose),
+        mode: mode_of(mode),
+    })
+}
+
+/// What a shelf would answer, and the record of it.
+fn peeked(shelf: &Shelf, ask: &Ask) -> Result<(Reply, Told), Status>
+    ensures reply { IfOk result (λ both. both.0 ≡ reply_of shelf.now ask.now) }
+    ensures told { IfOk result (λ both. both.1 ≡ told_of both.0) }
+    ensures narrow { IfOk result (λ both. AreNarrow (data_of both.0)) }
+{
+    let reply = shelf.would_answer(ask)?;
+    match told_of(&reply) {
+        Some(told) => Ok((reply, told)),
+        None => Err(Status::WideAnswer),
+    }
+}
+
+/// Whether a buffer has as many octets as a reply takes.
+fn has_room(buffer: &[u8], told: &Told) -> bool
+    ensures { IsTrue result ↔ (told.now.owner_size + told.now.data_size ≤ length buffer.now) }
+{
+    let room = buffer.len() as u64;
+    told.owner_size <= room && told.data_size <= room - told.owner_size
+}
+
+/// Tells what a shelf would answer, and writes nothing. False is answered where the buffer is too small.
+fn show(shelf: &Shelf, ask: &Ask, told: &mut Told, buffer: &mut [u8]) -> Result<bool, Status>
+    ensures ok { IfOk result (λ fits. ShowsOr fits ask.now told.new buffer.old buffer.new shelf.now shelf.now) }
+    ensures err { OnErr result (AreKept told.old buffer.old told.new buffer.new) }
+{
+    let (reply, record) = peeked(shelf, ask)?;
+    let fits = has_room(buffer, &record);
+    if fits {
+        fill(buffer, owner_of(&reply), data_of(&reply));
+    }
+    *told = record;
+    Ok(fits)
+}
+
+/// Writes the event of a question, with the reply that the shelf has.
+fn write_ask(shelf: &mut Shelf, ask: &Ask, line: u64) -> Result<(), Status>
+    ensures ok { OnOk result (AppendsAsk shelf.old shelf.new (record { line = line; place = 0 }) ask.now (reply_of shelf.old ask.now)) }
+    ensures left { OnErr result (IsLeft shelf.old shelf.new) }
+{
+    on_shelf_ask(shelf, Tag { line, place: 0 }, ask)?;
+    Ok(())
+}
+
+/// Answers a question, which is one event. False is answered where the buffer is too small, and then no event is written.
+fn answer(
+    shelf: &mut Shelf,
+    ask: &Ask,
+    line: u64,
+    told: &mut Told,
+    buffer: &mut [u8],
+) -> Result<bool, Status>
+    ensures ok { IfOk result (λ fits. AnswersOr fits ask.now line told.new buffer.old buffer.new shelf.old shelf.new) }
+    ensures err { OnErr result (AreKept told.old buffer.old told.new buffer.new) }
+    ensures left { OnErr result (IsLeft shelf.old shelf.new) }
+{
+    let (reply, record) = peeked(shelf, ask)?;
+    let fits = has_room(buffer, &record);
+    if fits {
+        write_ask(shelf, ask, line)?;
+        fill(buffer, owner_of(&reply), data_of(&reply));
+    }
+    *told = record;
+    Ok(fits)
+}
+
+/// Asks a shelf what C asks.
+pub(crate) fn ask_shelf(
+    alloc: Global,
+    shelf: &mut Shelf,
+    name: &[u8],
+    rtype: u16,
+    moment: u64,
+    purpose: u32,
+    mode: u32,
+    line: u64,
+    told: &mut Told,
+    buffer: &mut [u8],
+) -> Result<bool, Status>
+    ensures ok { IfOk result (λ fits. AnswersOr fits (asked name.now rtype moment purpose mode) line told.new buffer.old buffer.new shelf.old shelf.new) }
+    ensures choices { OnOk result (AreChoices purpose mode) }
+    ensures err { OnErr result (AreKept told.old buffer.old told.new buffer.new) }
+    ensures left { OnErr result (IsLeft shelf.old shelf.new) }
+{
+    let ask = ask_of(alloc, name, rtype, moment, purpose, mode)?;
+    answer(shelf, &ask, line, told, buffer)
+}
+
+/// Tells C what a shelf would answer to what it asks.
+pub(crate) fn peek_at_shelf(
+    alloc: Global,
+    shelf: &Shelf,
+    name: &[u8],
+    rtype: u16,
+    moment: u64,
+    purpose: u32,
+    mode: u32,
+    told: &mut Told,
+    buffer: &mut [u8],
+) -> Result<bool, Status>
+    ensures ok { IfOk result (λ fits. ShowsOr fits (asked name.now rtype moment purpose mode) told.new buffer.old buffer.new shelf.now shelf.now) }
+    ensures choices { OnOk result (AreChoices purpose mode) }
+    ensures err { OnErr result (AreKept told.old buffer.old told.new buffer.new) }
+{
+    let ask = ask_of(alloc, name, rtype, moment, purpose, mode)?;
+    show(shelf, &ask, told, buffer)
+}

@@ -1,0 +1,309 @@
+ghost use Rattle.std.specs.Prelude.{◌≡◌, ◌≤◌, ◌<◌, ◌⊎◌, IfOk, OnErr};
+ghost use Rattle.rrc_c.specs.Statuses.{number_of_call, number_of_reply, OnDone, OnRefused, OnSmall};
+ghost use Rattle.rrc_c.specs.Handles.{BothHold, HoldsNone, IsKept};
+ghost use Rattle.rrc_c.specs.Asked.{asked, AreChoices, Answers, Shows, TellsSizeAlone};
+ghost use Rattle.rrc_c.specs.Kept.{TellsFault, TellsSizes, DropsChapters};
+ghost use Rattle.rrc_c.specs.Offered.{denial_offer, failure_offer, IsTrust, TakesMessage, TakesOne, TakesSet, TakesSome};
+ghost use Rattle.rrc_share.specs.Shelf.{AppendsSweep};
+ghost use Rattle.rrc_sets.specs.Parts.{part_of};
+
+use crate::asking::{ask_shelf, peek_at_shelf};
+use crate::counts::{Bounds, Counts};
+use crate::handle::Handle;
+use crate::keeping::{fault_in, part_in, sweep};
+use crate::offering::{offer_message, take_failure, take_negative, take_set};
+use crate::status::{SMALL_BUFFER, Status};
+use crate::told::Told;
+use std::alloc::Global;
+
+/// What C is told of a call that tells a reply.
+fn number_of_reply(fits: Result<bool, Status>) -> u32
+    ensures { result ≡ number_of_reply fits }
+{
+    match fits {
+        Ok(true) => 0,
+        Ok(false) => SMALL_BUFFER,
+        Err(status) => status.number(),
+    }
+}
+
+/// Asks a shelf, which is one event.
+#[unsafe(no_mangle)]
+pub extern "C" fn rrc_ask(
+    alloc: Global,
+    handle: &mut Handle,
+    name: &[u8],
+    rtype: u16,
+    moment: u64,
+    purpose: u32,
+    mode: u32,
+    line: u64,
+    told: &mut Told,
+    buffer: &mut [u8],
+) -> u32
+    ensures done { OnDone result (BothHold handle.old.seal.shelf handle.new.seal.shelf (Answers (asked name.now rtype moment purpose mode) line told.new buffer.old buffer.new)) }
+    ensures small { OnSmall result (BothHold handle.old.seal.shelf handle.new.seal.shelf (TellsSizeAlone (asked name.now rtype moment purpose mode) told.new buffer.old buffer.new)) }
+    ensures refused { OnRefused result (IsKept handle.old.seal.shelf handle.new.seal.shelf) }
+    ensures buffer { OnRefused result (buffer.new ≡ buffer.old) }
+    ensures choices { OnDone result (AreChoices purpose mode) }
+{
+    let Some(mut shelf) = handle.take(alloc) else {
+        return Status::NoShelf.number();
+    };
+    let fits = ask_shelf(
+        alloc, &mut shelf, name, rtype, moment, purpose, mode, line, told, buffer,
+    );
+    handle.put(shelf);
+    number_of_reply(fits)
+}
+
+/// Tells what a shelf would answer, and writes no event.
+#[unsafe(no_mangle)]
+pub extern "C" fn rrc_peek(
+    alloc: Global,
+    handle: &mut Handle,
+    name: &[u8],
+    rtype: u16,
+    moment: u64,
+    purpose: u32,
+    mode: u32,
+    told: &mut Told,
+    buffer: &mut [u8],
+) -> u32
+    ensures done { OnDone result (BothHold handle.old.seal.shelf handle.new.seal.shelf (Shows (asked name.now rtype moment purpose mode) told.new buffer.old buffer.new)) }
+    ensures small { OnSmall result (BothHold handle.old.seal.shelf handle.new.seal.shelf (TellsSizeAlone (asked name.now rtype moment purpose mode) told.new buffer.old buffer.new)) }
+    ensures kept { handle.new.seal.shelf ≡ handle.old.seal.shelf }
+    ensures buffer { OnRefused result (buffer.new ≡ buffer.old) }
+    ensures choices { OnDone result (AreChoices purpose mode) }
+{
+    let Some(shelf) = handle.take(alloc) else {
+        return Status::NoShelf.number();
+    };
+    let fits = peek_at_shelf(
+        alloc, &shelf, name, rtype, moment, purpose, mode, told, buffer,
+    );
+    handle.put(shelf);
+    number_of_reply(fits)
+}
+
+/// What C is told of a call that only does something.
+fn number_of_call(done: Result<(), Status>) -> u32
+    ensures { result ≡ number_of_call done }
+{
+    match done {
+        Ok(()) => 0,
+        Err(status) => status.number(),
+    }
+}
+
+/// What C is told of a call that tells a number, which is then written.
+fn number_of_u32(done: Result<u32, Status>, out: &mut u32) -> u32
+    ensures told { IfOk done (λ number. out.new ≡ number) }
+    ensures kept { OnErr done (out.new ≡ out.old) }
+    ensures status { result ≡ number_of_call done }
+{
+    match done {
+        Ok(number) => {
+            *out = number;
+            0
+        }
+        Err(status) => status.number(),
+    }
+}
+
+/// The same of a number of 64 bits.
+fn number_of_u64(done: Result<u64, Status>, out: &mut u64) -> u32
+    ensures told { IfOk done (λ number. out.new ≡ number) }
+    ensures kept { OnErr done (out.new ≡ out.old) }
+    ensures status { result ≡ number_of_call done }
+{
+    match done {
+        Ok(number) => {
+            *out = number;
+            0
+        }
+        Err(status) => status.number(),
+    }
+}
+
+/// Offers all that a message offers, each offer as one event.
+#[unsafe(no_mangle)]
+pub extern "C" fn rrc_offer_message(
+    alloc: Global,
+    handle: &mut Handle,
+    octets: &[u8],
+    zone: &[u8],
+    moment: u64,
+    bounds: &Bounds,
+    line: u64,
+    counts: &mut Counts,
+) -> u32
+    ensures done { OnDone result (BothHold handle.old.seal.shelf handle.new.seal.shelf (TakesMessage line octets.now zone.now moment bounds.now counts.new)) }
+    ensures refused { OnRefused result (HoldsNone handle.old.seal.shelf handle.new.seal.shelf ⊎ BothHold handle.old.seal.shelf handle.new.seal.shelf (TakesSome line octets.now zone.now moment bounds.now counts.new)) }
+{
+    let Some(mut shelf) = handle.take(alloc) else {
+        return Status::NoShelf.number();
+    };
+    let done = offer_message(
+        alloc, &mut shelf, line, octets, zone, moment, bounds, counts,
+    );
+    handle.put(shelf);
+    number_of_call(done)
+}
+
+/// Offers one set, which is one event.
+#[unsafe(no_mangle)]
+pub extern "C" fn rrc_offer_set(
+    alloc: Global,
+    handle: &mut Handle,
+    owner: &[u8],
+    rtype: u16,
+    trust: u32,
+    ttl: u32,
+    octets: &[u8],
+    moment: u64,
+    line: u64,
+    outcome: &mut u32,
+) -> u32
+    ensures done { OnDone result (BothHold handle.old.seal.shelf handle.new.seal.shelf (TakesSet line owner.now rtype trust ttl octets.now moment outcome.new)) }
+    ensures refused { OnRefused result (IsKept handle.old.seal.shelf handle.new.seal.shelf) }
+    ensures trust { OnDone result (IsTrust trust) }
+{
+    let Some(mut shelf) = handle.take(alloc) else {
+        return Status::NoShelf.number();
+    };
+    let done = take_set(
+        alloc, &mut shelf, owner, rtype, trust, ttl, octets, moment, line,
+    );
+    handle.put(shelf);
+    number_of_u32(done, outcome)
+}
+
+/// Offers a negative answer, which is one event.
+#[unsafe(no_mangle)]
+pub extern "C" fn rrc_offer_negative(
+    alloc: Global,
+    handle: &mut Handle,
+    name: &[u8],
+    rtype: u16,
+    denial: u32,
+    trust: u32,
+    ttl: u32,
+    soa_owner: &[u8],
+    soa: &[u8],
+    moment: u64,
+    line: u64,
+    outcome: &mut u32,
+) -> u32
+    ensures done { OnDone result (BothHold handle.old.seal.shelf handle.new.seal.shelf (TakesOne line (denial_offer name.now rtype denial trust ttl soa_owner.now soa.now moment) outcome.new)) }
+    ensures refused { OnRefused result (IsKept handle.old.seal.shelf handle.new.seal.shelf) }
+    ensures trust { OnDone result (IsTrust trust) }
+    ensures denial { OnDone result (denial ≤ 1) }
+{
+    let Some(mut shelf) = handle.take(alloc) else {
+        return Status::NoShelf.number();
+    };
+    let done = take_negative(
+        alloc, &mut shelf, name, rtype, denial, trust, ttl, soa_owner, soa, moment, line,
+    );
+    handle.put(shelf);
+    number_of_u32(done, outcome)
+}
+
+/// Offers that asking failed, which is one event.
+#[unsafe(no_mangle)]
+pub extern "C" fn rrc_offer_failure(
+    alloc: Global,
+    handle: &mut Handle,
+    name: &[u8],
+    rtype: u16,
+    ttl: u32,
+    moment: u64,
+    line: u64,
+    outcome: &mut u32,
+) -> u32
+    ensures done { OnDone result (BothHold handle.old.seal.shelf handle.new.seal.shelf (TakesOne line (failure_offer name.now rtype ttl moment) outcome.new)) }
+    ensures refused { OnRefused result (IsKept handle.old.seal.shelf handle.new.seal.shelf) }
+{
+    let Some(mut shelf) = handle.take(alloc) else {
+        return Status::NoShelf.number();
+    };
+    let done = take_failure(alloc, &mut shelf, name, rtype, ttl, moment, line);
+    handle.put(shelf);
+    number_of_u32(done, outcome)
+}
+
+/// Removes the keys that are dead at a moment, which is one event, and tells how many.
+#[unsafe(no_mangle)]
+pub extern "C" fn rrc_sweep(
+    alloc: Global,
+    handle: &mut Handle,
+    moment: u64,
+    line: u64,
+    removed: &mut u64,
+) -> u32
+    ensures done { OnDone result (BothHold handle.old.seal.shelf handle.new.seal.shelf (λ old new. AppendsSweep old new (record { line = line; place = 0 }) moment removed.new)) }
+    ensures refused { OnRefused result (IsKept handle.old.seal.shelf handle.new.seal.shelf) }
+{
+    let Some(mut shelf) = handle.take(alloc) else {
+        return Status::NoShelf.number();
+    };
+    let done = sweep(&mut shelf, line, moment);
+    handle.put(shelf);
+    number_of_u64(done, removed)
+}
+
+/// Takes the closed chapters, drops them, and tells how many there were.
+#[unsafe(no_mangle)]
+pub extern "C" fn rrc_drop_chapters(alloc: Global, handle: &mut Handle, dropped: &mut u64) -> u32
+    ensures done { OnDone result (BothHold handle.old.seal.shelf handle.new.seal.shelf (DropsChapters dropped.new)) }
+    ensures refused { OnRefused result (IsKept handle.old.seal.shelf handle.new.seal.shelf) }
+{
+    let Some(mut shelf) = handle.take(alloc) else {
+        return Status::NoShelf.number();
+    };
+    let chapters = shelf.take_chapters();
+    *dropped = chapters.len() as u64;
+    drop(chapters);
+    handle.put(shelf);
+    0
+}
+
+/// Tells how many events the open chapter has, and how many chapters are closed.
+#[unsafe(no_mangle)]
+pub extern "C" fn rrc_sizes(
+    alloc: Global,
+    handle: &mut Handle,
+    events: &mut u64,
+    chapters: &mut u64,
+) -> u32
+    ensures done { OnDone result (BothHold handle.old.seal.shelf handle.new.seal.shelf (TellsSizes events.new chapters.new)) }
+    ensures kept { handle.new.seal.shelf ≡ handle.old.seal.shelf }
+{
+    let Some(shelf) = handle.take(alloc) else {
+        return Status::NoShelf.number();
+    };
+    *events = shelf.part().events().len() as u64;
+    *chapters = shelf.closed().len() as u64;
+    handle.put(shelf);
+    0
+}
+
+/// Tells the number of the first fault of some octets, or 0 where they are a message.
+#[unsafe(no_mangle)]
+pub extern "C" fn rrc_fault(alloc: Global, octets: &[u8], fault: &mut u32) -> u32
+    ensures done { OnDone result (TellsFault octets.now fault.new) }
+    ensures refused { OnRefused result (fault.new ≡ fault.old) }
+{
+    number_of_u32(fault_in(alloc, octets), fault)
+}
+
+/// Tells in which of so many parts all keys of a name lie.
+#[unsafe(no_mangle)]
+pub extern "C" fn rrc_part_of(alloc: Global, name: &[u8], parts: u64, part: &mut u64) -> u32
+    ensures done { OnDone result (part.new ≡ part_of name.now parts) }
+    ensures below { OnDone result (part.new < parts) }
+    ensures refused { OnRefused result (part.new ≡ part.old) }
+{
+    number_of_u64(part_in(alloc, name, parts), part)
+}

@@ -1,0 +1,44 @@
+ghost use Rattle.std.specs.Prelude.{◌≡◌, ◌≤◌, ◌<◌, IfOk, OnOk, OnErr};
+ghost use Rattle.rrc_c.specs.Kept.{TellsFault};
+ghost use Rattle.rrc_sets.specs.Parts.{part_of};
+ghost use Rattle.rrc_share.specs.Shelf.{AppendsSweep, IsLeft};
+
+use crate::asking::name_of;
+use crate::status::Status;
+use rrc_history::Tag;
+use rrc_sets::part_of;
+use rrc_share::{Shelf, on_shelf_sweep};
+use rrc_wire::{WireFault, read_message};
+use std::alloc::Global;
+
+/// Sweeps a shelf, and tells how many keys were removed.
+pub(crate) fn sweep(shelf: &mut Shelf, line: u64, moment: u64) -> Result<u64, Status>
+    ensures ok { IfOk result (AppendsSweep shelf.old shelf.new (record { line = line; place = 0 }) moment) }
+    ensures left { OnErr result (IsLeft shelf.old shelf.new) }
+{
+    let removed = on_shelf_sweep(shelf, Tag { line, place: 0 }, moment)?;
+    Ok(removed as u64)
+}
+
+/// The number of the first fault of some octets, or 0 where they are a message.
+pub(crate) fn fault_in(alloc: Global, octets: &[u8]) -> Result<u32, Status>
+    ensures { IfOk result (TellsFault octets.now) }
+{
+    match read_message(alloc, octets) {
+        Ok(_message) => Ok(0),
+        Err(WireFault::Memory) => Err(Status::Memory),
+        Err(fault) => Ok(u32::from(fault.number())),
+    }
+}
+
+/// The part that a name lies in, so many being all.
+pub(crate) fn part_in(alloc: Global, name: &[u8], parts: u64) -> Result<u64, Status>
+    ensures value { IfOk result (λ part. part ≡ part_of name.now parts) }
+    ensures below { IfOk result (λ part. part < parts) }
+{
+    if !(1..=64).contains(&parts) {
+        return Err(Status::BadRules);
+    }
+    let name = name_of(alloc, name)?;
+    Ok(part_of(&name, parts as usize) as u64)
+}

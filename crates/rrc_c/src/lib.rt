@@ -1,0 +1,14 @@
+//! The cache for resolvers that are written in C.
+#![tactic(auto)]
+
+mod asking;
+mod calls;
+mod counts;
+mod handle;
+mod keeping;
+mod making;
+mod offering;
+mod seal;
+mod status;
+mod text;
+mod told;

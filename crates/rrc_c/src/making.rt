@@ -1,0 +1,70 @@
+ghost use Rattle.std.specs.Prelude.{◌≡◌, ◌↔◌, None, IfOk};
+ghost use Rattle.rrc_c.specs.Statuses.{OnDone, OnRefused, OnStatus};
+ghost use Rattle.rrc_c.specs.Made.{IsNew, HoldsNew};
+
+use crate::handle::Handle;
+use crate::status::Status;
+use rrc_cache::Part;
+use rrc_history::Rules;
+use rrc_share::Shelf;
+use std::alloc::Global;
+
+/// An empty shelf by these rules, whose keys are hashed behind the seed.
+fn new_shelf(
+    alloc: Global,
+    capacity: u64,
+    chapter: u64,
+    stale: u64,
+    seed: &[u8],
+) -> Result<Box<Shelf>, Status>
+    ensures { IfOk result (λ shelf. IsNew capacity chapter stale shelf.value) }
+{
+    let Some(rules) = Rules::new(capacity, chapter, stale) else {
+        return Err(Status::BadRules);
+    };
+    let Ok(seed) = <[u8; 16]>::try_from(seed) else {
+        return Err(Status::BadSeed);
+    };
+    let part = Part::seeded(alloc, rules, seed)?;
+    Ok(Box::new(alloc, Shelf::new(alloc, part))?)
+}
+
+/// Makes an empty shelf for a handle that holds none.
+#[unsafe(no_mangle)]
+pub extern "C" fn rrc_make(
+    alloc: Global,
+    handle: &mut Handle,
+    capacity: u64,
+    chapter: u64,
+    stale: u64,
+    seed: &[u8],
+) -> u32
+    ensures done { OnDone result (HoldsNew capacity chapter stale handle.new.seal.shelf) }
+    ensures refused { OnRefused result (handle.new.seal.shelf ≡ handle.old.seal.shelf) }
+{
+    if handle.is_live() {
+        return Status::HasShelf.number();
+    }
+    match new_shelf(alloc, capacity, chapter, stale, seed) {
+        Err(status) => status.number(),
+        Ok(shelf) => {
+            handle.put(shelf);
+            0
+        }
+    }
+}
+
+/// Frees the shelf of a handle, which then holds none.
+#[unsafe(no_mangle)]
+pub extern "C" fn rrc_free(alloc: Global, handle: &mut Handle) -> u32
+    ensures none { handle.new.seal.shelf ≡ None }
+    ensures status { OnRefused result (handle.old.seal.shelf ≡ None) }
+{
+    match handle.take(alloc) {
+        None => Status::NoShelf.number(),
+        Some(shelf) => {
+            drop(shelf);
+            0
+        }
+    }
+}

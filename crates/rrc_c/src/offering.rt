@@ -1,0 +1,330 @@
+ghost use Rattle.std.specs.Prelude.{◌≡◌, ◌≤◌, ◌<◌, ◌+◌, ◌^◌, ◌++◌, [], length, IfOk, OnOk, OnErr};
+ghost use Rattle.rrc_c.specs.Told.{datum, data_text};
+ghost use Rattle.rrc_c.specs.Offered.{trust_of, denied, denial_offer, failure_offer, outcome_number, count_more, counts_of, IsTrust, IsSetOffer, TakesOne, TakesAll, TakesFirst, TakesMessage, TakesSet, TakesSome, total};
+ghost use Rattle.rrc_sets.specs.Limits.{Are};
+ghost use Rattle.rrc_wire.specs.Grammar.{MessageOf};
+ghost use Rattle.rrc_share.specs.Shelf.{IsLeft};
+
+use crate::asking::name_of;
+use crate::counts::{Bounds, Counts};
+use crate::status::Status;
+use rrc_history::{Body, Offer, Outcome, Tag, Trust};
+use rrc_name::{Key, Octets, Sequence, Shared, Slot};
+use rrc_sets::{Limits, offers};
+use rrc_share::{Shelf, on_shelf_offer};
+use rrc_wire::{Message, WireFault, is_kept, plain_rdata, read_message};
+use std::alloc::Global;
+
+/// The type of SOA records (RFC 1035 section 3.2.2).
+const SOA: u16 = 6;
+
+fn trust_of(number: u32) -> Trust
+    ensures { result ≡ trust_of number }
+{
+    if number == 1 {
+        Trust::Additional
+    } else if number == 2 {
+        Trust::NonAuthoritativeAnswer
+    } else if number == 3 {
+        Trust::Authority
+    } else {
+        Trust::AuthoritativeAnswer
+    }
+}
+
+fn denied(denial: u32, rtype: u16) -> Slot
+    ensures { result ≡ denied denial rtype }
+{
+    if denial == 0 {
+        Slot::Set(rtype)
+    } else {
+        Slot::Nx
+    }
+}
+
+/// The octets of a type's data.
+fn data_in(alloc: Global, rtype: u16, octets: &[u8]) -> Result<Octets, Status>
+    ensures { IfOk result (λ rdata. rdata ≡ octets.now) }
+{
+    match plain_rdata(alloc, rtype, octets) {
+        Ok(rdata) => Ok(rdata),
+        Err(WireFault::Memory) => Err(Status::Memory),
+        Err(_) => Err(Status::BadData),
+    }
+}
+
+/// The datum that stands first behind its length, and what stands behind it.
+fn first_datum(octets: &[u8]) -> Result<(&[u8], &[u8]), Status>
+    ensures { IfOk result (λ both. octets.now ≡ datum both.0.now ++ both.1.now) }
+{
+    if octets.len() < 2 {
+        return Err(Status::BadData);
+    }
+    let size = usize::from(octets[0]) * 256 + usize::from(octets[1]);
+    match octets[2..].split_at_checked(size) {
+        Some(parts) => Ok(parts),
+        None => Err(Status::BadData),
+    }
+}
+
+/// The data that stand in some octets, each behind its length.
+fn items_in(alloc: Global, rtype: u16, octets: &[u8]) -> Result<Sequence<Octets>, Status>
+    ensures { IfOk result (λ items. data_text items ≡ octets.now) }
+{
+    let mut items = Sequence::new(alloc);
+    let mut rest = octets;
+    while !rest.is_empty() {
+        let (datum, behind) = first_datum(rest)?;
+        items.push(data_in(alloc, rtype, datum)?)?;
+        rest = behind;
+    }
+    Ok(items)
+}
+
+/// An offer, where the body fits the key.
+fn offer_of(key: Key, body: Body, moment: u64) -> Result<Offer, Status>
+    ensures { IfOk result (λ offer. offer ≡ record { key = key; body = body; moment = moment }) }
+{
+    match Offer::new(key, body, moment) {
+        Ok(offer) => Ok(offer),
+        Err(_) => Err(Status::WrongBody),
+    }
+}
+
+/// The offer of a set.
+fn set_offer(
+    alloc: Global,
+    owner: &[u8],
+    rtype: u16,
+    trust: u32,
+    ttl: u32,
+    octets: &[u8],
+    moment: u64,
+) -> Result<Offer, Status>
+    ensures offer { IfOk result (IsSetOffer owner.now rtype trust ttl octets.now moment) }
+    ensures choice { OnOk result (IsTrust trust) }
+{
+    if !(1..=4).contains(&trust) {
+        return Err(Status::BadChoice);
+    }
+    if !is_kept(rtype) {
+        return Err(Status::BadType);
+    }
+    let owner = name_of(alloc, owner)?;
+    let key = Key::of(&owner, Slot::Set(rtype))?;
+    let body = Body::Positive {
+        owner,
+        items: Shared::new(alloc, items_in(alloc, rtype, octets)?)?,
+        trust: trust_of(trust),
+        ttl,
+    };
+    offer_of(key, body, moment)
+}
+
+/// The offer of a negative answer.
+fn negative_offer(
+    alloc: Global,
+    name: &[u8],
+    rtype: u16,
+    denial: u32,
+    trust: u32,
+    ttl: u32,
+    soa_owner: &[u8],
+    soa: &[u8],
+    moment: u64,
+) -> Result<Offer, Status>
+    ensures offer { IfOk result (λ offer. offer ≡ denial_offer name.now rtype denial trust ttl soa_owner.now soa.now moment) }
+    ensures trust { OnOk result (IsTrust trust) }
+    ensures denial { OnOk result (denial ≤ 1) }
+{
+    if !(1..=4).contains(&trust) || denial > 1 {
+        return Err(Status::BadChoice);
+    }
+    if !is_kept(rtype) {
+        return Err(Status::BadType);
+    }
+    let key = Key::of(&name_of(alloc, name)?, denied(denial, rtype))?;
+    let body = Body::Negative {
+        soa_owner: name_of(alloc, soa_owner)?,
+        soa: Shared::new(alloc, data_in(alloc, SOA, soa)?)?,
+        trust: trust_of(trust),
+        ttl,
+    };
+    offer_of(key, body, moment)
+}
+
+/// The offer of a failure.
+fn failure_offer(
+    alloc: Global,
+    name: &[u8],
+    rtype: u16,
+    ttl: u32,
+    moment: u64,
+) -> Result<Offer, Status>
+    ensures { IfOk result (λ offer. offer ≡ failure_offer name.now rtype ttl moment) }
+{
+    if !is_kept(rtype) {
+        return Err(Status::BadType);
+    }
+    let key = Key::of(&name_of(alloc, name)?, Slot::Failed(rtype))?;
+    offer_of(key, Body::Failure { ttl }, moment)
+}
+
+fn outcome_number(outcome: Outcome) -> u32
+    ensures { result ≡ outcome_number outcome }
+{
+    match outcome {
+        Outcome::Kept => 1,
+        Outcome::Cleared => 2,
+        Outcome::LessTrusted => 3,
+    }
+}
+
+/// Makes an offer to a shelf, and tells the number of what became of it.
+fn make_offer(shelf: &mut Shelf, line: u64, offer: Offer) -> Result<u32, Status>
+    ensures ok { IfOk result (λ number. TakesOne line offer number shelf.old shelf.new) }
+    ensures left { OnErr result (IsLeft shelf.old shelf.new) }
+{
+    let outcome = on_shelf_offer(shelf, Tag { line, place: 0 }, offer)?;
+    Ok(outcome_number(outcome))
+}
+
+/// Counts what became of an offer.
+fn count(counts: &mut Counts, outcome: Outcome)
+    requires { total counts.old < 2 ^ 63 }
+    ensures { counts.new ≡ count_more outcome counts.old }
+{
+    match outcome {
+        Outcome::Kept => counts.kept += 1,
+        Outcome::Cleared => counts.cleared += 1,
+        Outcome::LessTrusted => counts.refused += 1,
+    }
+}
+
+/// Makes offers to a shelf, in order, and counts what became of them.
+fn take_each(
+    shelf: &mut Shelf,
+    line: u64,
+    offers: Vec<Offer>,
+    counts: &mut Counts,
+) -> Result<(), Status>
+    requires { counts.old ≡ counts_of [] }
+    ensures ok { OnOk result (TakesAll line offers.items counts.new shelf.old shelf.new) }
+    ensures err { OnErr result (TakesFirst line offers.items counts.new shelf.old shelf.new) }
+{
+    for offer in offers {
+        let place = counts.kept + counts.cleared + counts.refused;
+        let outcome = on_shelf_offer(shelf, Tag { line, place }, offer)?;
+        count(counts, outcome);
+    }
+    Ok(())
+}
+
+/// The limits with these numbers.
+fn limits_of(bounds: &Bounds) -> Result<Limits, Status>
+    ensures { IfOk result (λ limits. Are limits bounds.now.cap bounds.now.negative_cap bounds.now.recheck) }
+{
+    match Limits::new(bounds.cap, bounds.negative_cap, bounds.recheck) {
+        Some(limits) => Ok(limits),
+        None => Err(Status::BadLimits),
+    }
+}
+
+/// The message that some octets are.
+fn message_in(alloc: Global, octets: &[u8]) -> Result<Message, Status>
+    ensures { IfOk result (λ message. MessageOf octets.now message) }
+{
+    match read_message(alloc, octets) {
+        Ok(message) => Ok(message),
+        Err(WireFault::Memory) => Err(Status::Memory),
+        Err(_) => Err(Status::BadMessage),
+    }
+}
+
+/// Offers a shelf what a message offers.
+pub(crate) fn offer_message(
+    alloc: Global,
+    shelf: &mut Shelf,
+    line: u64,
+    octets: &[u8],
+    zone: &[u8],
+    moment: u64,
+    bounds: &Bounds,
+    counts: &mut Counts,
+) -> Result<(), Status>
+    ensures ok { OnOk result (TakesMessage line octets.now zone.now moment bounds.now counts.new shelf.old shelf.new) }
+    ensures err { OnErr result (TakesSome line octets.now zone.now moment bounds.now counts.new shelf.old shelf.new) }
+{
+    *counts = Counts {
+        kept: 0,
+        cleared: 0,
+        refused: 0,
+    };
+    let limits = limits_of(bounds)?;
+    let zone = name_of(alloc, zone)?;
+    let message = message_in(alloc, octets)?;
+    let offered = offers(alloc, &message, &zone, moment, &limits)?;
+    take_each(shelf, line, offered, counts)
+}
+
+/// Offers a shelf a set.
+pub(crate) fn take_set(
+    alloc: Global,
+    shelf: &mut Shelf,
+    owner: &[u8],
+    rtype: u16,
+    trust: u32,
+    ttl: u32,
+    octets: &[u8],
+    moment: u64,
+    line: u64,
+) -> Result<u32, Status>
+    ensures ok { IfOk result (λ number. TakesSet line owner.now rtype trust ttl octets.now moment number shelf.old shelf.new) }
+    ensures trust { OnOk result (IsTrust trust) }
+    ensures left { OnErr result (IsLeft shelf.old shelf.new) }
+{
+    let offer = set_offer(alloc, owner, rtype, trust, ttl, octets, moment)?;
+    make_offer(shelf, line, offer)
+}
+
+/// Offers a shelf a negative answer.
+pub(crate) fn take_negative(
+    alloc: Global,
+    shelf: &mut Shelf,
+    name: &[u8],
+    rtype: u16,
+    denial: u32,
+    trust: u32,
+    ttl: u32,
+    soa_owner: &[u8],
+    soa: &[u8],
+    moment: u64,
+    line: u64,
+) -> Result<u32, Status>
+    ensures ok { IfOk result (λ number. TakesOne line (denial_offer name.now rtype denial trust ttl soa_owner.now soa.now moment) number shelf.old shelf.new) }
+    ensures trust { OnOk result (IsTrust trust) }
+    ensures denial { OnOk result (denial ≤ 1) }
+    ensures left { OnErr result (IsLeft shelf.old shelf.new) }
+{
+    let offer = negative_offer(
+        alloc, name, rtype, denial, trust, ttl, soa_owner, soa, moment,
+    )?;
+    make_offer(shelf, line, offer)
+}
+
+/// Offers a shelf that asking failed.
+pub(crate) fn take_failure(
+    alloc: Global,
+    shelf: &mut Shelf,
+    name: &[u8],
+    rtype: u16,
+    ttl: u32,
+    moment: u64,
+    line: u64,
+) -> Result<u32, Status>
+    ensures ok { IfOk result (λ number. TakesOne line (failure_offer name.now rtype ttl moment) number shelf.old shelf.new) }
+    ensures left { OnErr result (IsLeft shelf.old shelf.new) }
+{
+    let offer = failure_offer(alloc, name, rtype, ttl, moment)?;
+    make_offer(shelf, line, offer)
+}

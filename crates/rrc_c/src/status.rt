@@ -1,0 +1,101 @@
+ghost use Rattle.std.specs.Prelude.{◌≡◌};
+ghost use Rattle.rrc_c.specs.Statuses.{number_of};
+
+use rrc_cache::Refusal;
+use rrc_sets::SetsFault;
+use std::alloc::{AllocError, AllocFailed};
+
+/// Why a call was not done. The numbers are those of `include/rrcache.h`, where 0 is a call that was done.
+#[derive(Clone, Copy, Debug, PartialEq, Eq)]
+pub(crate) enum Status {
+    /// The handle holds no shelf.
+    NoShelf = 1,
+    /// The handle holds a shelf already.
+    HasShelf = 2,
+    /// Memory was refused.
+    Memory = 3,
+    /// The numbers of events or of chapters are spent.
+    HistoryFull = 4,
+    /// The moment is above 2^40 seconds.
+    MomentTooLarge = 5,
+    /// The capacity, the chapter's size or the stale limit is not in its range.
+    BadRules = 6,
+    /// The seed has not 16 octets.
+    BadSeed = 7,
+    /// A limit of what a response says is not in its range.
+    BadLimits = 8,
+    /// The octets are not the wire form of a name.
+    BadName = 9,
+    /// The octets are no response that can be read.
+    BadMessage = 10,
+    /// No choice has this number.
+    BadChoice = 11,
+    /// Data of this type are not kept.
+    BadType = 12,
+    /// The octets are not data of the type, each behind its length.
+    BadData = 13,
+    /// The body does not fit its key.
+    WrongBody = 14,
+    /// A datum of the answer has more octets than its length can tell.
+    WideAnswer = 15,
+}
+
+/// What C is told where the buffer is too small for the answer, whose size is then told.
+pub(crate) const SMALL_BUFFER: u32 = 16;
+
+impl Status {
+    /// The number that C is told, from 1 to 15.
+    pub(crate) fn number(self) -> u32
+        ensures { result ≡ number_of self }
+    {
+        u32::from(self as u8)
+    }
+}
+
+impl From<AllocError> for Status {
+    ghost use Rattle.std.specs.Prelude.{◌≡◌};
+    ghost use Rattle.rrc_c.specs.declared.status.Status.TheVariants.{Memory};
+
+    ghost from_gives = { λ _ status. status ≡ Memory };
+
+    fn from(_refused: AllocError) -> Status {
+        Status::Memory
+    }
+}
+
+impl<T: Drop> From<AllocFailed<T>> for Status {
+    ghost use Rattle.std.specs.Prelude.{◌≡◌};
+    ghost use Rattle.rrc_c.specs.declared.status.Status.TheVariants.{Memory};
+
+    ghost from_gives = { λ _ status. status ≡ Memory };
+
+    fn from(_refused: AllocFailed<T>) -> Status {
+        Status::Memory
+    }
+}
+
+impl From<Refusal> for Status {
+    ghost use Rattle.std.specs.Prelude.{◌≡◌};
+    ghost use Rattle.rrc_c.specs.Statuses.{refused_as};
+
+    ghost from_gives = { λ refusal status. status ≡ refused_as refusal };
+
+    fn from(refusal: Refusal) -> Status {
+        match refusal {
+            Refusal::HistoryFull => Status::HistoryFull,
+            Refusal::MomentTooLarge => Status::MomentTooLarge,
+            Refusal::Memory => Status::Memory,
+        }
+    }
+}
+
+impl From<SetsFault> for Status {
+    ghost use Rattle.std.specs.Prelude.{◌≡◌};
+    ghost use Rattle.rrc_c.specs.declared.status.Status.TheVariants.{Memory};
+
+    ghost from_gives = { λ _ status. status ≡ Memory };
+
+    fn from(_refused: SetsFault) -> Status {
+        Status::Memory
+    }
+}

@@ -1,0 +1,304 @@
+/* rrcache.h: the RRset cache of a recursive DNS resolver, for resolvers written in C.
+
+   A *shelf* is one part of the cache with its history. A resolver makes 16 to 64 of them, each with a lock beside it, and picks the
+   one for a name by `rrcache_part_of`: all that is known of a name lies in one part, in whatever case the name is written. With more
+   shelves fewer threads wait for one lock; one shelf with no lock will do where one thread asks.
+
+   Who owns what
+   - The caller owns the handle, the lock and each buffer, and no call keeps a pointer to any of them. What the library takes from
+     malloc it keeps, and gives back by `rrcache_free`: no pointer to it leaves the library.
+   - A handle begins as zeros, `struct rrcache_shelf shelf = {0};`, which holds no shelf. Nothing but the library writes into it
+     after that. It may be moved in memory while no call runs; there must be no copy of it that is used as well.
+
+   Which lock to hold
+   - That of the shelf, for the whole of every call that takes a handle, `rrcache_peek` and `rrcache_sizes` too, which also write
+     into the handle for a while. Two threads in one handle are a fault of the caller that nothing tests. A call takes one shelf,
+     so no second lock is ever needed beside it.
+   - `rrcache_fault` and `rrcache_part_of` take no handle and need no lock.
+   - No call waits, sleeps, takes a lock or calls back. None may be made in a signal handler, nor in the child of a process with
+     threads that forked.
+
+   Memory
+   - The library calls malloc, realloc and free and nothing else. Where malloc refuses, the call answers RRCACHE_MEMORY.
+   - What a reply says is copied into the caller's buffer.
+
+   What a refusal leaves
+   - Every call answers a status. RRCACHE_DONE is 0; each other one is a refusal, and nothing ends the process.
+   - A refusal leaves the shelf's history and its replies as they were; a chapter that was full may have been closed.
+     `rrcache_offer_message` alone may leave a part of its work: the offers of one message are made one after another, and where one is
+     refused, those before it stay. `counts` tells how many they are.
+   - What a call was to write for the caller is as it was after a refusal, but for `counts`, and for `told` after RRCACHE_SMALL.
+
+   Names are in wire form (RFC 1035 section 3.1), whole, with no pointer, at most 255 octets with the zero octet at the end, in any
+   case. Moments are seconds, at most 2^40, on one clock that the caller reads. `line` is a number of the caller's own that the event of
+   the call is kept with. A pointer may be null only where its size is 0.
+
+   The history of a shelf grows by one event with each call that answers RRCACHE_DONE, but for `rrcache_peek`, `rrcache_sizes` and
+   `rrcache_drop_chapters`; a whole message is one event for each of its offers. A chapter of it is closed when it is full. Whoever
+   needs no history drops the closed chapters from time to time.
+
+   The functions of the library proper begin with `rrc_`, and need pointers that are not null and buffers that do not overlap. The inline
+   functions below test what can be tested, answer RRCACHE_NULL where a pointer is null that may not be, and call them. That
+   a handle was made by zeros, that no two threads are in it, and that buffers lie where they are said to, no test finds out. */
+#ifndef RRCACHE_H
+#define RRCACHE_H
+
+#include <stdbool.h>
+#include <stddef.h>
+#include <stdint.h>
+
+#ifdef __cplusplus
+extern "C" {
+#endif
+
+/* What calls answer. */
+enum rrcache_status {
+    RRCACHE_DONE = 0,
+    RRCACHE_NO_SHELF = 1,         /* the handle holds no shelf */
+    RRCACHE_HAS_SHELF = 2,        /* the handle holds a shelf already */
+    RRCACHE_MEMORY = 3,           /* malloc refused */
+    RRCACHE_HISTORY_FULL = 4,     /* the numbers of events or of chapters, 2^62 each, are spent */
+    RRCACHE_MOMENT_TOO_LARGE = 5, /* the moment is above 2^40 */
+    RRCACHE_BAD_RULES = 6,        /* capacity, chapter, stale or the number of parts is not in its range */
+    RRCACHE_BAD_SEED = 7,         /* the seed has not 16 octets */
+    RRCACHE_BAD_LIMITS = 8,       /* a number of `struct rrcache_limits` is not in its range */
+    RRCACHE_BAD_NAME = 9,         /* octets are not the wire form of a name */
+    RRCACHE_BAD_MESSAGE = 10,     /* octets are no response that can be read: `rrcache_fault` tells why */
+    RRCACHE_BAD_CHOICE = 11,      /* no purpose, mode, denial or trust has this number */
+    RRCACHE_BAD_TYPE = 12,        /* data of this type are not kept, as those of OPT and of questions alone */
+    RRCACHE_BAD_DATA = 13,        /* data do not fill the layout of their type, or their lengths do not fit */
+    RRCACHE_WRONG_BODY = 14,      /* a set with no data, or a time to live above 2^31 - 1 */
+    RRCACHE_WIDE = 15,            /* a datum of the reply has more than 65,535 octets, which no response brings */
+    RRCACHE_SMALL = 16,           /* the buffer is too small: `told` says what it needs, and no event was written */
+    RRCACHE_NULL = 17             /* a pointer is null, or buffers overlap that may not (told by the inline functions alone) */
+};
+
+/* What a reply is. */
+enum rrcache_kind {
+    RRCACHE_FRESH = 1,      /* a set that is not past its time to live */
+    RRCACHE_STALE = 2,      /* a set past its time to live (RFC 8767) */
+    RRCACHE_NO_DATA = 3,    /* the name has no data of the type (RFC 2308 section 2.2) */
+    RRCACHE_NO_NAME = 4,    /* the name does not exist (RFC 2308 section 2.1) */
+    RRCACHE_MISS = 5,       /* nothing that will do */
+    RRCACHE_MISS_FAILED = 6 /* nothing that will do, and asking has lately failed: `retry_from` says when to try again */
+};
+
+/* What an answer is for: anything, where glue will do, or to answer a question, where it will not (RFC 2181 section 5.4.1). */
+enum rrcache_purpose { RRCACHE_ANYTHING = 0, RRCACHE_QUESTION = 1 };
+
+/* Whether a stale answer will do (RFC 8767 section 5): no; where asking has lately failed; at once. */
+enum rrcache_mode { RRCACHE_NO_STALE = 0, RRCACHE_STALE_IF_FAILED = 1, RRCACHE_STALE_NOW = 2 };
+
+/* How far data are trusted (RFC 2181 section 5.4.1), from low to high. */
+enum rrcache_trust {
+    RRCACHE_ADDITIONAL = 1,               /* the additional section, or the authority section of a reply that is not authoritative */
+    RRCACHE_NON_AUTHORITATIVE_ANSWER = 2, /* the answer section otherwise */
+    RRCACHE_AUTHORITY = 3,                /* the authority section of an authoritative reply */
+    RRCACHE_AUTHORITATIVE_ANSWER = 4      /* the answer section of an authoritative reply, under the name that was asked for */
+};
+
+/* What a negative answer denies: data of the type, or the name. */
+enum rrcache_denial { RRCACHE_DENIES_TYPE = 0, RRCACHE_DENIES_NAME = 1 };
+
+/* What became of an offer: it is kept; its ttl was 0, and the key holds nothing; the key holds what is trusted more. */
+enum rrcache_outcome { RRCACHE_KEPT = 1, RRCACHE_CLEARED = 2, RRCACHE_LESS_TRUSTED = 3 };
+
+/* A handle: zeros, or what `rrcache_make` made of it. */
+struct rrcache_shelf {
+    void *at;
+    bool is_live;
+};
+
+/* A reply. Its buffer begins with `owner_size` octets, the owner's wire form as it was received, and behind them are `data_size`
+   octets: each datum of the set, or the SOA record's alone, behind its length of two octets, the high one first. A miss has
+   neither. */
+struct rrcache_told {
+    uint32_t kind;       /* enum rrcache_kind */
+    uint32_t left;       /* for how many seconds the reply holds; 0 with a miss */
+    uint64_t retry_from; /* with RRCACHE_MISS_FAILED the moment, and else 0 */
+    uint64_t owner_size;
+    uint64_t data_size;
+};
+
+/* What became of the offers of a message. */
+struct rrcache_counts {
+    uint64_t kept;
+    uint64_t cleared;
+    uint64_t refused; /* since what their key holds is trusted more */
+};
+
+/* How long what a response says may be kept, in seconds. */
+struct rrcache_limits {
+    uint32_t cap;          /* the most that data live: 1 to 604,800 (RFC 8767 section 4) */
+    uint32_t negative_cap; /* the most that a negative answer lives: 1 to 604,800 (RFC 2308 section 5) */
+    uint32_t recheck;      /* how long a failure is remembered: 1 to 300 (RFC 2308 section 7) */
+};
+
+/* The functions of the library proper. A size stands behind its pointer. */
+uint32_t rrc_make(struct rrcache_shelf *shelf, uint64_t capacity, uint64_t chapter, uint64_t stale, const uint8_t *seed, size_t seed_size);
+uint32_t rrc_free(struct rrcache_shelf *shelf);
+uint32_t rrc_offer_message(struct rrcache_shelf *shelf, const uint8_t *octets, size_t size, const uint8_t *zone, size_t zone_size,
+                           uint64_t moment, const struct rrcache_limits *limits, uint64_t line, struct rrcache_counts *counts);
+uint32_t rrc_offer_set(struct rrcache_shelf *shelf, const uint8_t *owner, size_t owner_size, uint16_t rtype, uint32_t trust, uint32_t ttl,
+                       const uint8_t *data, size_t data_size, uint64_t moment, uint64_t line, uint32_t *outcome);
+uint32_t rrc_offer_negative(struct rrcache_shelf *shelf, const uint8_t *name, size_t name_size, uint16_t rtype, uint32_t denial,
+                            uint32_t trust, uint32_t ttl, const uint8_t *soa_owner, size_t soa_owner_size, const uint8_t *soa,
+                            size_t soa_size, uint64_t moment, uint64_t line, uint32_t *outcome);
+uint32_t rrc_offer_failure(struct rrcache_shelf *shelf, const uint8_t *name, size_t name_size, uint16_t rtype, uint32_t ttl,
+                           uint64_t moment, uint64_t line, uint32_t *outcome);
+uint32_t rrc_ask(struct rrcache_shelf *shelf, const uint8_t *name, size_t name_size, uint16_t rtype, uint64_t moment, uint32_t purpose,
+                 uint32_t mode, uint64_t line, struct rrcache_told *told, uint8_t *buffer, size_t buffer_size);
+uint32_t rrc_peek(struct rrcache_shelf *shelf, const uint8_t *name, size_t name_size, uint16_t rtype, uint64_t moment, uint32_t purpose,
+                  uint32_t mode, struct rrcache_told *told, uint8_t *buffer, size_t buffer_size);
+uint32_t rrc_sweep(struct rrcache_shelf *shelf, uint64_t moment, uint64_t line, uint64_t *removed);
+uint32_t rrc_drop_chapters(struct rrcache_shelf *shelf, uint64_t *dropped);
+uint32_t rrc_sizes(struct rrcache_shelf *shelf, uint64_t *events, uint64_t *chapters);
+uint32_t rrc_fault(const uint8_t *octets, size_t size, uint32_t *fault);
+uint32_t rrc_part_of(const uint8_t *name, size_t name_size, uint64_t parts, uint64_t *part);
+
+/* ---- What a resolver calls. */
+
+/* Some octet for a list that has none. */
+static inline const uint8_t *rrcache_octets(const uint8_t *octets, size_t size)
+{
+    static const uint8_t none = 0;
+    return size == 0 ? &none : octets;
+}
+
+/* Whether octets are there where they are said to be. */
+static inline bool rrcache_is_there(const void *octets, size_t size)
+{
+    return octets != NULL || size == 0;
+}
+
+/* Whether two stretches of memory have an octet in common. */
+static inline bool rrcache_overlap(const void *one, size_t one_size, const void *other, size_t other_size)
+{
+    uintptr_t a = (uintptr_t)one, b = (uintptr_t)other;
+    return one_size != 0 && other_size != 0 && (a < b ? b - a < one_size : a - b < other_size);
+}
+
+/* Makes an empty shelf for a handle that holds none: for 1 to 65,536 keys, with 1 to 1,048,576 events in a chapter, and sets that
+   may answer for 0 to 604,800 seconds past their time to live. Keys are hashed behind the seed of 16 octets, which is to be random
+   and kept secret, so that nobody can pick names whose hashes are alike. */
+static inline uint32_t rrcache_make(struct rrcache_shelf *shelf, uint64_t capacity, uint64_t chapter, uint64_t stale, const uint8_t seed[16])
+{
+    return shelf == NULL || seed == NULL ? RRCACHE_NULL : rrc_make(shelf, capacity, chapter, stale, seed, 16);
+}
+
+/* Frees the shelf of a handle, which then holds none. Where it held none RRCACHE_NO_SHELF is answered and nothing done. */
+static inline uint32_t rrcache_free(struct rrcache_shelf *shelf)
+{
+    return shelf == NULL ? RRCACHE_NULL : rrc_free(shelf);
+}
+
+/* Offers all that a response says to the zone that it was asked for: its RRsets, and its negative answer or that asking failed. Keys of
+   other names than this shelf's are offered as well; where that may not be, the caller splits by `rrcache_offer_set`. */
+static inline uint32_t rrcache_offer_message(struct rrcache_shelf *shelf, const uint8_t *octets, size_t size, const uint8_t *zone,
+                                             size_t zone_size, uint64_t moment, const struct rrcache_limits *limits, uint64_t line,
+                                             struct rrcache_counts *counts)
+{
+    if (shelf == NULL || limits == NULL || counts == NULL || !rrcache_is_there(octets, size) || !rrcache_is_there(zone, zone_size))
+        return RRCACHE_NULL;
+    return rrc_offer_message(shelf, rrcache_octets(octets, size), size, rrcache_octets(zone, zone_size), zone_size, moment, limits, line, counts);
+}
+
+/* Offers one set under its owner. The data stand one behind another, each behind its length of two octets, with no name compressed. */
+static inline uint32_t rrcache_offer_set(struct rrcache_shelf *shelf, const uint8_t *owner, size_t owner_size, uint16_t rtype,
+                                         uint32_t trust, uint32_t ttl, const uint8_t *data, size_t data_size, uint64_t moment,
+                                         uint64_t line, uint32_t *outcome)
+{
+    if (shelf == NULL || outcome == NULL || !rrcache_is_there(owner, owner_size) || !rrcache_is_there(data, data_size))
+        return RRCACHE_NULL;
+    return rrc_offer_set(shelf, rrcache_octets(owner, owner_size), owner_size, rtype, trust, ttl, rrcache_octets(data, data_size),
+                         data_size, moment, line, outcome);
+}
+
+/* Offers that a name has no data of a type, or does not exist, with the SOA record that says so, its names not compressed. */
+static inline uint32_t rrcache_offer_negative(struct rrcache_shelf *shelf, const uint8_t *name, size_t name_size, uint16_t rtype,
+                                              uint32_t denial, uint32_t trust, uint32_t ttl, const uint8_t *soa_owner,
+                                              size_t soa_owner_size, const uint8_t *soa, size_t soa_size, uint64_t moment,
+                                              uint64_t line, uint32_t *outcome)
+{
+    if (shelf == NULL || outcome == NULL || !rrcache_is_there(name, name_size) || !rrcache_is_there(soa_owner, soa_owner_size)
+        || !rrcache_is_there(soa, soa_size))
+        return RRCACHE_NULL;
+    return rrc_offer_negative(shelf, rrcache_octets(name, name_size), name_size, rtype, denial, trust, ttl,
+                              rrcache_octets(soa_owner, soa_owner_size), soa_owner_size, rrcache_octets(soa, soa_size), soa_size,
+                              moment, line, outcome);
+}
+
+/* Offers that asking for data of a type failed, for `ttl` seconds. */
+static inline uint32_t rrcache_offer_failure(struct rrcache_shelf *shelf, const uint8_t *name, size_t name_size, uint16_t rtype,
+                                             uint32_t ttl, uint64_t moment, uint64_t line, uint32_t *outcome)
+{
+    if (shelf == NULL || outcome == NULL || !rrcache_is_there(name, name_size))
+        return RRCACHE_NULL;
+    return rrc_offer_failure(shelf, rrcache_octets(name, name_size), name_size, rtype, ttl, moment, line, outcome);
+}
+
+/* Asks, which is one event: the reply is told and written to the buffer. Where the buffer is too small RRCACHE_SMALL is answered,
+   `told` tells the reply and its sizes, and no event is written. A reply never takes more than 255 octets and those of its data. */
+static inline uint32_t rrcache_ask(struct rrcache_shelf *shelf, const uint8_t *name, size_t name_size, uint16_t rtype, uint64_t moment,
+                                   uint32_t purpose, uint32_t mode, uint64_t line, struct rrcache_told *told, uint8_t *buffer,
+                                   size_t buffer_size)
+{
+    uint8_t none;
+    if (shelf == NULL || told == NULL || !rrcache_is_there(name, name_size) || !rrcache_is_there(buffer, buffer_size)
+        || rrcache_overlap(buffer, buffer_size, name, name_size) || rrcache_overlap(buffer, buffer_size, shelf, sizeof *shelf)
+        || rrcache_overlap(buffer, buffer_size, told, sizeof *told))
+        return RRCACHE_NULL;
+    return rrc_ask(shelf, rrcache_octets(name, name_size), name_size, rtype, moment, purpose, mode, line, told,
+                   buffer_size == 0 ? &none : buffer, buffer_size);
+}
+
+/* What `rrcache_ask` would answer. No event is written and no key touched. */
+static inline uint32_t rrcache_peek(struct rrcache_shelf *shelf, const uint8_t *name, size_t name_size, uint16_t rtype, uint64_t moment,
+                                    uint32_t purpose, uint32_t mode, struct rrcache_told *told, uint8_t *buffer, size_t buffer_size)
+{
+    uint8_t none;
+    if (shelf == NULL || told == NULL || !rrcache_is_there(name, name_size) || !rrcache_is_there(buffer, buffer_size)
+        || rrcache_overlap(buffer, buffer_size, name, name_size) || rrcache_overlap(buffer, buffer_size, shelf, sizeof *shelf)
+        || rrcache_overlap(buffer, buffer_size, told, sizeof *told))
+        return RRCACHE_NULL;
+    return rrc_peek(shelf, rrcache_octets(name, name_size), name_size, rtype, moment, purpose, mode, told,
+                    buffer_size == 0 ? &none : buffer, buffer_size);
+}
+
+/* Removes the keys that can answer no more at a moment, which is one event, and tells how many they were. */
+static inline uint32_t rrcache_sweep(struct rrcache_shelf *shelf, uint64_t moment, uint64_t line, uint64_t *removed)
+{
+    return shelf == NULL || removed == NULL ? RRCACHE_NULL : rrc_sweep(shelf, moment, line, removed);
+}
+
+/* Takes the closed chapters and drops them, and tells how many they were. No reply changes. */
+static inline uint32_t rrcache_drop_chapters(struct rrcache_shelf *shelf, uint64_t *dropped)
+{
+    return shelf == NULL || dropped == NULL ? RRCACHE_NULL : rrc_drop_chapters(shelf, dropped);
+}
+
+/* Tells how many events the open chapter has, and how many chapters are closed. */
+static inline uint32_t rrcache_sizes(struct rrcache_shelf *shelf, uint64_t *events, uint64_t *chapters)
+{
+    return shelf == NULL || events == NULL || chapters == NULL || events == chapters ? RRCACHE_NULL : rrc_sizes(shelf, events, chapters);
+}
+
+/* Tells why octets are no response: 0 they are one, 1 they end too soon, 2 a length octet has reserved bits, 3 a pointer leads to no
+   lower place, 4 a name has more than 255 octets, 5 data do not fill their layout, 6 they are no response, 7 there is not one
+   question, 8 they are more than 65,535. */
+static inline uint32_t rrcache_fault(const uint8_t *octets, size_t size, uint32_t *fault)
+{
+    return fault == NULL || !rrcache_is_there(octets, size) ? RRCACHE_NULL : rrc_fault(rrcache_octets(octets, size), size, fault);
+}
+
+/* Tells in which of 1 to 64 parts all keys of a name lie, counted from 0. */
+static inline uint32_t rrcache_part_of(const uint8_t *name, size_t name_size, uint64_t parts, uint64_t *part)
+{
+    return part == NULL || !rrcache_is_there(name, name_size) ? RRCACHE_NULL : rrc_part_of(rrcache_octets(name, name_size), name_size, parts, part);
+}
+
+#ifdef __cplusplus
+}
+#endif
+
+#endif
