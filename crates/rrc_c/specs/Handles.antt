@@ -1,5 +1,5 @@
 -- What a handle holds before and after a call.
-use Rattle.std.specs.Prelude.{◌≡◌, ℕ, Option, None, Some}
+use Rattle.std.specs.Prelude.{Option, None, Some}
 use Rattle.rrc_share.specs.Shelf.{ShelfOf, IsLeft}
 
 -- the handle holds a shelf, and held one, of which two this is true
