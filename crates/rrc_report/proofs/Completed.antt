@@ -1,5 +1,5 @@
 -- What workers say that they did, completed by events, and the report that holds it.
-use Rattle.std.proofs.Common.{◌≡◌, ℕ, ◌+◌, List, [], ◌∷◌, ◌++◌, length, map, Some, sym, ap, subst, ◌∙◌}
+use Rattle.std.proofs.Common.{◌≡◌, ℕ, ◌+◌, List, [], ◌∷◌, length, map, Some, sym, ap, ◌∙◌}
 use Rattle.std.specs.Prelude.{slice_get}
 use Rattle.std.specs.List.{All, AllZip}
 use Rattle.std.proofs.lemmas.List.Elements.{All-nil, All-cons, All-head, All-tail, All-append, All-map}
@@ -11,10 +11,10 @@ use Rattle.rrc_collate.specs.declared.task.Task.{Task}
 use Rattle.rrc_report.specs.declared.config.Config.{Config}
 use Rattle.rrc_report.specs.declared.done.Answered.{Answered}
 use Rattle.rrc_report.specs.declared.done.Done.{Done}
-use Rattle.rrc_report.specs.Answers.{IsTold, without_keys, Completes}
+use Rattle.rrc_report.specs.Answers.{IsTold, without_keys}
 use Rattle.rrc_report.specs.Reports.{IsAnswered, IsGiven}
 use Rattle.rrc_report.proofs.Zips.{all_left, all_right, all_unmap}
-use Rattle.rrc_report.specs.Steps.{Given, given_by, given_from, IsTaskOf, AreTasks, StandsComplete, AreComplete}
+use Rattle.rrc_report.specs.Steps.{Given, given_by, given_from, AreTasks, StandsComplete, AreComplete}
 
 -- what a given line got in the report is what its events tell
 pub record IsGivenTold (answers : List Answer) (given : Given) (events : List Event) : Type 0 where

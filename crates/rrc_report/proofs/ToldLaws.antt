@@ -1,16 +1,15 @@
 -- The answer that events complete is the one that they tell and that was given.
-use Rattle.std.proofs.Common.{◌≡◌, ℕ, ◌+◌, ◌<◌, Bool, true, false, cond, List, [], ◌∷◌, ◌++◌, length, map, Option, Some, None, refl, sym, ap, subst, ◌∙◌}
-use Rattle.std.specs.Prelude.{◌&&◌, ◌==◌, Result, Ok, Err, IfOk, IfSome, IfNone}
+use Rattle.std.proofs.Common.{◌≡◌, ℕ, Bool, true, false, cond, List, [], ◌∷◌, length, map, Option, Some, None, refl, sym, ap, subst, ◌∙◌}
+use Rattle.std.specs.Prelude.{◌&&◌, Result, Ok, Err, IfOk, IfSome, IfNone}
 use Rattle.std.specs.Option.{option_map}
-use Rattle.std.proofs.lemmas.Bool.{false≢true, cases_Bool, cond-true, and_from, and_parts}
+use Rattle.std.proofs.lemmas.Bool.{false≢true, cond-true, and_from, and_parts}
 use Rattle.std.proofs.lemmas.Bool.Decides.{Decides-eqb}
 use Rattle.rrc_name.specs.Key.{KeyOf}
 use Rattle.rrc_history.specs.declared.event.Event.{Event}
 use Rattle.rrc_history.specs.declared.event.Event.TheVariants.{Offered, Asked, Swept}
-use Rattle.rrc_history.specs.declared.event.Outcome.{Outcome}
 use Rattle.rrc_history.specs.declared.event.Reply.{Reply}
 use Rattle.rrc_history.specs.declared.event.Reply.TheVariants.{Fresh, Stale, NoData, NxDomain, Miss}
-use Rattle.rrc_history.specs.Auditing.{outcome_eq, reply_eq}
+use Rattle.rrc_history.specs.Auditing.{outcome_eq}
 use Rattle.rrc_history.specs.lemmas.ReplyLaws.{outcome_eq-Decides, reply_eq-Decides}
 use Rattle.rrc_trace.specs.declared.answer.Answer.{Answer}
 use Rattle.rrc_trace.specs.declared.answer.Answer.TheVariants as answers

@@ -6,7 +6,7 @@ use Rattle.std.proofs.lemmas.List.{get_or-map, length-map, map-append, take_more
 use Rattle.rrc_history.specs.declared.event.Event.{Event}
 use Rattle.rrc_history.specs.declared.event.Reply.{Reply}
 use Rattle.rrc_trace.specs.declared.answer.Told.{Told}
-use Rattle.rrc_report.specs.Completing.{told_by, replies, counts, joined, all_told_by, all_count, replies_alone, told_before}
+use Rattle.rrc_report.specs.Completing.{told_by, replies, counts, joined, all_told_by, all_count, told_before}
 use Rattle.rrc_report.proofs.ToldLaws.{joined_parts}
 
 joined_none : {X : Type 0} (first : Option X) → joined first None ≡ None
@@ -43,16 +43,16 @@ told_missed (first ∷ given) (next ∷ events) (suc i) one event within also no
 
 -- ---- sweeps
 
+and_false : (b : Bool) → (b && false) ≡ false
+and_false true = refl
+and_false false = refl
+
 pub count_unlike : (removed : List ℕ) (events : List Event) → (length removed ≡ length events → ⊥) → all_count removed events ≡ false
 count_unlike [] [] other = absurd (other refl)
 count_unlike [] (event ∷ events) other = refl
 count_unlike (count ∷ removed) [] other = refl
 count_unlike (count ∷ removed) (event ∷ events) other =
     ap (λ rest. counts count event && rest) (count_unlike removed events (λ same. other (ap suc same))) ∙ and_false (counts count event)
-  where
-    and_false : (b : Bool) → (b && false) ≡ false
-    and_false true = refl
-    and_false false = refl
 
 pub count_more : (removed : List ℕ) (events : List Event) (count : ℕ) (event : Event) → all_count removed events ≡ true → counts count event ≡ true
     → all_count (removed ++ count ∷ []) (events ++ event ∷ []) ≡ true
@@ -70,10 +70,6 @@ count_missed (first ∷ removed) [] i count event within also none = refl
 count_missed (first ∷ removed) (next ∷ events) zero count event within also none = ap (λ found. found && all_count removed events) none
 count_missed (first ∷ removed) (next ∷ events) (suc i) count event within also none =
     ap (λ rest. counts first next && rest) (count_missed removed events i count event (omega (arith, within)) (omega (arith, also)) none) ∙ and_false (counts first next)
-  where
-    and_false : (b : Bool) → (b && false) ≡ false
-    and_false true = refl
-    and_false false = refl
 
 -- ---- fetches
 

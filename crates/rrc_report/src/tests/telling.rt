@@ -26,8 +26,9 @@ fn kept(alloc: Global, evicted: Option<Key>) -> Result<Event, Fail> {
 
 /// An ask that found nothing, and from when on asking may be tried again.
 fn missed(alloc: Global, retry_from: Option<u64>) -> Result<Event, Fail> {
+    let asked = key(alloc, "a.example.")?;
     let ask = Ask {
-        name: Name::from_text(alloc, "a.example.")?,
+        name: asked.name().clone()?,
         rtype: 1,
         moment: 12,
         purpose: Purpose::Answer,

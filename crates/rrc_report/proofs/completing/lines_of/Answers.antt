@@ -1,4 +1,4 @@
-use Rattle.std.proofs.Common.{◌≡◌, ◌<◌, ◌≢◌, List, Option, length, map, Vec, Global, Bor, ap, subst, sym, ◌∙◌, arith}
+use Rattle.std.proofs.Common.{◌≡◌, ◌<◌, ◌≢◌, List, Option, length, map, Bor, ap, subst, sym, ◌∙◌}
 use Rattle.std.specs.Prelude.{IfOk, Some, None}
 use Rattle.std.specs.Option.{MatchOption}
 use Rattle.std.specs.List.{All, AllPairs, Contains}

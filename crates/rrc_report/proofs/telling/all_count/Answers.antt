@@ -1,4 +1,4 @@
-use Rattle.std.proofs.Common.{◌≡◌, ◌<◌, length, Bor, sym, ◌∙◌, arith}
+use Rattle.std.proofs.Common.{◌<◌, length, Bor, sym, ◌∙◌, arith}
 use Rattle.rrc_history.specs.declared.event.Event.{Event}
 use Rattle.rrc_report.proofs.ToldSteps.{count_apart, count_off, count_on}
 use Rattle.rrc_report.proofs.telling.all_count.Goals as goal

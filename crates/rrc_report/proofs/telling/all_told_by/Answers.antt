@@ -1,6 +1,5 @@
-use Rattle.std.proofs.Common.{◌≡◌, ◌<◌, length, map, take, Some, Bor, sym, ap, ◌∙◌, arith}
+use Rattle.std.proofs.Common.{◌<◌, length, Some, Bor, sym, ap, ◌∙◌, arith}
 use Rattle.rrc_history.specs.declared.event.Event.{Event}
-use Rattle.rrc_report.specs.Completing.{all_told_by}
 use Rattle.rrc_report.proofs.ToldSteps.{told_apart, told_off, told_on}
 use Rattle.rrc_report.proofs.telling.all_told_by.Goals as goal
 

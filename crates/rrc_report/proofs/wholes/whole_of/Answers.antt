@@ -1,4 +1,4 @@
-use Rattle.std.proofs.Common.{Result, Err, subst}
+use Rattle.std.proofs.Common.{Err, subst}
 use Rattle.rrc_cache.specs.Part.{IsCloseDue}
 use Rattle.rrc_report.proofs.WholeParts.{one_spent}
 use Rattle.rrc_report.proofs.wholes.whole_of.Goals as goal

@@ -1,8 +1,5 @@
-use Rattle.std.proofs.Common.{◌≡◌, ◌++◌, ◌∷◌, [], List, sym, ap, subst, ◌∙◌, append_assoc}
+use Rattle.std.proofs.Common.{◌≡◌, ◌++◌, ◌∷◌, [], sym, ap, subst, ◌∙◌, append_assoc}
 use Rattle.std.specs.Vec.Iter.{into_iter_items}
-use Rattle.rrc_history.specs.Chains.{WholeOf}
-use Rattle.rrc_share.specs.Shelf.{ShelfOf}
-use Rattle.rrc_report.specs.Reports.{empty_under}
 use Rattle.rrc_report.specs.Steps.{AreParts, CanNotClose}
 use Rattle.rrc_report.proofs.WholeParts.{spent_among, no_parts, parts_more, begins, begins_not, handed_on}
 use Rattle.rrc_report.proofs.wholes.wholes_of.Goals as goal
