@@ -74,7 +74,23 @@ fn config_of() -> Result<Config, Fail> {
     Ok(Config::new(2, 3, rules, limits).ok_or("config")?)
 }
 
-/// The worker 1 says that line 0 of a trace got this answer, which is a task in these words, or none.
+/// The tasks of what workers say that they did with a trace of this text.
+fn tasks_at(alloc: Global, text: &str, done: &[Done]) -> Result<Option<Vec<Task>>, Fail> {
+    let trace = read_trace(alloc, &mut text.as_bytes())?;
+    let questions = Questions::of(alloc, &trace)?;
+    let config = config_of()?;
+    Ok(tasks_of(alloc, &trace, &config, &questions, done)?)
+}
+
+/// The first of these tasks in words.
+fn words_of(alloc: Global, tasks: &[Task]) -> Result<Option<String>, AllocError> {
+    match tasks.first() {
+        Some(task) => Ok(Some(task_text(alloc, task)?)),
+        None => Ok(None),
+    }
+}
+
+/// A worker says that line 0 of a trace got this answer, which is a task in these words, or none.
 fn has_task(
     rt: &impl Abort,
     alloc: Global,
@@ -82,175 +98,177 @@ fn has_task(
     answer: Answer,
     wanted: Option<&str>,
 ) -> Result<(), Fail> {
-    let trace = read_trace(alloc, &mut text.as_bytes())?;
-    let questions = Questions::of(alloc, &trace)?;
-    let config = config_of()?;
-    let idle = Done {
-        answers: Sequence::new(alloc),
+    let mut done = Vec::new(alloc);
+    done.push(done_of(alloc, 0, answer)?)?;
+    let tasks = tasks_at(alloc, text, done.as_slice())?.unwrap_or(Vec::new(alloc));
+    let words = words_of(alloc, tasks.as_slice())?;
+    assert_eq!(rt; words.as_ref().map(|words| words.as_str()), wanted);
+    Ok(())
+}
+
+/// A kind of answer.
+#[derive(Clone, Copy, Debug)]
+enum Kind {
+    Put,
+    Ask,
+    Fail,
+    Response,
+    Refused(WireFault),
+    Hit,
+    Held,
+    Joined,
+    Fetched,
+    Swept,
+    Closed,
+}
+
+/// An answer of a kind.
+fn answer_of(alloc: Global, kind: Kind) -> Answer {
+    let told = Told {
+        outcome: Outcome::Kept,
+        evicted: None,
     };
-    let done = [idle, done_of(alloc, 0, answer)?];
-    let tasks = tasks_of(alloc, &trace, &config, &questions, done.as_slice())?;
-    match tasks {
-        None => assert!(rt; wanted.is_none()),
-        Some(tasks) => {
-            assert_eq!(rt; tasks.len(), 1);
-            let words = task_text(alloc, &tasks[0])?;
-            assert_eq!(rt; Some(words.as_str()), wanted);
-        }
+    let reply = Reply::Miss { retry_from: None };
+    match kind {
+        Kind::Put => Answer::Put(told),
+        Kind::Ask => Answer::Ask(reply),
+        Kind::Fail => Answer::Fail(told),
+        Kind::Response => Answer::Response(Sequence::new(alloc)),
+        Kind::Refused(fault) => Answer::Refused(fault),
+        Kind::Hit => Answer::Hit(reply),
+        Kind::Held => Answer::Held(330),
+        Kind::Joined => Answer::Joined,
+        Kind::Fetched => Answer::Fetched {
+            told: Sequence::new(alloc),
+            reply,
+        },
+        Kind::Swept => Answer::Swept(Sequence::new(alloc)),
+        Kind::Closed => Answer::Closed,
+    }
+}
+
+/// Each line is a task in these words, where it got an answer of this kind, or none.
+fn have_tasks(
+    rt: &impl Abort,
+    alloc: Global,
+    rows: &[(&str, Kind, Option<&str>)],
+) -> Result<(), Fail> {
+    for (text, kind, wanted) in rows {
+        has_task(rt, alloc, text, answer_of(alloc, *kind), *wanted)?;
     }
     Ok(())
 }
 
-fn kept() -> Told {
-    Told {
-        outcome: Outcome::Kept,
-        evicted: None,
-    }
-}
+const PUT: &str = "put 100 B.Example. 1 4 4294967295 c0000201";
 
-const MISS: Reply = Reply::Miss { retry_from: None };
+const ASK: &str = "ask 101 a.example. 28 any now";
 
 #[test]
 fn lines_that_fetch_nothing(rt: HostRuntime) -> Result<(), Fail> {
-    let alloc = rt.alloc();
-    let put = "put 100 B.Example. 1 4 4294967295 c0000201";
-    has_task(
-        &rt,
-        alloc,
-        put,
-        Answer::Put(kept()),
-        Some("1 0 Plain, 0 offers b.example. Set(1) AuthoritativeAnswer 604800 at 100"),
-    )?;
-    has_task(&rt, alloc, put, Answer::Fail(kept()), None)?;
-    let ask = "ask 101 a.example. 28 any now";
-    has_task(
-        &rt,
-        alloc,
-        ask,
-        Answer::Ask(MISS),
-        Some("1 0 Plain, 2 asks a.example. 28 Any Now at 101"),
-    )?;
-    has_task(&rt, alloc, ask, Answer::Hit(MISS), None)?;
-    let fail = "fail 102 A.example. 1";
-    has_task(
-        &rt,
-        alloc,
-        fail,
-        Answer::Fail(kept()),
-        Some("1 0 Plain, 2 fails a.example. Failed(1) 30 at 102"),
-    )?;
-    let mut counts = Sequence::new(alloc);
-    counts.push(7)?;
-    has_task(
-        &rt,
-        alloc,
-        "sweep 103",
-        Answer::Swept(counts),
-        Some("1 0 Plain, 0 sweeps at 103, 1 sweeps at 103, 2 sweeps at 103"),
-    )?;
-    has_task(&rt, alloc, "checkpoint", Answer::Closed, Some("1 0 Plain"))?;
-    has_task(&rt, alloc, "checkpoint", Answer::Joined, None)?;
-    Ok(())
+    let rows: [(&str, Kind, Option<&str>); 8] = [
+        (
+            PUT,
+            Kind::Put,
+            Some("0 0 Plain, 0 offers b.example. Set(1) AuthoritativeAnswer 604800 at 100"),
+        ),
+        (PUT, Kind::Fail, None),
+        (
+            ASK,
+            Kind::Ask,
+            Some("0 0 Plain, 2 asks a.example. 28 Any Now at 101"),
+        ),
+        (ASK, Kind::Hit, None),
+        (
+            "fail 102 A.example. 1",
+            Kind::Fail,
+            Some("0 0 Plain, 2 fails a.example. Failed(1) 30 at 102"),
+        ),
+        (
+            "sweep 103",
+            Kind::Swept,
+            Some("0 0 Plain, 0 sweeps at 103, 1 sweeps at 103, 2 sweeps at 103"),
+        ),
+        ("checkpoint", Kind::Closed, Some("0 0 Plain")),
+        ("checkpoint", Kind::Joined, None),
+    ];
+    have_tasks(&rt, rt.alloc(), rows.as_slice())
 }
+
+/// A response with one address, and one that ends too soon.
+const ADDRESS: &str =
+    "response 200 example. 1234840000010001000000000161076578616d706c650000010001c00c000100010000003c0004c0000201";
+
+const SHORT: &str = "response 201 example. 1234";
 
 #[test]
 fn responses(rt: HostRuntime) -> Result<(), Fail> {
-    let alloc = rt.alloc();
-    let message =
-        "response 200 example. 1234840000010001000000000161076578616d706c650000010001c00c000100010000003c0004c0000201";
-    let offers = "1 0 Plain, 2 offers a.example. Set(1) AuthoritativeAnswer 60 at 200";
-    has_task(
-        &rt,
-        alloc,
-        message,
-        Answer::Response(Sequence::new(alloc)),
-        Some(offers),
-    )?;
-    has_task(&rt, alloc, message, Answer::Refused(WireFault::Short), None)?;
-    has_task(
-        &rt,
-        alloc,
-        "response 201 example. 1234",
-        Answer::Refused(WireFault::Short),
-        Some("1 0 Plain"),
-    )?;
-    has_task(
-        &rt,
-        alloc,
-        "response 201 example. 1234",
-        Answer::Refused(WireFault::BadData),
-        None,
-    )?;
-    has_task(
-        &rt,
-        alloc,
-        "response 201 example. 1234",
-        Answer::Response(Sequence::new(alloc)),
-        None,
-    )?;
-    Ok(())
+    let rows: [(&str, Kind, Option<&str>); 5] = [
+        (
+            ADDRESS,
+            Kind::Response,
+            Some("0 0 Plain, 2 offers a.example. Set(1) AuthoritativeAnswer 60 at 200"),
+        ),
+        (ADDRESS, Kind::Refused(WireFault::Short), None),
+        (SHORT, Kind::Refused(WireFault::Short), Some("0 0 Plain")),
+        (SHORT, Kind::Refused(WireFault::BadData), None),
+        (SHORT, Kind::Response, None),
+    ];
+    have_tasks(&rt, rt.alloc(), rows.as_slice())
 }
 
-fn fetched(alloc: Global) -> Answer {
-    Answer::Fetched {
-        told: Sequence::new(alloc),
-        reply: MISS,
-    }
-}
+/// A fetch that gets a response with one address.
+const FETCH: &str =
+    "fetch 300 A.example. 1 example. 1234840000010001000000000161076578616d706c650000010001c00c000100010000003c0004c0000201";
 
 #[test]
 fn fetches(rt: HostRuntime) -> Result<(), Fail> {
-    let alloc = rt.alloc();
-    let fetch =
-        "fetch 300 A.example. 1 example. 1234840000010001000000000161076578616d706c650000010001c00c000100010000003c0004c0000201";
-    has_task(
-        &rt,
-        alloc,
-        fetch,
-        Answer::Hit(MISS),
-        Some("1 0 Plain, 2 asks a.example. 1 Answer Failed at 300"),
-    )?;
-    has_task(
-        &rt,
-        alloc,
-        fetch,
-        Answer::Held(330),
-        Some("1 0 Plain, 2 asks a.example. 1 Answer Failed at 300"),
-    )?;
-    has_task(
-        &rt,
-        alloc,
-        fetch,
-        Answer::Joined,
-        Some("1 0 Joined { question: 0 }, 2 asks a.example. 1 Answer Failed at 300"),
-    )?;
-    has_task(
-        &rt,
-        alloc,
-        fetch,
-        fetched(alloc),
-        Some(
-            "1 0 Fetched { question: 0, home: 2 }, 2 asks a.example. 1 Answer Failed at 300, 2 offers a.example. Set(1) AuthoritativeAnswer 60 at 300, 2 asks a.example. 1 Answer Now at 300",
+    let rows: [(&str, Kind, Option<&str>); 5] = [
+        (
+            FETCH,
+            Kind::Hit,
+            Some("0 0 Plain, 2 asks a.example. 1 Answer Failed at 300"),
         ),
-    )?;
-    has_task(&rt, alloc, fetch, Answer::Closed, None)?;
-    let failure =
-        "1 0 Fetched { question: 0, home: 0 }, 0 asks b.example. 1 Answer Failed at 301, 0 fails b.example. Failed(1) 30 at 301, 0 asks b.example. 1 Answer Now at 301";
-    has_task(
-        &rt,
-        alloc,
-        "fetch 301 b.example. 1 example. -",
-        fetched(alloc),
-        Some(failure),
-    )?;
-    has_task(
-        &rt,
-        alloc,
-        "fetch 301 b.example. 1 example. 1234",
-        fetched(alloc),
-        Some(failure),
-    )?;
-    Ok(())
+        (
+            FETCH,
+            Kind::Held,
+            Some("0 0 Plain, 2 asks a.example. 1 Answer Failed at 300"),
+        ),
+        (
+            FETCH,
+            Kind::Joined,
+            Some("0 0 Joined { question: 0 }, 2 asks a.example. 1 Answer Failed at 300"),
+        ),
+        (
+            FETCH,
+            Kind::Fetched,
+            Some(
+                "0 0 Fetched { question: 0, home: 2 }, 2 asks a.example. 1 Answer Failed at 300, 2 offers a.example. Set(1) AuthoritativeAnswer 60 at 300, 2 asks a.example. 1 Answer Now at 300",
+            ),
+        ),
+        (FETCH, Kind::Closed, None),
+    ];
+    have_tasks(&rt, rt.alloc(), rows.as_slice())
+}
+
+/// What a fetch of `b.example.` calls for where no message came.
+const FAILURE: &str =
+    "0 0 Fetched { question: 0, home: 0 }, 0 asks b.example. 1 Answer Failed at 301, 0 fails b.example. Failed(1) 30 at 301, 0 asks b.example. 1 Answer Now at 301";
+
+#[test]
+fn fetches_that_fail(rt: HostRuntime) -> Result<(), Fail> {
+    let rows: [(&str, Kind, Option<&str>); 2] = [
+        (
+            "fetch 301 b.example. 1 example. -",
+            Kind::Fetched,
+            Some(FAILURE),
+        ),
+        (
+            "fetch 301 b.example. 1 example. 1234",
+            Kind::Fetched,
+            Some(FAILURE),
+        ),
+    ];
+    have_tasks(&rt, rt.alloc(), rows.as_slice())
 }
 
 #[test]
