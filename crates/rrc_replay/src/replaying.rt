@@ -36,8 +36,7 @@ fn hired<'a, G>(
     Ok(workers)
 }
 
-/// Has each worker work in a thread of its own, and waits for all of them. No thread is made twice, and where one is refused none is made
-/// behind it.
+/// Has each worker work in a thread of its own, and waits for all of them. Where a thread is refused none is made behind it.
 fn all_worked<R: Threads + Wait + Sync, G: Gate + Sync>(
     rt: &R,
     alloc: Global,

@@ -32,11 +32,16 @@ const FETCHES_BY_ONE: &str =
 const FETCHES_BY_TWO: &str =
     "0 fetch fetched 1 kept fresh 60 a.example. c0000201\n1 fetch joined\n";
 
-/// Four questions that nothing answers.
-const ASKS: &str =
+/// Two questions that nothing answers.
+const TWO_ASKS: &str = "ask 1 a.example. 1 answer none\nask 1 a.example. 1 answer none\n";
+
+const TWO_MISSES: &str = "0 ask miss\n1 ask miss\n";
+
+/// Four of them.
+const FOUR_ASKS: &str =
     "ask 1 a.example. 1 answer none\nask 1 a.example. 1 answer none\nask 1 a.example. 1 answer none\nask 1 a.example. 1 answer none\n";
 
-const ASKS_REPORT: &str = "0 ask miss\n1 ask miss\n2 ask miss\n3 ask miss\n";
+const FOUR_MISSES: &str = "0 ask miss\n1 ask miss\n2 ask miss\n3 ask miss\n";
 
 /// So many workers over one part, by the usual rules.
 fn by(workers: usize) -> Option<Config> {
@@ -89,14 +94,7 @@ fn a_fetch_joins_another_one(rt: HostRuntime) -> Result<(), Fail> {
 
 #[test]
 fn as_many_lines_at_once_as_workers(rt: HostRuntime) -> Result<(), Fail> {
-    for (workers, trace, wanted) in [
-        (
-            2,
-            &ASKS[..ASKS.len() / 2],
-            &ASKS_REPORT[..ASKS_REPORT.len() / 2],
-        ),
-        (4, ASKS, ASKS_REPORT),
-    ] {
+    for (workers, trace, wanted) in [(2, TWO_ASKS, TWO_MISSES), (4, FOUR_ASKS, FOUR_MISSES)] {
         let config = by(workers).ok_or("the config is in range")?;
         let gate = Crowd::new(workers as u64);
         let mut written = Vec::new(rt.alloc());
