@@ -1,5 +1,5 @@
 -- What a handle holds before and after a call.
-use Rattle.std.specs.Prelude.{Option, None, Some}
+use Rattle.std.specs.Prelude.{◌≡◌, ℕ, Option, None, Some}
 use Rattle.rrc_share.specs.Shelf.{ShelfOf, IsLeft}
 
 -- the handle holds a shelf, and held one, of which two this is true
@@ -20,3 +20,8 @@ abbrev pub HoldsNone : Option ShelfOf → Option ShelfOf → Type 0
 HoldsNone None None = Unit {0}
 HoldsNone None (Some after) = ⊥
 HoldsNone (Some before) after = ⊥
+
+-- a call answers 1 exactly where the handle holds no shelf
+abbrev pub TellsNone : Option ShelfOf → ℕ → Type 0
+TellsNone None status = status ≡ 1
+TellsNone (Some shelf) status = status ≡ 1 → ⊥
