@@ -5,40 +5,54 @@ use crate::{Limits, life, part_of};
 use rrc_name::Name;
 use std::test::Fail;
 
+/// Limits, and whether each of them is within its range.
+const LIMITS: [(u32, u32, u32, bool); 8] = [
+    (1, 1, 1, true),
+    (604_800, 604_800, 300, true),
+    (0, 1, 1, false),
+    (604_801, 1, 1, false),
+    (1, 0, 1, false),
+    (1, 604_801, 1, false),
+    (1, 1, 0, false),
+    (1, 1, 301, false),
+];
+
 #[test]
 fn limits_are_within_their_ranges(rt: HostRuntime) {
-    assert!(rt; Limits::new(1, 1, 1).is_some());
-    assert!(rt; Limits::new(604_800, 604_800, 300).is_some());
-    assert!(rt; Limits::new(0, 1, 1).is_none());
-    assert!(rt; Limits::new(604_801, 1, 1).is_none());
-    assert!(rt; Limits::new(1, 0, 1).is_none());
-    assert!(rt; Limits::new(1, 604_801, 1).is_none());
-    assert!(rt; Limits::new(1, 1, 0).is_none());
-    assert!(rt; Limits::new(1, 1, 301).is_none());
+    for (cap, negative_cap, recheck, within) in LIMITS {
+        let limits = Limits::new(cap, negative_cap, recheck);
+        assert_eq!(rt; limits.is_some(), within, "{cap} {negative_cap} {recheck}");
+    }
 }
 
-/// A time to live with its top bit set is a large one (RFC 8767 section 4).
+/// Times to live, and those that data get. One with its top bit set is a large one (RFC 8767 section 4).
+const LIVES: [(u32, u32); 6] = [
+    (0, 0),
+    (604_800, 604_800),
+    (604_801, 604_800),
+    (0x7fff_ffff, 604_800),
+    (0x8000_0000, 604_800),
+    (u32::MAX, 604_800),
+];
+
 #[test]
 fn no_data_live_past_the_cap(rt: HostRuntime) -> Result<(), Fail> {
     let limits = Limits::new(604_800, 10_800, 30).ok_or("within the ranges")?;
-    assert_eq!(rt; life(0, &limits), 0);
-    assert_eq!(rt; life(604_800, &limits), 604_800);
-    assert_eq!(rt; life(604_801, &limits), 604_800);
-    assert_eq!(rt; life(0x7fff_ffff, &limits), 604_800);
-    assert_eq!(rt; life(0x8000_0000, &limits), 604_800);
-    assert_eq!(rt; life(u32::MAX, &limits), 604_800);
+    for (ttl, wanted) in LIVES {
+        assert_eq!(rt; life(ttl, &limits), wanted, "{ttl}");
+    }
     Ok(())
 }
 
+/// Names, and the part of four that each lies in.
+const PARTS: [(&str, usize); 3] = [("a.example.", 1), ("A.eXample.", 1), ("B.example.", 0)];
+
 #[test]
 fn a_name_lies_in_one_part(rt: HostRuntime) -> Result<(), Fail> {
-    let alloc = rt.alloc();
-    let a = Name::from_text(alloc, "a.example.")?;
-    let b = Name::from_text(alloc, "B.example.")?;
-    assert_eq!(rt; part_of(&a, 4), 1);
-    assert_eq!(rt; part_of(&Name::from_text(alloc, "A.eXample.")?, 4), 1);
-    assert_eq!(rt; part_of(&b, 4), 0);
-    assert_eq!(rt; part_of(&a, 1), 0);
-    assert_eq!(rt; part_of(&Name::root(alloc)?, 1), 0);
+    for (text, wanted) in PARTS {
+        let name = Name::from_text(rt.alloc(), text)?;
+        assert_eq!(rt; part_of(&name, 4), wanted, "{text}");
+        assert_eq!(rt; part_of(&name, 1), 0, "{text}");
+    }
     Ok(())
 }

@@ -204,11 +204,8 @@ fn beginnings_are_short(rt: &impl Abort, alloc: Global, line: &str) -> Result<()
     let (octets, _wanted) = rest.split_once(" = ").ok_or("a line with no answer")?;
     let octets = octets_of(alloc, octets)?;
     for end in 0..octets.len() {
-        assert_eq!(rt;
-            read_message(alloc, &octets[..end]),
-            Err(WireFault::Short),
-            "{line}"
-        );
+        let fault = read_message(alloc, &octets[..end]).err();
+        assert_eq!(rt; fault, Some(WireFault::Short), "{line}");
     }
     Ok(())
 }
@@ -229,12 +226,11 @@ fn messages_of_65535_octets(rt: HostRuntime) -> Result<(), Fail> {
         "1234 8400 0001 0001 0000 0000 Q c00c000100010000003c0004c0000201",
     )?;
     message.resize(65535, 0)?;
-    assert!(rt; read_message(alloc, message.as_slice()).is_ok());
+    let fault = read_message(alloc, message.as_slice()).err();
+    assert_eq!(rt; fault, None);
     message.push(0)?;
-    assert_eq!(rt;
-        read_message(alloc, message.as_slice()),
-        Err(WireFault::TooLong)
-    );
+    let fault = read_message(alloc, message.as_slice()).err();
+    assert_eq!(rt; fault, Some(WireFault::TooLong));
     Ok(())
 }
 
@@ -259,18 +255,24 @@ fn long_owner(alloc: Global, size: u8) -> Result<Vec<u8>, AllocError> {
     Ok(message)
 }
 
+/// How many octets the owners of a message's answer have.
+fn owner_sizes(alloc: Global, octets: &[u8]) -> Result<Vec<usize>, WireFault> {
+    let message = read_message(alloc, octets)?;
+    let mut sizes = Vec::new(alloc);
+    for rr in &message.answer {
+        sizes.push(rr.owner.wire.len())?;
+    }
+    Ok(sizes)
+}
+
 #[test]
 fn names_of_255_octets(rt: HostRuntime) -> Result<(), Fail> {
-    let alloc = rt.alloc();
-    let message = read_message(alloc, long_owner(alloc, 61)?.as_slice())?;
-    assert_eq!(rt; message.answer.len(), 1);
-    for rr in &message.answer {
-        assert_eq!(rt; rr.owner.wire.len(), 255);
-    }
-    assert_eq!(rt;
-        read_message(alloc, long_owner(alloc, 62)?.as_slice()),
-        Err(WireFault::NameTooLong)
-    );
+    let octets = long_owner(rt.alloc(), 61)?;
+    let sizes = owner_sizes(rt.alloc(), octets.as_slice())?;
+    assert_eq!(rt; sizes.as_slice(), [255].as_slice());
+    let octets = long_owner(rt.alloc(), 62)?;
+    let fault = owner_sizes(rt.alloc(), octets.as_slice()).err();
+    assert_eq!(rt; fault, Some(WireFault::NameTooLong));
     Ok(())
 }
 
@@ -287,14 +289,12 @@ fn chain(alloc: Global) -> Result<Vec<u8>, AllocError> {
     Ok(message)
 }
 
+/// Both records have the root, whose wire form is one octet, for their owner.
 #[test]
 fn chain_of_pointers(rt: HostRuntime) -> Result<(), Fail> {
-    let alloc = rt.alloc();
-    let message = read_message(alloc, chain(alloc)?.as_slice())?;
-    assert_eq!(rt; message.answer.len(), 2);
-    for rr in &message.answer {
-        assert_eq!(rt; rr.owner.wire.as_slice(), [0].as_slice());
-    }
+    let octets = chain(rt.alloc())?;
+    let sizes = owner_sizes(rt.alloc(), octets.as_slice())?;
+    assert_eq!(rt; sizes.as_slice(), [1, 1].as_slice());
     Ok(())
 }
 
@@ -347,10 +347,11 @@ fn read_data(alloc: Global, rtype: u16, rdlength: u16, data: &[u8]) -> Result<Oc
     message.extend_from_slice(&rdlength.to_be_bytes())?;
     message.extend_from_slice(data)?;
     let message = read_message(alloc, message.as_slice())?;
-    match message.answer.as_slice() {
-        [rr] => Ok(rr.rdata.clone()?),
-        _ => Err(WireFault::BadData),
-    }
+    let [rr] = message.answer.as_slice() else {
+        return Err(WireFault::BadData);
+    };
+    let rdata = rr.rdata.clone()?;
+    Ok(rdata)
 }
 
 /// Asserts that data whose names end in pointers are read with the names expanded.
@@ -366,8 +367,8 @@ fn expands(rt: &impl Abort, alloc: Global, row: Row) -> Result<(), Fail> {
 fn is_bad_when_cut(rt: &impl Abort, alloc: Global, row: Row) -> Result<(), Fail> {
     let data = data_of(alloc, row, "0162c00e")?;
     for size in 0..size_of(&data) {
-        let read = read_data(alloc, row.0, size, data.as_slice());
-        assert_eq!(rt; read, Err(WireFault::BadData), "type {}", row.0);
+        let fault = read_data(alloc, row.0, size, data.as_slice()).err();
+        assert_eq!(rt; fault, Some(WireFault::BadData), "type {}", row.0);
     }
     Ok(())
 }
@@ -377,22 +378,18 @@ fn is_filled_exactly(rt: &impl Abort, alloc: Global, row: Row) -> Result<(), Fai
     let mut data = data_of(alloc, row, "0162c00e")?;
     data.push(0)?;
     let size = size_of(&data);
-    assert_eq!(rt;
-        read_data(alloc, row.0, size, data.as_slice()),
-        Err(WireFault::BadData)
-    );
-    assert_eq!(rt;
-        read_data(alloc, row.0, size + 1, data.as_slice()),
-        Err(WireFault::Short)
-    );
+    let fault = read_data(alloc, row.0, size, data.as_slice()).err();
+    assert_eq!(rt; fault, Some(WireFault::BadData), "type {}", row.0);
+    let fault = read_data(alloc, row.0, size + 1, data.as_slice()).err();
+    assert_eq!(rt; fault, Some(WireFault::Short), "type {}", row.0);
     Ok(())
 }
 
 /// Asserts that a name is Short where it points to the TTL, whose first octet begins a label that the message's end cuts.
 fn is_short_behind_a_pointer(rt: &impl Abort, alloc: Global, row: Row) -> Result<(), Fail> {
     let data = data_of(alloc, row, "c021")?;
-    let read = read_data(alloc, row.0, size_of(&data), data.as_slice());
-    assert_eq!(rt; read, Err(WireFault::Short), "type {}", row.0);
+    let fault = read_data(alloc, row.0, size_of(&data), data.as_slice()).err();
+    assert_eq!(rt; fault, Some(WireFault::Short), "type {}", row.0);
     Ok(())
 }
 
@@ -407,29 +404,35 @@ fn layouts(rt: HostRuntime) -> Result<(), Fail> {
     Ok(())
 }
 
+const NOT_KEPT: [u16; 9] = [0, 24, 30, 35, 41, 46, 128, 200, 255];
+
+const KEPT: [u16; 12] = [1, 2, 5, 6, 16, 28, 33, 43, 48, 127, 256, 65535];
+
 #[test]
 fn kept_types(rt: HostRuntime) {
-    for rtype in [0, 24, 30, 35, 41, 46, 128, 200, 255] {
+    for rtype in NOT_KEPT {
         assert!(rt; !is_kept(rtype), "{rtype}");
     }
-    for rtype in [1, 2, 5, 6, 16, 28, 33, 43, 48, 127, 256, 65535] {
+    for rtype in KEPT {
         assert!(rt; is_kept(rtype), "{rtype}");
     }
 }
 
+const FAULTS: [(WireFault, u8); 9] = [
+    (WireFault::Short, 1),
+    (WireFault::ReservedLabel, 2),
+    (WireFault::BadPointer, 3),
+    (WireFault::NameTooLong, 4),
+    (WireFault::BadData, 5),
+    (WireFault::NotResponse, 6),
+    (WireFault::NotOneQuestion, 7),
+    (WireFault::TooLong, 8),
+    (WireFault::Memory, 9),
+];
+
 #[test]
 fn numbers_of_faults(rt: HostRuntime) {
-    for (fault, number) in [
-        (WireFault::Short, 1),
-        (WireFault::ReservedLabel, 2),
-        (WireFault::BadPointer, 3),
-        (WireFault::NameTooLong, 4),
-        (WireFault::BadData, 5),
-        (WireFault::NotResponse, 6),
-        (WireFault::NotOneQuestion, 7),
-        (WireFault::TooLong, 8),
-        (WireFault::Memory, 9),
-    ] {
+    for (fault, number) in FAULTS {
         assert_eq!(rt; fault.number(), number, "{fault}");
     }
 }
@@ -440,7 +443,8 @@ fn addresses_in(alloc: Global, response: &[u8]) -> Result<Vec<Octets>, WireFault
     let mut addresses = Vec::new(alloc);
     for rr in &message.answer {
         if rr.rtype == 1 {
-            addresses.push(rr.rdata.clone()?)?;
+            let address = rr.rdata.clone()?;
+            addresses.push(address)?;
         }
     }
     Ok(addresses)

@@ -1,7 +1,7 @@
 // How far a chain of aliases is followed.
 
 use crate::{Limits, offers};
-use rrc_history::Body;
+use rrc_history::{Body, Offer};
 use rrc_name::{Name, Slot};
 use rrc_wire::read_message;
 use std::alloc::{AllocError, Global};
@@ -32,31 +32,45 @@ fn chain(alloc: Global, aliases: u8) -> Result<Vec<u8>, AllocError> {
     Ok(message)
 }
 
-/// The name that such a message denies.
-fn denied(alloc: Global, aliases: u8) -> Result<Option<Name>, Fail> {
+/// The name that an offer of no such name denies, for 300 seconds.
+fn denied_by(offer: &Offer) -> Result<Option<String>, AllocError> {
+    match &offer.body {
+        Body::Negative { ttl: 300, .. } if offer.key.slot == Slot::Nx => {
+            let name = offer.key.name.to_text()?;
+            Ok(Some(name))
+        }
+        _ => Ok(None),
+    }
+}
+
+/// The name that a message with so many aliases denies.
+fn denied(alloc: Global, aliases: u8) -> Result<Option<String>, Fail> {
     let octets = chain(alloc, aliases)?;
     let message = read_message(alloc, octets.as_slice())?;
     let limits = Limits::new(604_800, 10_800, 30).ok_or("within the ranges")?;
     let zone = Name::from_text(alloc, "example.")?;
-    for offer in offers(alloc, &message, &zone, 100, &limits)? {
-        if offer.key.slot == Slot::Nx && matches!(&offer.body, Body::Negative { ttl: 300, .. }) {
-            return Ok(Some(offer.key.name));
+    let offers = offers(alloc, &message, &zone, 100, &limits)?;
+    for offer in offers.iter() {
+        let name = denied_by(offer)?;
+        if name.is_some() {
+            return Ok(name);
         }
     }
     Ok(None)
 }
 
+/// How many aliases there are, and the name that is denied.
+const CHAINS: [(u8, Option<&str>); 3] = [
+    (1, Some("b.example.")),
+    (16, Some("q.example.")),
+    (17, None),
+];
+
 #[test]
 fn sixteen_aliases_are_followed(rt: HostRuntime) -> Result<(), Fail> {
-    let alloc = rt.alloc();
-    assert_eq!(rt;
-        denied(alloc, 1)?,
-        Some(Name::from_text(alloc, "b.example.")?)
-    );
-    assert_eq!(rt;
-        denied(alloc, 16)?,
-        Some(Name::from_text(alloc, "q.example.")?)
-    );
-    assert!(rt; denied(alloc, 17)?.is_none());
+    for (aliases, wanted) in CHAINS {
+        let denied = denied(rt.alloc(), aliases)?;
+        assert_eq!(rt; denied.as_ref().map(String::as_str), wanted, "{aliases}");
+    }
     Ok(())
 }

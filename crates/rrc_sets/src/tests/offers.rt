@@ -145,7 +145,8 @@ fn of_line(alloc: Global, line: &str, zone: &str) -> Result<(String, String), Fa
     let limits = Limits::new(604_800, 10_800, 30).ok_or("within the ranges")?;
     let offers = offers(alloc, &message, &zone, 100, &limits)?;
     let wanted = wanted.replace(alloc, "Z", SOA_DATA)?;
-    Ok((shown(alloc, offers.as_slice(), 100)?, wanted))
+    let found = shown(alloc, offers.as_slice(), 100)?;
+    Ok((found, wanted))
 }
 
 #[test]

@@ -1,24 +1,17 @@
 use std::io;
 use std::io::{ErrorKind, Read, Write};
 
-/// Gives the same octets again and again, one by one.
+/// Gives a block of octets again and again, from its front at each read.
 #[derive(Drop)]
-pub(super) struct Endless {
-    pub(super) octets: &'static [u8],
-    pub(super) place: usize,
+pub(super) struct Endless<'a> {
+    pub(super) block: &'a [u8],
 }
 
-impl Read for Endless {
+impl Read for Endless<'_> {
     fn read(&mut self, buf: &mut [u8]) -> io::Result<usize> {
-        if self.place >= self.octets.len() {
-            self.place = 0;
-        }
-        if buf.is_empty() || self.octets.is_empty() {
-            return Ok(0);
-        }
-        buf[0] = self.octets[self.place];
-        self.place += 1;
-        Ok(1)
+        let count = self.block.len().min(buf.len());
+        buf[..count].copy_from_slice(&self.block[..count]);
+        Ok(count)
     }
 }
 
