@@ -2,8 +2,6 @@
 #![tactic(auto)]
 
 mod collating;
-#[cfg(test)]
-mod collating_tests;
 mod completing;
 mod config;
 mod done;
@@ -13,8 +11,6 @@ mod report;
 mod script;
 mod scripting;
 mod tasking;
-#[cfg(test)]
-mod tasking_tests;
 mod telling;
 #[cfg(test)]
 mod tests;

@@ -1,2 +1,4 @@
+mod collating;
+mod tasking;
 mod telling;
 mod wholes;

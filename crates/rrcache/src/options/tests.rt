@@ -2,10 +2,7 @@ use super::*;
 use std::test::Fail;
 
 /// The workers, the parts, the capacity, the chapter and the stale limit that arguments give, or the exit status of their fault.
-fn read(
-    alloc: Global,
-    words: &[&str],
-) -> Result<Result<(usize, usize, u64, u64, u64), i32>, Fail> {
+fn read(alloc: Global, words: &[&str]) -> Result<Result<(usize, usize, u64, u64, u64), i32>, Fail> {
     match command(alloc)?.try_get_matches_from(words) {
         Ok(matches) => {
             let config = config_in(&matches).ok_or("the numbers are in range")?;
