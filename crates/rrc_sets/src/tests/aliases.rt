@@ -1,9 +1,8 @@
 // How far a chain of aliases is followed.
 
-use crate::{Limits, offers};
+use super::offers::offered;
 use rrc_history::{Body, Offer};
-use rrc_name::{Name, Slot};
-use rrc_wire::read_message;
+use rrc_name::Slot;
 use std::alloc::{AllocError, Global};
 use std::test::Fail;
 
@@ -46,10 +45,7 @@ fn denied_by(offer: &Offer) -> Result<Option<String>, AllocError> {
 /// The name that a message with so many aliases denies.
 fn denied(alloc: Global, aliases: u8) -> Result<Option<String>, Fail> {
     let octets = chain(alloc, aliases)?;
-    let message = read_message(alloc, octets.as_slice())?;
-    let limits = Limits::new(604_800, 10_800, 30).ok_or("within the ranges")?;
-    let zone = Name::from_text(alloc, "example.")?;
-    let offers = offers(alloc, &message, &zone, 100, &limits)?;
+    let offers = offered(alloc, octets.as_slice(), "example.")?;
     for offer in offers.iter() {
         let name = denied_by(offer)?;
         if name.is_some() {

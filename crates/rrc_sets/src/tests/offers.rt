@@ -135,17 +135,23 @@ fn shown(alloc: Global, offers: &[Offer], moment: u64) -> Result<String, Fail> {
     Ok(text)
 }
 
+/// What a message offers for a zone at the moment 100.
+pub(super) fn offered(alloc: Global, octets: &[u8], zone: &str) -> Result<Vec<Offer>, Fail> {
+    let limits = Limits::new(604_800, 10_800, 30).ok_or("within the ranges")?;
+    let zone = Name::from_text(alloc, zone)?;
+    let message = read_message(alloc, octets)?;
+    let offers = offers(alloc, &message, &zone, 100, &limits)?;
+    Ok(offers)
+}
+
 /// What the message of a line offers for a zone, in words, and what it is to offer for `example.`.
 fn of_line(alloc: Global, line: &str, zone: &str) -> Result<(String, String), Fail> {
     let (_name, rest) = line.split_once(": ").ok_or("a line with no name")?;
     let (octets, wanted) = rest.split_once(" =").ok_or("a line with no answer")?;
     let octets = octets_of(alloc, octets)?;
-    let message = read_message(alloc, octets.as_slice())?;
-    let zone = Name::from_text(alloc, zone)?;
-    let limits = Limits::new(604_800, 10_800, 30).ok_or("within the ranges")?;
-    let offers = offers(alloc, &message, &zone, 100, &limits)?;
-    let wanted = wanted.replace(alloc, "Z", SOA_DATA)?;
+    let offers = offered(alloc, octets.as_slice(), zone)?;
     let found = shown(alloc, offers.as_slice(), 100)?;
+    let wanted = wanted.replace(alloc, "Z", SOA_DATA)?;
     Ok((found, wanted))
 }
 
