@@ -25,8 +25,7 @@
 enum { SHELVES = 16, KEYS = 4096, EVENTS = 4096, STALE_LIMIT = 86400, FAILURE_SECONDS = 30 };
 enum { MOST_THREADS = 64, MOST_UPSTREAMS = 8, MOST_FETCHES = 200, MOST_ASKERS = 256, MOST_STEPS = 16, BURST = 64 };
 enum { TRIES = 4, TRY_MS = 800, LATE_MS = 1800, TICK_MS = 50 }; /* LATE_MS is the client response timer (RFC 8767 section 5) */
-enum { HEADER = 12, REPLY = 512, NAME = 255, MESSAGE = 65535, ROOM = 1024 };
-enum { NOERROR, FORMERR, SERVFAIL, NXDOMAIN, NOTIMP, REFUSED };
+enum { HEADER = 12, REPLY = 512, NAME = 255, MESSAGE = 65535, ROOM = 1024, NOERROR = 0, FORMERR, SERVFAIL, NXDOMAIN, NOTIMP, REFUSED };
 enum { CNAME = 5, SOA = 6, OPT = 41, META = 128, ANY = 255, IN = 1 };
 enum counter { QUERIES, FRESH, NEGATIVE, STALE, RELAYED, FAILED, TURNED_AWAY, CUT, JOINED, SENT, STRAYS, FAILURES, SWEPT, COUNTERS };
 static const char *const COUNTER_NAMES[COUNTERS] = {"queries", "fresh", "negative", "stale", "relayed", "failed", "turned-away",
@@ -44,10 +43,8 @@ struct fetch {
     struct question question;
     struct asker *askers;
     unsigned count, first, tries;
-    bool is_late;
-    int sock;
-    uint8_t id[2];
     uint64_t try_ends, late_at;
+    bool is_late; int sock; uint8_t id[2];
 };
 struct shelf { pthread_mutex_t lock; struct rrcache_shelf cache; struct fetch *fetches; uint64_t calls; };
 struct worker { pthread_t thread; struct fetch fetches[MOST_FETCHES]; };
@@ -141,6 +138,7 @@ static size_t behind_record(const uint8_t *message, size_t size, size_t at) {
 static void relay(struct reply *reply, const struct question *question, const uint8_t *message, size_t size) {
     begin(reply, question);
     size_t front = reply->size, at = front;
+    uint32_t fault = 0;
     reply->answers = (uint16_t)word_at(message + 6);
     reply->authority = (uint16_t)word_at(message + 8);
     for (int i = 0; i < reply->answers + reply->authority && at != 0; i++)
@@ -148,6 +146,9 @@ static void relay(struct reply *reply, const struct question *question, const ui
     reply->is_cut |= at == 0 || message[2] & 2;
     put(reply, message + front, reply->is_cut ? 0 : at - front);
     end(reply, question, RELAYED, message[3] & 15);
+    memset(reply->octets, 0x40, 2); /* each asker has an id of its own: no name may go on in it, and no label begins so */
+    if (rrcache_fault(reply->octets, reply->size, &fault) != RRCACHE_DONE || fault != 0) /* a name went on in what was cut off */
+        refuse(reply, question, FAILED, SERVFAIL);
 }
 
 static void send_to(const struct asker *asker, const struct reply *reply) {
@@ -361,16 +362,15 @@ static void answer(struct worker *worker, const struct asker *asker) {
         fetch = fetch_of(worker, shelf, question, &is_new);
         if (fetch == NULL || fetch->is_late)
             kind = look_up(shelf, question, RRCACHE_STALE_NOW, &reply);
-        struct asker *added = kind >= RRCACHE_MISS && fetch != NULL && fetch->count < MOST_ASKERS ? malloc(sizeof *added) : NULL;
+        struct asker *added = kind >= RRCACHE_MISS && fetch != NULL && fetch->count++ < MOST_ASKERS ? malloc(sizeof *added) : NULL;
         if ((waits = added != NULL)) {
             *added = *asker;
             added->next = fetch->askers;
             fetch->askers = added;
-            fetch->count++;
         }
     }
-    pthread_mutex_unlock(&shelf->lock);
     count(JOINED, waits && !is_new);
+    pthread_mutex_unlock(&shelf->lock);
     if (kind >= RRCACHE_MISS)
         refuse(&reply, question, is_wanted ? FAILED : TURNED_AWAY, is_wanted ? SERVFAIL : REFUSED);
     if (!waits)
@@ -409,18 +409,18 @@ static void *work(void *argument) {
         for (int i = 0; i < MOST_FETCHES; i++) /* a socket below 0 is polled for nothing */
             polled[i] = (struct pollfd){.fd = worker->fetches[i].shelf != NULL ? worker->fetches[i].sock : -1, .events = POLLIN};
         polled[MOST_FETCHES] = (struct pollfd){.fd = listener, .events = POLLIN};
-        bool is_polled = poll(polled, MOST_FETCHES + 1, TICK_MS) >= 0;
+        poll(polled, MOST_FETCHES + 1, TICK_MS);
         uint64_t now = milliseconds();
         for (int i = 0; i < MOST_FETCHES; i++) {
             struct fetch *fetch = &worker->fetches[i];
-            if (is_polled && polled[i].revents != 0)
+            if (polled[i].revents != 0)
                 read_answers(fetch);
             if (fetch->shelf != NULL && !fetch->is_late && now >= fetch->late_at)
                 settle(fetch, NULL, 0, false);
             if (fetch->shelf != NULL && now >= fetch->try_ends)
                 ask_next(fetch);
         }
-        for (int i = 0; is_polled && polled[MOST_FETCHES].revents != 0 && i < BURST && take_query(worker); i++)
+        for (int i = 0; polled[MOST_FETCHES].revents != 0 && i < BURST && take_query(worker); i++)
             ;
     }
     return NULL;
