@@ -1,12 +1,8 @@
 -- What a shelf answers is the reply that it had.
-use Rattle.std.proofs.Common.{◌≡◌, ℕ, sym, ap, subst, ◌∙◌, inl, inr}
+use Rattle.std.proofs.Common.{◌≡◌, ap, subst, ◌∙◌, inl, inr}
 use Rattle.rrc_history.specs.Asked.{AskOf}
-use Rattle.rrc_history.specs.Past.{reply_to}
-use Rattle.rrc_history.specs.declared.event.Event.{Event}
-use Rattle.rrc_history.specs.declared.event.Event.TheVariants.{Asked}
 use Rattle.rrc_history.specs.declared.event.Reply.{Reply}
 use Rattle.rrc_history.specs.declared.event.Tag.{Tag}
-use Rattle.rrc_cache.specs.Part.{past_of}
 use Rattle.rrc_share.specs.Shelf.{ShelfOf, HasMadeRoom, AppendsAsk}
 use Rattle.rrc_c.specs.Asked.{reply_of}
 

@@ -1,5 +1,5 @@
 -- Offers that are made one after another.
-use Rattle.std.proofs.Common.{◌≡◌, ℕ, ◌+◌, inr, inl, List, [], ◌∷◌, ◌++◌, length, reverse, Result, Ok, Err, refl, sym, ap, subst, ◌∙◌, arith}
+use Rattle.std.proofs.Common.{◌≡◌, ℕ, ◌+◌, List, [], ◌∷◌, ◌++◌, length, reverse, Result, Ok, Err, sym, ap, subst, ◌∙◌, arith}
 use Rattle.std.proofs.lemmas.List.{length-reverse, reverse-append, length-append}
 use Rattle.std.specs.Prelude.{OnOk, OnErr}
 use Rattle.rrc_history.specs.Fits.{OfferOf}
@@ -7,7 +7,7 @@ use Rattle.rrc_history.specs.declared.event.Outcome.{Outcome}
 use Rattle.rrc_history.specs.declared.event.Outcome.TheVariants.{Kept, Cleared, LessTrusted}
 use Rattle.rrc_share.specs.Shelf.{ShelfOf, AppendsOffer, IsLeft}
 use Rattle.rrc_c.specs.declared.counts.Counts.{Counts}
-use Rattle.rrc_c.specs.Offered.{Takes, TakesAll, TakesFirst, count_more, counts_of, total}
+use Rattle.rrc_c.specs.Offered.{Takes, TakesAll, TakesFirst, count_more, total}
 
 -- one more is counted
 pub total_more : (outcome : Outcome) (counts : Counts) → total (count_more outcome counts) ≡ total counts + 1

@@ -10,7 +10,7 @@ use Rattle.rrc_history.specs.declared.ask.Mode.TheVariants.{NoStale, Failed, Now
 use Rattle.rrc_history.specs.declared.event.Reply.{Reply}
 use Rattle.rrc_cache.specs.Part.{past_of}
 use Rattle.rrc_share.specs.Shelf.{ShelfOf, AppendsAsk}
-use Rattle.rrc_c.specs.Told.{told_of, text_of, data_of, IsFilled, AreNarrow}
+use Rattle.rrc_c.specs.Told.{told_of, text_of, IsFilled}
 use Rattle.rrc_c.specs.declared.told.Told.{Told}
 
 -- the purpose of a number: 0 anything, 1 to answer a question

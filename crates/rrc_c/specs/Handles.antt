@@ -20,3 +20,8 @@ abbrev pub HoldsNone : Option ShelfOf → Option ShelfOf → Type 0
 HoldsNone None None = Unit {0}
 HoldsNone None (Some after) = ⊥
 HoldsNone (Some before) after = ⊥
+
+-- a call answers 1 exactly where the handle holds no shelf
+abbrev pub TellsNone : Option ShelfOf → ℕ → Type 0
+TellsNone None status = status ≡ 1
+TellsNone (Some shelf) status = status ≡ 1 → ⊥

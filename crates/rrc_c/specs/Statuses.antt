@@ -3,12 +3,10 @@ use Rattle.std.specs.Prelude.{◌≡◌, ℕ, Bool, true, false, Result, Ok, Err
 use Rattle.rrc_cache.specs.declared.refusal.Refusal.{Refusal}
 use Rattle.rrc_cache.specs.declared.refusal.Refusal.TheVariants as Refusals
 use Rattle.rrc_c.specs.declared.status.Status.{Status}
-use Rattle.rrc_c.specs.declared.status.Status.TheVariants.{NoShelf, HasShelf, Memory, HistoryFull, MomentTooLarge, BadRules, BadSeed, BadLimits, BadName, BadMessage, BadChoice, BadType, BadData, WrongBody, WideAnswer}
+use Rattle.rrc_c.specs.declared.status.Status.TheVariants.{Memory, HistoryFull, MomentTooLarge, BadRules, BadSeed, BadLimits, BadName, BadMessage, BadChoice, BadType, BadData, WrongBody, WideAnswer}
 
--- the number of a status, from 1 to 15
+-- the number of a status, from 3 to 15
 abbrev pub number_of : Status → ℕ
-number_of NoShelf = 1
-number_of HasShelf = 2
 number_of Memory = 3
 number_of HistoryFull = 4
 number_of MomentTooLarge = 5
@@ -36,10 +34,6 @@ OnDone status fact = status ≡ 0 → fact
 -- what holds where a call was refused
 abbrev pub OnRefused : ℕ → Type 0 → Type 0
 OnRefused status fact = (status ≡ 0 → ⊥) → fact
-
--- what holds where a call answers this status
-abbrev pub OnStatus : Status → ℕ → Type 0 → Type 0
-OnStatus status told fact = told ≡ number_of status → fact
 
 -- what holds where a call answers that the buffer is too small
 abbrev pub OnSmall : ℕ → Type 0 → Type 0

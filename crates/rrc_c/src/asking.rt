@@ -125,13 +125,13 @@ fn answer(
     ensures left { OnErr result (IsLeft shelf.old shelf.new) }
 {
     let (reply, record) = peeked(shelf, ask)?;
-    let fits = has_room(buffer, &record);
-    if fits {
+    let is_written = has_room(buffer, &record);
+    if is_written {
         write_ask(shelf, ask, line)?;
         fill(buffer, owner_of(&reply), data_of(&reply));
     }
     *told = record;
-    Ok(fits)
+    Ok(is_written)
 }
 
 /// Asks a shelf what C asks.

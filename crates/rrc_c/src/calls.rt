@@ -1,6 +1,6 @@
 ghost use Rattle.std.specs.Prelude.{◌≡◌, ◌≤◌, ◌<◌, ◌⊎◌, IfOk, OnErr};
 ghost use Rattle.rrc_c.specs.Statuses.{number_of_call, number_of_reply, OnDone, OnRefused, OnSmall};
-ghost use Rattle.rrc_c.specs.Handles.{BothHold, HoldsNone, IsKept};
+ghost use Rattle.rrc_c.specs.Handles.{BothHold, HoldsNone, IsKept, TellsNone};
 ghost use Rattle.rrc_c.specs.Asked.{asked, AreChoices, Answers, Shows, TellsSizeAlone};
 ghost use Rattle.rrc_c.specs.Kept.{TellsFault, TellsSizes, DropsChapters};
 ghost use Rattle.rrc_c.specs.Offered.{denial_offer, failure_offer, IsTrust, TakesMessage, TakesOne, TakesSet, TakesSome};
@@ -12,13 +12,14 @@ use crate::counts::{Bounds, Counts};
 use crate::handle::Handle;
 use crate::keeping::{fault_in, part_in, sweep};
 use crate::offering::{offer_message, take_failure, take_negative, take_set};
-use crate::status::{SMALL_BUFFER, Status};
+use crate::status::{NO_SHELF, SMALL_BUFFER, Status};
 use crate::told::Told;
 use std::alloc::Global;
 
 /// What C is told of a call that tells a reply.
 fn number_of_reply(fits: Result<bool, Status>) -> u32
-    ensures { result ≡ number_of_reply fits }
+    ensures value { result ≡ number_of_reply fits }
+    ensures shelf { result ≡ 1 → ⊥ }
 {
     match fits {
         Ok(true) => 0,
@@ -41,6 +42,7 @@ pub extern "C" fn rrc_ask(
     told: &mut Told,
     buffer: &mut [u8],
 ) -> u32
+    ensures none { TellsNone handle.old.seal.shelf result }
     ensures done { OnDone result (BothHold handle.old.seal.shelf handle.new.seal.shelf (Answers (asked name.now rtype moment purpose mode) line told.new buffer.old buffer.new)) }
     ensures small { OnSmall result (BothHold handle.old.seal.shelf handle.new.seal.shelf (TellsSizeAlone (asked name.now rtype moment purpose mode) told.new buffer.old buffer.new)) }
     ensures refused { OnRefused result (IsKept handle.old.seal.shelf handle.new.seal.shelf) }
@@ -48,7 +50,7 @@ pub extern "C" fn rrc_ask(
     ensures choices { OnDone result (AreChoices purpose mode) }
 {
     let Some(mut shelf) = handle.take(alloc) else {
-        return Status::NoShelf.number();
+        return NO_SHELF;
     };
     let fits = ask_shelf(
         alloc, &mut shelf, name, rtype, moment, purpose, mode, line, told, buffer,
@@ -70,6 +72,7 @@ pub extern "C" fn rrc_peek(
     told: &mut Told,
     buffer: &mut [u8],
 ) -> u32
+    ensures none { TellsNone handle.old.seal.shelf result }
     ensures done { OnDone result (BothHold handle.old.seal.shelf handle.new.seal.shelf (Shows (asked name.now rtype moment purpose mode) told.new buffer.old buffer.new)) }
     ensures small { OnSmall result (BothHold handle.old.seal.shelf handle.new.seal.shelf (TellsSizeAlone (asked name.now rtype moment purpose mode) told.new buffer.old buffer.new)) }
     ensures kept { handle.new.seal.shelf ≡ handle.old.seal.shelf }
@@ -77,7 +80,7 @@ pub extern "C" fn rrc_peek(
     ensures choices { OnDone result (AreChoices purpose mode) }
 {
     let Some(shelf) = handle.take(alloc) else {
-        return Status::NoShelf.number();
+        return NO_SHELF;
     };
     let fits = peek_at_shelf(
         alloc, &shelf, name, rtype, moment, purpose, mode, told, buffer,
@@ -88,7 +91,8 @@ pub extern "C" fn rrc_peek(
 
 /// What C is told of a call that only does something.
 fn number_of_call(done: Result<(), Status>) -> u32
-    ensures { result ≡ number_of_call done }
+    ensures value { result ≡ number_of_call done }
+    ensures shelf { result ≡ 1 → ⊥ }
 {
     match done {
         Ok(()) => 0,
@@ -101,6 +105,7 @@ fn number_of_u32(done: Result<u32, Status>, out: &mut u32) -> u32
     ensures told { IfOk done (λ number. out.new ≡ number) }
     ensures kept { OnErr done (out.new ≡ out.old) }
     ensures status { result ≡ number_of_call done }
+    ensures shelf { result ≡ 1 → ⊥ }
 {
     match done {
         Ok(number) => {
@@ -116,6 +121,7 @@ fn number_of_u64(done: Result<u64, Status>, out: &mut u64) -> u32
     ensures told { IfOk done (λ number. out.new ≡ number) }
     ensures kept { OnErr done (out.new ≡ out.old) }
     ensures status { result ≡ number_of_call done }
+    ensures shelf { result ≡ 1 → ⊥ }
 {
     match done {
         Ok(number) => {
@@ -138,11 +144,12 @@ pub extern "C" fn rrc_offer_message(
     line: u64,
     counts: &mut Counts,
 ) -> u32
+    ensures none { TellsNone handle.old.seal.shelf result }
     ensures done { OnDone result (BothHold handle.old.seal.shelf handle.new.seal.shelf (TakesMessage line octets.now zone.now moment bounds.now counts.new)) }
     ensures refused { OnRefused result (HoldsNone handle.old.seal.shelf handle.new.seal.shelf ⊎ BothHold handle.old.seal.shelf handle.new.seal.shelf (TakesSome line octets.now zone.now moment bounds.now counts.new)) }
 {
     let Some(mut shelf) = handle.take(alloc) else {
-        return Status::NoShelf.number();
+        return NO_SHELF;
     };
     let done = offer_message(
         alloc, &mut shelf, line, octets, zone, moment, bounds, counts,
@@ -165,12 +172,13 @@ pub extern "C" fn rrc_offer_set(
     line: u64,
     outcome: &mut u32,
 ) -> u32
+    ensures none { TellsNone handle.old.seal.shelf result }
     ensures done { OnDone result (BothHold handle.old.seal.shelf handle.new.seal.shelf (TakesSet line owner.now rtype trust ttl octets.now moment outcome.new)) }
     ensures refused { OnRefused result (IsKept handle.old.seal.shelf handle.new.seal.shelf) }
     ensures trust { OnDone result (IsTrust trust) }
 {
     let Some(mut shelf) = handle.take(alloc) else {
-        return Status::NoShelf.number();
+        return NO_SHELF;
     };
     let done = take_set(
         alloc, &mut shelf, owner, rtype, trust, ttl, octets, moment, line,
@@ -195,13 +203,14 @@ pub extern "C" fn rrc_offer_negative(
     line: u64,
     outcome: &mut u32,
 ) -> u32
+    ensures none { TellsNone handle.old.seal.shelf result }
     ensures done { OnDone result (BothHold handle.old.seal.shelf handle.new.seal.shelf (TakesOne line (denial_offer name.now rtype denial trust ttl soa_owner.now soa.now moment) outcome.new)) }
     ensures refused { OnRefused result (IsKept handle.old.seal.shelf handle.new.seal.shelf) }
     ensures trust { OnDone result (IsTrust trust) }
     ensures denial { OnDone result (denial ≤ 1) }
 {
     let Some(mut shelf) = handle.take(alloc) else {
-        return Status::NoShelf.number();
+        return NO_SHELF;
     };
     let done = take_negative(
         alloc, &mut shelf, name, rtype, denial, trust, ttl, soa_owner, soa, moment, line,
@@ -222,11 +231,12 @@ pub extern "C" fn rrc_offer_failure(
     line: u64,
     outcome: &mut u32,
 ) -> u32
+    ensures none { TellsNone handle.old.seal.shelf result }
     ensures done { OnDone result (BothHold handle.old.seal.shelf handle.new.seal.shelf (TakesOne line (failure_offer name.now rtype ttl moment) outcome.new)) }
     ensures refused { OnRefused result (IsKept handle.old.seal.shelf handle.new.seal.shelf) }
 {
     let Some(mut shelf) = handle.take(alloc) else {
-        return Status::NoShelf.number();
+        return NO_SHELF;
     };
     let done = take_failure(alloc, &mut shelf, name, rtype, ttl, moment, line);
     handle.put(shelf);
@@ -242,11 +252,12 @@ pub extern "C" fn rrc_sweep(
     line: u64,
     removed: &mut u64,
 ) -> u32
+    ensures none { TellsNone handle.old.seal.shelf result }
     ensures done { OnDone result (BothHold handle.old.seal.shelf handle.new.seal.shelf (λ old new. AppendsSweep old new (record { line = line; place = 0 }) moment removed.new)) }
     ensures refused { OnRefused result (IsKept handle.old.seal.shelf handle.new.seal.shelf) }
 {
     let Some(mut shelf) = handle.take(alloc) else {
-        return Status::NoShelf.number();
+        return NO_SHELF;
     };
     let done = sweep(&mut shelf, line, moment);
     handle.put(shelf);
@@ -256,11 +267,12 @@ pub extern "C" fn rrc_sweep(
 /// Takes the closed chapters, drops them, and tells how many there were.
 #[unsafe(no_mangle)]
 pub extern "C" fn rrc_drop_chapters(alloc: Global, handle: &mut Handle, dropped: &mut u64) -> u32
+    ensures none { TellsNone handle.old.seal.shelf result }
     ensures done { OnDone result (BothHold handle.old.seal.shelf handle.new.seal.shelf (DropsChapters dropped.new)) }
     ensures refused { OnRefused result (IsKept handle.old.seal.shelf handle.new.seal.shelf) }
 {
     let Some(mut shelf) = handle.take(alloc) else {
-        return Status::NoShelf.number();
+        return NO_SHELF;
     };
     let chapters = shelf.take_chapters();
     *dropped = chapters.len() as u64;
@@ -277,11 +289,12 @@ pub extern "C" fn rrc_sizes(
     events: &mut u64,
     chapters: &mut u64,
 ) -> u32
+    ensures none { TellsNone handle.old.seal.shelf result }
     ensures done { OnDone result (BothHold handle.old.seal.shelf handle.new.seal.shelf (TellsSizes events.new chapters.new)) }
     ensures kept { handle.new.seal.shelf ≡ handle.old.seal.shelf }
 {
     let Some(shelf) = handle.take(alloc) else {
-        return Status::NoShelf.number();
+        return NO_SHELF;
     };
     *events = shelf.part().events().len() as u64;
     *chapters = shelf.closed().len() as u64;

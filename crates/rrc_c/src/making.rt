@@ -1,9 +1,10 @@
 ghost use Rattle.std.specs.Prelude.{◌≡◌, ◌↔◌, None, IfOk};
-ghost use Rattle.rrc_c.specs.Statuses.{OnDone, OnRefused, OnStatus};
+ghost use Rattle.rrc_c.specs.Statuses.{OnDone, OnRefused};
+ghost use Rattle.rrc_c.specs.Handles.{TellsNone};
 ghost use Rattle.rrc_c.specs.Made.{IsNew, HoldsNew};
 
 use crate::handle::Handle;
-use crate::status::Status;
+use crate::status::{HAS_SHELF, NO_SHELF, Status};
 use rrc_cache::Part;
 use rrc_history::Rules;
 use rrc_share::Shelf;
@@ -43,7 +44,7 @@ pub extern "C" fn rrc_make(
     ensures refused { OnRefused result (handle.new.seal.shelf ≡ handle.old.seal.shelf) }
 {
     if handle.is_live() {
-        return Status::HasShelf.number();
+        return HAS_SHELF;
     }
     match new_shelf(alloc, capacity, chapter, stale, seed) {
         Err(status) => status.number(),
@@ -57,11 +58,12 @@ pub extern "C" fn rrc_make(
 /// Frees the shelf of a handle, which then holds none.
 #[unsafe(no_mangle)]
 pub extern "C" fn rrc_free(alloc: Global, handle: &mut Handle) -> u32
-    ensures none { handle.new.seal.shelf ≡ None }
+    ensures left { handle.new.seal.shelf ≡ None }
+    ensures none { TellsNone handle.old.seal.shelf result }
     ensures status { OnRefused result (handle.old.seal.shelf ≡ None) }
 {
     match handle.take(alloc) {
-        None => Status::NoShelf.number(),
+        None => NO_SHELF,
         Some(shelf) => {
             drop(shelf);
             0

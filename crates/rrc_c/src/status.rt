@@ -1,17 +1,13 @@
-ghost use Rattle.std.specs.Prelude.{◌≡◌};
+ghost use Rattle.std.specs.Prelude.{◌≡◌, ◌≤◌};
 ghost use Rattle.rrc_c.specs.Statuses.{number_of};
 
 use rrc_cache::Refusal;
 use rrc_sets::SetsFault;
 use std::alloc::{AllocError, AllocFailed};
 
-/// Why a call was not done. The numbers are those of `include/rrcache.h`, where 0 is a call that was done.
+/// Why a shelf did not do what was called for. The numbers are those of `include/rrcache.h`, where 0 is a call that was done.
 #[derive(Clone, Copy, Debug, PartialEq, Eq)]
 pub(crate) enum Status {
-    /// The handle holds no shelf.
-    NoShelf = 1,
-    /// The handle holds a shelf already.
-    HasShelf = 2,
     /// Memory was refused.
     Memory = 3,
     /// The numbers of events or of chapters are spent.
@@ -40,13 +36,20 @@ pub(crate) enum Status {
     WideAnswer = 15,
 }
 
+/// What C is told where the handle holds no shelf.
+pub(crate) const NO_SHELF: u32 = 1;
+
+/// What C is told where the handle that is to be made holds a shelf already.
+pub(crate) const HAS_SHELF: u32 = 2;
+
 /// What C is told where the buffer is too small for the answer, whose size is then told.
 pub(crate) const SMALL_BUFFER: u32 = 16;
 
 impl Status {
-    /// The number that C is told, from 1 to 15.
+    /// The number that C is told, from 3 to 15.
     pub(crate) fn number(self) -> u32
-        ensures { result ≡ number_of self }
+        ensures value { result ≡ number_of self }
+        ensures some { 3 ≤ result }
     {
         u32::from(self as u8)
     }

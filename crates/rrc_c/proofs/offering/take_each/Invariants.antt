@@ -1,5 +1,5 @@
-use Rattle.std.proofs.Common.{◌≡◌, List, reverse, length}
-use Rattle.rrc_c.specs.Offered.{Takes, TakesAll, counts_of, total}
+use Rattle.std.proofs.Common.{◌≡◌, length}
+use Rattle.rrc_c.specs.Offered.{TakesAll, total}
 use Rattle.rrc_c.proofs.offering.take_each.Given as goal
 
 abbrev pub invariant-loop-offer : goal.invariant-loop-offer
