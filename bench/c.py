@@ -3,7 +3,7 @@
 
 It takes the library as bin/build-c made it and compiles bench/c_threads.c. Each number is the median of RUNS runs of CALLS calls on 16 shelves
 with 16,384 names, each an event of its shelf's history. Asks all hit; of `both` one half are puts, which replace. Rates are calls a second
-by the clock, of all threads together. A program of one thread that makes each put and ask under no lock is `own` with one thread.
+by the clock, of all threads together.
 """
 import argparse
 import pathlib

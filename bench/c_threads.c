@@ -99,7 +99,7 @@ static void *work(void *argument)
         struct shelf *shelf = &worker->shelves[parts[name]];
         if (worker->is_locked)
             pthread_mutex_lock(&shelf->lock);
-        if (drawn >> 32 & 15 ? worker->puts > (drawn >> 32 & 15) : worker->puts > 0)
+        if (worker->puts > (drawn >> 32 & 15))
             put(shelf, names[name], call);
         else
             ask(shelf, names[name], call);
