@@ -1,0 +1,157 @@
+/* c_threads THREADS CALLS shared|own ask|put|both: times the library for C. So many threads make so many calls in all on 16 shelves, each
+   shelf under a lock: `shared`, each thread picks the shelf of each name; `own`, each thread has 16 shelves of its own and takes no lock.
+   It prints how many calls there were and the nanoseconds that they took, by the clock. bench/c.py runs it. */
+#include <pthread.h>
+#include <stdio.h>
+#include <stdlib.h>
+#include <string.h>
+#include <time.h>
+
+#include "rrcache.h"
+
+enum { SHELVES = 16, MOST_THREADS = 64, NAMES = 16384, MOMENT = 100, TTL = 3600 };
+
+struct shelf {
+    pthread_mutex_t lock;
+    struct rrcache_shelf cache;
+    char apart[64]; /* so that two locks lie on two lines of the processor's cache */
+};
+
+struct worker {
+    pthread_t thread;
+    struct shelf *shelves;
+    uint64_t calls, seed, done;
+    bool is_locked;
+    unsigned puts; /* of 16 calls so many are puts */
+};
+
+static uint8_t names[NAMES][16];
+static uint64_t parts[NAMES];
+static pthread_barrier_t start;
+
+static uint64_t nanoseconds(void)
+{
+    struct timespec now;
+    clock_gettime(CLOCK_MONOTONIC, &now);
+    return (uint64_t)now.tv_sec * 1000000000 + (uint64_t)now.tv_nsec;
+}
+
+static void fail(const char *what)
+{
+    fprintf(stderr, "%s\n", what);
+    exit(1);
+}
+
+static uint64_t draw(uint64_t *seed)
+{
+    *seed ^= *seed << 13;
+    *seed ^= *seed >> 7;
+    return *seed ^= *seed << 17;
+}
+
+static void put(struct shelf *shelf, const uint8_t *name, uint64_t line)
+{
+    static const uint8_t data[] = {0, 4, 192, 0, 2, 1, 0, 4, 192, 0, 2, 2};
+    uint32_t outcome;
+    if (rrcache_offer_set(&shelf->cache, name, sizeof names[0], 1, RRCACHE_AUTHORITATIVE_ANSWER, TTL, data, sizeof data, MOMENT, line, &outcome) != RRCACHE_DONE)
+        fail("a put was refused");
+}
+
+static void ask(struct shelf *shelf, const uint8_t *name, uint64_t line)
+{
+    struct rrcache_told told;
+    uint8_t buffer[512];
+    if (rrcache_ask(&shelf->cache, name, sizeof names[0], 1, MOMENT, RRCACHE_QUESTION, RRCACHE_NO_STALE, line, &told, buffer, sizeof buffer) != RRCACHE_DONE
+        || told.kind != RRCACHE_FRESH)
+        fail("an ask found nothing fresh");
+}
+
+/* Makes 16 shelves with all names in them. */
+static struct shelf *make_shelves(void)
+{
+    static const uint8_t seed[16] = "sixteen octets.";
+    struct shelf *shelves = calloc(SHELVES, sizeof *shelves);
+    if (shelves == NULL)
+        fail("no memory");
+    for (int i = 0; i < SHELVES; i++)
+        if (pthread_mutex_init(&shelves[i].lock, NULL) != 0 || rrcache_make(&shelves[i].cache, NAMES, NAMES, 0, seed) != RRCACHE_DONE)
+            fail("a shelf was refused");
+    for (unsigned i = 0; i < NAMES; i++)
+        put(&shelves[parts[i]], names[i], i);
+    return shelves;
+}
+
+static void free_shelves(struct shelf *shelves)
+{
+    for (int i = 0; i < SHELVES; i++) {
+        rrcache_free(&shelves[i].cache);
+        pthread_mutex_destroy(&shelves[i].lock);
+    }
+    free(shelves);
+}
+
+static void *work(void *argument)
+{
+    struct worker *worker = argument;
+    pthread_barrier_wait(&start);
+    for (uint64_t call = 0; call < worker->calls; call++, worker->done++) {
+        uint64_t drawn = draw(&worker->seed), dropped, name = drawn % NAMES;
+        struct shelf *shelf = &worker->shelves[parts[name]];
+        if (worker->is_locked)
+            pthread_mutex_lock(&shelf->lock);
+        if (worker->puts > (drawn >> 32 & 15))
+            put(shelf, names[name], call);
+        else
+            ask(shelf, names[name], call);
+        if (call % NAMES == 0)
+            rrcache_drop_chapters(&shelf->cache, &dropped);
+        if (worker->is_locked)
+            pthread_mutex_unlock(&shelf->lock);
+    }
+    pthread_barrier_wait(&start);
+    return NULL;
+}
+
+static void make_names(void)
+{
+    for (unsigned i = 0; i < NAMES; i++) {
+        memcpy(names[i], "\6n00000\7example", sizeof names[0]); /* and the zero octet of the root */
+        for (unsigned digit = 0, rest = i; digit < 5; digit++, rest /= 10)
+            names[i][6 - digit] = (uint8_t)('0' + rest % 10);
+        if (rrcache_part_of(names[i], sizeof names[i], SHELVES, &parts[i]) != RRCACHE_DONE)
+            fail("a name is none");
+    }
+}
+
+int main(int argc, char **argv)
+{
+    static struct worker workers[MOST_THREADS];
+    unsigned threads = argc == 5 ? (unsigned)strtoul(argv[1], NULL, 10) : 0;
+    uint64_t calls = argc == 5 ? strtoull(argv[2], NULL, 10) : 0, done = 0;
+    if (threads < 1 || threads > MOST_THREADS)
+        fail("usage: c_threads THREADS CALLS shared|own ask|put|both");
+    bool is_shared = strcmp(argv[3], "shared") == 0;
+    unsigned puts = strcmp(argv[4], "ask") == 0 ? 0 : strcmp(argv[4], "put") == 0 ? 16 : 8;
+    make_names();
+    struct shelf *shared = is_shared ? make_shelves() : NULL;
+    pthread_barrier_init(&start, NULL, threads + 1);
+    for (unsigned i = 0; i < threads; i++) {
+        workers[i] = (struct worker){.shelves = is_shared ? shared : make_shelves(), .calls = calls / threads, .seed = 88172645463325252 + i, .is_locked = is_shared, .puts = puts};
+        if (pthread_create(&workers[i].thread, NULL, work, &workers[i]) != 0)
+            fail("a thread was refused");
+    }
+    pthread_barrier_wait(&start);
+    uint64_t began = nanoseconds();
+    pthread_barrier_wait(&start);
+    uint64_t took = nanoseconds() - began;
+    for (unsigned i = 0; i < threads; i++) {
+        pthread_join(workers[i].thread, NULL);
+        done += workers[i].done;
+        if (!is_shared)
+            free_shelves(workers[i].shelves);
+    }
+    if (is_shared)
+        free_shelves(shared);
+    printf("%llu calls %llu nanoseconds\n", (unsigned long long)done, (unsigned long long)took);
+    return 0;
+}
