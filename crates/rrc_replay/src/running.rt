@@ -6,7 +6,7 @@ use crate::auditing::{Audit, audit_all};
 use crate::gate::Gate;
 use crate::replaying::replay;
 use rrc_report::Config;
-use rrc_trace::{ReplayFault, read_trace, report_text, write_whole};
+use rrc_trace::{ReplayFault, read_trace, write_report};
 use std::alloc::Global;
 use std::io::{Read, Write};
 use std::sync::Wait;
@@ -35,6 +35,5 @@ pub fn run<T: Threads + Wait + Sync, R: Read, W: Write, G: Gate + Sync>(
     let trace = read_trace(alloc, reader)?;
     let report = replay(rt, alloc, &trace, config, seed, gate)?;
     audit_all(alloc, report.wholes.as_slice(), seed, audit)?;
-    let text = report_text(alloc, report.lines.as_slice())?;
-    write_whole(writer, text.as_str().as_bytes())
+    write_report(alloc, writer, report.lines.as_slice())
 }

@@ -2,11 +2,12 @@ mod fakes;
 mod gates;
 
 use super::*;
-use fakes::{FailsOnce, Stumble, Stumbling};
+use fakes::{FailsOnce, Sparing, Stumble, Stumbling};
 use gates::{Crowd, Pair};
 use rrc_history::Rules;
 use rrc_report::Config;
 use rrc_trace::ReplayFault;
+use std::alloc::{AllocError, Global};
 use std::test::Fail;
 
 /// Three sets, a sweep that removes none and one that removes all; and the report.
@@ -165,6 +166,44 @@ fn writers_that_stumble_once(rt: HostRuntime) -> Result<(), Fail> {
                 assert_eq!(rt; writer.taken.as_slice(), &wanted.as_bytes()[..calls]);
             }
         }
+    }
+    Ok(())
+}
+
+/// So many questions that nothing answers, and their report.
+fn asks(alloc: Global, count: usize) -> Result<(String, String), AllocError> {
+    let mut trace = String::new(alloc);
+    let mut report = String::new(alloc);
+    for number in 0..count {
+        trace.push_str("ask 1 a.example. 1 answer none\n")?;
+        write!(report, "{number} ask miss\n")?;
+    }
+    Ok((trace, report))
+}
+
+/// A report longer than what is written at once, to a writer that takes a few octets of each write.
+#[test]
+fn a_run_writes_a_long_report(rt: HostRuntime) -> Result<(), Fail> {
+    let config = by(1).ok_or("the config is in range")?;
+    let (trace, wanted) = asks(rt.alloc(), 1_000)?;
+    for most in [5, 1_000_000] {
+        let mut writer = Sparing {
+            taken: Vec::new(rt.alloc()),
+            most,
+            asked: 0,
+        };
+        run(
+            &rt,
+            rt.alloc(),
+            &mut trace.as_str().as_bytes(),
+            &mut writer,
+            &config,
+            [0; 16],
+            Audit::Skipped,
+            &OpenGate,
+        )?;
+        assert_eq!(rt; writer.taken.as_slice(), wanted.as_str().as_bytes());
+        assert!(rt; writer.asked <= 4_096);
     }
     Ok(())
 }

@@ -7,6 +7,7 @@ pub mod SaidLemmas
 pub mod SearchLemmas
 pub mod NameLemmas
 pub mod WritingLemmas
+pub mod OutputLemmas
 pub mod QuestionLemmas
 pub mod TraceLemmas
 pub mod TraceLaw

@@ -11,5 +11,6 @@ pub mod Questions
 pub mod Lawful
 pub mod Report
 pub mod Writing
+pub mod Output
 pub mod Faults
 pub mod Reading

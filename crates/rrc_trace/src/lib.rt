@@ -3,6 +3,7 @@
 
 mod ahead;
 mod answer;
+mod buffer;
 mod digits;
 mod fault;
 mod field;
@@ -13,6 +14,8 @@ mod name;
 mod names;
 mod number;
 mod octets;
+mod output;
+mod pieces;
 mod questions;
 mod reading;
 mod report;
@@ -28,6 +31,5 @@ pub use line::{Failed, Fetch, Line, Put, Response};
 pub use name::names_are_spelled;
 pub use questions::Questions;
 pub use reading::{one_trace_or_fault, read_trace};
-pub use report::report_text;
+pub use report::write_report;
 pub use trace::Trace;
-pub use writing::write_whole;

@@ -1,12 +1,18 @@
-ghost use Rattle.std.specs.Prelude.{◌≡◌, ◌∷◌, ◌++◌, IfOk, OnOk};
-ghost use Rattle.std.specs.String.{string_bytes};
-ghost use Rattle.rrc_name.specs.Text.{text_of};
-ghost use Rattle.rrc_trace.specs.Report.{outcome_text, item_text, items_text, set_text, soa_text, slot_text, key_text, told_text, outcomes_text, offers_text, counts_text, reply_text, answer_text, line_text, report_text};
+ghost use Rattle.std.specs.Prelude.{◌≡◌, ◌∷◌, ◌++◌, OnOk, IfErr, Err};
+ghost use Rattle.std.specs.Io.KnownBytes.{Appends};
+ghost use Rattle.rrc_trace.specs.Output.{Puts};
+ghost use Rattle.rrc_trace.specs.Writing.{LeavesText};
+ghost use Rattle.rrc_trace.specs.Report.{outcome_text, item_text, items_text, set_text, soa_text, slot_text, key_text, told_text, outcomes_text, offers_text, counts_text, reply_text, answer_text, line_text, lines_text, report_text};
 
 use crate::answer::{Answer, Told};
+use crate::buffer::Buffer;
+use crate::fault::ReplayFault;
+use crate::output::Output;
+use crate::pieces::{put_name, put_number, put_octets, put_word};
 use rrc_history::{Outcome, Reply, RrSet, Soa};
-use rrc_name::{Key, Name, Octets, Slot};
-use std::alloc::{AllocError, Global};
+use rrc_name::{Key, Octets, Slot};
+use std::alloc::Global;
+use std::io::Write;
 
 fn outcome_word(outcome: Outcome) -> &'static str
     ensures { result.now ≡ outcome_text outcome }
@@ -18,215 +24,236 @@ fn outcome_word(outcome: Outcome) -> &'static str
     }
 }
 
-fn push_name(text: &mut String, name: &Name) -> Result<(), AllocError>
-    ensures { OnOk result (string_bytes text.new ≡ string_bytes text.old ++ text_of name.now) }
-{
-    text.push_str(name.to_text()?.as_str())
-}
-
-fn push_slot(text: &mut String, slot: Slot) -> Result<(), AllocError>
-    ensures { OnOk result (string_bytes text.new ≡ string_bytes text.old ++ slot_text slot) }
+fn put_slot<W: Write>(output: &mut Output<'_, W>, slot: Slot)
+    ensures { Puts W.contents output.old output.new (slot_text slot) }
 {
     match slot {
-        Slot::Set(rtype) => write!(text, "{rtype}"),
-        Slot::Nx => text.push_str("nx"),
-        Slot::Failed(rtype) => write!(text, "failed{rtype}"),
+        Slot::Set(rtype) => put_number(output, u64::from(rtype)),
+        Slot::Nx => put_word(output, "nx"),
+        Slot::Failed(rtype) => {
+            put_word(output, "failed");
+            put_number(output, u64::from(rtype));
+        }
     }
 }
 
 /// A key: its name and its slot.
-fn push_key(text: &mut String, key: &Key) -> Result<(), AllocError>
-    ensures { OnOk result (string_bytes text.new ≡ string_bytes text.old ++ key_text key.now) }
+fn put_key<W: Write>(output: &mut Output<'_, W>, key: &Key)
+    ensures { Puts W.contents output.old output.new (key_text key.now) }
 {
-    push_name(text, &key.name)?;
-    text.push('/')?;
-    push_slot(text, key.slot)
+    put_name(output, &key.name);
+    put_word(output, "/");
+    put_slot(output, key.slot);
 }
 
 /// What became of an offer, and the key that it evicted.
-fn push_told(text: &mut String, told: &Told) -> Result<(), AllocError>
-    ensures { OnOk result (string_bytes text.new ≡ string_bytes text.old ++ told_text told.now) }
+fn put_told<W: Write>(output: &mut Output<'_, W>, told: &Told)
+    ensures { Puts W.contents output.old output.new (told_text told.now) }
 {
-    text.push_str(outcome_word(told.outcome))?;
+    put_word(output, outcome_word(told.outcome));
     match &told.evicted {
-        None => Ok(()),
+        None => {}
         Some(key) => {
-            text.push_str("-out:")?;
-            push_key(text, key)
+            put_word(output, "-out:");
+            put_key(output, key);
         }
     }
 }
 
 /// Octets in hexadecimal, or a dash for none.
-fn push_item(text: &mut String, item: &Octets) -> Result<(), AllocError>
-    ensures { OnOk result (string_bytes text.new ≡ string_bytes text.old ++ item_text item.now) }
+fn put_item<W: Write>(output: &mut Output<'_, W>, item: &Octets)
+    ensures { Puts W.contents output.old output.new (item_text item.now) }
 {
     if item.is_empty() {
-        text.push('-')
+        put_word(output, "-");
     } else {
-        text.push_str(hex::encode(item.alloc(), item.as_slice())?.as_str())
+        put_octets(output, item.as_slice());
     }
 }
 
 /// Items with a comma between two.
-pub(crate) fn push_items(text: &mut String, items: &[Octets]) -> Result<(), AllocError>
-    ensures { OnOk result (string_bytes text.new ≡ string_bytes text.old ++ items_text items.now) }
+fn put_items<W: Write>(output: &mut Output<'_, W>, items: &[Octets])
+    ensures { Puts W.contents output.old output.new (items_text items.now) }
 {
     let Some((first, others)) = items.split_first() else {
-        return Ok(());
+        return;
     };
-    push_item(text, first)?;
+    put_item(output, first);
     for item in others {
-        text.push(',')?;
-        push_item(text, item)?;
+        put_word(output, ",");
+        put_item(output, item);
     }
-    Ok(())
 }
 
 /// The time that a set has to live, its owner and its data.
-fn push_set(text: &mut String, set: &RrSet, left: u32) -> Result<(), AllocError>
-    ensures { OnOk result (string_bytes text.new ≡ string_bytes text.old ++ set_text set.now left) }
+fn put_set<W: Write>(output: &mut Output<'_, W>, set: &RrSet, left: u32)
+    ensures { Puts W.contents output.old output.new (set_text set.now left) }
 {
-    write!(text, "{left} ")?;
-    push_name(text, &set.owner)?;
-    text.push(' ')?;
-    push_items(text, set.items.as_slice())
+    put_number(output, u64::from(left));
+    put_word(output, " ");
+    put_name(output, &set.owner);
+    put_word(output, " ");
+    put_items(output, set.items.as_slice());
 }
 
 /// The time that a negative answer has to live, and the owner and the data of its SOA record.
-fn push_soa(text: &mut String, soa: &Soa, left: u32) -> Result<(), AllocError>
-    ensures { OnOk result (string_bytes text.new ≡ string_bytes text.old ++ soa_text soa.now left) }
+fn put_soa<W: Write>(output: &mut Output<'_, W>, soa: &Soa, left: u32)
+    ensures { Puts W.contents output.old output.new (soa_text soa.now left) }
 {
-    write!(text, "{left} ")?;
-    push_name(text, &soa.owner)?;
-    text.push(' ')?;
-    push_item(text, &soa.octets)
+    put_number(output, u64::from(left));
+    put_word(output, " ");
+    put_name(output, &soa.owner);
+    put_word(output, " ");
+    put_item(output, &soa.octets);
 }
 
-fn push_reply(text: &mut String, reply: &Reply) -> Result<(), AllocError>
-    ensures { OnOk result (string_bytes text.new ≡ string_bytes text.old ++ reply_text reply.now) }
+fn put_reply<W: Write>(output: &mut Output<'_, W>, reply: &Reply)
+    ensures { Puts W.contents output.old output.new (reply_text reply.now) }
 {
     match reply {
         Reply::Fresh { set, left } => {
-            text.push_str("fresh ")?;
-            push_set(text, set, *left)
+            put_word(output, "fresh ");
+            put_set(output, set, *left);
         }
         Reply::Stale { set, left } => {
-            text.push_str("stale ")?;
-            push_set(text, set, *left)
+            put_word(output, "stale ");
+            put_set(output, set, *left);
         }
         Reply::NoData { soa, left } => {
-            text.push_str("nodata ")?;
-            push_soa(text, soa, *left)
+            put_word(output, "nodata ");
+            put_soa(output, soa, *left);
         }
         Reply::NxDomain { soa, left } => {
-            text.push_str("nxdomain ")?;
-            push_soa(text, soa, *left)
+            put_word(output, "nxdomain ");
+            put_soa(output, soa, *left);
         }
-        Reply::Miss { retry_from: None } => text.push_str("miss"),
+        Reply::Miss { retry_from: None } => put_word(output, "miss"),
         Reply::Miss {
             retry_from: Some(moment),
-        } => write!(text, "miss {moment}"),
+        } => {
+            put_word(output, "miss ");
+            put_number(output, *moment);
+        }
     }
 }
 
 /// What became of offers, each behind a space.
-fn push_outcomes(text: &mut String, offers: &[Told]) -> Result<(), AllocError>
-    ensures { OnOk result (string_bytes text.new ≡ string_bytes text.old ++ outcomes_text offers.now) }
+fn put_outcomes<W: Write>(output: &mut Output<'_, W>, offers: &[Told])
+    ensures { Puts W.contents output.old output.new (outcomes_text offers.now) }
 {
     for told in offers {
-        text.push(' ')?;
-        push_told(text, told)?;
+        put_word(output, " ");
+        put_told(output, told);
     }
-    Ok(())
 }
 
 /// How many offers there were, and what became of each.
-fn push_offers(text: &mut String, offers: &[Told]) -> Result<(), AllocError>
-    ensures { OnOk result (string_bytes text.new ≡ string_bytes text.old ++ offers_text offers.now) }
+fn put_offers<W: Write>(output: &mut Output<'_, W>, offers: &[Told])
+    ensures { Puts W.contents output.old output.new (offers_text offers.now) }
 {
-    let count = offers.len();
-    write!(text, "{count}")?;
-    push_outcomes(text, offers)
+    put_number(output, offers.len() as u64);
+    put_outcomes(output, offers);
 }
 
 /// How many keys each part lost, each behind a space.
-fn push_counts(text: &mut String, counts: &[usize]) -> Result<(), AllocError>
-    ensures { OnOk result (string_bytes text.new ≡ string_bytes text.old ++ counts_text counts.now) }
+fn put_counts<W: Write>(output: &mut Output<'_, W>, counts: &[usize])
+    ensures { Puts W.contents output.old output.new (counts_text counts.now) }
 {
     for count in counts {
-        let count = *count;
-        write!(text, " {count}")?;
+        put_word(output, " ");
+        put_number(output, *count as u64);
     }
-    Ok(())
 }
 
 /// What became of the offers of a message that was fetched, and the reply behind them.
-fn push_fetched(text: &mut String, told: &[Told], reply: &Reply) -> Result<(), AllocError>
-    ensures { OnOk result (string_bytes text.new ≡ string_bytes text.old ++ (offers_text told.now ++ (32 ∷ reply_text reply.now))) }
+fn put_fetched<W: Write>(output: &mut Output<'_, W>, told: &[Told], reply: &Reply)
+    ensures { Puts W.contents output.old output.new (offers_text told.now ++ (32 ∷ reply_text reply.now)) }
 {
-    push_offers(text, told)?;
-    text.push(' ')?;
-    push_reply(text, reply)
+    put_offers(output, told);
+    put_word(output, " ");
+    put_reply(output, reply);
 }
 
-fn push_answer(text: &mut String, answer: &Answer) -> Result<(), AllocError>
-    ensures { OnOk result (string_bytes text.new ≡ string_bytes text.old ++ answer_text answer.now) }
+fn put_answer<W: Write>(output: &mut Output<'_, W>, answer: &Answer)
+    ensures { Puts W.contents output.old output.new (answer_text answer.now) }
 {
     match answer {
         Answer::Put(told) => {
-            text.push_str("put ")?;
-            push_told(text, told)
+            put_word(output, "put ");
+            put_told(output, told);
         }
         Answer::Fail(told) => {
-            text.push_str("fail ")?;
-            push_told(text, told)
+            put_word(output, "fail ");
+            put_told(output, told);
         }
         Answer::Response(offers) => {
-            text.push_str("response ")?;
-            push_offers(text, offers.as_slice())
+            put_word(output, "response ");
+            put_offers(output, offers.as_slice());
         }
         Answer::Refused(fault) => {
-            let number = fault.number();
-            write!(text, "response refused {number}")
+            put_word(output, "response refused ");
+            put_number(output, u64::from(fault.number()));
         }
         Answer::Hit(reply) => {
-            text.push_str("fetch hit ")?;
-            push_reply(text, reply)
+            put_word(output, "fetch hit ");
+            put_reply(output, reply);
         }
-        Answer::Held(moment) => write!(text, "fetch held {moment}"),
-        Answer::Joined => text.push_str("fetch joined"),
+        Answer::Held(moment) => {
+            put_word(output, "fetch held ");
+            put_number(output, *moment);
+        }
+        Answer::Joined => put_word(output, "fetch joined"),
         Answer::Fetched { told, reply } => {
-            text.push_str("fetch fetched ")?;
-            push_fetched(text, told.as_slice(), reply)
+            put_word(output, "fetch fetched ");
+            put_fetched(output, told.as_slice(), reply);
         }
         Answer::Swept(removed) => {
-            text.push_str("sweep")?;
-            push_counts(text, removed.as_slice())
+            put_word(output, "sweep");
+            put_counts(output, removed.as_slice());
         }
-        Answer::Closed => text.push_str("checkpoint"),
+        Answer::Closed => put_word(output, "checkpoint"),
         Answer::Ask(reply) => {
-            text.push_str("ask ")?;
-            push_reply(text, reply)
+            put_word(output, "ask ");
+            put_reply(output, reply);
         }
     }
 }
 
-fn push_line(text: &mut String, number: u64, answer: &Answer) -> Result<(), AllocError>
-    ensures { OnOk result (string_bytes text.new ≡ string_bytes text.old ++ line_text number answer.now) }
+fn put_line<W: Write>(output: &mut Output<'_, W>, number: u64, answer: &Answer)
+    ensures { Puts W.contents output.old output.new (line_text number answer.now) }
 {
-    write!(text, "{number} ")?;
-    push_answer(text, answer)?;
-    text.push('\n')
+    put_number(output, number);
+    put_word(output, " ");
+    put_answer(output, answer);
+    put_word(output, "\n");
 }
 
-/// The text of a report: a line for each answer, numbered from 0.
-pub fn report_text(alloc: Global, answers: &[Answer]) -> Result<String, AllocError>
-    ensures { IfOk result (λ text. string_bytes text ≡ report_text answers.now) }
+/// A line for each answer, numbered from 0.
+fn put_report<W: Write>(output: &mut Output<'_, W>, answers: &[Answer])
+    ensures { Puts W.contents output.old output.new (report_text answers.now) }
 {
-    let mut text = String::new(alloc);
     for (number, answer) in answers.iter().enumerate() {
-        push_line(&mut text, number as u64, answer)?;
+        put_line(output, number as u64, answer);
     }
-    Ok(text)
+}
+
+/// Writes the text of a report, at most 4,096 octets at once, and flushes. `Memory` where room for so many is refused, before anything is
+/// written; then no memory is asked for any more. `Write` where a write or the flush failed, or a write took nothing; a beginning of the
+/// text went out then. Nothing that failed is tried again.
+pub fn write_report<W: Write>(
+    alloc: Global,
+    writer: &mut W,
+    answers: &[Answer],
+) -> Result<(), ReplayFault>
+    ensures ok { OnOk result (Appends (W.contents writer.old) (W.contents writer.new) (report_text answers.now)) }
+    ensures err { IfErr result (LeavesText (W.contents writer.old) (W.contents writer.new) (report_text answers.now)) }
+{
+    let mut buffer = Buffer::reserved(alloc)?;
+    let mut output = Output {
+        writer,
+        buffer: &mut buffer,
+        failed: false,
+    };
+    put_report(&mut output, answers);
+    output.finish()
 }

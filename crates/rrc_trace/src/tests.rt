@@ -1,7 +1,7 @@
 mod fakes;
 
 use super::*;
-use fakes::{Endless, FailsOnce, Stumble, Stumbling};
+use fakes::{Endless, FailsOnce, Sparing, Stumble, Stumbling};
 use rrc_history::{Ask, Outcome, Reply, RrSet, Soa};
 use rrc_name::{Key, Name, Octets, Sequence, Shared, Slot};
 use rrc_wire::WireFault;
@@ -25,7 +25,10 @@ fn push_put(text: &mut String, put: &Put) -> Result<(), AllocError> {
     let name = put.name.to_text()?;
     let (moment, rtype, trust, ttl) = (put.moment, put.rtype, put.trust, put.ttl);
     write!(text, "put {moment} {name} {rtype} {trust:?} {ttl} ")?;
-    report::push_items(text, put.items.as_slice())
+    for item in put.items.as_slice() {
+        push_octets(text, item)?;
+    }
+    Ok(())
 }
 
 fn push_ask(text: &mut String, ask: &Ask) -> Result<(), AllocError> {
@@ -78,7 +81,7 @@ fn shown(alloc: Global, trace: &Trace) -> Result<String, AllocError> {
 const LINES: [(&str, &str); 8] = [
     (
         "  put   0000100 A.Example 0001 04 060 C00002Fe,-,c00002fe,-  \r\n",
-        "put 100 A.Example. 1 AuthoritativeAnswer 60 c00002fe,-|",
+        "put 100 A.Example. 1 AuthoritativeAnswer 60 [c00002fe][]|",
     ),
     (
         "ask 101 a.eXample. 28 any now\nfail 102 B. 16",
@@ -108,7 +111,7 @@ const LINES: [(&str, &str); 8] = [
     // the letters of names are compared without case, those of other data as they are
     (
         "put 1 . 33 4 60 414141414141014100,414141414141016100,616161616161016100",
-        "put 1 . 33 AuthoritativeAnswer 60 414141414141014100,616161616161016100|",
+        "put 1 . 33 AuthoritativeAnswer 60 [414141414141014100][616161616161016100]|",
     ),
 ];
 
@@ -377,6 +380,16 @@ fn told(outcome: Outcome, evicted: Option<Key>) -> Told {
     Told { outcome, evicted }
 }
 
+/// The text of a report.
+fn text_of(alloc: Global, answers: &[Answer]) -> Result<String, Fail> {
+    let mut written = Vec::new(alloc);
+    write_report(alloc, &mut written, answers)?;
+    match String::from_utf8(written) {
+        Ok(text) => Ok(text),
+        Err(_) => Err(Fail::from("the report is no text")),
+    }
+}
+
 #[test]
 fn texts_of_offers(rt: HostRuntime) -> Result<(), Fail> {
     let alloc = rt.alloc();
@@ -388,7 +401,7 @@ fn texts_of_offers(rt: HostRuntime) -> Result<(), Fail> {
         let evicted = key(alloc, slot)?;
         answers.push(Answer::Fail(told(Outcome::Kept, Some(evicted))))?;
     }
-    let text = report_text(alloc, answers.as_slice())?;
+    let text = text_of(alloc, answers.as_slice())?;
     let wanted =
         "0 put kept\n1 put cleared\n2 put less\n3 fail kept-out:b.example./1\n4 fail kept-out:b.example./nx\n5 fail kept-out:b.example./failed28\n";
     assert_eq!(rt; text.as_str(), wanted);
@@ -406,7 +419,7 @@ fn texts_of_answers(rt: HostRuntime) -> Result<(), Fail> {
     let removed = counts(alloc, &[1, 1, 0, 0])?;
     answers.push(Answer::Swept(removed))?;
     answers.push(Answer::Closed)?;
-    let text = report_text(alloc, answers.as_slice())?;
+    let text = text_of(alloc, answers.as_slice())?;
     let wanted =
         "0 ask fresh 59 A.example. c00002fe,-\n1 ask stale 30 A.example. c00002fe,-\n2 ask nodata 300 Example. 000aff\n3 ask nxdomain 300 Example. 000aff\n4 ask miss\n5 ask miss 330\n6 sweep 1 1 0 0\n7 checkpoint\n";
     assert_eq!(rt; text.as_str(), wanted);
@@ -457,7 +470,7 @@ fn texts_of_responses(rt: HostRuntime) -> Result<(), Fail> {
         Answer::Refused(WireFault::Short),
         Answer::Refused(WireFault::TooLong),
     ];
-    let text = report_text(alloc, answers.as_slice())?;
+    let text = text_of(alloc, answers.as_slice())?;
     let wanted =
         "0 response 3 kept-out:b.example./1 cleared less\n1 response 0\n2 response refused 1\n3 response refused 8\n";
     assert_eq!(rt; text.as_str(), wanted);
@@ -485,17 +498,17 @@ fn texts_of_fetches(rt: HostRuntime) -> Result<(), Fail> {
             reply: miss,
         },
     ];
-    let text = report_text(alloc, answers.as_slice())?;
+    let text = text_of(alloc, answers.as_slice())?;
     let wanted =
         "0 fetch hit fresh 59 A.example. c00002fe,-\n1 fetch held 330\n2 fetch joined\n3 fetch fetched 1 kept fresh 59 A.example. c00002fe,-\n4 fetch fetched 0 miss\n";
     assert_eq!(rt; text.as_str(), wanted);
     Ok(())
 }
 
-/// What comes of a text whose writer stumbles once behind so many calls, and the octets that it took.
+/// What comes of a report whose writer stumbles once behind so many calls, and the octets that it took.
 fn written(
     alloc: Global,
-    text: &[u8],
+    answers: &[Answer],
     stumble: Stumble,
     calls: usize,
 ) -> (Result<(), ReplayFault>, Vec<u8>) {
@@ -504,32 +517,103 @@ fn written(
         calls: Some(calls),
         stumble,
     };
-    let ended = write_whole(&mut writer, text);
+    let ended = write_report(alloc, &mut writer, answers);
     (ended, writer.taken)
 }
 
 /// The last call flushes, and the only one where there is nothing to write.
 #[test]
-fn writers_that_stumble_once(rt: HostRuntime) {
-    for text in [b"0 sweep 3\n".as_slice(), b"".as_slice()] {
+fn writers_that_stumble_once(rt: HostRuntime) -> Result<(), Fail> {
+    let removed = counts(rt.alloc(), &[3])?;
+    let answers = [Answer::Swept(removed)];
+    for (answers, text) in [(answers.as_slice(), "0 sweep 3\n"), (&answers[..0], "")] {
         for calls in 0..=text.len() {
             for stumble in [Stumble::Fails, Stumble::TakesNothing] {
-                let (ended, taken) = written(rt.alloc(), text, stumble, calls);
+                let (ended, taken) = written(rt.alloc(), answers, stumble, calls);
                 assert_eq!(rt; ended, Err(ReplayFault::Write), "{stumble:?} at {calls}");
-                assert_eq!(rt; taken.as_slice(), &text[..calls]);
+                assert_eq!(rt; taken.as_slice(), &text.as_bytes()[..calls]);
             }
         }
     }
+    Ok(())
 }
 
-#[test]
-fn writers_that_take_all(rt: HostRuntime) {
-    for text in [b"0 sweep 3\n".as_slice(), b"".as_slice()] {
-        let mut written = Vec::new(rt.alloc());
-        let ended = write_whole(&mut written, text);
-        assert_eq!(rt; ended, Ok(()));
-        assert_eq!(rt; written.as_slice(), text);
+/// So many questions that nothing answered.
+fn misses(alloc: Global, count: usize) -> Result<Vec<Answer>, AllocError> {
+    let mut answers = Vec::with_capacity(alloc, count)?;
+    for _ in 0..count {
+        answers.push(Answer::Ask(Reply::Miss { retry_from: None }))?;
     }
+    Ok(answers)
+}
+
+/// The text of their report.
+fn text_of_misses(alloc: Global, count: usize) -> Result<String, AllocError> {
+    let mut text = String::new(alloc);
+    for number in 0..count {
+        write!(text, "{number} ask miss\n")?;
+    }
+    Ok(text)
+}
+
+/// What a writer is asked to take is never more than the buffer has room for, and it may take less.
+#[test]
+fn long_reports_go_out_in_parts(rt: HostRuntime) -> Result<(), Fail> {
+    let answers = misses(rt.alloc(), 1_000)?;
+    let wanted = text_of_misses(rt.alloc(), 1_000)?;
+    for most in [7, 4_095, 4_096, 1_000_000] {
+        let mut writer = Sparing {
+            taken: Vec::new(rt.alloc()),
+            most,
+            asked: 0,
+        };
+        write_report(rt.alloc(), &mut writer, answers.as_slice())?;
+        assert_eq!(rt; writer.taken.as_slice(), wanted.as_str().as_bytes());
+        assert!(rt; writer.asked <= 4_096);
+    }
+    Ok(())
+}
+
+/// A write that fails between two others is the last one.
+#[test]
+fn long_reports_that_break_off(rt: HostRuntime) -> Result<(), Fail> {
+    let answers = misses(rt.alloc(), 1_000)?;
+    let wanted = text_of_misses(rt.alloc(), 1_000)?;
+    let text = wanted.as_str().as_bytes();
+    for calls in [0, 4_000, 4_096, 5_000, 8_192, 12_000, text.len()] {
+        for stumble in [Stumble::Fails, Stumble::TakesNothing] {
+            let (ended, taken) = written(rt.alloc(), answers.as_slice(), stumble, calls);
+            assert_eq!(rt; ended, Err(ReplayFault::Write), "{stumble:?} at {calls}");
+            assert_eq!(rt; taken.as_slice(), &text[..calls.min(text.len())]);
+        }
+    }
+    Ok(())
+}
+
+/// Names and data longer than what is printed at once.
+#[test]
+fn long_names_and_data(rt: HostRuntime) -> Result<(), Fail> {
+    let alloc = rt.alloc();
+    let mut octets = Octets::new(alloc);
+    let mut digits = String::new(alloc);
+    for octet in 0..=255u8 {
+        octets.push(octet)?;
+        write!(digits, "{octet:02x}")?;
+    }
+    let owner = "a\\.\\\\b\\000\\255.xyz.";
+    let soa = Soa {
+        owner: Name::from_text(alloc, owner)?,
+        octets: Shared::new(alloc, octets)?,
+    };
+    let answers = [Answer::Ask(Reply::NoData {
+        soa,
+        left: 4_294_967_295,
+    })];
+    let text = text_of(alloc, answers.as_slice())?;
+    let digits = digits.as_str();
+    let wanted = format!(in alloc; "0 ask nodata 4294967295 {owner} {digits}\n")?;
+    assert_eq!(rt; text.as_str(), wanted.as_str());
+    Ok(())
 }
 
 /// Faults, each with its number and its text.

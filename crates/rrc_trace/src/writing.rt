@@ -5,9 +5,9 @@ ghost use Rattle.rrc_trace.specs.Writing.{AppendsFront};
 use crate::fault::ReplayFault;
 use std::io::Write;
 
-/// Writes octets, and flushes. `Write` where a write or the flush failed, or a write took nothing; a beginning of the octets
-/// went out then. Nothing that failed is tried again.
-pub fn write_whole<W: Write>(writer: &mut W, octets: &[u8]) -> Result<(), ReplayFault>
+/// Writes octets. `Write` where a write failed or took nothing; a beginning of the octets went out then. Nothing that failed is
+/// tried again.
+pub(crate) fn write_out<W: Write>(writer: &mut W, octets: &[u8]) -> Result<(), ReplayFault>
     ensures ok { OnOk result (Appends (W.contents writer.old) (W.contents writer.new) octets.now) }
     ensures err { OnErr result (result ≡ Err ReplayFault.Write) }
     ensures front { OnErr result (AppendsFront (W.contents writer.old) (W.contents writer.new) octets.now) }
@@ -23,8 +23,5 @@ pub fn write_whole<W: Write>(writer: &mut W, octets: &[u8]) -> Result<(), Replay
             Err(_) => return Err(ReplayFault::Write),
         }
     }
-    match writer.flush() {
-        Ok(()) => Ok(()),
-        Err(_) => Err(ReplayFault::Write),
-    }
+    Ok(())
 }

@@ -75,3 +75,25 @@ impl Write for Stumbling {
         Ok(())
     }
 }
+
+/// Takes some octets of each write, and remembers how many it was asked to take at most.
+#[derive(Drop)]
+pub(super) struct Sparing {
+    pub(super) taken: Vec<u8>,
+    /// How many octets a write takes at most.
+    pub(super) most: usize,
+    pub(super) asked: usize,
+}
+
+impl Write for Sparing {
+    fn write(&mut self, buf: &[u8]) -> io::Result<usize> {
+        self.asked = self.asked.max(buf.len());
+        let count = self.most.min(buf.len());
+        self.taken.extend_from_slice(&buf[..count])?;
+        Ok(count)
+    }
+
+    fn flush(&mut self) -> io::Result<()> {
+        Ok(())
+    }
+}

@@ -1,6 +1,6 @@
 use Rattle.std.proofs.Common.{◌-◌, drop, length, arith, length-drop, length-take}
 use Rattle.rrc_trace.proofs.WritingLemmas.{Appends-more}
-use Rattle.rrc_trace.proofs.writing.write_whole.Goals as goal
+use Rattle.rrc_trace.proofs.writing.write_out.Goals as goal
 
 pub loop-preserved : goal.loop-preserved
 loop-preserved g c =

@@ -1,7 +1,7 @@
 -- the first so many octets went out, one at least in each turn
 use Rattle.std.proofs.Common.{take, ◌≤◌, length}
 use Rattle.std.specs.Io.KnownBytes.{Appends}
-use Rattle.rrc_trace.proofs.writing.write_whole.Given as goal
+use Rattle.rrc_trace.proofs.writing.write_out.Given as goal
 
 abbrev pub invariant-loop : goal.invariant-loop
 invariant-loop g l =
