@@ -1,61 +1,69 @@
--- Deaths: what stands among them, and which are due.
-use Rattle.std.proofs.Common.{◌≡◌, ℕ, ◌<◌, ◌≤◌, List, [], ◌∷◌, ◌++◌, Bool, true, false, cond, not, ◌||◌, ◌&&◌, refl, sym, ap, ◌∙◌, arith}
-use Rattle.std.specs.Prelude.{nat_le}
-use Rattle.std.specs.declared.cmp.Ordering.{Ordering}
-use Rattle.std.specs.declared.cmp.Ordering.TheVariants.{Less, Equal, Greater}
-use Rattle.std.specs.Ordering.{is_le, nat_cmp, ordering_then}
-use Rattle.std.specs.List.{AllByRecursion}
-use Rattle.std.specs.List.Sorted.{IsStrictlySortedBy}
-use Rattle.std.proofs.lemmas.Bool.{lt-leb}
-use Rattle.std.proofs.lemmas.Map.Keys.{le_from_is_le, sorted_head, sorted_tail}
-use Rattle.rrc_name.specs.Key.{key_order}
+-- Deaths that move: which of them come by a time is told alike.
+use Rattle.std.proofs.Common.{◌≡◌, List, [], ◌∷◌, ◌++◌, Bool, true, false, ◌||◌, Result, Ok, Err, OnOk, refl, sym, ap, ◌∙◌}
+use Rattle.std.specs.Result.{IsOk}
+use Rattle.std.specs.List.{list_any}
+use Rattle.std.specs.List.Sorted.{IsPermutation}
+use Rattle.std.proofs.lemmas.List.Sorted.{list_any-IsPermutation}
 use Rattle.rrc_cache.specs.declared.deaths.Death.{Death}
-use Rattle.rrc_cache.specs.Deaths.{death_order, keys_due}
 
--- ---- choices
+or_assoc : (a b c : Bool) → ((a || b) || c) ≡ (a || (b || c))
+or_assoc true b c = refl
+or_assoc false b c = refl
 
-pub added_by : (is was : Bool) → cond is true was ≡ (is || was)
-added_by true was = refl
-added_by false was = refl
+pub or_none : (a : Bool) → (a || false) ≡ a
+or_none true = refl
+or_none false = refl
 
-pub removed_by : (is was : Bool) → cond is false was ≡ (not is && was)
-removed_by true was = refl
-removed_by false was = refl
+or_swap : (a b c : Bool) → (a || (b || c)) ≡ (b || (a || c))
+or_swap true true c = refl
+or_swap true false c = refl
+or_swap false b c = refl
 
--- ---- which are due
+any-append : (test : Death → Bool) (xs ys : List Death) → list_any test (xs ++ ys) ≡ (list_any test xs || list_any test ys)
+any-append test [] ys = refl
+any-append test (x ∷ xs) ys = ap (λ b. test x || b) (any-append test xs ys) ∙ sym (or_assoc (test x) (list_any test xs) (list_any test ys))
 
-abbrev pub is_due : ℕ → Death → Bool
-is_due moment death = nat_le death.time moment
+-- one more that waits
+pub any_pushed : (test : Death → Bool) (death : Death) (waiting pushed due : List Death) → IsPermutation (death ∷ waiting) pushed
+    → (list_any test pushed || list_any test due) ≡ (test death || (list_any test waiting || list_any test due))
+any_pushed test death waiting pushed due moves =
+    ap (λ b. b || list_any test due) (sym (list_any-IsPermutation test (death ∷ waiting) pushed moves))
+    ∙ or_assoc (test death) (list_any test waiting) (list_any test due)
 
-pub due-append : (moment : ℕ) (xs ys : List Death) → keys_due moment (xs ++ ys) ≡ keys_due moment xs ++ keys_due moment ys
-due-append moment [] ys = refl
-due-append moment (x ∷ xs) ys = by (is_due moment x) refl (due-append moment xs ys)
+-- the first of those that wait becomes due
+pub any_moved : (test : Death → Bool) (death : Death) (waiting popped due : List Death) → IsPermutation waiting (death ∷ popped)
+    → (list_any test popped || list_any test (due ++ death ∷ [])) ≡ (list_any test waiting || list_any test due)
+any_moved test death waiting popped due moves =
+    ap (λ b. list_any test popped || b) (any-append test due (death ∷ []) ∙ behind (list_any test due) (test death))
+    ∙ (or_swap (list_any test popped) (test death) (list_any test due)
+    ∙ (sym (or_assoc (test death) (list_any test popped) (list_any test due))
+    ∙ ap (λ b. b || list_any test due) (sym (list_any-IsPermutation test waiting (death ∷ popped) moves))))
   where
-    by : (b : Bool) → is_due moment x ≡ b → keys_due moment (xs ++ ys) ≡ keys_due moment xs ++ keys_due moment ys
-        → keys_due moment (x ∷ (xs ++ ys)) ≡ keys_due moment (x ∷ xs) ++ keys_due moment ys
-    by true is rest = rw is (ap (λ keys. x.key ∷ keys) rest)
-    by false is rest = rw is rest
+    behind : (a b : Bool) → (a || (b || false)) ≡ (b || a)
+    behind true true = refl
+    behind true false = refl
+    behind false true = refl
+    behind false false = refl
 
--- one that dies later than another that lives
-later_lives : (moment : ℕ) (x y : Death) → moment < x.time → death_order x y ≡ Less → is_due moment y ≡ false
-later_lives moment x y lives order = by (nat_cmp x.time y.time) refl
+-- one that was due is taken out
+pub any_taken : (test : Death → Bool) (death : Death) (waiting before due : List Death) → due ≡ before ++ death ∷ []
+    → (list_any test waiting || list_any test due) ≡ (test death || (list_any test waiting || list_any test before))
+any_taken test death waiting before due is =
+    ap (λ ds. list_any test waiting || list_any test ds) is
+    ∙ (ap (λ b. list_any test waiting || b) (any-append test before (death ∷ []))
+    ∙ shuffled (list_any test waiting) (list_any test before) (test death))
   where
-    by : (r : Ordering) → nat_cmp x.time y.time ≡ r → is_due moment y ≡ false
-    by Less is = let le : x.time ≤ y.time = le_from_is_le x.time y.time (ap is_le is) in lt-leb y.time moment (omega (arith, le))
-    by Equal is = let le : x.time ≤ y.time = le_from_is_le x.time y.time (ap is_le is) in lt-leb y.time moment (omega (arith, le))
-    by Greater is = let bad : Greater ≡ Less = sym (ap (λ r. ordering_then r (ordering_then (nat_cmp x.number y.number) (key_order x.key y.key))) is) ∙ order in absurd cc
+    shuffled : (a b c : Bool) → (a || (b || (c || false))) ≡ (c || (a || b))
+    shuffled true true true = refl
+    shuffled true true false = refl
+    shuffled true false true = refl
+    shuffled true false false = refl
+    shuffled false true true = refl
+    shuffled false true false = refl
+    shuffled false false true = refl
+    shuffled false false false = refl
 
-none_due : (moment : ℕ) (x : Death) (ys : List Death) → moment < x.time → AllByRecursion (λ y. death_order x y ≡ Less) ys → keys_due moment ys ≡ []
-none_due moment x [] lives all = refl
-none_due moment x (y ∷ ys) lives all = let is = later_lives moment x y lives all.0 in rw is (none_due moment x ys lives all.1)
-
--- where one lives, those are due that stand before it
-pub due-before : (moment : ℕ) (xs : List Death) (x : Death) (ys : List Death) → IsStrictlySortedBy death_order (xs ++ x ∷ ys) → moment < x.time
-    → keys_due moment (xs ++ x ∷ ys) ≡ keys_due moment xs
-due-before moment [] x ys sorted lives =
-    let not_due : is_due moment x ≡ false = lt-leb x.time moment lives in rw not_due (none_due moment x ys lives (sorted_head death_order x ys sorted))
-due-before moment (first ∷ xs) x ys sorted lives = by (is_due moment first) refl (due-before moment xs x ys (sorted_tail death_order first (xs ++ x ∷ ys) sorted) lives)
-  where
-    by : (b : Bool) → is_due moment first ≡ b → keys_due moment (xs ++ x ∷ ys) ≡ keys_due moment xs → keys_due moment (first ∷ (xs ++ x ∷ ys)) ≡ keys_due moment (first ∷ xs)
-    by true is rest = rw is (ap (λ keys. first.key ∷ keys) rest)
-    by false is rest = rw is rest
+-- what stands at an `Ok`, where there is one
+pub at_ok : {X E : Type 0} (result : Result X E) (P : Type 0) → IsOk result → OnOk result P → P
+at_ok (Ok x) P ok is = is
+at_ok (Err e) P ok is = let bad : false ≡ true = ok in absurd cc

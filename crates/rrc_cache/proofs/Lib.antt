@@ -2,7 +2,9 @@ pub mod Paired
 pub mod Turned
 pub mod Due
 pub mod Timed
+pub mod Stored
 pub mod Sound
+pub mod Marked
 pub mod Placing
 pub mod Leaving
 pub mod Written

@@ -11,7 +11,7 @@ use Rattle.rrc_name.specs.lemmas.KeyLaws.{key_eq-same}
 use Rattle.rrc_history.specs.declared.snapshot.Entry.{Entry}
 use Rattle.rrc_history.specs.Past.{entry_at, last_key}
 use Rattle.rrc_history.specs.Entries.{LacksKey, AreApart, goes, in_front, promoted, staying}
-use Rattle.rrc_history.specs.lemmas.Apart.{entry_at-middle, staying-lacks, staying-middle}
+use Rattle.rrc_history.specs.lemmas.Apart.{staying-lacks, staying-middle}
 use Rattle.rrc_cache.specs.Pairs.{entries_in, AreOwn, StoreOf}
 
 -- ---- the view
@@ -195,15 +195,7 @@ last_behind (first ∷ next ∷ pairs) pair is =
     ap (λ es. first.1 ∷ es) (last_behind (next ∷ pairs) pair (sym (ap (slice_get (first ∷ next ∷ pairs)) behind) ∙ is))
     ∙ ap (λ n. entries_in (take n (first ∷ next ∷ pairs)) ++ pair.1 ∷ []) (sym behind)
 
--- the last entry is the one that is found under its key
-pub last_found : (pairs : List (KeyOf × Entry)) (pair : KeyOf × Entry) → AreApart (entries_in pairs) → lru.last_entry pairs ≡ Some pair
-    → entry_at pair.1.key (entries_in pairs) ≡ Some pair.1
-last_found pairs pair apart is =
-    let front : List Entry = entries_in (take (length pairs - 1) pairs) in
-    let split : entries_in pairs ≡ front ++ pair.1 ∷ [] = last_behind pairs pair is in
-    ap (entry_at pair.1.key) split ∙ entry_at-middle front pair.1 [] (subst AreApart split apart)
-
--- and goes alone
+-- the last entry goes alone
 pub last_gone : (pairs : List (KeyOf × Entry)) (pair : KeyOf × Entry) → AreApart (entries_in pairs) → lru.last_entry pairs ≡ Some pair
     → staying (goes pair.1.key None) (entries_in pairs) ≡ entries_in (take (length pairs - 1) pairs)
 last_gone pairs pair apart is =

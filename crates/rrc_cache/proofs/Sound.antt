@@ -29,7 +29,7 @@ all_found P test (entry ∷ entries) all = by (test entry) refl (all_found P tes
 pub timely_found : (test : Entry → Bool) (entries : List Entry) → AllByRecursion IsTimely entries → IfSome (find test entries) IsTimely
 timely_found test entries all = all_found IsTimely test entries all
 
-all_staying : (P : Entry → Type 0) (out : KeyOf → Bool) (entries : List Entry) → AllByRecursion P entries → AllByRecursion P (staying out entries)
+pub all_staying : (P : Entry → Type 0) (out : KeyOf → Bool) (entries : List Entry) → AllByRecursion P entries → AllByRecursion P (staying out entries)
 all_staying P out [] all = tt
 all_staying P out (entry ∷ entries) all = by (out entry.key) refl (all_staying P out entries all.1)
   where
@@ -37,7 +37,7 @@ all_staying P out (entry ∷ entries) all = by (out entry.key) refl (all_staying
     by true is rest = rw is rest
     by false is rest = rw is (all.0, rest)
 
-all_with : (P Q : Entry → Type 0) → ((entry : Entry) → P entry → Q entry) → (entries : List Entry) → AllByRecursion P entries → AllByRecursion Q entries
+pub all_with : (P Q : Entry → Type 0) → ((entry : Entry) → P entry → Q entry) → (entries : List Entry) → AllByRecursion P entries → AllByRecursion Q entries
 all_with P Q with' [] all = tt
 all_with P Q with' (entry ∷ entries) all = (with' entry all.0, all_with P Q with' entries all.1)
 

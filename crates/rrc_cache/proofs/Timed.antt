@@ -1,11 +1,11 @@
--- When entries die, and what edits of the entries leave of that.
-use Rattle.std.proofs.Common.{◌≡◌, ℕ, ◌+◌, ◌-◌, ◌^◌, ◌≤◌, List, [], ◌∷◌, Bool, true, false, not, ◌&&◌, ◌||◌, Option, Some, None, refl, sym, ap, ◌∙◌, arith, nat_eq}
+-- When entries die, and that edits of the entries leave that foreseen.
+use Rattle.std.proofs.Common.{◌≡◌, ℕ, zero, suc, ◌+◌, ◌-◌, ◌^◌, ◌<◌, ◌≤◌, List, [], ◌∷◌, Bool, true, false, ◌&&◌, ◌||◌, Option, Some, None, refl, sym, ap, subst, ◌∙◌, arith}
 use Rattle.std.specs.Prelude.{◌==◌, nat_le, min, if◌then◌else◌}
-use Rattle.std.specs.Cmp.{both_tied, first_so, second_so, nat_eq_equiv, unsigned_ties}
-use Rattle.std.specs.Ordering.{is_eq, nat_cmp, ordering_then}
-use Rattle.std.proofs.lemmas.Bool.Decides.{Decides-eqb, nat_tests}
-use Rattle.rrc_name.specs.Key.{KeyOf, key_eq, key_order}
-use Rattle.rrc_name.specs.lemmas.KeyLaws.{key_eq-laws, key_eq-same, key_order-ties}
+use Rattle.std.specs.List.{AllByRecursion, list_any, slice_get}
+use Rattle.std.proofs.lemmas.Bool.{and_parts, and_from, and_left, and_right, le-leb, leb-true, lt-leb}
+use Rattle.std.proofs.lemmas.Bool.Decides.{nat_tests}
+use Rattle.rrc_name.specs.Key.{KeyOf, key_eq}
+use Rattle.rrc_name.specs.lemmas.KeyLaws.{key_eq-laws, key_eq-same}
 use Rattle.rrc_history.specs.declared.snapshot.Entry.{Entry}
 use Rattle.rrc_history.specs.Lives.{LAST_MOMENT, is_dead, span}
 use Rattle.rrc_history.specs.Past.{entry_at, is_among}
@@ -13,7 +13,7 @@ use Rattle.rrc_history.specs.Right.{is_swept}
 use Rattle.rrc_history.specs.Entries.{goes, in_front, promoted, staying}
 use Rattle.rrc_history.specs.lemmas.EntryLaws.{entry_at-key, entry_at-staying}
 use Rattle.rrc_cache.specs.declared.deaths.Death.{Death}
-use Rattle.rrc_cache.specs.Deaths.{AreDeaths, death_of, is_death_of, is_same, keys_due, stands}
+use Rattle.rrc_cache.specs.Deaths.{AreForeseen, AreSameDeaths, DeathsOf, IsForeseen, dead_among, death_of, deaths_of, dies_by, is_by, is_gone_by}
 use Rattle.rrc_cache.specs.Dying.{time_of_death}
 
 -- ---- the death of an entry
@@ -32,38 +32,70 @@ dead_from stale moment entry timely = by (span stale entry.body == 0) refl
 
 -- ---- one among the deaths
 
-same-is : (a b : Death) → is_same a b ≡ ((a.time == b.time) && ((a.number == b.number) && key_eq a.key b.key))
-same-is a b =
-    let behind : ((a.number == b.number) && key_eq a.key b.key) ≡ is_eq (ordering_then (nat_cmp a.number b.number) (key_order a.key b.key)) =
-    both_tied (nat_eq a.number b.number) (key_eq a.key b.key) (nat_cmp a.number b.number) (key_order a.key b.key) (unsigned_ties a.number b.number) (key_order-ties a.key b.key) in
-    sym (both_tied (nat_eq a.time b.time) ((a.number == b.number) && key_eq a.key b.key) (nat_cmp a.time b.time)
-    (ordering_then (nat_cmp a.number b.number) (key_order a.key b.key)) (unsigned_ties a.time b.time) behind)
+pub either : (a b : Bool) → b ≡ true → (a || b) ≡ true
+either true b h = refl
+either false b h = h
 
--- it is at this time, and of the entry of this number
-abbrev is_at : ℕ → ℕ → Death → Bool
-is_at time number death = time == death.time && number == death.number
+-- one of its own key, which is as early
+pub is_by-own : (key : KeyOf) (time : ℕ) → is_by key time (record { time = time; key = key }) ≡ true
+is_by-own key time = and_from (key_eq key key) (nat_le time time) (key_eq-laws.refl key) (le-leb time time (omega arith))
 
--- of the same key
-same_key : (death other : Death) → key_eq death.key other.key ≡ true → is_same death other ≡ is_at death.time death.number other
-same_key death other is =
-    same-is death other
-    ∙ (ap (λ b. (death.time == other.time) && ((death.number == other.number) && b)) is
-    ∙ ap (λ b. (death.time == other.time) && b) (alone (death.number == other.number)))
+-- one of another key
+pub is_by-other : (key : KeyOf) (time : ℕ) (death : Death) → key_eq key death.key ≡ false → is_by key time death ≡ false
+is_by-other key time death other = ap (λ b. b && nat_le death.time time) other
+
+-- one that comes by a time comes by a later one
+is_by-later : (key : KeyOf) (early late : ℕ) (death : Death) → early ≤ late → is_by key early death ≡ true → is_by key late death ≡ true
+is_by-later key early late death le is =
+    let parts = and_parts (key_eq key death.key) (nat_le death.time early) is in
+    and_from (key_eq key death.key) (nat_le death.time late) parts.0 (le-leb death.time late (omega (arith, le, leb-true death.time early parts.1)))
+
+-- what comes by a time is there where one of the same key is that comes no later
+pub is_by-before : (key : KeyOf) (time : ℕ) (death other : Death) → is_by other.key other.time death ≡ true → is_by key time other ≡ true → is_by key time death ≡ true
+is_by-before key time death other before is =
+    let parts = and_parts (key_eq key other.key) (nat_le other.time time) is in
+    is_by-later key other.time time death (leb-true other.time time parts.1)
+    (ap (λ k. is_by k other.time death) (key_eq-same key other.key parts.0) ∙ before)
+
+-- one at a place is one of them
+pub any_at : (test : Death → Bool) (deaths : List Death) (place : ℕ) (death : Death) → slice_get deaths place ≡ Some death → test death ≡ true → list_any test deaths ≡ true
+any_at test [] place death is so = absurd cc
+any_at test (first ∷ deaths) zero death is so =
+    let it : first ≡ death = cc in
+    ap (λ b. b || list_any test deaths) (ap test it ∙ so)
+any_at test (first ∷ deaths) (suc place) death is so = either (test first) (list_any test deaths) (any_at test deaths place death is so)
+
+any-later : (key : KeyOf) (early late : ℕ) (deaths : List Death) → early ≤ late → list_any (is_by key early) deaths ≡ true → list_any (is_by key late) deaths ≡ true
+any-later key early late [] le is = is
+any-later key early late (first ∷ deaths) le is = by (is_by key early first) refl (any-later key early late deaths le)
   where
-    alone : (b : Bool) → (b && true) ≡ b
-    alone true = refl
-    alone false = refl
+    by : (b : Bool) → is_by key early first ≡ b → (list_any (is_by key early) deaths ≡ true → list_any (is_by key late) deaths ≡ true)
+        → (is_by key late first || list_any (is_by key late) deaths) ≡ true
+    by true at rest = ap (λ b. b || list_any (is_by key late) deaths) (is_by-later key early late first le at)
+    by false at rest = either (is_by key late first) (list_any (is_by key late) deaths) (rest (sym (ap (λ b. b || list_any (is_by key early) deaths) at) ∙ is))
 
--- of another key
-other_key : (death other : Death) → key_eq death.key other.key ≡ false → is_same death other ≡ false
-other_key death other is =
-    same-is death other
-    ∙ (ap (λ b. (death.time == other.time) && ((death.number == other.number) && b)) is ∙ never (death.time == other.time) (death.number == other.number))
+-- one that comes by a time is one of the key
+any_of_key : (key : KeyOf) (time : ℕ) (deaths : List Death) → list_any (is_by key time) deaths ≡ true → list_any (λ death. key_eq key death.key) deaths ≡ true
+any_of_key key time [] is = is
+any_of_key key time (first ∷ deaths) is = by (key_eq key first.key) refl (any_of_key key time deaths)
   where
-    never : (a b : Bool) → (a && (b && false)) ≡ false
-    never true true = refl
-    never true false = refl
-    never false b = refl
+    by : (b : Bool) → key_eq key first.key ≡ b → (list_any (is_by key time) deaths ≡ true → list_any (λ death. key_eq key death.key) deaths ≡ true)
+        → (key_eq key first.key || list_any (λ death. key_eq key death.key) deaths) ≡ true
+    by true at rest = ap (λ b. b || list_any (λ death. key_eq key death.key) deaths) at
+    by false at rest =
+        either (key_eq key first.key) (list_any (λ death. key_eq key death.key) deaths)
+        (rest (sym (ap (λ b. (b && nat_le first.time time) || list_any (is_by key time) deaths) at) ∙ is))
+
+dies_by-later : (deaths : DeathsOf) (key : KeyOf) (early late : ℕ) → early ≤ late → dies_by deaths key early ≡ true → dies_by deaths key late ≡ true
+dies_by-later deaths key early late le is = by (list_any (is_by key early) deaths.waiting) refl
+  where
+    by : (b : Bool) → list_any (is_by key early) deaths.waiting ≡ b → dies_by deaths key late ≡ true
+    by true at = ap (λ b. b || list_any (is_by key late) deaths.due) (any-later key early late deaths.waiting le at)
+    by false at =
+        either (list_any (is_by key late) deaths.waiting) (list_any (is_by key late) deaths.due)
+        (any-later key early late deaths.due le (sym (ap (λ b. b || list_any (is_by key early) deaths.due) at) ∙ is))
+
+-- ---- what is found
 
 -- what is found under the same key
 found_same : (key other : KeyOf) (entries : List Entry) (found : Option Entry) → entry_at key entries ≡ found → key_eq key other ≡ true → entry_at other entries ≡ found
@@ -79,66 +111,32 @@ found_staying : (key other : KeyOf) (entries : List Entry) (b : Bool) → key_eq
 found_staying key other entries b is =
     entry_at-staying (goes key None) other entries ∙ ap (λ gone. if gone then None else entry_at other entries) (goes_same key other b is)
 
-module _ (stale : ℕ) (entries : List Entry) (deaths : List Death) (are : AreDeaths stale entries deaths) where
-  -- at a key that is found
-  at_key : (key : KeyOf) (other : Death) (found : Option Entry) → entry_at key entries ≡ found → key_eq key other.key ≡ true
-      → stands deaths other ≡ is_death_of stale found other
-  at_key key other found is same = are other ∙ ap (λ f. is_death_of stale f other) (found_same key other.key entries found is same)
+-- ---- the same deaths, and more
 
+-- where a death under a key stays, or another key's
+pub still_foreseen : (stale : ℕ) (old new : DeathsOf) (found : Option Entry)
+    → ((time : ℕ) (entry : Entry) → found ≡ Some entry → dies_by old entry.key time ≡ true → dies_by new entry.key time ≡ true)
+    → IsForeseen stale old found → IsForeseen stale new found
+still_foreseen stale old new None stays is = tt
+still_foreseen stale old new (Some entry) stays is = stays (time_of_death stale entry) entry refl is
+
+pub same_foreseen : (stale : ℕ) (entries : List Entry) (old new : DeathsOf) → AreSameDeaths new old → AreForeseen stale entries old → AreForeseen stale entries new
+same_foreseen stale entries old new same are = λ key. still_foreseen stale old new (entry_at key entries) (λ time entry found is. same entry.key time ∙ is) (are key)
+
+module _ (stale : ℕ) (entries : List Entry) (deaths : DeathsOf) (are : AreForeseen stale entries deaths) where
   -- ---- removals
 
-  -- where nothing is found under a key that goes
-  pub still_deaths : (key : KeyOf) → entry_at key entries ≡ None → AreDeaths stale (staying (goes key None) entries) deaths
-  still_deaths key none = λ other. by other (key_eq key other.key) refl
+  -- where a key goes
+  pub removed_foreseen : (key : KeyOf) → AreForeseen stale (staying (goes key None) entries) deaths
+  removed_foreseen key = λ other. by other (key_eq key other) refl
     where
-      by : (other : Death) (b : Bool) → key_eq key other.key ≡ b → stands deaths other ≡ is_death_of stale (entry_at other.key (staying (goes key None) entries)) other
-      by other true same = at_key key other None none same ∙ ap (λ f. is_death_of stale f other) (sym (found_staying key other.key entries true same))
-      by other false same = are other ∙ ap (λ f. is_death_of stale f other) (sym (found_staying key other.key entries false same))
-
-  -- where the entry that is found under a key goes, and its death
-  pub removed_deaths : (key : KeyOf) (entry : Entry) (new : List Death) → entry_at key entries ≡ Some entry
-      → ((other : Death) → stands new other ≡ (not (is_same (death_of stale entry) other) && stands deaths other))
-      → AreDeaths stale (staying (goes key None) entries) new
-  removed_deaths key entry new found removed = λ other. removed other ∙ by other (key_eq key other.key) refl
-    where
-      gone : (b : Bool) → (not b && b) ≡ false
-      gone true = refl
-      gone false = refl
-
-      own : (other : Death) → key_eq entry.key other.key ≡ key_eq key other.key
-      own other = ap (λ k. key_eq k other.key) (sym (entry_at-key key entries entry found))
-
-      by : (other : Death) (b : Bool) → key_eq key other.key ≡ b
-          → (not (is_same (death_of stale entry) other) && stands deaths other) ≡ is_death_of stale (entry_at other.key (staying (goes key None) entries)) other
-      by other true same =
-          ap (λ b. not b && stands deaths other) (same_key (death_of stale entry) other (own other ∙ same))
-          ∙ (ap (λ b. not (is_at (time_of_death stale entry) entry.number other) && b) (at_key key other (Some entry) found same)
-          ∙ (gone (is_at (time_of_death stale entry) entry.number other) ∙ ap (λ f. is_death_of stale f other) (sym (found_staying key other.key entries true same))))
-      by other false same =
-          ap (λ b. not b && stands deaths other) (other_key (death_of stale entry) other (own other ∙ same))
-          ∙ (are other ∙ ap (λ f. is_death_of stale f other) (sym (found_staying key other.key entries false same)))
+      by : (other : KeyOf) (b : Bool) → key_eq key other ≡ b → IsForeseen stale deaths (entry_at other (staying (goes key None) entries))
+      by other true same = subst (IsForeseen stale deaths) (sym (found_staying key other entries true same)) tt
+      by other false same = subst (IsForeseen stale deaths) (sym (found_staying key other entries false same)) (are other)
 
   -- ---- puts
 
-  -- where the death of an entry of a new key was added and is removed again
-  pub undone_deaths : (entry : Entry) (new : List Death) → entry_at entry.key entries ≡ None
-      → ((other : Death) → stands new other ≡ (not (is_same (death_of stale entry) other) && (is_same (death_of stale entry) other || stands deaths other)))
-      → AreDeaths stale entries new
-  undone_deaths entry new none undone = λ other. undone other ∙ by other (key_eq entry.key other.key) refl
-    where
-      again : (b : Bool) → (not b && (b || false)) ≡ false
-      again true = refl
-      again false = refl
-
-      by : (other : Death) (b : Bool) → key_eq entry.key other.key ≡ b
-          → (not (is_same (death_of stale entry) other) && (is_same (death_of stale entry) other || stands deaths other))
-          ≡ is_death_of stale (entry_at other.key entries) other
-      by other true same =
-          ap (λ b. not (is_same (death_of stale entry) other) && (is_same (death_of stale entry) other || b)) (at_key entry.key other None none same)
-          ∙ (again (is_same (death_of stale entry) other) ∙ ap (λ f. is_death_of stale f other) (sym (found_same entry.key other.key entries None none same)))
-      by other false same = ap (λ b. not b && (b || stands deaths other)) (other_key (death_of stale entry) other same) ∙ are other
-
-  module _ (entry : Entry) (added : List Death) (adds : (other : Death) → stands added other ≡ (is_same (death_of stale entry) other || stands deaths other)) where
+  module _ (entry : Entry) where
     abbrev after_put : List Entry
     after_put = entry ∷ staying (goes entry.key None) entries
 
@@ -149,108 +147,36 @@ module _ (stale : ℕ) (entries : List Entry) (deaths : List Death) (are : AreDe
         ap (λ b. if b then Some entry else entry_at key (staying (goes entry.key None) entries)) (key_eq-laws.symm key entry.key ∙ same)
         ∙ found_staying entry.key key entries false same
 
-    abbrev is_new : Death → Bool
-    is_new other = is_at (time_of_death stale entry) entry.number other
-
-    -- of any other key
-    put_other : (other : Death) → key_eq entry.key other.key ≡ false → stands added other ≡ is_death_of stale (entry_at other.key after_put) other
-    put_other other same =
-        adds other
-        ∙ (ap (λ b. b || stands deaths other) (other_key (death_of stale entry) other same)
-        ∙ (are other ∙ ap (λ f. is_death_of stale f other) (sym (found_put other.key false same))))
-
-    -- of its own key, where that held something
-    put_own : (other : Death) (held : Option Entry) → entry_at entry.key entries ≡ held → key_eq entry.key other.key ≡ true
-        → stands added other ≡ (is_new other || is_death_of stale held other)
-    put_own other held is same =
-        adds other
-        ∙ (ap (λ b. b || stands deaths other) (same_key (death_of stale entry) other same) ∙ ap (λ b. is_new other || b) (at_key entry.key other held is same))
-
-    -- where its key held nothing
-    pub put_deaths : entry_at entry.key entries ≡ None → AreDeaths stale after_put added
-    put_deaths none = λ other. by other (key_eq entry.key other.key) refl
+    -- where the entry has a death, and no death of another goes
+    pub put_foreseen : (new : DeathsOf) → ((key : KeyOf) (time : ℕ) → dies_by deaths key time ≡ true → dies_by new key time ≡ true)
+        → dies_by new entry.key (time_of_death stale entry) ≡ true → AreForeseen stale after_put new
+    put_foreseen new stays own = λ key. by key (key_eq entry.key key) refl
       where
-        alone : (b : Bool) → (b || false) ≡ b
-        alone true = refl
-        alone false = refl
+        by : (key : KeyOf) (b : Bool) → key_eq entry.key key ≡ b → IsForeseen stale new (entry_at key after_put)
+        by key true same = subst (IsForeseen stale new) (sym (found_put key true same)) own
+        by key false same =
+            subst (IsForeseen stale new) (sym (found_put key false same))
+            (still_foreseen stale deaths new (entry_at key entries) (λ time found at is. stays found.key time is) (are key))
 
-        by : (other : Death) (b : Bool) → key_eq entry.key other.key ≡ b → stands added other ≡ is_death_of stale (entry_at other.key after_put) other
-        by other true same = put_own other None none same ∙ (alone (is_new other) ∙ ap (λ f. is_death_of stale f other) (sym (found_put other.key true same)))
-        by other false same = put_other other same
-
-    -- what it is to the one that its key held
-    is_of_old : (old : Entry) → entry_at entry.key entries ≡ Some old → stands deaths (death_of stale entry) ≡ is_at (time_of_death stale old) old.number (death_of stale entry)
-    is_of_old old held = are (death_of stale entry) ∙ ap (λ f. is_death_of stale f (death_of stale entry)) held
-
-    -- where its key held what died the same death
-    pub put_deaths_again : (old : Entry) → entry_at entry.key entries ≡ Some old → stands deaths (death_of stale entry) ≡ true → AreDeaths stale after_put added
-    put_deaths_again old held stood = λ other. by other (key_eq entry.key other.key) refl
-      where
-        both : is_at (time_of_death stale old) old.number (death_of stale entry) ≡ true
-        both = sym (is_of_old old held) ∙ stood
-
-        time : time_of_death stale old ≡ time_of_death stale entry
-        time = (Decides-eqb (time_of_death stale old) (time_of_death stale entry)).0 (first_so (time_of_death stale old == time_of_death stale entry) (old.number == entry.number) both)
-
-        number : old.number ≡ entry.number
-        number = (Decides-eqb old.number entry.number).0 (second_so (time_of_death stale old == time_of_death stale entry) (old.number == entry.number) both)
-
-        twice : (b : Bool) → (b || b) ≡ b
-        twice true = refl
-        twice false = refl
-
-        by : (other : Death) (b : Bool) → key_eq entry.key other.key ≡ b → stands added other ≡ is_death_of stale (entry_at other.key after_put) other
-        by other true same =
-            put_own other (Some old) held same
-            ∙ (ap (λ t. is_new other || is_at t old.number other) time
-            ∙ (ap (λ n. is_new other || is_at (time_of_death stale entry) n other) number
-            ∙ (twice (is_new other) ∙ ap (λ f. is_death_of stale f other) (sym (found_put other.key true same)))))
-        by other false same = put_other other same
-
-    -- where its key held what died another death, which is removed
-    pub put_deaths_over : (old : Entry) (new : List Death) → entry_at entry.key entries ≡ Some old → stands deaths (death_of stale entry) ≡ false
-        → ((other : Death) → stands new other ≡ (not (is_same (death_of stale old) other) && stands added other)) → AreDeaths stale after_put new
-    put_deaths_over old new held stood removed = λ other. removed other ∙ by other (key_eq entry.key other.key) refl
-      where
-        own : (other : Death) → key_eq old.key other.key ≡ key_eq entry.key other.key
-        own other = ap (λ k. key_eq k other.key) (sym (entry_at-key entry.key entries old held))
-
-        -- one that is both would tell that they are the same
-        apart : (t n : ℕ) → is_at (time_of_death stale old) old.number (record { time = t; number = n; key = entry.key }) ≡ true
-            → is_at (time_of_death stale entry) entry.number (record { time = t; number = n; key = entry.key }) ≡ true → ⊥
-        apart t n at_old at =
-            let time = (Decides-eqb (time_of_death stale entry) t).0 (first_so (time_of_death stale entry == t) (entry.number == n) at) in
-            let number = (Decides-eqb entry.number n).0 (second_so (time_of_death stale entry == t) (entry.number == n) at) in
-            let bad : true ≡ false =
-            sym at_old
-            ∙ (ap (λ t'. (time_of_death stale old == t') && (old.number == n)) (sym time)
-            ∙ (ap (λ n'. (time_of_death stale old == time_of_death stale entry) && (old.number == n')) (sym number) ∙ (sym (is_of_old old held) ∙ stood))) in
-            absurd cc
-
-        only : (other : Death) (old_is is : Bool) → is_at (time_of_death stale old) old.number other ≡ old_is → is_new other ≡ is → (not old_is && (is || old_is)) ≡ is
-        only other true true at_old at = absurd (apart other.time other.number at_old at)
-        only other true false at_old at = refl
-        only other false true at_old at = refl
-        only other false false at_old at = refl
-
-        by : (other : Death) (b : Bool) → key_eq entry.key other.key ≡ b
-            → (not (is_same (death_of stale old) other) && stands added other) ≡ is_death_of stale (entry_at other.key after_put) other
-        by other true same =
-            ap (λ b. not b && stands added other) (same_key (death_of stale old) other (own other ∙ same))
-            ∙ (ap (λ b. not (is_at (time_of_death stale old) old.number other) && b) (put_own other (Some old) held same)
-            ∙ (only other (is_at (time_of_death stale old) old.number other) (is_new other) refl refl
-            ∙ ap (λ f. is_death_of stale f other) (sym (found_put other.key true same))))
-        by other false same = ap (λ b. not b && stands added other) (other_key (death_of stale old) other (own other ∙ same)) ∙ put_other other same
+    -- where it takes the place of what dies no later
+    pub foreseen_before : (held : Option Entry) → entry_at entry.key entries ≡ held → is_gone_by stale (time_of_death stale entry) held ≡ true
+        → dies_by deaths entry.key (time_of_death stale entry) ≡ true
+    foreseen_before None is gone = absurd cc
+    foreseen_before (Some old) is gone =
+        let own : entry.key ≡ old.key = entry_at-key entry.key entries old is in
+        let dies : dies_by deaths old.key (time_of_death stale old) ≡ true = subst (IsForeseen stale deaths) is (are entry.key) in
+        ap (λ k. dies_by deaths k (time_of_death stale entry)) own
+        ∙ dies_by-later deaths old.key (time_of_death stale old) (time_of_death stale entry) (leb-true (time_of_death stale old) (time_of_death stale entry) gone) dies
 
   -- ---- the front
 
   -- where the entry of a key comes to the front
-  pub promoted_deaths : (key : KeyOf) → AreDeaths stale (promoted key entries) deaths
-  promoted_deaths key = by (entry_at key entries) refl
+  pub promoted_foreseen : (key : KeyOf) → AreForeseen stale (promoted key entries) deaths
+  promoted_foreseen key = by (entry_at key entries) refl
     where
-      by : (found : Option Entry) → entry_at key entries ≡ found → AreDeaths stale (in_front key found entries) deaths
+      by : (found : Option Entry) → entry_at key entries ≡ found → AreForeseen stale (in_front key found entries) deaths
       by None is = are
-      by (Some entry) is = λ other. are other ∙ ap (λ f. is_death_of stale f other) (sym (stays other.key (key_eq key other.key) refl))
+      by (Some entry) is = λ other. subst (IsForeseen stale deaths) (sym (stays other (key_eq key other) refl)) (are other)
         where
           own : key ≡ entry.key
           own = entry_at-key key entries entry is
@@ -264,104 +190,111 @@ module _ (stale : ℕ) (entries : List Entry) (deaths : List Death) (are : AreDe
           stays k false same =
               ap (λ b. if b then Some entry else entry_at k (staying (goes key None) entries)) (mirrored k ∙ same) ∙ found_staying key k entries false same
 
--- ---- sweeps
+  -- ---- sweeps
 
--- a key whose death stands there is due from then on
-due_from : (moment : ℕ) (death : Death) (deaths : List Death) → nat_le death.time moment ≡ true → stands deaths death ≡ true → is_among death.key (keys_due moment deaths) ≡ true
-due_from moment death [] le is = absurd cc
-due_from moment death (first ∷ deaths) le is = by (is_same death first) refl (nat_le first.time moment) refl (due_from moment death deaths le)
+  -- where a death is let go, and another stands for what its key holds still
+  pub settled_foreseen : (death : Death) (new : DeathsOf) (found : Option Entry) → entry_at death.key entries ≡ found
+      → ((key : KeyOf) (time : ℕ) → key_eq key death.key ≡ false → dies_by deaths key time ≡ true → dies_by new key time ≡ true)
+      → IsForeseen stale new found → AreForeseen stale entries new
+  settled_foreseen death new found is stays own = λ key. by key (key_eq death.key key) refl
+    where
+      by : (key : KeyOf) (b : Bool) → key_eq death.key key ≡ b → IsForeseen stale new (entry_at key entries)
+      by key true same = subst (IsForeseen stale new) (sym (found_same death.key key entries found is same)) own
+      by key false same =
+          still_foreseen stale deaths new (entry_at key entries)
+          (λ time entry at is'. stays entry.key time (sym (ap (λ k. key_eq k death.key) (entry_at-key key entries entry at)) ∙ (key_eq-laws.symm key death.key ∙ same)) is')
+          (are key)
+
+  -- where none that waits is due, what is dead has a death among the due
+  pub among_due : (moment : ℕ) (key : KeyOf) (entry : Entry) → AllByRecursion (λ death. moment < death.time) deaths.waiting → entry_at key entries ≡ Some entry
+      → time_of_death stale entry ≤ moment → list_any (λ death. key_eq key death.key) deaths.due ≡ true
+  among_due moment key entry waits is dead =
+      let own : key ≡ entry.key = entry_at-key key entries entry is in
+      let dies : dies_by deaths entry.key (time_of_death stale entry) ≡ true = subst (IsForeseen stale deaths) is (are key) in
+      let due : list_any (is_by entry.key (time_of_death stale entry)) deaths.due ≡ true =
+      sym (ap (λ b. b || list_any (is_by entry.key (time_of_death stale entry)) deaths.due) (none_early deaths.waiting waits)) ∙ dies in
+      ap (λ k. list_any (λ death. key_eq k death.key) deaths.due) own ∙ any_of_key entry.key (time_of_death stale entry) deaths.due due
+    where
+      none_early : (ds : List Death) → AllByRecursion (λ death. moment < death.time) ds → list_any (is_by entry.key (time_of_death stale entry)) ds ≡ false
+      none_early [] all = refl
+      none_early (d ∷ ds) all =
+          ap (λ b. b || list_any (is_by entry.key (time_of_death stale entry)) ds)
+          (and_right (key_eq entry.key d.key) (nat_le d.time (time_of_death stale entry)) (lt-leb d.time (time_of_death stale entry) (omega (arith, all.0, dead))))
+          ∙ none_early ds all.1
+
+-- the keys of deaths under which something dead is kept
+among_dead : (stale moment : ℕ) (entries : List Entry) (key : KeyOf) (deaths : List Death)
+    → is_among key (dead_among stale moment entries deaths) ≡ (is_swept stale (entry_at key entries) moment && list_any (λ death. key_eq key death.key) deaths)
+among_dead stale moment entries key [] = sym (and_right (is_swept stale (entry_at key entries) moment) false refl)
+among_dead stale moment entries key (first ∷ deaths) =
+    by (is_swept stale (entry_at first.key entries) moment) refl (key_eq key first.key) refl (among_dead stale moment entries key deaths)
   where
-    either : (a b : Bool) → b ≡ true → (a || b) ≡ true
-    either true b h = refl
-    either false b h = h
+    swept : Bool
+    swept = is_swept stale (entry_at key entries) moment
 
-    by : (same : Bool) → is_same death first ≡ same → (due : Bool) → nat_le first.time moment ≡ due
-        → (stands deaths death ≡ true → is_among death.key (keys_due moment deaths) ≡ true) → is_among death.key (keys_due moment (first ∷ deaths)) ≡ true
-    by true same due at rest =
-        let all : ((death.time == first.time) && ((death.number == first.number) && key_eq death.key first.key)) ≡ true = sym (same-is death first) ∙ same in
-        let behind : ((death.number == first.number) && key_eq death.key first.key) ≡ true =
-        second_so (death.time == first.time) ((death.number == first.number) && key_eq death.key first.key) all in
-        let time : death.time ≡ first.time =
-        (Decides-eqb death.time first.time).0 (first_so (death.time == first.time) ((death.number == first.number) && key_eq death.key first.key) all) in
-        let now : nat_le first.time moment ≡ true = ap (λ t. nat_le t moment) (sym time) ∙ le in
-        rw now (ap (λ b. b || is_among death.key (keys_due moment deaths)) (second_so (death.number == first.number) (key_eq death.key first.key) behind))
-    by false same true at rest =
-        rw at (either (key_eq death.key first.key) (is_among death.key (keys_due moment deaths)) (rest (sym (ap (λ b. b || stands deaths death) same) ∙ is)))
-    by false same false at rest = rw at (rest (sym (ap (λ b. b || stands deaths death) same) ∙ is))
+    rest_any : Bool
+    rest_any = list_any (λ death. key_eq key death.key) deaths
 
--- a death of a key, that comes by a moment
-record DiesBy (moment : ℕ) (key : KeyOf) (deaths : List Death) : Type 0 where
-  death : Death
-  own : death.key ≡ key
-  stood : stands deaths death ≡ true
-  due : nat_le death.time moment ≡ true
+    same_swept : key_eq key first.key ≡ true → is_swept stale (entry_at key entries) moment ≡ is_swept stale (entry_at first.key entries) moment
+    same_swept same = ap (λ k. is_swept stale (entry_at k entries) moment) (key_eq-same key first.key same)
 
--- a key that is due has one
-due_dies : (moment : ℕ) (key : KeyOf) (deaths : List Death) → is_among key (keys_due moment deaths) ≡ true → DiesBy moment key deaths
-due_dies moment key [] is = absurd cc
-due_dies moment key (first ∷ deaths) is = by (nat_le first.time moment) refl (key_eq key first.key) refl (due_dies moment key deaths)
+    by : (b : Bool) → is_swept stale (entry_at first.key entries) moment ≡ b → (same : Bool) → key_eq key first.key ≡ same
+        → is_among key (dead_among stale moment entries deaths) ≡ (swept && rest_any)
+        → is_among key (dead_among stale moment entries (first ∷ deaths)) ≡ (swept && (key_eq key first.key || rest_any))
+    by true at true same rest =
+        rw at (ap (λ b. b || is_among key (dead_among stale moment entries deaths)) same ∙ sym (and_from swept (key_eq key first.key || rest_any) (same_swept same ∙ at) (ap (λ b. b || rest_any) same)))
+    by true at false same rest =
+        rw at (ap (λ b. b || is_among key (dead_among stale moment entries deaths)) same ∙ (rest ∙ sym (ap (λ b. swept && (b || rest_any)) same)))
+    by false at true same rest =
+        rw at (rest ∙ (and_left swept rest_any (same_swept same ∙ at) ∙ sym (and_left swept (key_eq key first.key || rest_any) (same_swept same ∙ at))))
+    by false at false same rest = rw at (rest ∙ sym (ap (λ b. swept && (b || rest_any)) same))
+
+-- where none that waits is due, the keys of the due that hold something dead are all that do
+pub due_swept : (stale moment : ℕ) (entries : List Entry) (deaths : DeathsOf) → AreForeseen stale entries deaths → moment ≤ LAST_MOMENT
+    → AllByRecursion (λ death. moment < death.time) deaths.waiting
+    → (key : KeyOf) → is_among key (dead_among stale moment entries deaths.due) ≡ is_swept stale (entry_at key entries) moment
+due_swept stale moment entries deaths are timely waits key = among_dead stale moment entries key deaths.due ∙ by (entry_at key entries) refl
   where
-    later : DiesBy moment key deaths → DiesBy moment key (first ∷ deaths)
-    later found = record {
-      death = found.death;
-      own = found.own;
-      stood = also (is_same found.death first) (stands deaths found.death) found.stood;
-      due = found.due;
-    }
+    by : (found : Option Entry) → entry_at key entries ≡ found
+        → (is_swept stale (entry_at key entries) moment && list_any (λ death. key_eq key death.key) deaths.due) ≡ is_swept stale (entry_at key entries) moment
+    by None is = rw is refl
+    by (Some entry) is = dead (is_dead stale entry moment) refl
       where
-        also : (a b : Bool) → b ≡ true → (a || b) ≡ true
-        also true b h = refl
-        also false b h = h
+        swept : is_swept stale (entry_at key entries) moment ≡ is_dead stale entry moment
+        swept = ap (λ f. is_swept stale f moment) is
 
-    itself : is_same first first ≡ true
-    itself =
-        same_key first first (key_eq-laws.refl first.key)
-        ∙ (ap (λ b. b && (first.number == first.number)) (nat_eq_equiv.refl first.time) ∙ nat_eq_equiv.refl first.number)
+        dead : (b : Bool) → is_dead stale entry moment ≡ b
+            → (is_swept stale (entry_at key entries) moment && list_any (λ death. key_eq key death.key) deaths.due) ≡ is_swept stale (entry_at key entries) moment
+        dead false at = and_left (is_swept stale (entry_at key entries) moment) (list_any (λ death. key_eq key death.key) deaths.due) (swept ∙ at) ∙ sym (swept ∙ at)
+        dead true at =
+            let le : time_of_death stale entry ≤ moment = leb-true (time_of_death stale entry) moment (dead_from stale moment entry timely ∙ at) in
+            and_from (is_swept stale (entry_at key entries) moment) (list_any (λ death. key_eq key death.key) deaths.due) (swept ∙ at)
+            (among_due stale entries deaths are moment key entry waits is le)
+            ∙ sym (swept ∙ at)
 
-    by : (due : Bool) → nat_le first.time moment ≡ due → (same : Bool) → key_eq key first.key ≡ same
-        → (is_among key (keys_due moment deaths) ≡ true → DiesBy moment key deaths) → DiesBy moment key (first ∷ deaths)
-    by true at true same rest = record {
-      death = first;
-      own = sym (key_eq-same key first.key same);
-      stood = ap (λ b. b || stands deaths first) itself;
-      due = at;
-    }
-    by true at false same rest = later (rest (sym (ap (λ b. b || is_among key (keys_due moment deaths)) same) ∙ (rw at at is)))
-    by false at same is' rest = later (rest (rw at at is))
+-- ---- all entries
 
--- the keys that are due are those that hold something dead
-pub due_swept : (stale moment : ℕ) (entries : List Entry) (deaths : List Death) → AreDeaths stale entries deaths → moment ≤ LAST_MOMENT
-    → (key : KeyOf) → is_among key (keys_due moment deaths) ≡ is_swept stale (entry_at key entries) moment
-due_swept stale moment entries deaths are timely key = by (entry_at key entries) refl (is_among key (keys_due moment deaths)) refl
+-- the deaths of all entries foresee them
+pub all_foreseen : (stale : ℕ) (entries : List Entry) (deaths : DeathsOf)
+    → ((key : KeyOf) (time : ℕ) → dies_by deaths key time ≡ list_any (is_by key time) (deaths_of stale entries)) → AreForeseen stale entries deaths
+all_foreseen stale entries deaths all = λ key. by key (entry_at key entries) refl
   where
-    -- the death that makes the key due, where the key holds this
-    is_death : (found : DiesBy moment key deaths) (held : Option Entry) → entry_at key entries ≡ held → is_death_of stale held found.death ≡ true
-    is_death found held is =
-        sym (are found.death ∙ ap (λ f. is_death_of stale f found.death) (ap (λ k. entry_at k entries) found.own ∙ is)) ∙ found.stood
-
-    by : (held : Option Entry) → entry_at key entries ≡ held → (due : Bool) → is_among key (keys_due moment deaths) ≡ due
-        → is_among key (keys_due moment deaths) ≡ is_swept stale held moment
-    by None none false is = is
-    by None none true is = let bad : false ≡ true = is_death (due_dies moment key deaths is) None none in absurd cc
-    by (Some entry) some true is =
-        let found = due_dies moment key deaths is in
-        let time : time_of_death stale entry ≡ found.death.time =
-        (Decides-eqb (time_of_death stale entry) found.death.time).0
-        (first_so (time_of_death stale entry == found.death.time) (entry.number == found.death.number) (is_death found (Some entry) some)) in
-        is ∙ (sym found.due ∙ (ap (λ t. nat_le t moment) (sym time) ∙ dead_from stale moment entry timely))
-    by (Some entry) some false is = lives (is_dead stale entry moment) refl
+    stands : (key : KeyOf) (es : List Entry) (entry : Entry) → entry_at key es ≡ Some entry
+        → list_any (is_by entry.key (time_of_death stale entry)) (deaths_of stale es) ≡ true
+    stands key [] entry is = absurd cc
+    stands key (first ∷ es) entry is = at (key_eq key first.key) refl (stands key es entry)
       where
-        own : entry.key ≡ key
-        own = sym (entry_at-key key entries entry some)
+        at : (b : Bool) → key_eq key first.key ≡ b
+            → (entry_at key es ≡ Some entry → list_any (is_by entry.key (time_of_death stale entry)) (deaths_of stale es) ≡ true)
+            → list_any (is_by entry.key (time_of_death stale entry)) (deaths_of stale (first ∷ es)) ≡ true
+        at true same rest =
+            let it : first ≡ entry = cc (rw same at is) in
+            subst (λ (e : Entry). list_any (is_by e.key (time_of_death stale e)) (deaths_of stale (first ∷ es)) ≡ true) it
+            (ap (λ b. b || list_any (is_by first.key (time_of_death stale first)) (deaths_of stale es)) (is_by-own first.key (time_of_death stale first)))
+        at false same rest =
+            either (is_by entry.key (time_of_death stale entry) (death_of stale first)) (list_any (is_by entry.key (time_of_death stale entry)) (deaths_of stale es))
+            (rest (rw same at is))
 
-        stood : stands deaths (death_of stale entry) ≡ true
-        stood =
-            are (death_of stale entry)
-            ∙ (ap (λ f. is_death_of stale f (death_of stale entry)) (ap (λ k. entry_at k entries) own ∙ some)
-            ∙ (ap (λ b. b && (entry.number == entry.number)) (nat_eq_equiv.refl (time_of_death stale entry)) ∙ nat_eq_equiv.refl entry.number))
-
-        lives : (dead : Bool) → is_dead stale entry moment ≡ dead → is_among key (keys_due moment deaths) ≡ is_dead stale entry moment
-        lives false at = is ∙ sym at
-        lives true at =
-            ap (λ k. is_among k (keys_due moment deaths)) (sym own)
-            ∙ (due_from moment (death_of stale entry) deaths (dead_from stale moment entry timely ∙ at) stood ∙ sym at)
+    by : (key : KeyOf) (found : Option Entry) → entry_at key entries ≡ found → IsForeseen stale deaths (entry_at key entries)
+    by key None is = subst (IsForeseen stale deaths) (sym is) tt
+    by key (Some entry) is = subst (IsForeseen stale deaths) (sym is) (all entry.key (time_of_death stale entry) ∙ stands key entries entry is)

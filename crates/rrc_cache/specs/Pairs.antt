@@ -4,8 +4,8 @@ use Rattle.std.specs.List.{AllByRecursion}
 use Rattle.lru.specs.LruCache.{LruCache}
 use Rattle.rrc_name.specs.Key.{KeyOf}
 use Rattle.rrc_history.specs.declared.snapshot.Entry.{Entry}
-use Rattle.rrc_cache.specs.declared.deaths.Death.{Death}
-use Rattle.rrc_cache.specs.Deaths.{AreDeaths}
+use Rattle.rrc_cache.specs.Beside.{AreMarked, BesideOf}
+use Rattle.rrc_cache.specs.Deaths.{AreForeseen, DeathsOf}
 
 -- the entries of a map, in its order
 abbrev pub entries_in : List (KeyOf × Entry) → List Entry
@@ -20,9 +20,11 @@ pub record StoreOf : Type 0 where
   pub stale : ℕ
   pub entries : List Entry
 
--- a map of entries by their keys, which lets none go by itself, and the times at which they die
-pub record IsStore (stale : ℕ) (cache : LruCache KeyOf Entry) (deaths : List Death) : Type 0 where
+-- a map of entries by their keys, which lets none go by itself, deaths that foresee when they die, and marks of the names that have
+-- some beside their sets
+pub record IsStore (stale : ℕ) (cache : LruCache KeyOf Entry) (deaths : DeathsOf) (beside : BesideOf) : Type 0 where
   pub own : AreOwn cache.entries
   pub wide : cache.cap ≡ 2 ^ 64 - 1
   pub limit : stale ≤ 604800
-  pub timed : AreDeaths stale (entries_in cache.entries) deaths
+  pub foreseen : AreForeseen stale (entries_in cache.entries) deaths
+  pub marked : AreMarked beside (entries_in cache.entries)

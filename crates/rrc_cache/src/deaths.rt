@@ -1,19 +1,28 @@
-ghost use Rattle.std.specs.Prelude.{◌≡◌, ◌≤◌, ◌||◌, ◌&&◌, [], not, IfOk, OnOk, OnErr};
+ghost use Rattle.std.specs.Prelude.{◌≡◌, ◌<◌, ◌≤◌, ◌||◌, [], length, true, false, nat_eq, ℕ, IfOk, IfSome, IfNone, OnOk};
+ghost use Rattle.std.specs.List.{AllByRecursion, list_any};
+ghost use Rattle.std.proofs.Common.{rules};
+ghost use Rattle.std.specs.Cmp.Rules.{comparing};
+ghost use Rattle.std.specs.Ordering.{as_partial_cmp};
+ghost use Rattle.rrc_name.specs.Key.{KeyOf};
+ghost use Rattle.rrc_cache.specs.Deaths.{is_by};
 
 use crate::judge;
 use rrc_history::Entry;
 use rrc_name::Key;
 use std::alloc::{AllocError, Global};
-use std::collections::BTreeSet;
+use std::cmp::Ordering;
+use std::collections::BinaryHeap;
 use std::marker::Model;
 
-/// The death of an entry: the moment from which on it can answer no more, the number of the event that stored it, and its key. Deaths
-/// at one moment go by their numbers, so names are compared only where these tie as well.
-#[derive(Debug, Drop, PartialEq, Eq, PartialOrd, Ord)]
+/// How many deaths may wait beyond two for each entry.
+const SPARE: usize = 64;
+
+/// From which moment on what a key holds may answer no more. Deaths are compared by their times alone, the other way round, since
+/// a heap has the greatest on top.
+#[derive(Debug, Drop)]
 pub(crate) struct Death {
-    time: u64,
-    number: u64,
-    key: Key,
+    pub(crate) time: u64,
+    pub(crate) key: Key,
 }
 
 impl Death {
@@ -26,70 +35,208 @@ impl Death {
     {
         Ok(Death {
             time: judge::time_of_death(entry, stale),
-            number: entry.number,
             key: entry.key.clone()?,
         })
     }
 }
 
-/// The deaths of entries. Contracts see the list of them, the earliest first.
+impl PartialEq for Death {
+    ghost eq = { λ a b. nat_eq a.time b.time };
+
+    ghost laws = { Prim.search (comparing, rules) };
+
+    fn eq(&self, other: &Death) -> bool {
+        self.time == other.time
+    }
+}
+
+impl Eq for Death {
+    ghost laws = { Prim.search (comparing, rules) };
+}
+
+impl PartialOrd for Death {
+    ghost use Rattle.rrc_cache.specs.Deaths.{death_order};
+    ghost use Rattle.std.specs.Cmp.{partial_order_from_own_ties};
+
+    ghost partial_cmp = { as_partial_cmp death_order };
+
+    ghost laws = { partial_order_from_own_ties (Prim.search (comparing, rules)) (Prim.search (comparing, rules)) };
+
+    fn partial_cmp(&self, other: &Death) -> Option<Ordering> {
+        Some(self.cmp(other))
+    }
+}
+
+impl Ord for Death {
+    ghost use Rattle.rrc_cache.specs.Deaths.{death_order};
+    ghost use Rattle.std.specs.Prelude.{refl};
+
+    ghost cmp = { death_order };
+
+    ghost total = { Prim.search (comparing, rules) };
+
+    ghost matches_partial_cmp = { λ _ _. refl };
+
+    ghost matches_eq = { Prim.search (comparing, rules) };
+
+    fn cmp(&self, other: &Death) -> Ordering {
+        other.time.cmp(&self.time)
+    }
+}
+
+/// Deaths of keys, by time. Each entry has one that comes no later than it dies, and there may be others: of keys that hold nothing
+/// any more, and of entries that others replaced. So most puts change nothing here, and no removal does. A sweep takes out the deaths
+/// that came, in the logarithm of their number each, looks their keys up to see whether what is kept there is dead, and keeps one
+/// of each key that holds something still: it pays for what it removes, and once for each put that recorded or outlived a death.
+///
+/// Contracts see the deaths that wait for their time, those that a sweep found due, and for how many more there is room.
 #[derive(Debug, Drop)]
 pub(crate) struct Deaths {
-    all: BTreeSet<Death>,
+    waiting: BinaryHeap<Death>,
+    /// Empty between sweeps, unless memory was refused in the midst of one.
+    due: Vec<Death>,
 }
 
 impl Model for Deaths {
-    ghost use Rattle.std.specs.Prelude.{List};
-    ghost use Rattle.rrc_cache.specs.declared.deaths.Death.{Death};
+    ghost use Rattle.std.specs.BinaryHeap.{heap_items, heap_len, heap_capacity, IsHeap};
+    ghost use Rattle.std.specs.Prelude.{◌-◌};
+    ghost use Rattle.rrc_cache.specs.Deaths.{death_order, DeathsOf};
 
-    ghost Value = { List Death };
+    ghost Value = { DeathsOf };
 
-    ghost view = { λ d. d.all.keys };
+    ghost view = { λ d. record { waiting = heap_items d.waiting; due = d.due.items; room = heap_capacity d.waiting - heap_len d.waiting } };
+
+    ghost invariant = { λ d. IsHeap death_order (heap_items d.waiting) };
 }
 
 impl Deaths {
-    ghost use Rattle.rrc_cache.specs.declared.deaths.Death.{Death as DeathOf};
-    ghost use Rattle.rrc_cache.specs.Deaths.{death_of, is_same, keys_due, stands};
+    ghost use Rattle.rrc_cache.specs.Deaths.{dies_by, is_gone_by, AreSameDeaths};
 
     /// No deaths.
     pub(crate) fn new(alloc: Global) -> Deaths
-        ensures { result ≡ [] }
+        ensures waiting { result.waiting ≡ [] }
+        ensures due { result.due ≡ [] }
     {
         Deaths {
-            all: BTreeSet::new(alloc),
+            waiting: BinaryHeap::new(alloc),
+            due: Vec::new(alloc),
         }
     }
 
-    /// Adds a death, unless it is there, and answers whether it is new. An `Err` leaves all as it was.
-    pub(crate) fn add(&mut self, death: Death) -> Result<bool, AllocError>
-        ensures is_new { IfOk result (λ is_new. is_new ≡ not (stands self.old death)) }
-        ensures added { OnOk result ((other : DeathOf) → stands self.new other ≡ (is_same death other || stands self.old other)) }
-        ensures err { OnErr result (self.new ≡ self.old) }
+    /// These deaths.
+    pub(crate) fn of(alloc: Global, deaths: Vec<Death>) -> Deaths
+        ensures { (key : KeyOf) (time : ℕ) → dies_by result key time ≡ list_any (is_by key time) deaths.items }
     {
-        Ok(self.all.insert(death)?)
+        Deaths {
+            waiting: BinaryHeap::from(deaths),
+            due: Vec::new(alloc),
+        }
     }
 
-    /// Removes the death of an entry.
-    pub(crate) fn forget(&mut self, entry: Entry, stale: u64)
-        requires { stale ≤ 604800 }
-        ensures { (other : DeathOf) → stands self.new other ≡ (not (is_same (death_of stale entry) other) && stands self.old other) }
-    {
-        let time = judge::time_of_death(&entry, stale);
-        let Entry { key, number, .. } = entry;
-        self.all.remove(&Death { time, number, key });
+    /// Whether there are far more than so many entries need.
+    pub(crate) fn are_many(&self, entries: usize) -> bool {
+        self.waiting.len() > entries.saturating_mul(2).saturating_add(SPARE)
     }
 
-    /// The keys whose time has come. It looks at these and at one more, however many there are.
-    pub(crate) fn due(&self, alloc: Global, moment: u64) -> Result<Vec<Key>, AllocError>
-        ensures { IfOk result (λ keys. keys.items ≡ keys_due moment self.now) }
+    /// Makes room for one more.
+    pub(crate) fn reserve(&mut self) -> Result<(), AllocError>
+        ensures ok { OnOk result (0 < self.new.room) }
+        ensures same { AreSameDeaths self.new self.old }
     {
-        let mut keys = Vec::new(alloc);
-        for death in &self.all {
-            if death.time > moment {
-                break;
+        self.waiting.reserve(1)
+    }
+
+    /// Adds a death, for which there is room.
+    pub(crate) fn add(&mut self, death: Death)
+        requires { 0 < self.old.room }
+        ensures { (key : KeyOf) (time : ℕ) → dies_by self.new key time ≡ (is_by key time death || dies_by self.old key time) }
+    {
+        let _ = self.waiting.push(death);
+    }
+
+    /// Finds those due at a moment. An `Err` leaves them as they were, though some may have been found.
+    pub(crate) fn find_due(&mut self, moment: u64) -> Result<(), AllocError>
+        ensures ok { OnOk result (AllByRecursion (λ death. moment < death.time) self.new.waiting) }
+        ensures same { AreSameDeaths self.new self.old }
+    {
+        while self.is_due(moment) {
+            self.move_first()?;
+        }
+        Ok(())
+    }
+
+    /// Those that were found due.
+    pub(crate) fn due(&self) -> &[Death]
+        ensures { result.now ≡ self.now.due }
+    {
+        self.due.as_slice()
+    }
+
+    /// Takes one out that was found due, and makes room for another in its place. There is no answer where there is none, or where
+    /// memory is refused.
+    pub(crate) fn next_due(&mut self) -> Option<Death>
+        ensures some { IfSome result (λ death. (key : KeyOf) (time : ℕ) → dies_by self.old key time ≡ (is_by key time death || dies_by self.new key time)) }
+        ensures room { IfSome result (λ death. 0 < self.new.room) }
+        ensures none { IfNone result (AreSameDeaths self.new self.old) }
+    {
+        match self.waiting.reserve(1) {
+            Ok(()) => {
+                let last = self.due.pop();
+                if self.due.is_empty() {
+                    self.due.shrink_to_fit();
+                }
+                last
             }
-            keys.push(death.key.clone()?)?;
+            Err(_) => None,
         }
-        Ok(keys)
     }
+
+    /// Puts those that were found due together by their keys, the earliest of each key first.
+    pub(crate) fn sort_due(&mut self)
+        ensures { AreSameDeaths self.new self.old }
+    {
+        self.due
+            .sort_unstable_by(|a, b| a.key.cmp(&b.key).then(a.time.cmp(&b.time)));
+    }
+
+    /// Whether the last one that was found due is of the same key, and comes no later.
+    pub(crate) fn is_repeated(&self, death: &Death) -> bool
+        ensures { result ≡ true → (key : KeyOf) (time : ℕ) → is_by key time death.now ≡ true → dies_by self.now key time ≡ true }
+    {
+        match self.due.as_slice().last() {
+            Some(last) => is_before(last, death),
+            None => false,
+        }
+    }
+
+    /// Whether the first one comes at a moment or before.
+    fn is_due(&self, moment: u64) -> bool
+        ensures due { result ≡ true → 0 < length self.now.waiting }
+        ensures later { result ≡ false → AllByRecursion (λ death. moment < death.time) self.now.waiting }
+    {
+        match self.waiting.peek() {
+            Some(first) => first.time <= moment,
+            None => false,
+        }
+    }
+
+    /// Moves the first one to those that are due.
+    fn move_first(&mut self) -> Result<(), AllocError>
+        requires { 0 < length self.old.waiting }
+        ensures less { OnOk result (length self.new.waiting < length self.old.waiting) }
+        ensures same { AreSameDeaths self.new self.old }
+    {
+        self.due.reserve(1)?;
+        if let Some(first) = self.waiting.pop() {
+            self.due.push_reserved(first);
+        }
+        Ok(())
+    }
+}
+
+/// Whether a death is of the same key as another, and comes no later.
+fn is_before(death: &Death, other: &Death) -> bool
+    ensures { result ≡ is_by other.now.key other.now.time death.now }
+{
+    other.key == death.key && death.time <= other.time
 }

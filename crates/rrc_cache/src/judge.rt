@@ -1,7 +1,8 @@
-ghost use Rattle.std.specs.Prelude.{◌≡◌, ◌+◌, ◌<◌, ◌≤◌, ◌^◌, IfSome};
+ghost use Rattle.std.specs.Prelude.{◌≡◌, ◌+◌, ◌<◌, ◌≤◌, ◌^◌, None, false, true, IfSome};
 ghost use Rattle.std.specs.Option.{option_copied, option_map};
 ghost use Rattle.std.specs.List.{AllByRecursion};
 ghost use Rattle.rrc_history.specs.Entries.{found_among};
+ghost use Rattle.rrc_history.specs.Past.{entry_at, key_at};
 ghost use Rattle.rrc_history.specs.Lives.{ttl_of, rank, rank_of, is_unexpired, span, IsTimely};
 ghost use Rattle.rrc_history.specs.Judged.{outranks, verdict, later_governs, governing, is_before, recent_failure, retry_from, may_be_stale, may_serve, reply_of_living_set, reply_of_living_soa, reply_of_entry, reply_of, reply_by, answering};
 ghost use Rattle.rrc_cache.specs.Dying.{time_of_death};
@@ -272,8 +273,21 @@ fn reply_of<'a>(
     }
 }
 
-/// What an ask is answered from what is kept, and the entry that answers. Whether asking failed is looked up only where no
-/// entry answers without it.
+/// What is kept of an ask's name beside its sets, which is nothing where it may not be kept.
+fn get_beside<'a>(store: &'a Store, ask: &Ask, slot: Slot, may_be_kept: bool) -> Option<&'a Entry>
+    requires { may_be_kept ≡ false → entry_at (key_at ask.now slot) store.now.entries ≡ None }
+    ensures { option_copied result ≡ entry_at (key_at ask.now slot) store.now.entries }
+{
+    if may_be_kept {
+        store.get(key_at(ask, slot))
+    } else {
+        None
+    }
+}
+
+/// What an ask is answered from what is kept, and the entry that answers. That the name does not exist, and that asking failed, are
+/// looked up only where something may be kept beside the sets of the name, and that asking failed only where no entry answers
+/// without it.
 pub(crate) fn judge<'a>(
     store: &'a Store,
     ask: &Ask,
@@ -285,12 +299,13 @@ pub(crate) fn judge<'a>(
     ensures answering { option_copied result.1 ≡ answering (found_among store.now.entries ask.now) ask.now (reply_in result.0) }
 {
     let set = store.get(key_at(ask, Slot::Set(ask.rtype)));
-    let nx = store.get(key_at(ask, Slot::Nx));
+    let may_be_beside = store.may_hold_beside(&ask.name);
+    let nx = get_beside(store, ask, Slot::Nx, may_be_beside);
     let governing = governing(set, nx, ask.moment);
     if let Some(reply) = reply_of(governing, ask, stale, None) {
         return (reply, governing);
     }
-    let failed = store.get(key_at(ask, Slot::Failed(ask.rtype)));
+    let failed = get_beside(store, ask, Slot::Failed(ask.rtype), may_be_beside);
     let failure = recent_failure(Found { set, nx, failed }, ask.moment);
     match reply_of(governing, ask, stale, failure) {
         Some(reply) => (reply, governing),

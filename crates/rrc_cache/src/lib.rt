@@ -2,6 +2,7 @@
 #![tactic(auto)]
 
 mod answer;
+mod beside;
 mod closing;
 mod deaths;
 mod entries;

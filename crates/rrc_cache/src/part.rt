@@ -41,6 +41,7 @@ impl Model for Part {
 impl Part {
     ghost use Rattle.rrc_cache.specs.Part.{past_of, next_number, Closes, HasRoom, IsCloseDue, IsDue, IsOfMoments, IsSound, WritesOffer, WritesAsk, WritesSweep};
     ghost use Rattle.rrc_cache.specs.Reply.{reply_in};
+    ghost use Rattle.rrc_cache.specs.Sizes.{HoldsKeys};
     ghost use Rattle.rrc_history.specs.Past.{reply_to};
 
     /// An empty part in the first chapter of its history. Its seed is `KNOWN_SEED`: for names that anyone may send, `seeded`
@@ -66,7 +67,7 @@ impl Part {
             number: 1,
             snapshot: closing::nothing(alloc, rules)?,
             events: Vec::new(alloc),
-            store: Store::new(alloc, seed, rules.stale)?,
+            store: Store::new(alloc, seed, rules)?,
         })
     }
 
@@ -92,6 +93,15 @@ impl Part {
         ensures sound { IsSound self.now }
     {
         &self.snapshot
+    }
+
+    /// How many keys the part holds. Those that are dead and not yet swept are counted too.
+    pub fn len(&self) -> usize
+        ensures keys { HoldsKeys self.now result }
+        ensures few { result ≤ self.now.snapshot.rules.capacity }
+        ensures sound { IsSound self.now }
+    {
+        self.store.len()
     }
 
     /// Whether the chapter has room for another event.
@@ -163,7 +173,7 @@ impl Part {
         ensures due { IsDue self.old moment result }
     {
         self.admit(moment)?;
-        let gone = sweep::dead_keys(*self.events.allocator(), &self.store, moment)?;
+        let gone = sweep::dead_keys(*self.events.allocator(), &mut self.store, moment)?;
         self.events.reserve(1)?;
         sweep::remove(&mut self.store, gone.as_slice());
         let removed = gone.len();

@@ -1,3 +1,4 @@
+use std::fmt::{self, Debug, Formatter, Write};
 use std::hash::{BuildHasher, FoldHasher, Hasher};
 
 /// Makes hashers that have been fed a seed, on which it depends which keys have hashes alike. They are fast, and no cryptographic ones.
@@ -21,6 +22,13 @@ impl BuildHasher for Seeded {
 
     fn build_hasher(&self) -> FoldHasher {
         self.fed
+    }
+}
+
+/// It does not tell the seed.
+impl Debug for Seeded {
+    fn fmt<W: Write>(&self, f: &mut Formatter<W>) -> fmt::Result {
+        f.write_str("Seeded")
     }
 }
 

@@ -1,27 +1,37 @@
-ghost use Rattle.std.specs.Prelude.{◌≡◌, ◌-◌, ◌≤◌, [], ◌∷◌, None, length, take, IfOk, OnOk, OnErr};
+ghost use Rattle.std.specs.Prelude.{◌≡◌, ◌-◌, ◌≤◌, [], ◌∷◌, None, length, take, true, false, IfOk, OnOk, OnErr};
 ghost use Rattle.std.specs.Option.{option_copied};
+ghost use Rattle.rrc_name.specs.declared.slot.Slot.{Slot};
 ghost use Rattle.rrc_name.specs.Key.{KeyOf};
 ghost use Rattle.rrc_name.specs.KeyRef.{key_of};
 ghost use Rattle.rrc_history.specs.Lives.{LAST_MOMENT};
 ghost use Rattle.rrc_history.specs.Past.{entry_at, is_among, last_key};
+ghost use Rattle.rrc_history.specs.Right.{is_swept};
 ghost use Rattle.rrc_history.specs.Sound.{AreSound};
 ghost use Rattle.rrc_history.specs.Entries.{AreApart, goes, keys_of_dead, promoted, staying};
+ghost use Rattle.rrc_cache.specs.Beside.{AreMarked, is_beside};
+ghost use Rattle.rrc_cache.specs.Deaths.{dead_among, deaths_of, is_gone_by};
+ghost use Rattle.rrc_cache.specs.Pairs.{entries_in, AreOwn};
 
+use crate::beside::Beside;
 use crate::deaths::{Death, Deaths};
+use crate::judge;
 use crate::seeded::Seeded;
 use lru::LruCache;
-use rrc_history::{Entry, Snapshot};
-use rrc_name::{Key, KeyRef, Sequence};
+use rrc_history::{Entry, Rules, Snapshot};
+use rrc_name::{Key, KeyRef, Name, Sequence};
 use std::alloc::{AllocError, Global};
 use std::marker::Model;
 
-/// Entries by key, and their deaths by time. Contracts see for how many seconds a set may be stale, and the list of the entries,
-/// the key touched last first. A look-up takes no memory, and each call takes about as long in a large store as in a small one.
+/// Entries by key, and deaths by time. Contracts see for how many seconds a set may be stale, and the list of the entries,
+/// the key touched last first. A look-up takes no memory, and a call takes about as long in a large store as in a small one, on
+/// the average over many puts: after as many as there are entries the deaths may be made anew.
 #[derive(Debug, Drop)]
 pub struct Store {
     cache: LruCache<Key, Entry, Seeded>,
-    /// The death of each entry.
+    /// When entries may die.
     deaths: Deaths,
+    /// Of which names something may be kept beside their sets.
+    beside: Beside,
     /// For how many seconds a set may be stale, on which deaths depend.
     stale: u64,
 }
@@ -33,19 +43,21 @@ impl Model for Store {
 
     ghost view = { λ s. record { stale = s.stale; entries = entries_in s.cache.entries } };
 
-    ghost invariant = { λ s. IsStore s.stale s.cache s.deaths };
+    ghost invariant = { λ s. IsStore s.stale s.cache s.deaths s.beside };
 }
 
 impl Store {
-    /// No entries. Keys are hashed behind the seed, and sets may be stale for some seconds.
-    pub(crate) fn new(alloc: Global, seed: [u8; 16], stale: u64) -> Result<Store, AllocError>
-        requires { stale ≤ 604800 }
-        ensures { IfOk result (λ store. store ≡ record { stale = stale; entries = [] }) }
+    /// No entries. Keys are hashed behind the seed, and sets may be stale for as many seconds as the rules say. There are two marks
+    /// for each key that may be kept.
+    pub(crate) fn new(alloc: Global, seed: [u8; 16], rules: Rules) -> Result<Store, AllocError>
+        ensures { IfOk result (λ store. store ≡ record { stale = rules.stale; entries = [] }) }
     {
+        let seeded = Seeded::new(seed);
         Ok(Store {
-            cache: LruCache::unbounded_with_hasher(alloc, Seeded::new(seed))?,
+            cache: LruCache::unbounded_with_hasher(alloc, seeded)?,
             deaths: Deaths::new(alloc),
-            stale,
+            beside: Beside::new(alloc, seeded, 2 * rules.capacity as usize)?,
+            stale: rules.stale,
         })
     }
 
@@ -60,7 +72,7 @@ impl Store {
     {
         let rules = snapshot.rules();
         let entries = snapshot.entries.as_slice();
-        let mut store = Store::new(alloc, seed, rules.stale)?;
+        let mut store = Store::new(alloc, seed, rules)?;
         // The last one first, since each is put in front.
         for place in (0..entries.len()).rev() {
             store.put(entries[place].clone()?)?;
@@ -83,14 +95,60 @@ impl Store {
         self.cache.peek(key)
     }
 
-    /// The keys of the dead entries. It takes as long as there are such keys, however many others there are.
-    pub(crate) fn keys_of_dead(&self, alloc: Global, moment: u64) -> Result<Vec<Key>, AllocError>
+    /// Whether something may be kept of a name beside its sets. Where not, no look-up finds any of that.
+    pub(crate) fn may_hold_beside(&self, name: &Name) -> bool
+        ensures { result ≡ false → (slot : Slot) → is_beside slot ≡ true → entry_at (record { name = name.now; slot = slot }) self.now.entries ≡ None }
+    {
+        self.beside.may_hold(name)
+    }
+
+    /// The keys of the dead entries, some perhaps more than once. It looks at the deaths that came since the last time, however many
+    /// entries there are.
+    pub(crate) fn keys_of_dead(
+        &mut self,
+        alloc: Global,
+        moment: u64,
+    ) -> Result<Vec<Key>, AllocError>
         requires { moment ≤ LAST_MOMENT }
-        ensures { IfOk result (λ keys. (key : KeyOf) → is_among key keys.items ≡ is_among key (keys_of_dead self.now.stale moment self.now.entries)) }
+        ensures dead { IfOk result (λ keys. (key : KeyOf) → is_among key keys.items ≡ is_among key (keys_of_dead self.old.stale moment self.old.entries)) }
+        ensures same { self.new ≡ self.old }
     {
         // The length is read for what it tells: no two entries have the same key.
         let _ = self.cache.len();
-        self.deaths.due(alloc, moment)
+        self.deaths.find_due(moment)?;
+        dead_among(alloc, &self.cache, self.deaths.due(), self.stale, moment)
+    }
+
+    /// Lets go of one of the deaths that were due, unless there is none or memory is refused. Where its key holds an entry still, one
+    /// death of the key waits for that one's time.
+    pub(crate) fn settle(&mut self)
+        ensures { self.new ≡ self.old }
+    {
+        if let Some(death) = self.deaths.next_due() {
+            if self.deaths.is_repeated(&death) {
+                return;
+            }
+            match self.cache.peek(KeyRef::of(&death.key)) {
+                Some(entry) => {
+                    let time = judge::time_of_death(entry, self.stale);
+                    let key = death.key;
+                    self.deaths.add(Death { time, key });
+                }
+                None => {}
+            }
+        }
+    }
+
+    /// How many deaths were due, and are to be let go. Where they are more than the keys that were removed, some of them are of keys
+    /// that hold something still, or that have others: then they stand together by their keys, so that one of each is left at most.
+    pub(crate) fn unsettled(&mut self, removed: usize) -> usize
+        ensures { self.new ≡ self.old }
+    {
+        let due = self.deaths.due().len();
+        if due > removed {
+            self.deaths.sort_due();
+        }
+        due
     }
 
     /// A copy of the entries, the key touched last first.
@@ -109,24 +167,43 @@ impl Store {
         ensures ok { OnOk result (self.new ≡ record self.old { entries = entry ∷ staying (goes entry.key None) self.old.entries }) }
         ensures err { OnErr result (self.new ≡ self.old) }
     {
+        self.put_foreseen(entry)?;
+        if self.deaths.are_many(self.cache.len()) {
+            self.renew();
+        }
+        if self.beside.is_worn() {
+            mark_anew(&mut self.beside, &self.cache);
+        }
+        Ok(())
+    }
+
+    /// Puts an entry in front, and sees to it that a death comes no later than it dies, and that its name is marked where it stands
+    /// beside the sets. There is a death already where it takes the place of what dies no later.
+    fn put_foreseen(&mut self, entry: Entry) -> Result<(), AllocError>
+        ensures ok { OnOk result (self.new ≡ record self.old { entries = entry ∷ staying (goes entry.key None) self.old.entries }) }
+        ensures err { OnErr result (self.new ≡ self.old) }
+    {
         let key = entry.key.clone()?;
-        let death = Death::of(&entry, self.stale)?;
+        let dying = entry.key.clone()?;
+        let time = judge::time_of_death(&entry, self.stale);
         // The length is read for what it tells: there is room, and no two entries have the same key.
         let _ = self.cache.len();
-        let is_new = self.deaths.add(death)?;
-        match self.cache.put(key, entry) {
-            Ok(None) => Ok(()),
-            Ok(Some(_)) if !is_new => Ok(()),
-            Ok(Some(old)) => {
-                self.deaths.forget(old, self.stale);
-                Ok(())
-            }
-            // Only a new key can be refused, so its death was not there before.
-            Err(refused) => {
-                let (_, entry) = refused.value;
-                self.deaths.forget(entry, self.stale);
-                Err(AllocError)
-            }
+        self.deaths.reserve()?;
+        self.beside.note(&entry.key);
+        let old = self.cache.put(key, entry)?;
+        if !is_gone_by(old, self.stale, time) {
+            self.deaths.add(Death { time, key: dying });
+        }
+        Ok(())
+    }
+
+    /// Makes the deaths anew, of the entries alone. Where memory is refused they stay as they are.
+    fn renew(&mut self)
+        ensures { self.new ≡ self.old }
+    {
+        let alloc = *self.cache.allocator();
+        if let Ok(deaths) = deaths_of(alloc, &self.cache, self.stale) {
+            self.deaths = Deaths::of(alloc, deaths);
         }
     }
 
@@ -145,10 +222,7 @@ impl Store {
     {
         // The length is read for what it tells: no two entries have the same key.
         let _ = self.cache.len();
-        match self.cache.pop(key) {
-            Some(entry) => self.deaths.forget(entry, self.stale),
-            None => {}
-        }
+        let _ = self.cache.pop(key);
     }
 
     /// Removes the last entry, and answers its key.
@@ -159,11 +233,81 @@ impl Store {
         // The length is read for what it tells: no two entries have the same key.
         let _ = self.cache.len();
         match self.cache.pop_lru() {
-            Some((key, last)) => {
-                self.deaths.forget(last, self.stale);
-                Some(key)
-            }
+            Some((key, _)) => Some(key),
             None => None,
         }
     }
+}
+
+/// Whether what a key held, if anything, dies at a time or before.
+fn is_gone_by(held: Option<Entry>, stale: u64, time: u64) -> bool
+    requires { stale ≤ 604800 }
+    ensures { result ≡ is_gone_by stale time held }
+{
+    match held {
+        Some(entry) => judge::time_of_death(&entry, stale) <= time,
+        None => false,
+    }
+}
+
+/// Whether what is kept under a key, if anything, is dead.
+fn is_dead(cache: &LruCache<Key, Entry, Seeded>, key: KeyRef<'_>, stale: u64, moment: u64) -> bool
+    requires own { AreOwn cache.now.entries }
+    requires limit { stale ≤ 604800 }
+    requires moment { moment ≤ LAST_MOMENT }
+    ensures { result ≡ is_swept stale (entry_at (key_of key.entry) (entries_in cache.now.entries)) moment }
+{
+    match cache.peek(key) {
+        Some(entry) => judge::time_of_death(entry, stale) <= moment,
+        None => false,
+    }
+}
+
+/// The keys of deaths under which something dead is kept.
+fn dead_among(
+    alloc: Global,
+    cache: &LruCache<Key, Entry, Seeded>,
+    deaths: &[Death],
+    stale: u64,
+    moment: u64,
+) -> Result<Vec<Key>, AllocError>
+    requires own { AreOwn cache.now.entries }
+    requires limit { stale ≤ 604800 }
+    requires moment { moment ≤ LAST_MOMENT }
+    ensures { IfOk result (λ keys. keys.items ≡ dead_among stale moment (entries_in cache.now.entries) deaths.now) }
+{
+    let mut keys = Vec::new(alloc);
+    for death in deaths {
+        if is_dead(cache, KeyRef::of(&death.key), stale, moment) {
+            keys.push(death.key.clone()?)?;
+        }
+    }
+    Ok(keys)
+}
+
+/// Marks the names of which something is kept beside their sets, and no others.
+fn mark_anew(beside: &mut Beside, cache: &LruCache<Key, Entry, Seeded>)
+    ensures { AreMarked beside.new (entries_in cache.now.entries) }
+{
+    beside.clear();
+    for (_, entry) in cache.iter() {
+        beside.note(&entry.key);
+    }
+    beside.count_anew();
+}
+
+/// The deaths of the entries.
+fn deaths_of(
+    alloc: Global,
+    cache: &LruCache<Key, Entry, Seeded>,
+    stale: u64,
+) -> Result<Vec<Death>, AllocError>
+    requires { stale ≤ 604800 }
+    ensures { IfOk result (λ deaths. deaths.items ≡ deaths_of stale (entries_in cache.now.entries)) }
+{
+    let mut deaths = Vec::with_capacity(alloc, cache.len())?;
+    for (_, entry) in cache.iter() {
+        deaths.push(Death::of(entry, stale)?)?;
+    }
+    Ok(deaths)
 }

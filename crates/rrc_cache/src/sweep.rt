@@ -20,20 +20,35 @@ fn put_in_order(keys: &mut Vec<Key>)
 }
 
 /// The keys of the dead entries, in the order of keys.
-pub(crate) fn dead_keys(alloc: Global, store: &Store, moment: u64) -> Result<Vec<Key>, AllocError>
+pub(crate) fn dead_keys(
+    alloc: Global,
+    store: &mut Store,
+    moment: u64,
+) -> Result<Vec<Key>, AllocError>
     requires { moment ≤ LAST_MOMENT }
-    ensures { IfOk result (λ keys. AreDeadKeys store.now.stale moment store.now.entries keys.items) }
+    ensures dead { IfOk result (λ keys. AreDeadKeys store.old.stale moment store.old.entries keys.items) }
+    ensures same { store.new ≡ store.old }
 {
     let mut keys = store.keys_of_dead(alloc, moment)?;
     put_in_order(&mut keys);
     Ok(keys)
 }
 
-/// Removes the entries of keys. It takes no memory.
+/// Removes the entries of keys, and lets the deaths go that told of them. It takes no memory.
 pub(crate) fn remove(store: &mut Store, keys: &[Key])
     ensures { store.new ≡ record store.old { entries = staying (λ key. is_among key keys.now) store.old.entries } }
 {
     for key in keys {
         store.remove(KeyRef::of(key));
+    }
+    settle(store, keys.len());
+}
+
+/// Lets the deaths go that were due, after so many keys were removed.
+fn settle(store: &mut Store, removed: usize)
+    ensures { store.new ≡ store.old }
+{
+    for _ in 0..store.unsettled(removed) {
+        store.settle();
     }
 }

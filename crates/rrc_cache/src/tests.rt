@@ -1,3 +1,4 @@
+mod beside;
 mod chapters;
 mod eviction;
 mod limits;

@@ -2,7 +2,8 @@ use Rattle.std.proofs.Common.{◌≡◌, ◌&&◌, Bool, true, false, ℕ, Optio
 use Rattle.std.specs.Prelude.{IfSome}
 use Rattle.std.specs.Option.{option_copied}
 use Rattle.rrc_name.specs.Key.{KeyOf, key_eq}
-use Rattle.rrc_name.specs.KeyRef.{key_of}
+use Rattle.rrc_name.specs.declared.slot.Slot.TheVariants.{Failed}
+use Rattle.rrc_history.specs.Past.{key_at}
 use Rattle.rrc_history.specs.declared.snapshot.Entry.{Entry}
 use Rattle.rrc_history.specs.Judged.{Found, is_before, recent_failure}
 use Rattle.rrc_history.specs.Lives.{is_unexpired, IsTimely}
@@ -24,8 +25,8 @@ timely_failure found moment timely = by found.failed refl timely
 pub retry_from-retry_from-requires : goal.retry_from-retry_from-requires
 retry_from-retry_from-requires c =
     let P : Option Entry → Type 0 = λ f. IfSome f IsTimely in
-    let key : KeyOf = key_of c.key_at-3.result in
-    let found : Found = record { set = option_copied c.get-set.result; nx = option_copied c.get-nx.result; failed = option_copied c.get-failed.result } in
+    let key : KeyOf = key_at c.args.ask.now (Failed c.ask.inside.rtype) in
+    let found : Found = record { set = option_copied c.get-set.result; nx = option_copied c.get_beside-nx.result; failed = option_copied c.get_beside-failed.result } in
     let failed : IfSome found.failed IsTimely =
-    subst P (sym c.get-failed.ensures) (timely_found (λ (entry : Entry). key_eq key entry.key) c.args.store.now.entries c.requires.timely) in
+    subst P (sym c.get_beside-failed.ensures) (timely_found (λ (entry : Entry). key_eq key entry.key) c.args.store.now.entries c.requires.timely) in
     subst P (sym c.recent_failure-failure.ensures) (timely_failure found c.ask.inside.moment failed)

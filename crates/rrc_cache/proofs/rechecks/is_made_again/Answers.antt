@@ -41,9 +41,11 @@ returns-in_ok-dead-in-Swept-clause-again c =
     let entries : List Entry = c.args.store.now.entries in
     let keys : List KeyOf = c.in_ok-dead-in-Swept.dead.items in
     let dead : AreDeadKeys c.args.rules.stale c.in-Swept.moment entries keys =
-    subst (λ (stale : ℕ). AreDeadKeys stale c.in-Swept.moment entries keys) c.requires.stale c.in_ok-dead-in-Swept.ensures in
+    subst (λ (stale : ℕ). AreDeadKeys stale c.in-Swept.moment entries keys) c.requires.stale c.in_ok-dead-in-Swept.ensures.dead in
     let removed : c.remove.new.store.entries ≡ staying (λ key. is_among key keys) entries =
-    ap (λ (store : StoreOf). store.entries) c.remove.ensures ∙ ap (λ (ks : List KeyOf). staying (λ key. is_among key ks) entries) c.as_slice.ensures.value in
+    ap (λ (store : StoreOf). store.entries) c.remove.ensures
+    ∙ (ap (λ (ks : List KeyOf). staying (λ key. is_among key ks) c.dead_keys.new.store.entries) c.as_slice.ensures.value
+    ∙ ap (λ (store : StoreOf). staying (λ key. is_among key keys) store.entries) c.dead_keys.ensures.same) in
     let same : c.eq.result ≡ pointwise key_eq keys c.in-Swept.gone =
     c.eq.ensures ∙ (ap (λ (ks : List KeyOf). pointwise key_eq ks c.as_slice-in-Swept-2.result.now) c.as_slice-in-Swept.ensures.value
     ∙ ap (pointwise key_eq keys) c.as_slice-in-Swept-2.ensures) in

@@ -1,11 +1,19 @@
-use Rattle.std.proofs.Common.{ap, ◌∙◌, List, ◌||◌}
+use Rattle.std.proofs.Common.{◌<◌, ◌-◌, ◌||◌, ◌∷◌, List, sym, ap, subst, ◌∙◌, arith}
+use Rattle.std.specs.BinaryHeap.{heap_capacity, heap_len}
+use Rattle.std.specs.List.Sorted.{IsPermutation}
 use Rattle.rrc_cache.specs.declared.deaths.Death.{Death}
-use Rattle.rrc_cache.specs.Deaths.{is_same, stands}
-use Rattle.rrc_cache.proofs.Due.{added_by}
+use Rattle.rrc_cache.specs.Deaths.{DeathsOf, dies_by, is_by}
+use Rattle.rrc_cache.proofs.Due.{any_pushed, at_ok}
 use Rattle.rrc_cache.proofs.deaths.Deaths.add.Goals as goal
 
-pub returns-clause-added : goal.returns-clause-added
-returns-clause-added c = λ other.
-    c.in_ok-insert.ensures.updates.0 other
-    ∙ (added_by (is_same c.args.death other) (stands c.self.inside.all.keys other)
-    ∙ ap (λ (deaths : List Death). is_same c.args.death other || stands deaths other) c.self.view_is)
+pub returns : goal.returns
+returns c = λ key time.
+    let waiting : List Death = c.self.inside.waiting.data.items in
+    let pushed : List Death = c.push.new.self.data.items in
+    let room : 0 < heap_capacity c.self.inside.waiting - heap_len c.self.inside.waiting =
+    subst (λ (d : DeathsOf). 0 < d.room) (sym c.self.view_is) c.requires in
+    let less : heap_len c.self.inside.waiting < heap_capacity c.self.inside.waiting = omega (arith, room) in
+    let moves : IsPermutation (c.args.death ∷ waiting) pushed =
+    at_ok c.push.result (IsPermutation (c.args.death ∷ waiting) pushed) (c.push.ensures.succeeds less) c.push.ensures.permutation in
+    any_pushed (is_by key time) c.args.death waiting pushed c.self.inside.due.items moves
+    ∙ ap (λ (d : DeathsOf). is_by key time c.args.death || dies_by d key time) c.self.view_is

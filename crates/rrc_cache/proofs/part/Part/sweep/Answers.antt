@@ -24,17 +24,19 @@ done : (c : goal.After-push_reserved) → IsDone (before c) (after c) (event c) 
 done c =
     let open' : IsOpen (before c) c.args.moment = rw c.self.view_is (c.in_ok-admit.ensures.due) in
     let dead : AreDeadKeys c.self.inside.snapshot.rules.stale c.args.moment c.self.inside.store.entries c.in_ok-gone.gone.items =
-    subst (λ (stale : ℕ). AreDeadKeys stale c.args.moment c.self.inside.store.entries c.in_ok-gone.gone.items) c.self.invariant.stale c.in_ok-gone.ensures in
+    subst (λ (stale : ℕ). AreDeadKeys stale c.args.moment c.self.inside.store.entries c.in_ok-gone.gone.items) c.self.invariant.stale c.in_ok-gone.ensures.dead in
     let written : c.push_reserved.new.self.items ≡ c.self.inside.events.items ++ event c ∷ [] =
     c.push_reserved.ensures.items ∙ rw (c.reserve.ensures.items, c.from_vec.ensures) refl in
     let removed : c.remove.new.store.entries ≡ staying (λ key. is_among key c.in_ok-gone.gone.items) c.self.inside.store.entries =
-    ap (λ (store : StoreOf). store.entries) c.remove.ensures ∙ ap (λ (keys : List KeyOf). staying (λ key. is_among key keys) c.self.inside.store.entries) c.as_slice.ensures.value in
+    ap (λ (store : StoreOf). store.entries) c.remove.ensures
+    ∙ (ap (λ (keys : List KeyOf). staying (λ key. is_among key keys) c.dead_keys.new.store.entries) c.as_slice.ensures.value
+    ∙ ap (λ (store : StoreOf). staying (λ key. is_among key c.in_ok-gone.gone.items) store.entries) c.dead_keys.ensures.same) in
     let P : List Event → Type 0 = λ events. IsDone (before c) (record { number = c.self.inside.number; snapshot = c.self.inside.snapshot; events = events }) (event c) c.remove.new.store.entries in
     subst P (sym written)
     (call_done (before c) c.self.inside.store.entries (event c) c.remove.new.store.entries c.self.invariant.keeps open' (dead, removed))
 
 pub invariant_of-self-2 : goal.invariant_of-self-2
-invariant_of-self-2 c = record { keeps = (done c).keeps; stale = ap (λ (store : StoreOf). store.stale) c.remove.ensures ∙ c.self.invariant.stale }
+invariant_of-self-2 c = record { keeps = (done c).keeps; stale = ap (λ (store : StoreOf). store.stale) c.remove.ensures ∙ (ap (λ (store : StoreOf). store.stale) c.dead_keys.ensures.same ∙ c.self.invariant.stale) }
 
 pub returns-clause-ok : goal.returns-clause-ok
 returns-clause-ok c =

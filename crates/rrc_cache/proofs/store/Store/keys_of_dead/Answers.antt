@@ -6,22 +6,29 @@ use Rattle.rrc_history.specs.Past.{is_among}
 use Rattle.rrc_history.specs.Entries.{AreApart, keys_of_dead}
 use Rattle.rrc_history.specs.lemmas.SweepLaws.{keys_of_dead-found}
 use Rattle.rrc_cache.specs.declared.deaths.Death.{Death}
-use Rattle.rrc_cache.specs.Deaths.{keys_due}
+use Rattle.rrc_cache.specs.Deaths.{AreForeseen, DeathsOf, dead_among}
 use Rattle.rrc_cache.specs.Pairs.{entries_in, StoreOf}
 use Rattle.rrc_cache.proofs.Paired.{apart_in}
-use Rattle.rrc_cache.proofs.Timed.{due_swept}
+use Rattle.rrc_cache.proofs.Stored.{same_store}
+use Rattle.rrc_cache.proofs.Timed.{due_swept, same_foreseen}
 use Rattle.rrc_cache.proofs.store.Store.keys_of_dead.Goals as goal
 
-pub returns : goal.returns
-returns c =
+pub invariant_of-self : goal.invariant_of-self
+invariant_of-self c =
+    same_store c.self.inside.stale c.self.inside.cache c.self.inside.beside c.self.inside.deaths c.find_due.new.self c.find_due.ensures.same c.self.invariant
+
+pub returns-clause-dead : goal.returns-clause-dead
+returns-clause-dead c =
     let stale : ℕ = c.self.inside.stale in
-    let deaths : List Death = c.self.inside.deaths in
+    let deaths : DeathsOf = c.find_due.new.self in
     let entries : List Entry = entries_in c.self.inside.cache.entries in
+    let are : AreForeseen stale entries deaths = same_foreseen stale entries c.self.inside.deaths deaths c.find_due.ensures.same c.self.invariant.foreseen in
     let apart : AreApart entries = apart_in c.self.inside.cache.entries c.self.invariant.own c.len.ensures.valid.0 in
-    let listed : (key : KeyOf) → is_among key (keys_due c.args.moment deaths) ≡ is_among key (keys_of_dead c.args.self.now.stale c.args.moment c.args.self.now.entries) = λ key.
-    due_swept stale c.args.moment entries deaths c.self.invariant.timed c.requires key
+    let listed : (key : KeyOf) → is_among key (dead_among stale c.args.moment entries c.due.result.now) ≡ is_among key (keys_of_dead c.args.self.now.stale c.args.moment c.args.self.now.entries) = λ key.
+    ap (λ (ds : List Death). is_among key (dead_among stale c.args.moment entries ds)) c.due.ensures
+    ∙ (due_swept stale c.args.moment entries deaths are c.requires c.in_ok-find_due.ensures.ok key
     ∙ (sym (keys_of_dead-found stale c.args.moment key entries apart)
-    ∙ ap (λ (store : StoreOf). is_among key (keys_of_dead store.stale c.args.moment store.entries)) c.self.view_is) in
-    IfOk-weaker c.due.result (λ keys. keys.items ≡ keys_due c.args.moment deaths)
+    ∙ ap (λ (store : StoreOf). is_among key (keys_of_dead store.stale c.args.moment store.entries)) c.self.view_is)) in
+    IfOk-weaker c.dead_among.result (λ keys. keys.items ≡ dead_among stale c.args.moment entries c.due.result.now)
     (λ keys. (key : KeyOf) → is_among key keys.items ≡ is_among key (keys_of_dead c.args.self.now.stale c.args.moment c.args.self.now.entries))
-    (λ keys is key. ap (is_among key) is ∙ listed key) c.due.ensures
+    (λ keys is key. ap (is_among key) is ∙ listed key) c.dead_among.ensures

@@ -1,4 +1,4 @@
-use Rattle.std.proofs.Common.{◌≡◌, List, Some, None, ap, sym, subst, ◌∙◌}
+use Rattle.std.proofs.Common.{◌≡◌, List, None, ap, sym, subst, ◌∙◌}
 use Rattle.std.specs.List.{IsDistinct}
 use Rattle.std.specs.Map.{keys_of, remove_entry}
 use Rattle.lru.specs.LruCache.{LruCache, lru_cache}
@@ -6,11 +6,12 @@ use Rattle.rrc_name.specs.Key.{KeyOf, key_eq}
 use Rattle.rrc_name.specs.KeyRef.{key_of}
 use Rattle.rrc_history.specs.declared.snapshot.Entry.{Entry}
 use Rattle.rrc_history.specs.Entries.{goes, staying}
-use Rattle.rrc_history.specs.Past.{entry_at}
-use Rattle.rrc_cache.specs.Deaths.{AreDeaths}
+use Rattle.rrc_cache.specs.Beside.{AreMarked}
+use Rattle.rrc_cache.specs.Deaths.{AreForeseen}
 use Rattle.rrc_cache.specs.Pairs.{entries_in, AreOwn}
-use Rattle.rrc_cache.proofs.Paired.{apart_in, edited, found_in_pairs, removed_in, own_removed}
-use Rattle.rrc_cache.proofs.Timed.{removed_deaths, still_deaths}
+use Rattle.rrc_cache.proofs.Marked.{removed_marked}
+use Rattle.rrc_cache.proofs.Paired.{apart_in, edited, removed_in, own_removed}
+use Rattle.rrc_cache.proofs.Timed.{removed_foreseen}
 use Rattle.rrc_cache.proofs.store.Store.remove.Goals as goal
 
 after : (key : KeyOf) (cache new : LruCache KeyOf Entry) → AreOwn cache.entries → IsDistinct key_eq (keys_of cache.entries)
@@ -22,37 +23,18 @@ pub invariant_of-self : goal.invariant_of-self
 invariant_of-self c =
     let key : KeyOf = key_of c.args.key in
     let before : List Entry = entries_in c.self.inside.cache.entries in
-    let held : entry_at key before ≡ Some c.in-Some.entry =
-    sym (found_in_pairs key c.self.inside.cache.entries c.self.invariant.own) ∙ (sym c.pop.ensures.value ∙ c.in-Some.is) in
-    let P : List Entry → Type 0 = λ entries. AreDeaths c.self.inside.stale entries c.forget.new.self in
+    let is : staying (goes key None) before ≡ entries_in c.pop.new.self.entries =
+    sym (after key c.self.inside.cache c.pop.new.self c.self.invariant.own c.len.ensures.valid.0 c.pop.ensures.entries) in
     record {
       own = rw c.pop.ensures.entries (own_removed (key_eq key) c.self.inside.cache.entries c.self.invariant.own);
       wide = rw c.pop.ensures.entries c.self.invariant.wide;
       limit = c.self.invariant.limit;
-      timed = subst P (sym (after key c.self.inside.cache c.pop.new.self c.self.invariant.own c.len.ensures.valid.0 c.pop.ensures.entries))
-          (removed_deaths c.self.inside.stale before c.self.inside.deaths c.self.invariant.timed key c.in-Some.entry c.forget.new.self held c.forget.ensures);
+      foreseen = subst (λ entries. AreForeseen c.self.inside.stale entries c.self.inside.deaths) is
+          (removed_foreseen c.self.inside.stale before c.self.inside.deaths c.self.invariant.foreseen key);
+      marked = subst (AreMarked c.self.inside.beside) is (removed_marked c.self.inside.beside key before c.self.invariant.marked);
     }
 
-pub invariant_of-self-in-None : goal.invariant_of-self-in-None
-invariant_of-self-in-None c =
-    let key : KeyOf = key_of c.args.key in
-    let before : List Entry = entries_in c.self.inside.cache.entries in
-    let none : entry_at key before ≡ None = sym (found_in_pairs key c.self.inside.cache.entries c.self.invariant.own) ∙ (sym c.pop.ensures.value ∙ c.in-None.is) in
-    let P : List Entry → Type 0 = λ entries. AreDeaths c.self.inside.stale entries c.self.inside.deaths in
-    record {
-      own = rw c.pop.ensures.entries (own_removed (key_eq key) c.self.inside.cache.entries c.self.invariant.own);
-      wide = rw c.pop.ensures.entries c.self.invariant.wide;
-      limit = c.self.invariant.limit;
-      timed = subst P (sym (after key c.self.inside.cache c.pop.new.self c.self.invariant.own c.len.ensures.valid.0 c.pop.ensures.entries))
-          (still_deaths c.self.inside.stale before c.self.inside.deaths c.self.invariant.timed key none);
-    }
-
-pub returns-in-Some : goal.returns-in-Some
-returns-in-Some c =
-    edited (staying (goes (key_of c.args.key) None)) c.self.inside.stale (entries_in c.self.inside.cache.entries) (entries_in c.pop.new.self.entries) c.args.self.now
-    (after (key_of c.args.key) c.self.inside.cache c.pop.new.self c.self.invariant.own c.len.ensures.valid.0 c.pop.ensures.entries) c.self.view_is
-
-pub returns-in-None : goal.returns-in-None
-returns-in-None c =
+pub returns : goal.returns
+returns c =
     edited (staying (goes (key_of c.args.key) None)) c.self.inside.stale (entries_in c.self.inside.cache.entries) (entries_in c.pop.new.self.entries) c.args.self.now
     (after (key_of c.args.key) c.self.inside.cache c.pop.new.self c.self.invariant.own c.len.ensures.valid.0 c.pop.ensures.entries) c.self.view_is

@@ -1,14 +1,16 @@
-use Rattle.std.proofs.Common.{◌≡◌, ◌-◌, List, Option, Some, length, take, ap, sym, subst, ◌∙◌}
+use Rattle.std.proofs.Common.{◌≡◌, ◌-◌, List, Option, Some, None, length, take, ap, sym, subst, ◌∙◌}
 use Rattle.std.specs.Option.{option_map}
 use Rattle.lru.specs.LruCache.{LruCache, last_entry, lru_cache}
 use Rattle.rrc_name.specs.Key.{KeyOf}
 use Rattle.rrc_history.specs.declared.snapshot.Entry.{Entry}
 use Rattle.rrc_history.specs.Past.{last_key}
-use Rattle.rrc_history.specs.Entries.{AreApart}
-use Rattle.rrc_cache.specs.Deaths.{AreDeaths}
+use Rattle.rrc_history.specs.Entries.{AreApart, goes, staying}
+use Rattle.rrc_cache.specs.Beside.{AreMarked}
+use Rattle.rrc_cache.specs.Deaths.{AreForeseen}
 use Rattle.rrc_cache.specs.Pairs.{entries_in, StoreOf}
-use Rattle.rrc_cache.proofs.Paired.{apart_in, edited, last_found, last_gone, last_in, none_taken, own_taken, taken_in}
-use Rattle.rrc_cache.proofs.Timed.{removed_deaths}
+use Rattle.rrc_cache.proofs.Marked.{removed_marked}
+use Rattle.rrc_cache.proofs.Paired.{apart_in, edited, last_gone, last_in, none_taken, own_taken, taken_in}
+use Rattle.rrc_cache.proofs.Timed.{removed_foreseen}
 use Rattle.rrc_cache.proofs.store.Store.remove_last.Goals as goal
 
 abbrev key_of_pair : Option (KeyOf × Entry) → Option KeyOf
@@ -24,30 +26,31 @@ after cache new is = ap (λ (now : LruCache KeyOf Entry). entries_in now.entries
 pub invariant_of-self : goal.invariant_of-self
 invariant_of-self c =
     let pairs : List (KeyOf × Entry) = c.self.inside.cache.entries in
-    let pair : KeyOf × Entry = (c.in-Some.key, c.in-Some.last) in
+    let pair : KeyOf × Entry = (c.in-Some.key, c.in-Some.field-0-1) in
     let is : last_entry pairs ≡ Some pair = sym c.pop_lru.ensures.value ∙ c.in-Some.is in
     let apart : AreApart (entries_in pairs) = apart_in pairs c.self.invariant.own c.len.ensures.valid.0 in
-    let P : List Entry → Type 0 = λ entries. AreDeaths c.self.inside.stale entries c.forget.new.self in
+    let left : staying (goes pair.1.key None) (entries_in pairs) ≡ entries_in c.pop_lru.new.self.entries =
+    last_gone pairs pair apart is ∙ ap (λ (cache : LruCache KeyOf Entry). entries_in cache.entries) (sym c.pop_lru.ensures.entries) in
     record {
       own = rw c.pop_lru.ensures.entries (own_taken (length pairs - 1) pairs c.self.invariant.own);
       wide = rw c.pop_lru.ensures.entries c.self.invariant.wide;
       limit = c.self.invariant.limit;
-      timed = subst P (last_gone pairs pair apart is ∙ ap (λ (cache : LruCache KeyOf Entry). entries_in cache.entries) (sym c.pop_lru.ensures.entries))
-          (removed_deaths c.self.inside.stale (entries_in pairs) c.self.inside.deaths c.self.invariant.timed c.in-Some.last.key c.in-Some.last c.forget.new.self
-          (last_found pairs pair apart is) c.forget.ensures);
+      foreseen = subst (λ entries. AreForeseen c.self.inside.stale entries c.self.inside.deaths) left
+          (removed_foreseen c.self.inside.stale (entries_in pairs) c.self.inside.deaths c.self.invariant.foreseen pair.1.key);
+      marked = subst (AreMarked c.self.inside.beside) left (removed_marked c.self.inside.beside pair.1.key (entries_in pairs) c.self.invariant.marked);
     }
 
-pub invariant_of-self-in-None : goal.invariant_of-self-in-None
-invariant_of-self-in-None c =
+pub invariant_of-self-2 : goal.invariant_of-self-2
+invariant_of-self-2 c =
     let pairs : List (KeyOf × Entry) = c.self.inside.cache.entries in
-    let P : List Entry → Type 0 = λ entries. AreDeaths c.self.inside.stale entries c.self.inside.deaths in
+    let left : entries_in pairs ≡ entries_in c.pop_lru.new.self.entries =
+    ap entries_in (none_taken pairs (sym c.pop_lru.ensures.value ∙ c.in-None.is)) ∙ ap (λ (cache : LruCache KeyOf Entry). entries_in cache.entries) (sym c.pop_lru.ensures.entries) in
     record {
       own = rw c.pop_lru.ensures.entries (own_taken (length pairs - 1) pairs c.self.invariant.own);
       wide = rw c.pop_lru.ensures.entries c.self.invariant.wide;
       limit = c.self.invariant.limit;
-      timed = subst P
-          (ap entries_in (none_taken pairs (sym c.pop_lru.ensures.value ∙ c.in-None.is)) ∙ ap (λ (cache : LruCache KeyOf Entry). entries_in cache.entries) (sym c.pop_lru.ensures.entries))
-          c.self.invariant.timed;
+      foreseen = subst (λ entries. AreForeseen c.self.inside.stale entries c.self.inside.deaths) left c.self.invariant.foreseen;
+      marked = subst (AreMarked c.self.inside.beside) left c.self.invariant.marked;
     }
 
 pub returns-in-Some-clause-value : goal.returns-in-Some-clause-value
@@ -55,8 +58,8 @@ returns-in-Some-clause-value c =
     sym (ap key_of_pair c.in-Some.is)
     ∙ (ap key_of_pair c.pop_lru.ensures.value ∙ (last_in c.self.inside.cache.entries c.self.invariant.own ∙ ap (λ (store : StoreOf). last_key store.entries) c.self.view_is))
 
-pub returns-in-None-clause-value : goal.returns-in-None-clause-value
-returns-in-None-clause-value c =
+pub returns-clause-value : goal.returns-clause-value
+returns-clause-value c =
     sym (ap key_of_pair c.in-None.is)
     ∙ (ap key_of_pair c.pop_lru.ensures.value ∙ (last_in c.self.inside.cache.entries c.self.invariant.own ∙ ap (λ (store : StoreOf). last_key store.entries) c.self.view_is))
 
@@ -65,7 +68,7 @@ returns-in-Some-clause-entries c =
     edited front c.self.inside.stale (entries_in c.self.inside.cache.entries) (entries_in c.pop_lru.new.self.entries) c.args.self.now
     (after c.self.inside.cache c.pop_lru.new.self c.pop_lru.ensures.entries) c.self.view_is
 
-pub returns-in-None-clause-entries : goal.returns-in-None-clause-entries
-returns-in-None-clause-entries c =
+pub returns-clause-entries : goal.returns-clause-entries
+returns-clause-entries c =
     edited front c.self.inside.stale (entries_in c.self.inside.cache.entries) (entries_in c.pop_lru.new.self.entries) c.args.self.now
     (after c.self.inside.cache c.pop_lru.new.self c.pop_lru.ensures.entries) c.self.view_is

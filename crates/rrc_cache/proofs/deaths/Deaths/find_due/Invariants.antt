@@ -1,0 +1,10 @@
+-- no death has gone, and those that wait grow fewer
+use Rattle.std.proofs.Common.{length}
+use Rattle.rrc_cache.specs.Deaths.{AreSameDeaths}
+use Rattle.rrc_cache.proofs.deaths.Deaths.find_due.Given as goal
+
+abbrev pub invariant-loop-self : goal.invariant-loop-self
+invariant-loop-self l = AreSameDeaths l.self l.initial.self
+
+abbrev pub decreases-loop-self : goal.decreases-loop-self
+decreases-loop-self l = length l.self.waiting
