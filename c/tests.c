@@ -1,4 +1,6 @@
-/* Tests of the library for C: each call on its happy path, each status that a caller can bring about, and what a refusal leaves.
+/* Tests of the library for C: each call on its happy path, each status that a caller can bring about, at each call that can answer it,
+   and what a refusal leaves. Two statuses are not met: RRCACHE_HISTORY_FULL asks for 2^62 events, and RRCACHE_WIDE for a datum that no
+   call takes.
 
    The last line is 'N passed, M failed'. Where the program is linked with --wrap for malloc, realloc and free, each allocation is
    refused in turn as well. */
@@ -29,11 +31,12 @@ static const uint8_t NAME[] = "\3www\7example";     /* the last octet is the lit
 static const uint8_t UPPER[] = "\3WWW\7Example";
 static const uint8_t ZONE[] = "\7example";
 static const uint8_t OTHER[] = "\5other\7example";
+static const uint8_t THIRD[] = "\5third\7example";
 static const uint8_t NO_NAME[] = {3, 'w', 'w'};
 static const struct rrcache_limits LIMITS = {86400, 3600, 30};
 static const uint64_t FIRST = 1000;
 
-enum { A = 1, SOA = 6, TXT = 16, OPT = 41 };
+enum { A = 1, CNAME = 5, SOA = 6, TXT = 16, OPT = 41, PARTS = 16 };
 
 /* A response to www.example A: two addresses of www.example for 300 seconds, authoritative (RFC 1035 section 4.1). */
 static const uint8_t ANSWER[] = {
@@ -41,6 +44,13 @@ static const uint8_t ANSWER[] = {
     3, 'w', 'w', 'w', 7, 'e', 'x', 'a', 'm', 'p', 'l', 'e', 0, 0, 1, 0, 1,
     0xc0, 12, 0, 1, 0, 1, 0, 0, 1, 44, 0, 4, 192, 0, 2, 1,
     0xc0, 12, 0, 1, 0, 1, 0, 0, 1, 44, 0, 4, 192, 0, 2, 2,
+};
+/* A response to www.example A: that name is an alias of other.example, which has an address; both for 300 seconds. */
+static const uint8_t ALIAS[] = {
+    0x12, 0x34, 0x84, 0x00, 0, 1, 0, 2, 0, 0, 0, 0,
+    3, 'w', 'w', 'w', 7, 'e', 'x', 'a', 'm', 'p', 'l', 'e', 0, 0, 1, 0, 1,
+    0xc0, 12, 0, 5, 0, 1, 0, 0, 1, 44, 0, 8, 5, 'o', 't', 'h', 'e', 'r', 0xc0, 16,
+    0xc0, 41, 0, 1, 0, 1, 0, 0, 1, 44, 0, 4, 192, 0, 2, 9,
 };
 /* The reply's octets: the owner, and each address behind its length. */
 static const uint8_t ADDRESSES[] = {
@@ -73,9 +83,35 @@ static uint32_t peek(struct rrcache_shelf *shelf, uint64_t moment, struct rrcach
 
 static uint64_t events(struct rrcache_shelf *shelf)
 {
-    uint64_t open = 0, chapters = 0;
-    EXPECT(rrcache_sizes(shelf, &open, &chapters) == RRCACHE_DONE);
+    uint64_t keys = 0, open = 0, chapters = 0;
+    EXPECT(rrcache_sizes(shelf, &keys, &open, &chapters) == RRCACHE_DONE);
     return open + 1000 * chapters;
+}
+
+static uint64_t keys(struct rrcache_shelf *shelf)
+{
+    uint64_t held = 0, open = 0, chapters = 0;
+    EXPECT(rrcache_sizes(shelf, &held, &open, &chapters) == RRCACHE_DONE);
+    return held;
+}
+
+static uint32_t offer_address(struct rrcache_shelf *shelf, const uint8_t *name, size_t size, uint32_t trust, uint32_t ttl)
+{
+    uint32_t outcome = 0;
+    EXPECT(rrcache_offer_set(shelf, name, size, A, trust, ttl, ADDRESS, sizeof ADDRESS, FIRST, 1, &outcome) == RRCACHE_DONE);
+    return outcome;
+}
+
+static uint32_t offer_alias(struct rrcache_shelf *shelf, uint64_t parts, uint64_t part, uint64_t moment, struct rrcache_counts *counts)
+{
+    return rrcache_offer_part(shelf, ALIAS, sizeof ALIAS, ZONE, sizeof ZONE, parts, part, moment, &LIMITS, 1, counts);
+}
+
+static uint64_t part_of(const uint8_t *name, size_t size)
+{
+    uint64_t part = PARTS;
+    EXPECT(rrcache_part_of(name, size, PARTS, &part) == RRCACHE_DONE && part < PARTS);
+    return part;
 }
 
 /* ---- Calls on their happy path. */
@@ -214,6 +250,86 @@ static void test_chapters(void)
     EXPECT(rrcache_free(&shelf) == RRCACHE_DONE);
 }
 
+/* How many keys a shelf holds is told through all that changes it. */
+static void test_keys(void)
+{
+    struct rrcache_shelf shelf = {0};
+    struct rrcache_counts counts;
+    struct rrcache_told told = {0};
+    uint64_t number = 9;
+    uint32_t outcome = 0;
+    uint8_t buffer[64];
+    EXPECT(rrcache_make(&shelf, 3, 4, 0, SEED) == RRCACHE_DONE && keys(&shelf) == 0);
+    EXPECT(ask(&shelf, FIRST, &told, buffer, sizeof buffer) == RRCACHE_DONE && keys(&shelf) == 0);
+    EXPECT(offer_answer(&shelf, FIRST, &counts) == RRCACHE_DONE && keys(&shelf) == 1);
+    EXPECT(offer_address(&shelf, UPPER, sizeof UPPER, 4, 60) == RRCACHE_KEPT && keys(&shelf) == 1);
+    EXPECT(offer_address(&shelf, NAME, sizeof NAME, 1, 60) == RRCACHE_LESS_TRUSTED && keys(&shelf) == 1);
+    EXPECT(offer_address(&shelf, OTHER, sizeof OTHER, 4, 60) == RRCACHE_KEPT && keys(&shelf) == 2);
+    EXPECT(rrcache_offer_negative(&shelf, NAME, sizeof NAME, TXT, RRCACHE_DENIES_TYPE, 3, 60, ZONE, sizeof ZONE, SOA_DATA, sizeof SOA_DATA, FIRST,
+                                  1, &outcome) == RRCACHE_DONE && keys(&shelf) == 3);
+    EXPECT(ask(&shelf, FIRST, &told, buffer, sizeof buffer) == RRCACHE_DONE && told.kind == RRCACHE_FRESH && keys(&shelf) == 3);
+
+    /* There is room for three: the key touched least recently goes, which is that of OTHER. */
+    EXPECT(rrcache_offer_failure(&shelf, NAME, sizeof NAME, SOA, 30, FIRST, 1, &outcome) == RRCACHE_DONE && keys(&shelf) == 3);
+    EXPECT(rrcache_peek(&shelf, OTHER, sizeof OTHER, A, FIRST, 0, 0, &told, buffer, sizeof buffer) == RRCACHE_DONE && told.kind == RRCACHE_MISS);
+    EXPECT(rrcache_drop_chapters(&shelf, &number) == RRCACHE_DONE && number == 1 && keys(&shelf) == 3);
+
+    /* A ttl of 0 clears the key; what is dead is counted until it is swept. */
+    EXPECT(offer_address(&shelf, THIRD, sizeof THIRD, 4, 0) == RRCACHE_CLEARED && keys(&shelf) == 3);
+    EXPECT(offer_address(&shelf, NAME, sizeof NAME, 4, 0) == RRCACHE_CLEARED && keys(&shelf) == 2);
+    EXPECT(rrcache_sweep(&shelf, FIRST + 29, 1, &number) == RRCACHE_DONE && number == 0 && keys(&shelf) == 2);
+    EXPECT(rrcache_peek(&shelf, NAME, sizeof NAME, TXT, FIRST + 60, 0, 0, &told, buffer, sizeof buffer) == RRCACHE_DONE);
+    EXPECT(told.kind == RRCACHE_MISS && keys(&shelf) == 2);
+    EXPECT(rrcache_sweep(&shelf, FIRST + 30, 1, &number) == RRCACHE_DONE && number == 1 && keys(&shelf) == 1);
+    EXPECT(rrcache_sweep(&shelf, FIRST + 60, 1, &number) == RRCACHE_DONE && number == 1 && keys(&shelf) == 0);
+    EXPECT(rrcache_free(&shelf) == RRCACHE_DONE);
+}
+
+/* A message of two names, which lie in two of sixteen shelves: each is kept where its name is asked for, and nowhere else. */
+static void test_parts(void)
+{
+    struct rrcache_shelf shelves[PARTS], whole = {0};
+    struct rrcache_counts counts, all = {0, 0, 0};
+    struct rrcache_told told = {0};
+    uint64_t alias = part_of(NAME, sizeof NAME), target = part_of(OTHER, sizeof OTHER);
+    uint8_t buffer[64];
+    memset(shelves, 0, sizeof shelves);
+    EXPECT(alias != target);
+    for (uint64_t part = 0; part < PARTS; part++) {
+        counts = (struct rrcache_counts){9, 9, 9};
+        EXPECT(make(&shelves[part]) == RRCACHE_DONE && offer_alias(&shelves[part], PARTS, part, FIRST, &counts) == RRCACHE_DONE);
+        uint64_t share = part == alias || part == target;
+        EXPECT(counts.kept == share && counts.cleared == 0 && counts.refused == 0);
+        EXPECT(keys(&shelves[part]) == share && events(&shelves[part]) == share);
+        all.kept += counts.kept;
+    }
+    EXPECT(rrcache_peek(&shelves[alias], NAME, sizeof NAME, CNAME, FIRST, 1, 0, &told, buffer, sizeof buffer) == RRCACHE_DONE);
+    EXPECT(told.kind == RRCACHE_FRESH && told.data_size == 2 + sizeof OTHER && memcmp(buffer + told.owner_size + 2, OTHER, sizeof OTHER) == 0);
+    EXPECT(rrcache_peek(&shelves[target], OTHER, sizeof OTHER, A, FIRST, 1, 0, &told, buffer, sizeof buffer) == RRCACHE_DONE);
+    EXPECT(told.kind == RRCACHE_FRESH && told.data_size == sizeof ADDRESS && memcmp(buffer + told.owner_size, ADDRESS, sizeof ADDRESS) == 0);
+    EXPECT(rrcache_peek(&shelves[alias], OTHER, sizeof OTHER, A, FIRST, 1, 0, &told, buffer, sizeof buffer) == RRCACHE_DONE);
+    EXPECT(told.kind == RRCACHE_MISS);
+
+    /* All together is what the whole message offers, which is also the share of one part alone. */
+    EXPECT(make(&whole) == RRCACHE_DONE);
+    EXPECT(rrcache_offer_message(&whole, ALIAS, sizeof ALIAS, ZONE, sizeof ZONE, FIRST, &LIMITS, 1, &counts) == RRCACHE_DONE);
+    EXPECT(counts.kept == all.kept && keys(&whole) == 2 && events(&whole) == 2);
+    EXPECT(offer_alias(&whole, 1, 0, FIRST, &counts) == RRCACHE_DONE && counts.kept == 2 && keys(&whole) == 2 && events(&whole) == 4);
+
+    /* What is refused or cleared is counted in the share that it is of. */
+    EXPECT(offer_address(&shelves[target], OTHER, sizeof OTHER, 4, 60) == RRCACHE_KEPT);
+    EXPECT(offer_alias(&shelves[target], PARTS, target, FIRST, &counts) == RRCACHE_DONE);
+    EXPECT(counts.kept == 0 && counts.cleared == 0 && counts.refused == 1 && keys(&shelves[target]) == 1);
+    uint8_t cleared[sizeof ALIAS];
+    memcpy(cleared, ALIAS, sizeof cleared);
+    memset(cleared + 35, 0, 4); /* the alias's ttl */
+    EXPECT(rrcache_offer_part(&shelves[alias], cleared, sizeof cleared, ZONE, sizeof ZONE, PARTS, alias, FIRST, &LIMITS, 1, &counts) == RRCACHE_DONE);
+    EXPECT(counts.kept == 0 && counts.cleared == 1 && counts.refused == 0 && keys(&shelves[alias]) == 0);
+    for (uint64_t part = 0; part < PARTS; part++)
+        EXPECT(rrcache_free(&shelves[part]) == RRCACHE_DONE);
+    EXPECT(rrcache_free(&whole) == RRCACHE_DONE);
+}
+
 static void test_octets(void)
 {
     uint32_t fault = 9;
@@ -240,9 +356,10 @@ static void test_no_shelf(void)
     struct rrcache_counts counts = {7, 7, 7};
     struct rrcache_told told = {7, 7, 7, 7, 7};
     uint32_t outcome = 7;
-    uint64_t number = 7, other = 7;
+    uint64_t number = 7, other = 7, third = 7;
     uint8_t buffer[64] = {7};
     EXPECT(rrcache_free(&shelf) == RRCACHE_NO_SHELF);
+    EXPECT(offer_alias(&shelf, PARTS, 0, FIRST, &counts) == RRCACHE_NO_SHELF && counts.kept == 7);
     EXPECT(offer_answer(&shelf, FIRST, &counts) == RRCACHE_NO_SHELF && counts.kept == 7);
     EXPECT(rrcache_offer_set(&shelf, NAME, sizeof NAME, A, 4, 60, ADDRESS, sizeof ADDRESS, FIRST, 1, &outcome) == RRCACHE_NO_SHELF);
     EXPECT(rrcache_offer_negative(&shelf, NAME, sizeof NAME, A, 0, 3, 60, ZONE, sizeof ZONE, SOA_DATA, sizeof SOA_DATA, FIRST, 4, &outcome)
@@ -251,7 +368,7 @@ static void test_no_shelf(void)
     EXPECT(ask(&shelf, FIRST, &told, buffer, sizeof buffer) == RRCACHE_NO_SHELF);
     EXPECT(peek(&shelf, FIRST, &told, buffer, sizeof buffer) == RRCACHE_NO_SHELF && told.kind == 7 && buffer[0] == 7);
     EXPECT(rrcache_sweep(&shelf, FIRST, 1, &number) == RRCACHE_NO_SHELF && rrcache_drop_chapters(&shelf, &number) == RRCACHE_NO_SHELF);
-    EXPECT(rrcache_sizes(&shelf, &number, &other) == RRCACHE_NO_SHELF && number == 7 && other == 7);
+    EXPECT(rrcache_sizes(&shelf, &number, &other, &third) == RRCACHE_NO_SHELF && number == 7 && other == 7 && third == 7);
     EXPECT(make(&shelf) == RRCACHE_DONE && rrcache_free(&shelf) == RRCACHE_DONE && rrcache_free(&shelf) == RRCACHE_NO_SHELF);
 }
 
@@ -284,11 +401,24 @@ static void test_refusals(void)
     EXPECT(rrcache_offer_message(&shelf, ANSWER, sizeof ANSWER, NO_NAME, sizeof NO_NAME, FIRST, &LIMITS, 1, &counts) == RRCACHE_BAD_NAME);
     EXPECT(offer_answer(&shelf, late, &counts) == RRCACHE_MOMENT_TOO_LARGE && counts.kept == 0);
 
+    const uint64_t part = part_of(NAME, sizeof NAME);
+    counts.kept = 7;
+    EXPECT(offer_alias(&shelf, 0, 0, FIRST, &counts) == RRCACHE_BAD_RULES && counts.kept == 0);
+    EXPECT(offer_alias(&shelf, 65, 0, FIRST, &counts) == RRCACHE_BAD_RULES && offer_alias(&shelf, 1ULL << 32, 0, FIRST, &counts) == RRCACHE_BAD_RULES);
+    EXPECT(offer_alias(&shelf, PARTS, PARTS, FIRST, &counts) == RRCACHE_BAD_RULES);
+    EXPECT(offer_alias(&shelf, PARTS, (1ULL << 32) + part, FIRST, &counts) == RRCACHE_BAD_RULES);
+    EXPECT(offer_alias(&shelf, PARTS, part, late, &counts) == RRCACHE_MOMENT_TOO_LARGE && counts.kept == 0);
+    EXPECT(rrcache_offer_part(&shelf, ALIAS, 30, ZONE, sizeof ZONE, PARTS, part, FIRST, &LIMITS, 1, &counts) == RRCACHE_BAD_MESSAGE);
+    EXPECT(rrcache_offer_part(&shelf, ALIAS, sizeof ALIAS, ZONE, sizeof ZONE, PARTS, part, FIRST, &bad, 1, &counts) == RRCACHE_BAD_LIMITS);
+    EXPECT(rrcache_offer_part(&shelf, ALIAS, sizeof ALIAS, NO_NAME, sizeof NO_NAME, PARTS, part, FIRST, &LIMITS, 1, &counts) == RRCACHE_BAD_NAME);
+
     EXPECT(ask(&shelf, late, &told, buffer, sizeof buffer) == RRCACHE_MOMENT_TOO_LARGE);
     EXPECT(rrcache_ask(&shelf, NO_NAME, sizeof NO_NAME, A, FIRST, 0, 0, 1, &told, buffer, sizeof buffer) == RRCACHE_BAD_NAME);
     EXPECT(rrcache_ask(&shelf, NAME, sizeof NAME, A, FIRST, 2, 0, 1, &told, buffer, sizeof buffer) == RRCACHE_BAD_CHOICE);
     EXPECT(rrcache_ask(&shelf, NAME, sizeof NAME, A, FIRST, 0, 3, 1, &told, buffer, sizeof buffer) == RRCACHE_BAD_CHOICE);
     EXPECT(rrcache_peek(&shelf, NAME, sizeof NAME, A, FIRST, 0, 3, &told, buffer, sizeof buffer) == RRCACHE_BAD_CHOICE);
+    EXPECT(rrcache_peek(&shelf, NAME, sizeof NAME, A, FIRST, 2, 0, &told, buffer, sizeof buffer) == RRCACHE_BAD_CHOICE);
+    EXPECT(rrcache_peek(&shelf, NO_NAME, sizeof NO_NAME, A, FIRST, 0, 0, &told, buffer, sizeof buffer) == RRCACHE_BAD_NAME);
     EXPECT(told.kind == 7 && told.owner_size == 7 && buffer[0] == 7);
 
     EXPECT(rrcache_offer_set(&shelf, NAME, sizeof NAME, A, 0, 60, ADDRESS, sizeof ADDRESS, FIRST, 1, &outcome) == RRCACHE_BAD_CHOICE);
@@ -304,7 +434,21 @@ static void test_refusals(void)
     EXPECT(rrcache_offer_negative(&shelf, NAME, sizeof NAME, A, 2, 3, 60, ZONE, sizeof ZONE, SOA_DATA, sizeof SOA_DATA, FIRST, 1, &outcome)
            == RRCACHE_BAD_CHOICE);
     EXPECT(rrcache_offer_negative(&shelf, NAME, sizeof NAME, A, 0, 3, 60, ZONE, sizeof ZONE, SOA_DATA, 21, FIRST, 1, &outcome) == RRCACHE_BAD_DATA);
+    EXPECT(rrcache_offer_negative(&shelf, NAME, sizeof NAME, A, 0, 5, 60, ZONE, sizeof ZONE, SOA_DATA, sizeof SOA_DATA, FIRST, 1, &outcome)
+           == RRCACHE_BAD_CHOICE);
+    EXPECT(rrcache_offer_negative(&shelf, NAME, sizeof NAME, OPT, 0, 3, 60, ZONE, sizeof ZONE, SOA_DATA, sizeof SOA_DATA, FIRST, 1, &outcome)
+           == RRCACHE_BAD_TYPE);
+    EXPECT(rrcache_offer_negative(&shelf, NO_NAME, sizeof NO_NAME, A, 0, 3, 60, ZONE, sizeof ZONE, SOA_DATA, sizeof SOA_DATA, FIRST, 1, &outcome)
+           == RRCACHE_BAD_NAME);
+    EXPECT(rrcache_offer_negative(&shelf, NAME, sizeof NAME, A, 0, 3, 60, NO_NAME, sizeof NO_NAME, SOA_DATA, sizeof SOA_DATA, FIRST, 1, &outcome)
+           == RRCACHE_BAD_NAME);
+    EXPECT(rrcache_offer_negative(&shelf, NAME, sizeof NAME, A, 0, 3, 1u << 31, ZONE, sizeof ZONE, SOA_DATA, sizeof SOA_DATA, FIRST, 1, &outcome)
+           == RRCACHE_WRONG_BODY);
+    EXPECT(rrcache_offer_negative(&shelf, NAME, sizeof NAME, A, 0, 3, 60, ZONE, sizeof ZONE, SOA_DATA, sizeof SOA_DATA, late, 1, &outcome)
+           == RRCACHE_MOMENT_TOO_LARGE);
     EXPECT(rrcache_offer_failure(&shelf, NAME, sizeof NAME, OPT, 30, FIRST, 1, &outcome) == RRCACHE_BAD_TYPE);
+    EXPECT(rrcache_offer_failure(&shelf, NO_NAME, sizeof NO_NAME, A, 30, FIRST, 1, &outcome) == RRCACHE_BAD_NAME);
+    EXPECT(rrcache_offer_failure(&shelf, NAME, sizeof NAME, A, 30, late, 1, &outcome) == RRCACHE_MOMENT_TOO_LARGE);
     EXPECT(rrcache_offer_failure(&shelf, NAME, sizeof NAME, A, 1u << 31, FIRST, 1, &outcome) == RRCACHE_WRONG_BODY && outcome == 7);
     EXPECT(rrcache_sweep(&shelf, late, 1, &removed) == RRCACHE_MOMENT_TOO_LARGE && removed == 7);
 
@@ -318,12 +462,14 @@ static void test_null(void)
     struct rrcache_counts counts;
     struct rrcache_told told;
     uint32_t number;
-    uint64_t wide;
+    uint64_t wide, other;
     uint8_t buffer[64] = {0};
     EXPECT(rrcache_make(NULL, 1, 1, 0, SEED) == RRCACHE_NULL && rrcache_make(&shelf, 1, 1, 0, NULL) == RRCACHE_NULL);
     EXPECT(rrcache_free(NULL) == RRCACHE_NULL && make(&shelf) == RRCACHE_DONE);
     EXPECT(rrcache_offer_message(&shelf, NULL, 1, ZONE, sizeof ZONE, FIRST, &LIMITS, 1, &counts) == RRCACHE_NULL);
     EXPECT(rrcache_offer_message(&shelf, ANSWER, sizeof ANSWER, ZONE, sizeof ZONE, FIRST, NULL, 1, &counts) == RRCACHE_NULL);
+    EXPECT(rrcache_offer_part(&shelf, ALIAS, sizeof ALIAS, NULL, 1, PARTS, 0, FIRST, &LIMITS, 1, &counts) == RRCACHE_NULL);
+    EXPECT(offer_alias(NULL, PARTS, 0, FIRST, &counts) == RRCACHE_NULL && offer_alias(&shelf, PARTS, 0, FIRST, NULL) == RRCACHE_NULL);
     EXPECT(rrcache_offer_set(&shelf, NAME, sizeof NAME, A, 4, 60, ADDRESS, sizeof ADDRESS, FIRST, 1, NULL) == RRCACHE_NULL);
     EXPECT(rrcache_offer_negative(&shelf, NAME, sizeof NAME, A, 0, 3, 60, NULL, 1, SOA_DATA, sizeof SOA_DATA, FIRST, 1, &number) == RRCACHE_NULL);
     EXPECT(rrcache_offer_failure(NULL, NAME, sizeof NAME, A, 30, FIRST, 1, &number) == RRCACHE_NULL);
@@ -332,7 +478,10 @@ static void test_null(void)
     EXPECT(rrcache_ask(&shelf, buffer, 13, A, FIRST, 0, 0, 1, &told, buffer, sizeof buffer) == RRCACHE_NULL);
     EXPECT(rrcache_peek(&shelf, buffer + 8, 13, A, FIRST, 0, 0, &told, buffer, 9) == RRCACHE_NULL);
     EXPECT(rrcache_sweep(&shelf, FIRST, 1, NULL) == RRCACHE_NULL && rrcache_drop_chapters(&shelf, NULL) == RRCACHE_NULL);
-    EXPECT(rrcache_sizes(&shelf, &wide, NULL) == RRCACHE_NULL && rrcache_sizes(&shelf, &wide, &wide) == RRCACHE_NULL);
+    EXPECT(rrcache_sizes(NULL, &wide, &other, &other + 1) == RRCACHE_NULL && rrcache_sizes(&shelf, NULL, &wide, &other) == RRCACHE_NULL);
+    EXPECT(rrcache_sizes(&shelf, &wide, NULL, &other) == RRCACHE_NULL && rrcache_sizes(&shelf, &wide, &other, NULL) == RRCACHE_NULL);
+    EXPECT(rrcache_sizes(&shelf, &wide, &wide, &other) == RRCACHE_NULL && rrcache_sizes(&shelf, &wide, &other, &wide) == RRCACHE_NULL);
+    EXPECT(rrcache_sizes(&shelf, &other, &wide, &wide) == RRCACHE_NULL);
     EXPECT(rrcache_fault(NULL, 1, &number) == RRCACHE_NULL && rrcache_part_of(NAME, sizeof NAME, 1, NULL) == RRCACHE_NULL);
     EXPECT(events(&shelf) == 0 && rrcache_free(&shelf) == RRCACHE_DONE);
 }
@@ -372,9 +521,9 @@ void __wrap_free(void *old)
     __real_free(old);
 }
 
-/* What a shelf answers, and how many events it has. */
+/* What a shelf answers, and how many keys and events it has. */
 struct state {
-    uint64_t events;
+    uint64_t keys, events;
     uint32_t status;
     struct rrcache_told told;
     uint8_t buffer[64];
@@ -387,7 +536,7 @@ static struct state state_of(struct rrcache_shelf *shelf)
     granted = -1;
     memset(&state, 0, sizeof state);
     uint64_t open = 0, chapters = 0;
-    rrcache_sizes(shelf, &open, &chapters);
+    rrcache_sizes(shelf, &state.keys, &open, &chapters);
     /* A chapter that was full may be closed by a call that is refused, so events are counted over all chapters of four. */
     state.events = open + 4 * chapters;
     state.status = peek(shelf, FIRST, &state.told, state.buffer, sizeof state.buffer);
@@ -395,7 +544,13 @@ static struct state state_of(struct rrcache_shelf *shelf)
     return state;
 }
 
-enum { CALLS = 8 };
+enum { CALLS = 10 };
+
+static const uint8_t LONG[] = "\46a-label-that-is-longer-than-most-names\7example";
+/* The part of OTHER. */
+static uint64_t target;
+/* Which of the calls have met a refusal of memory, and behind them whether the making of the shelf has. */
+static bool met_refusal[CALLS + 1];
 
 static uint32_t call(int number, struct rrcache_shelf *shelf)
 {
@@ -412,7 +567,9 @@ static uint32_t call(int number, struct rrcache_shelf *shelf)
     case 4: return rrcache_offer_failure(shelf, NAME, sizeof NAME, TXT, 30, FIRST, 5, &outcome);
     case 5: return rrcache_sweep(shelf, FIRST + 10000, 6, &removed);
     case 6: return rrcache_fault(ANSWER, sizeof ANSWER, &outcome);
-    default: return rrcache_part_of(UPPER, sizeof UPPER, 16, &removed);
+    case 7: return rrcache_peek(shelf, LONG, sizeof LONG, A, FIRST, 1, 0, &told, buffer, sizeof buffer);
+    case 8: return offer_alias(shelf, PARTS, target, FIRST, &counts);
+    default: return rrcache_part_of(LONG, sizeof LONG, PARTS, &removed);
     }
 }
 
@@ -425,6 +582,7 @@ static bool run_refused(long refused)
     uint32_t made = make(&shelf);
     if (made == RRCACHE_MEMORY) {
         is_whole = false;
+        met_refusal[CALLS] = true;
         right = right && shelf.at == NULL && !shelf.is_live && blocks == 0;
         made = make(&shelf);
     }
@@ -435,6 +593,7 @@ static bool run_refused(long refused)
         struct state after = state_of(&shelf);
         if (status == RRCACHE_MEMORY) {
             is_whole = false;
+            met_refusal[number] = true;
             right = right && memcmp(&before, &after, sizeof before) == 0;
             status = call(number, &shelf);
         }
@@ -450,10 +609,13 @@ static void test_refused_memory(void)
 {
     long refused = 0;
     long out = blocks;
+    target = part_of(OTHER, sizeof OTHER);
     blocks = 0;
     while (refused < 1000 && !run_refused(refused))
         refused++;
     EXPECT(refused > 20 && refused < 1000);
+    for (int number = 0; number <= CALLS; number++)
+        EXPECT(met_refusal[number]);
     printf("refused each of %ld allocations in turn\n", refused);
     blocks = out;
 }
@@ -468,6 +630,8 @@ int main(void)
     test_offers();
     test_stale();
     test_chapters();
+    test_keys();
+    test_parts();
     test_octets();
     test_no_shelf();
     test_making_refused();

@@ -25,16 +25,25 @@
    What a refusal leaves
    - Every call answers a status. RRCACHE_DONE is 0; each other one is a refusal, and nothing ends the process.
    - A refusal leaves the shelf's history and its replies as they were; a chapter that was full may have been closed.
-     `rrcache_offer_message` alone may leave a part of its work: the offers of one message are made one after another, and where one is
-     refused, those before it stay. `counts` tells how many they are.
+     `rrcache_offer_message` and `rrcache_offer_part` alone may leave a part of their work: the offers of one message are made one
+     after another, and where one is refused, those before it stay. `counts` tells how many they are.
    - What a call was to write for the caller is as it was after a refusal, but for `counts`, and for `told` after RRCACHE_SMALL.
+
+   A message that has more than one name
+   - A response may tell of names that lie in other shelves than the one that was asked for: the target of an alias, a zone's SOA
+     record, the addresses of name servers. A resolver with so many shelves calls `rrcache_offer_part` once for each shelf that is to
+     have its share, with the number of shelves and that shelf's own, counted from 0, under that shelf's lock. Each call keeps what
+     the message says of names in that shelf and nothing else, so that all calls together keep all that it says, and each name's data
+     lie where `rrcache_part_of` leads. A shelf of whose names the message tells nothing gets no event.
+   - An alias is then followed from shelf to shelf: one `rrcache_ask` for each name, under the lock of that name's shelf.
+   - `rrcache_offer_message` keeps all in the one shelf that it is given. That will do where there is one shelf alone.
 
    Names are in wire form (RFC 1035 section 3.1), whole, with no pointer, at most 255 octets with the zero octet at the end, in any
    case. Moments are seconds, at most 2^40, on one clock that the caller reads. `line` is a number of the caller's own that the event of
    the call is kept with. A pointer may be null only where its size is 0.
 
    The history of a shelf grows by one event with each call that answers RRCACHE_DONE, but for `rrcache_peek`, `rrcache_sizes` and
-   `rrcache_drop_chapters`; a whole message is one event for each of its offers. A chapter of it is closed when it is full. Whoever
+   `rrcache_drop_chapters`; a message is one event for each of its offers. A chapter of it is closed when it is full. Whoever
    needs no history drops the closed chapters from time to time.
 
    The functions of the library proper begin with `rrc_`, and need pointers that are not null and buffers that do not overlap. The inline
@@ -59,7 +68,7 @@ enum rrcache_status {
     RRCACHE_MEMORY = 3,           /* malloc refused */
     RRCACHE_HISTORY_FULL = 4,     /* the numbers of events or of chapters, 2^62 each, are spent */
     RRCACHE_MOMENT_TOO_LARGE = 5, /* the moment is above 2^40 */
-    RRCACHE_BAD_RULES = 6,        /* capacity, chapter, stale or the number of parts is not in its range */
+    RRCACHE_BAD_RULES = 6,        /* capacity, chapter, stale, the number of parts or the part is not in its range */
     RRCACHE_BAD_SEED = 7,         /* the seed has not 16 octets */
     RRCACHE_BAD_LIMITS = 8,       /* a number of `struct rrcache_limits` is not in its range */
     RRCACHE_BAD_NAME = 9,         /* octets are not the wire form of a name */
@@ -139,6 +148,9 @@ uint32_t rrc_make(struct rrcache_shelf *shelf, uint64_t capacity, uint64_t chapt
 uint32_t rrc_free(struct rrcache_shelf *shelf);
 uint32_t rrc_offer_message(struct rrcache_shelf *shelf, const uint8_t *octets, size_t size, const uint8_t *zone, size_t zone_size,
                            uint64_t moment, const struct rrcache_limits *limits, uint64_t line, struct rrcache_counts *counts);
+uint32_t rrc_offer_part(struct rrcache_shelf *shelf, const uint8_t *octets, size_t size, const uint8_t *zone, size_t zone_size,
+                        uint64_t parts, uint64_t part, uint64_t moment, const struct rrcache_limits *limits, uint64_t line,
+                        struct rrcache_counts *counts);
 uint32_t rrc_offer_set(struct rrcache_shelf *shelf, const uint8_t *owner, size_t owner_size, uint16_t rtype, uint32_t trust, uint32_t ttl,
                        const uint8_t *data, size_t data_size, uint64_t moment, uint64_t line, uint32_t *outcome);
 uint32_t rrc_offer_negative(struct rrcache_shelf *shelf, const uint8_t *name, size_t name_size, uint16_t rtype, uint32_t denial,
@@ -152,7 +164,7 @@ uint32_t rrc_peek(struct rrcache_shelf *shelf, const uint8_t *name, size_t name_
                   uint32_t mode, struct rrcache_told *told, uint8_t *buffer, size_t buffer_size);
 uint32_t rrc_sweep(struct rrcache_shelf *shelf, uint64_t moment, uint64_t line, uint64_t *removed);
 uint32_t rrc_drop_chapters(struct rrcache_shelf *shelf, uint64_t *dropped);
-uint32_t rrc_sizes(struct rrcache_shelf *shelf, uint64_t *events, uint64_t *chapters);
+uint32_t rrc_sizes(struct rrcache_shelf *shelf, uint64_t *keys, uint64_t *events, uint64_t *chapters);
 uint32_t rrc_fault(const uint8_t *octets, size_t size, uint32_t *fault);
 uint32_t rrc_part_of(const uint8_t *name, size_t name_size, uint64_t parts, uint64_t *part);
 
@@ -192,8 +204,9 @@ static inline uint32_t rrcache_free(struct rrcache_shelf *shelf)
     return shelf == NULL ? RRCACHE_NULL : rrc_free(shelf);
 }
 
-/* Offers all that a response says to the zone that it was asked for: its RRsets, and its negative answer or that asking failed. Keys of
-   other names than this shelf's are offered as well; where that may not be, the caller splits by `rrcache_offer_set`. */
+/* Offers all that a response from a server of this zone says: its RRsets at or below the zone, and its negative answer or that asking
+   failed. Keys of other names than this shelf's are offered as well; where there are other shelves `rrcache_offer_part` gives each
+   its share. */
 static inline uint32_t rrcache_offer_message(struct rrcache_shelf *shelf, const uint8_t *octets, size_t size, const uint8_t *zone,
                                              size_t zone_size, uint64_t moment, const struct rrcache_limits *limits, uint64_t line,
                                              struct rrcache_counts *counts)
@@ -201,6 +214,18 @@ static inline uint32_t rrcache_offer_message(struct rrcache_shelf *shelf, const 
     if (shelf == NULL || limits == NULL || counts == NULL || !rrcache_is_there(octets, size) || !rrcache_is_there(zone, zone_size))
         return RRCACHE_NULL;
     return rrc_offer_message(shelf, rrcache_octets(octets, size), size, rrcache_octets(zone, zone_size), zone_size, moment, limits, line, counts);
+}
+
+/* Offers what a response says of the names that lie in one of 1 to 64 parts, counted from 0 (`rrcache_part_of`): that of
+   `rrcache_offer_message`, but for what lies in other parts, which is neither offered nor counted. */
+static inline uint32_t rrcache_offer_part(struct rrcache_shelf *shelf, const uint8_t *octets, size_t size, const uint8_t *zone,
+                                          size_t zone_size, uint64_t parts, uint64_t part, uint64_t moment,
+                                          const struct rrcache_limits *limits, uint64_t line, struct rrcache_counts *counts)
+{
+    if (shelf == NULL || limits == NULL || counts == NULL || !rrcache_is_there(octets, size) || !rrcache_is_there(zone, zone_size))
+        return RRCACHE_NULL;
+    return rrc_offer_part(shelf, rrcache_octets(octets, size), size, rrcache_octets(zone, zone_size), zone_size, parts, part, moment, limits,
+                          line, counts);
 }
 
 /* Offers one set under its owner. The data stand one behind another, each behind its length of two octets, with no name compressed. */
@@ -277,10 +302,14 @@ static inline uint32_t rrcache_drop_chapters(struct rrcache_shelf *shelf, uint64
     return shelf == NULL || dropped == NULL ? RRCACHE_NULL : rrc_drop_chapters(shelf, dropped);
 }
 
-/* Tells how many events the open chapter has, and how many chapters are closed. */
-static inline uint32_t rrcache_sizes(struct rrcache_shelf *shelf, uint64_t *events, uint64_t *chapters)
+/* Tells how many keys the shelf holds, those that are dead and not yet swept with them, how many events the open chapter has, and how
+   many chapters are closed. A key is a name with a type, with no type where the name does not exist, or with a type that asking
+   failed for. */
+static inline uint32_t rrcache_sizes(struct rrcache_shelf *shelf, uint64_t *keys, uint64_t *events, uint64_t *chapters)
 {
-    return shelf == NULL || events == NULL || chapters == NULL || events == chapters ? RRCACHE_NULL : rrc_sizes(shelf, events, chapters);
+    if (shelf == NULL || keys == NULL || events == NULL || chapters == NULL || keys == events || keys == chapters || events == chapters)
+        return RRCACHE_NULL;
+    return rrc_sizes(shelf, keys, events, chapters);
 }
 
 /* Tells why octets are no response: 0 they are one, 1 they end too soon, 2 a length octet has reserved bits, 3 a pointer leads to no

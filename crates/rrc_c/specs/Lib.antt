@@ -5,4 +5,5 @@ pub mod Made
 pub mod Told
 pub mod Asked
 pub mod Offered
+pub mod Parted
 pub mod Kept

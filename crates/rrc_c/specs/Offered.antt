@@ -103,6 +103,14 @@ pub record TakesFirst (line : ℕ) (offers : List OfferOf) (counts : Counts) (ol
   pub all : TakesAll line taken counts old middle
   pub left : IsLeft middle new
 
+-- what the message offers that some octets are
+pub record AreOffered (octets zone : List ℕ) (at : ℕ) (bounds : Bounds) (offers : List OfferOf) : Type 0 where
+  pub message : Message
+  pub is_message : MessageOf octets message
+  pub limits : Limits
+  pub are_limits : Are limits bounds.cap bounds.negative_cap bounds.recheck
+  pub are : offers ≡ offers_of message zone at limits
+
 -- all that a message offers was written
 pub record TakesMessage (line : ℕ) (octets zone : List ℕ) (at : ℕ) (bounds : Bounds) (counts : Counts) (old new : ShelfOf) : Type 0 where
   pub message : Message

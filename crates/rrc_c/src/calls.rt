@@ -4,6 +4,7 @@ ghost use Rattle.rrc_c.specs.Handles.{BothHold, HoldsNone, IsKept, TellsNone};
 ghost use Rattle.rrc_c.specs.Asked.{asked, AreChoices, Answers, Shows, TellsSizeAlone};
 ghost use Rattle.rrc_c.specs.Kept.{TellsFault, TellsSizes, DropsChapters};
 ghost use Rattle.rrc_c.specs.Offered.{denial_offer, failure_offer, IsTrust, TakesMessage, TakesOne, TakesSet, TakesSome};
+ghost use Rattle.rrc_c.specs.Parted.{IsPart, TakesPart, TakesSomeOfPart};
 ghost use Rattle.rrc_share.specs.Shelf.{AppendsSweep};
 ghost use Rattle.rrc_sets.specs.Parts.{part_of};
 
@@ -11,7 +12,7 @@ use crate::asking::{ask_shelf, peek_at_shelf};
 use crate::counts::{Bounds, Counts};
 use crate::handle::Handle;
 use crate::keeping::{fault_in, part_in, sweep};
-use crate::offering::{offer_message, take_failure, take_negative, take_set};
+use crate::offering::{offer_message, offer_part, take_failure, take_negative, take_set};
 use crate::status::{NO_SHELF, SMALL_BUFFER, Status};
 use crate::told::Told;
 use std::alloc::Global;
@@ -158,6 +159,35 @@ pub extern "C" fn rrc_offer_message(
     number_of_call(done)
 }
 
+/// Offers what a message offers of the names that lie in one of so many parts, each offer as one event.
+#[unsafe(no_mangle)]
+pub extern "C" fn rrc_offer_part(
+    alloc: Global,
+    handle: &mut Handle,
+    octets: &[u8],
+    zone: &[u8],
+    parts: u64,
+    part: u64,
+    moment: u64,
+    bounds: &Bounds,
+    line: u64,
+    counts: &mut Counts,
+) -> u32
+    ensures none { TellsNone handle.old.seal.shelf result }
+    ensures done { OnDone result (BothHold handle.old.seal.shelf handle.new.seal.shelf (TakesPart line octets.now zone.now parts part moment bounds.now counts.new)) }
+    ensures part { OnDone result (IsPart parts part) }
+    ensures refused { OnRefused result (HoldsNone handle.old.seal.shelf handle.new.seal.shelf ⊎ BothHold handle.old.seal.shelf handle.new.seal.shelf (TakesSomeOfPart line octets.now zone.now parts part moment bounds.now counts.new)) }
+{
+    let Some(mut shelf) = handle.take(alloc) else {
+        return NO_SHELF;
+    };
+    let done = offer_part(
+        alloc, &mut shelf, line, octets, zone, parts, part, moment, bounds, counts,
+    );
+    handle.put(shelf);
+    number_of_call(done)
+}
+
 /// Offers one set, which is one event.
 #[unsafe(no_mangle)]
 pub extern "C" fn rrc_offer_set(
@@ -281,21 +311,23 @@ pub extern "C" fn rrc_drop_chapters(alloc: Global, handle: &mut Handle, dropped:
     0
 }
 
-/// Tells how many events the open chapter has, and how many chapters are closed.
+/// Tells how many keys a shelf holds, how many events the open chapter has, and how many chapters are closed.
 #[unsafe(no_mangle)]
 pub extern "C" fn rrc_sizes(
     alloc: Global,
     handle: &mut Handle,
+    keys: &mut u64,
     events: &mut u64,
     chapters: &mut u64,
 ) -> u32
     ensures none { TellsNone handle.old.seal.shelf result }
-    ensures done { OnDone result (BothHold handle.old.seal.shelf handle.new.seal.shelf (TellsSizes events.new chapters.new)) }
+    ensures done { OnDone result (BothHold handle.old.seal.shelf handle.new.seal.shelf (TellsSizes keys.new events.new chapters.new)) }
     ensures kept { handle.new.seal.shelf ≡ handle.old.seal.shelf }
 {
     let Some(shelf) = handle.take(alloc) else {
         return NO_SHELF;
     };
+    *keys = shelf.part().len() as u64;
     *events = shelf.part().events().len() as u64;
     *chapters = shelf.closed().len() as u64;
     handle.put(shelf);

@@ -1,6 +1,7 @@
 ghost use Rattle.std.specs.Prelude.{◌≡◌, ◌≤◌, ◌<◌, ◌+◌, ◌^◌, ◌++◌, [], length, IfOk, OnOk, OnErr};
 ghost use Rattle.rrc_c.specs.Told.{datum, data_text};
-ghost use Rattle.rrc_c.specs.Offered.{trust_of, denied, denial_offer, failure_offer, outcome_number, count_more, counts_of, IsTrust, IsSetOffer, TakesOne, TakesAll, TakesFirst, TakesMessage, TakesSet, TakesSome, total};
+ghost use Rattle.rrc_c.specs.Offered.{trust_of, denied, denial_offer, failure_offer, outcome_number, count_more, counts_of, AreOffered, IsTrust, IsSetOffer, TakesOne, TakesAll, TakesFirst, TakesMessage, TakesSet, TakesSome, total};
+ghost use Rattle.rrc_c.specs.Parted.{lying_in, IsPart, TakesPart, TakesSomeOfPart};
 ghost use Rattle.rrc_sets.specs.Limits.{Are};
 ghost use Rattle.rrc_wire.specs.Grammar.{MessageOf};
 ghost use Rattle.rrc_share.specs.Shelf.{IsLeft};
@@ -10,7 +11,7 @@ use crate::counts::{Bounds, Counts};
 use crate::status::Status;
 use rrc_history::{Body, Offer, Outcome, Tag, Trust};
 use rrc_name::{Key, Octets, Sequence, Shared, Slot};
-use rrc_sets::{Limits, offers};
+use rrc_sets::{Limits, offers, part_of};
 use rrc_share::{Shelf, on_shelf_offer};
 use rrc_wire::{Message, WireFault, is_kept, plain_rdata, read_message};
 use std::alloc::Global;
@@ -241,6 +242,22 @@ fn message_in(alloc: Global, octets: &[u8]) -> Result<Message, Status>
     }
 }
 
+/// What a message offers that was received from a zone.
+fn offers_in(
+    alloc: Global,
+    octets: &[u8],
+    zone: &[u8],
+    moment: u64,
+    bounds: &Bounds,
+) -> Result<Vec<Offer>, Status>
+    ensures { IfOk result (λ made. AreOffered octets.now zone.now moment bounds.now made.items) }
+{
+    let limits = limits_of(bounds)?;
+    let zone = name_of(alloc, zone)?;
+    let message = message_in(alloc, octets)?;
+    Ok(offers(alloc, &message, &zone, moment, &limits)?)
+}
+
 /// Offers a shelf what a message offers.
 pub(crate) fn offer_message(
     alloc: Global,
@@ -260,10 +277,48 @@ pub(crate) fn offer_message(
         cleared: 0,
         refused: 0,
     };
-    let limits = limits_of(bounds)?;
-    let zone = name_of(alloc, zone)?;
-    let message = message_in(alloc, octets)?;
-    let offered = offers(alloc, &message, &zone, moment, &limits)?;
+    let offered = offers_in(alloc, octets, zone, moment, bounds)?;
+    take_each(shelf, line, offered, counts)
+}
+
+/// The offers whose names lie in a part, so many being all.
+fn offers_of_part(offers: Vec<Offer>, parts: usize, part: usize) -> Vec<Offer>
+    requires some { 1 ≤ parts }
+    requires few { parts ≤ 64 }
+    ensures { result.items ≡ lying_in parts part offers.items }
+{
+    let mut offers = offers;
+    offers.retain(|offer| part_of(offer.key.name(), parts) == part);
+    offers
+}
+
+/// Offers a shelf what a message offers of the names that lie in a part, so many being all.
+pub(crate) fn offer_part(
+    alloc: Global,
+    shelf: &mut Shelf,
+    line: u64,
+    octets: &[u8],
+    zone: &[u8],
+    parts: u64,
+    part: u64,
+    moment: u64,
+    bounds: &Bounds,
+    counts: &mut Counts,
+) -> Result<(), Status>
+    ensures ok { OnOk result (TakesPart line octets.now zone.now parts part moment bounds.now counts.new shelf.old shelf.new) }
+    ensures part { OnOk result (IsPart parts part) }
+    ensures err { OnErr result (TakesSomeOfPart line octets.now zone.now parts part moment bounds.now counts.new shelf.old shelf.new) }
+{
+    *counts = Counts {
+        kept: 0,
+        cleared: 0,
+        refused: 0,
+    };
+    if !(1..=64).contains(&parts) || part >= parts {
+        return Err(Status::BadRules);
+    }
+    let offered = offers_in(alloc, octets, zone, moment, bounds)?;
+    let offered = offers_of_part(offered, parts as usize, part as usize);
     take_each(shelf, line, offered, counts)
 }
 
