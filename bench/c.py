@@ -1,20 +1,24 @@
 #!/usr/bin/env python3
 """Times the library for C: asks and puts by threads of C on shelves of their own and on shared ones under locks, and asks through Python.
 
-It takes the library as bin/build-c made it and compiles bench/c_threads.c. Each number is the median of RUNS runs of CALLS calls on 16 shelves
+It takes the library as bin/build-c made it and compiles bench/c_threads.c. Each number is the best of RUNS runs of CALLS calls on 16 shelves
 with 16,384 names, each an event of its shelf's history. Asks all hit; of `both` one half are puts, which replace. Rates are calls a second
-by the clock, of all threads together.
+by the clock, of all threads together, on a machine that should do nothing else. `--write` writes them to docs/PERFORMANCE.md.
 """
 import argparse
 import pathlib
-import statistics
 import subprocess
 import sys
 import time
 
+from quiet import undisturbed
+
 TOP = pathlib.Path(__file__).resolve().parent.parent
 BUILD = TOP / "build"
 PROGRAM = BUILD / "c_threads"
+KINDS = {"ask": "asks that hit", "put": "puts that replace", "both": "one ask to one put"}
+SHELVES = {"own": "of each thread's own", "shared": "under locks"}
+HEADING = "\n## The library for C\n"
 
 
 def compile_program():
@@ -45,19 +49,49 @@ def python_rate(calls):
         return calls / (time.perf_counter() - began)
 
 
+def measure(args):
+    """Calls a second, of each kind on each kind of shelves by so many threads, and of asks through Python."""
+    rates = {}
+    for what in KINDS:
+        for whose in SHELVES:
+            for threads in args.threads:
+                each = [undisturbed(rate, threads, args.calls, whose, what) for _ in range(args.runs)]
+                rates[what, whose, threads] = max(each)
+                print(f"{what}, {whose} shelves, {threads} threads: {rates[what, whose, threads]:,.0f} a second", flush=True)
+    by_python = max(undisturbed(python_rate, args.calls // 20) for _ in range(args.runs))
+    print(f"ask, through Python: {by_python:,.0f} a second")
+    return rates, by_python
+
+
+def section(rates, by_python, args):
+    least, most = args.threads[0], args.threads[-1]
+    lines = [
+        "Written by `bench/c.py --write`: millions of calls a second by threads of C (`bench/c_threads.c`), the best of "
+        f"{args.runs} runs of {args.calls} calls on 16 shelves with 16,384 names.",
+        "",
+        "| What | Shelves | " + " | ".join(f"{it} {'thread' if it == 1 else 'threads'}" for it in args.threads) + f" | {most} to {least} |",
+        "|---|---|" + "---|" * (len(args.threads) + 1),
+    ]
+    for what, title in KINDS.items():
+        for whose, kind in SHELVES.items():
+            by = [rates[what, whose, threads] / 1e6 for threads in args.threads]
+            lines.append(f"| {title} | {kind} | " + " | ".join(f"{it:.2f}" for it in by) + f" | {by[-1] / by[0]:.2f} |")
+    lines += ["", f"Through Python (`python/rrcache.py`) one thread asks {by_python:,.0f} times a second.", ""]
+    return HEADING + "\n" + "\n".join(lines)
+
+
 def main():
     parser = argparse.ArgumentParser(description=__doc__.splitlines()[0])
     parser.add_argument("--calls", type=int, default=1_000_000, help="calls of each run (default 1,000,000)")
     parser.add_argument("--threads", type=int, nargs="+", default=[1, 2, 4], help="threads (default 1 2 4)")
     parser.add_argument("--runs", type=int, default=3, help="runs of each (default 3)")
+    parser.add_argument("--write", action="store_true", help="write docs/PERFORMANCE.md")
     args = parser.parse_args()
     compile_program()
-    for what in ("ask", "put", "both"):
-        for whose in ("own", "shared"):
-            for threads in args.threads:
-                rates = [rate(threads, args.calls, whose, what) for _ in range(args.runs)]
-                print(f"{what}, {whose} shelves, {threads} threads: {statistics.median(rates):,.0f} a second", flush=True)
-    print(f"ask, through Python: {statistics.median(python_rate(args.calls // 20) for _ in range(args.runs)):,.0f} a second")
+    rates, by_python = measure(args)
+    if args.write:
+        page = TOP / "docs" / "PERFORMANCE.md"
+        page.write_text(page.read_text().partition(HEADING)[0] + section(rates, by_python, args))
 
 
 if __name__ == "__main__":

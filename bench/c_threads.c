@@ -19,7 +19,7 @@ struct shelf {
 
 struct worker {
     pthread_t thread;
-    struct shelf *shelves;
+    struct shelf *shelves; /* NULL where the thread is to make its own */
     uint64_t calls, seed, done;
     bool is_locked;
     unsigned puts; /* of 16 calls so many are puts */
@@ -93,6 +93,8 @@ static void free_shelves(struct shelf *shelves)
 static void *work(void *argument)
 {
     struct worker *worker = argument;
+    if (worker->shelves == NULL)
+        worker->shelves = make_shelves();
     pthread_barrier_wait(&start);
     for (uint64_t call = 0; call < worker->calls; call++, worker->done++) {
         uint64_t drawn = draw(&worker->seed), dropped, name = drawn % NAMES;
@@ -136,7 +138,7 @@ int main(int argc, char **argv)
     struct shelf *shared = is_shared ? make_shelves() : NULL;
     pthread_barrier_init(&start, NULL, threads + 1);
     for (unsigned i = 0; i < threads; i++) {
-        workers[i] = (struct worker){.shelves = is_shared ? shared : make_shelves(), .calls = calls / threads, .seed = 88172645463325252 + i, .is_locked = is_shared, .puts = puts};
+        workers[i] = (struct worker){.shelves = shared, .calls = calls / threads, .seed = 88172645463325252 + i, .is_locked = is_shared, .puts = puts};
         if (pthread_create(&workers[i].thread, NULL, work, &workers[i]) != 0)
             fail("a thread was refused");
     }

@@ -6,8 +6,8 @@ Build the program first, by `rt run` in crates/bench_cache. Each number is the m
 a call (of a sweep, a key that it removes), each run of CALLS calls on PARTS parts that each hold KEYS keys and have room for no
 other, in random order. Beside it stands how many loads from random places of 8 MiB take as long, measured in the same runs.
 `--beside PROGRAM` runs another cache in turn with each of these runs and gives the ratio to it: PROGRAM takes `--keys N --rounds N
---parts N`, where the keys are those of all parts, and prints lines `ask_hit NS ..`. Last comes how much more memory twice as many asks that hit hold at most, for each more:
-its event in the history, and 16 octets of a list.
+--parts N`, where the keys are those of all parts, and prints lines `ask_hit NS ..`. Last comes how much more memory asks that hit hold at most
+than so many that write no event, for each of them: its event in the history.
 """
 import argparse
 import os
@@ -48,9 +48,9 @@ def beside(program, keys, parts):
     return {line.split()[0]: float(line.split()[1]) for line in done.stdout.splitlines()}
 
 
-def most_octets(keys, calls):
-    """The most memory that a run of asks that hit held at once."""
-    run = subprocess.Popen([PROGRAM, "hit", str(keys), str(calls), "1"], stdout=subprocess.DEVNULL, stderr=subprocess.DEVNULL)
+def most_octets(task, keys, calls):
+    """The most memory that a run of these calls held at once."""
+    run = subprocess.Popen([PROGRAM, task, str(keys), str(calls), "1"], stdout=subprocess.DEVNULL, stderr=subprocess.DEVNULL)
     _, status, used = os.wait4(run.pid, 0)
     if status:
         sys.exit(f"the program ended with {status}")
@@ -69,8 +69,8 @@ def main():
         sys.exit("build the program first: `rt run` in crates/bench_cache")
     # What a process held at most is told to be no less than what this script holds, so there are to be enough events.
     kept = max(args.calls, 100_000)
-    if max(args.keys) + 2 * kept > 1 << 20:
-        parser.error("keys and twice the calls are more than the 1,048,576 events of a chapter")
+    if max(args.keys) + kept > 1 << 20:
+        parser.error("keys and calls are more than the 1,048,576 events of a chapter")
     for keys in args.keys:
         took = {task: [] for task, _, _ in TASKS}
         others = []
@@ -84,7 +84,7 @@ def main():
             ours = statistics.median(took[task])
             ratio = f", {ours / statistics.median(other[theirs] for other in others):.2f} of the other's" if others and theirs else ""
             print(f"{task}, {keys:,} keys: {ours:,.0f} ns, {ours / load:.1f} loads{ratio}")
-        octets = most_octets(keys, 2 * kept) - most_octets(keys, kept)
+        octets = most_octets("hit", keys, kept) - most_octets("would", keys, kept)
         print(f"memory, {keys:,} keys: {octets / kept:,.0f} octets an ask that hits")
 
 

@@ -14,6 +14,8 @@ import sys
 import tempfile
 import time
 
+from quiet import undisturbed
+
 TOP = pathlib.Path(__file__).resolve().parent.parent
 CALLS = TOP / "crates" / "bench_share" / "out" / "bench_share"
 REPLAY = TOP / "crates" / "rrcache" / "out" / "rrcache"
@@ -25,7 +27,7 @@ TASKS = {
     "replay": "lines of a replay, nine asks to one put",
 }
 THREADS, PARTS = (1, 2, 4), (1, 4, 64)
-NAMES = 16_384
+NAMES = 65_536
 
 
 def seconds_of_calls(task, threads, parts, calls):
@@ -66,23 +68,23 @@ def measure(words):
             for parts in PARTS:
                 for threads in THREADS:
                     if task == "replay":
-                        took = [seconds_of_replay(threads, parts, path.name) for _ in range(words.runs)]
+                        took = [undisturbed(seconds_of_replay, threads, parts, path.name) for _ in range(words.runs)]
                         count = words.lines
                     else:
                         calls = words.calls // threads
-                        took = [seconds_of_calls(task, threads, parts, calls) for _ in range(words.runs)]
+                        took = [undisturbed(seconds_of_calls, task, threads, parts, calls) for _ in range(words.runs)]
                         count = calls * threads
                     rates[task, parts, threads] = count / statistics.median(took) / 1e6
                     print(f"{task}, {parts} parts, {threads} threads: {rates[task, parts, threads]:.2f} millions a second", flush=True)
     return rates
 
 
-def lock_costs(words):
-    """Nanoseconds that a call of one thread takes, on lent parts and on a shared cache, in turn."""
-    lent, shared = [], []
-    for _ in range(max(3, words.runs)):
-        lent.append(seconds_of_calls("lent", 1, 64, words.calls) / words.calls * 1e9)
-        shared.append(seconds_of_calls("hit", 1, 64, words.calls) / words.calls * 1e9)
+def lock_costs():
+    """Nanoseconds that a call of one thread takes, on lent parts and on a shared cache: the medians of short runs in turn."""
+    calls, lent, shared = 100_000, [], []
+    for _ in range(16):
+        lent.append(undisturbed(seconds_of_calls, "lent", 1, 64, calls) / calls * 1e9)
+        shared.append(undisturbed(seconds_of_calls, "hit", 1, 64, calls) / calls * 1e9)
     return statistics.median(lent), statistics.median(shared)
 
 
@@ -115,7 +117,7 @@ def page(rates, lent, shared, words):
         "# Performance",
         "",
         f"Written by `bench/share.py --write` on a machine with {os.cpu_count()} cores. Each number is the median of {words.runs} runs, in millions a second of "
-        "passed time: calls of a shared cache that holds",
+        "passed time; a run during which the host took processors away from the machine was made again. They are calls of a shared cache that holds",
         f"{NAMES} names, {words.calls} of them over all threads (`bench_share`), and the lines of a trace of {words.lines} lines, read, replayed, collated and "
         "reported (`rrcache`).",
         "",
@@ -130,7 +132,7 @@ def page(rates, lent, shared, words):
             lines.append(f"| {title} | {parts} | " + " | ".join(f"{rate:.2f}" for rate in by) + f" | {by[-1] / by[0]:.2f} |")
     lines += [
         "",
-        f"An ask that hits takes one thread {lent:.0f} ns on lent parts and {shared:.0f} ns on a shared cache: a lock and the look for its part cost {shared - lent:.0f} ns.",
+        f"An ask that hits takes one thread {lent:.0f} ns on lent parts and {shared:.0f} ns on a shared cache (medians of 16 short runs each, in turn): a lock and the look for its part cost {shared - lent:.0f} ns.",
         "",
     ]
     return "\n".join(lines)
@@ -144,11 +146,14 @@ def main():
     reader.add_argument("--write", action="store_true")
     words = reader.parse_args()
     rates = measure(words)
-    lent, shared = lock_costs(words)
+    lent, shared = lock_costs()
     print(f"an ask that hits: {lent:.0f} ns on lent parts, {shared:.0f} ns on a shared cache")
     if words.write:
         (TOP / "docs" / "performance.svg").write_text(picture(rates))
-        (TOP / "docs" / "PERFORMANCE.md").write_text(page(rates, lent, shared, words))
+        pages = TOP / "docs" / "PERFORMANCE.md"
+        # What bench/c.py wrote behind stays.
+        _, heading, rest = pages.read_text().partition("\n## The library for C\n")
+        pages.write_text(page(rates, lent, shared, words) + heading + rest)
 
 
 if __name__ == "__main__":

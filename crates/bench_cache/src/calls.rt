@@ -50,28 +50,24 @@ impl Counts {
     }
 }
 
-pub fn ask_all<R: CpuClock>(rt: &R, parts: &mut [Part], asks: &[PickedAsk<'_>]) -> Result<Done> {
+pub fn ask_all<R: CpuClock>(rt: &R, parts: &mut [Part], asks: &[PickedAsk]) -> Result<Done> {
     let mut counts = NONE;
     let before = rt.thread_cpu_time()?;
     for picked in asks {
         let part = parts.get_mut(picked.part).context("no such part")?;
-        let reply = part.ask(TAG, picked.ask)?;
+        let reply = part.ask(TAG, &picked.ask)?;
         counts.count(!matches!(reply, Reply::Miss { .. }));
     }
     let time = rt.thread_cpu_time()?.saturating_sub(before);
     Ok(Done { counts, time })
 }
 
-pub fn would_answer_all<R: CpuClock>(
-    rt: &R,
-    parts: &[Part],
-    asks: &[PickedAsk<'_>],
-) -> Result<Done> {
+pub fn would_answer_all<R: CpuClock>(rt: &R, parts: &[Part], asks: &[PickedAsk]) -> Result<Done> {
     let mut counts = NONE;
     let before = rt.thread_cpu_time()?;
     for picked in asks {
         let part = parts.get(picked.part).context("no such part")?;
-        let reply = part.would_answer(picked.ask);
+        let reply = part.would_answer(&picked.ask);
         counts.count(!matches!(reply, ReplyRef::Miss { .. }));
     }
     let time = rt.thread_cpu_time()?.saturating_sub(before);

@@ -17,11 +17,11 @@ const TTL: u32 = 86_400;
 /// How many places of four octets 8 MiB have.
 const PLACES: u32 = 1 << 21;
 
-/// A question, and the part that it is asked.
+/// A question, as a message that was just read brings it, and the part that it is asked.
 #[derive(Drop)]
-pub struct PickedAsk<'a> {
+pub struct PickedAsk {
     pub part: usize,
-    pub ask: &'a Ask,
+    pub ask: Ask,
 }
 
 /// An offer, and the part that it is made to.
@@ -73,35 +73,41 @@ pub fn filled(alloc: Global, parts: u32, keys: u32) -> Result<Vec<Part>> {
     Ok(filled)
 }
 
-/// A question for each of `count` numbers, from `first` on.
-pub fn asks(alloc: Global, first: u64, count: u64) -> Result<Vec<Ask>> {
+/// A question for the address of a number.
+fn ask(alloc: Global, number: u64) -> Result<Ask> {
+    Ok(Ask {
+        name: key(alloc, number)?.name().clone()?,
+        rtype: 1,
+        moment: 1,
+        purpose: Purpose::Answer,
+        mode: Mode::NoStale,
+    })
+}
+
+/// A question for each number below `count`.
+pub fn asks(alloc: Global, count: u64) -> Result<Vec<Ask>> {
     let mut asks = Vec::new(alloc);
-    for place in 0..count {
-        asks.push(Ask {
-            name: key(alloc, first.saturating_add(place))?.name().clone()?,
-            rtype: 1,
-            moment: 1,
-            purpose: Purpose::Answer,
-            mode: Mode::NoStale,
-        })?;
+    for number in 0..count {
+        asks.push(ask(alloc, number)?)?;
     }
     Ok(asks)
 }
 
-/// So many of these questions, in no order that shows, each with its part.
-pub fn picked<'a>(
+/// So many questions for `count` numbers from `first` on, in no order that shows, each with its part and a name of its own.
+pub fn picked(
     alloc: Global,
-    asks: &'a [Ask],
+    first: u64,
+    count: u64,
     parts: u32,
     calls: u32,
-) -> Result<Vec<PickedAsk<'a>>> {
+) -> Result<Vec<PickedAsk>> {
     let mut numbers = Numbers::new();
     let mut picked = Vec::new(alloc);
     for _ in 0..calls {
-        let place = numbers.below(asks.len() as u64).context("no questions")?;
+        let place = numbers.below(count).context("no questions")?;
         picked.push(PickedAsk {
             part: part_of(place, parts)?,
-            ask: asks.get(place as usize).context("no such question")?,
+            ask: ask(alloc, first.saturating_add(place))?,
         })?;
     }
     Ok(picked)

@@ -42,8 +42,7 @@ impl Task<'_> {
 /// Asks so often, of parts that hold the numbers below those that are held.
 fn asked<R: CpuClock>(rt: &R, alloc: Global, task: &Task<'_>, first: u64) -> Result<Done> {
     let mut parts = filled(alloc, task.parts, task.keys)?;
-    let asks = asks(alloc, first, task.held())?;
-    let picked = picked(alloc, asks.as_slice(), task.parts, task.calls)?;
+    let picked = picked(alloc, first, task.held(), task.parts, task.calls)?;
     match task.name {
         "would" => would_answer_all(rt, parts.as_slice(), picked.as_slice()),
         _ => ask_all(rt, parts.as_mut_slice(), picked.as_slice()),
@@ -68,7 +67,7 @@ fn swept<R: CpuClock>(rt: &R, alloc: Global, task: &Task<'_>) -> Result<Done> {
 
 fn shelved<R: CpuClock>(rt: &R, alloc: Global, task: &Task<'_>) -> Result<Done> {
     let part = filled(alloc, 1, task.keys)?.pop().context("no part")?;
-    let asks = asks(alloc, 0, u64::from(task.keys))?;
+    let asks = asks(alloc, u64::from(task.keys))?;
     let mut shelf = Shelf::new(alloc, part);
     ask_shelf(rt, &mut shelf, asks.as_slice(), task.calls)
 }

@@ -11,7 +11,7 @@ use std::alloc::Global;
 use std::sync::Wait;
 
 /// How many names the cache holds an address of.
-pub const NAMES: u64 = 16_384;
+pub const NAMES: u64 = 65_536;
 
 /// How long each set lives, in seconds. All is asked at the second 1.
 const TTL: u32 = 86_400;
