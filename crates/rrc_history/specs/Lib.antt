@@ -4,6 +4,8 @@ pub mod Asked
 pub mod Limits
 pub mod Lives
 pub mod Snapshots
+pub mod EntryLists
+pub mod Gatherings
 pub mod Judged
 pub mod Past
 pub mod Right

@@ -153,7 +153,7 @@ fn is_lower_entry(snapshot: &Snapshot, past: &[Event], number: u64) -> bool
     requires { snapshot.now.first + length past.now ≤ 2 ^ 62 }
     ensures { result ≡ list_any (λ entry. is_lower snapshot.now (reverse past.now) number entry.key) snapshot.now.entries }
 {
-    for entry in snapshot.entries.as_slice() {
+    for entry in &snapshot.entries {
         if is_lower(snapshot, past, number, &entry.key) {
             return true;
         }
@@ -227,7 +227,7 @@ fn is_left_out_entry(snapshot: &Snapshot, past: &[Event], moment: u64, gone: &[K
     requires { snapshot.now.first + length past.now ≤ 2 ^ 62 }
     ensures { result ≡ list_any (λ entry. is_left_out snapshot.now (reverse past.now) moment gone.now entry.key) snapshot.now.entries }
 {
-    for entry in snapshot.entries.as_slice() {
+    for entry in &snapshot.entries {
         if is_left_out(snapshot, past, moment, gone, &entry.key) {
             return true;
         }

@@ -6,13 +6,14 @@ ghost use Rattle.rrc_history.specs.Auditing.{held_after_event};
 ghost use Rattle.rrc_history.specs.Views.{held_in, found_in};
 
 use crate::ask::Ask;
+use crate::entry_list::EntryList;
 use crate::event::{Event, Outcome};
 use crate::judge::{self, Found, Held};
 use crate::offer::Offer;
-use crate::snapshot::{Entry, Snapshot};
+use crate::snapshot::Snapshot;
 use rrc_name::{Key, KeyRef, Slot};
 
-fn entry_at<'a>(key: KeyRef<'_>, entries: &'a [Entry]) -> Option<Held<'a>>
+fn entry_at<'a>(key: KeyRef<'_>, entries: &'a EntryList) -> Option<Held<'a>>
     ensures { option_map held_in result ≡ entry_at (key_of key.entry) entries.now }
 {
     for entry in entries {
@@ -100,7 +101,7 @@ pub(crate) fn held<'a>(
     requires { snapshot.now.first + length past.now ≤ 2 ^ 62 }
     ensures { option_map held_in result ≡ held snapshot.now (reverse past.now) (key_of key.entry) }
 {
-    let mut held = entry_at(key, snapshot.entries.as_slice());
+    let mut held = entry_at(key, &snapshot.entries);
     for (place, event) in past.iter().enumerate() {
         held = held_after(event, snapshot.first + place as u64, key, held);
     }
@@ -148,12 +149,12 @@ fn is_touched(snapshot: &Snapshot, past: &[Event], event: &Event, key: &Key) -> 
 }
 
 /// The place of a key among entries, counted from the last one.
-fn place_of(key: &Key, entries: &[Entry]) -> u64
+fn place_of(key: &Key, entries: &EntryList) -> u64
     ensures { result ≡ place_of key.now entries.now }
 {
-    for (passed, entry) in entries.iter().enumerate() {
-        if *key == entry.key {
-            return (entries.len() - passed - 1) as u64;
+    for place in 0..entries.len() {
+        if *key == entries.entry(place).key {
+            return (entries.len() - place - 1) as u64;
         }
     }
     0
@@ -164,7 +165,7 @@ pub(crate) fn touch(snapshot: &Snapshot, past: &[Event], key: &Key) -> u64
     requires { snapshot.now.first + length past.now ≤ 2 ^ 62 }
     ensures { result ≡ touch snapshot.now (reverse past.now) key.now }
 {
-    let mut touch = place_of(key, snapshot.entries.as_slice());
+    let mut touch = place_of(key, &snapshot.entries);
     for (place, event) in past.iter().enumerate() {
         if is_touched(snapshot, &past[..place], event, key) {
             touch = snapshot.first + place as u64;

@@ -3,9 +3,10 @@ ghost use Rattle.rrc_history.specs.Snapshots.{has_key, has_number, entry_fault, 
 ghost use Rattle.rrc_history.specs.Same.{rules_eq};
 
 use crate::body::Body;
+use crate::entry_list::EntryList;
 use crate::offer;
 use crate::rules::{LAST_MOMENT, Rules};
-use rrc_name::{Key, Sequence};
+use rrc_name::Key;
 use std::alloc::AllocError;
 use std::marker::Model;
 use thiserror::Error;
@@ -26,7 +27,7 @@ pub struct Entry {
 pub struct Snapshot {
     pub rules: Rules,
     pub first: u64,
-    pub entries: Sequence<Entry>,
+    pub entries: EntryList,
 }
 
 impl Model for Snapshot {
@@ -83,7 +84,7 @@ impl Snapshot {
             None => Ok(Snapshot {
                 rules,
                 first,
-                entries: Sequence::from_vec(entries),
+                entries: EntryList::from_vec(entries),
             }),
         }
     }
