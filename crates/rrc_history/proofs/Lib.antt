@@ -3,5 +3,6 @@ pub mod Candidates
 pub mod Counting
 pub mod Evicting
 pub mod Joining
+pub mod Places
 pub mod Removing
 pub mod Walking

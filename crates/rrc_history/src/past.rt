@@ -152,9 +152,11 @@ fn is_touched(snapshot: &Snapshot, past: &[Event], event: &Event, key: &Key) -> 
 fn place_of(key: &Key, entries: &EntryList) -> u64
     ensures { result ≡ place_of key.now entries.now }
 {
-    for place in 0..entries.len() {
-        if *key == entries.entry(place).key {
-            return (entries.len() - place - 1) as u64;
+    let mut behind = entries.len();
+    for entry in entries {
+        behind -= 1;
+        if *key == entry.key {
+            return behind as u64;
         }
     }
     0

@@ -1,4 +1,4 @@
-use Rattle.std.proofs.Common.{◌≡◌, drop}
+use Rattle.std.proofs.Common.{◌≡◌}
 use Rattle.std.specs.Prelude.{reverse}
 use Rattle.std.specs.List.{list_any}
 use Rattle.rrc_history.specs.declared.snapshot.Entry.{Entry}
@@ -7,5 +7,5 @@ use Rattle.rrc_history.proofs.audits.is_lower_entry.Given as goal
 
 abbrev pub invariant-loop-entry : goal.invariant-loop-entry
 invariant-loop-entry l =
-    list_any (λ (entry : Entry). is_lower l.snapshot (reverse l.past) l.number entry.key) (drop l.entry-index l.entry-items)
+    list_any (λ (entry : Entry). is_lower l.snapshot (reverse l.past) l.number entry.key) l.entry-iterator
     ≡ list_any (λ (entry : Entry). is_lower l.snapshot (reverse l.past) l.number entry.key) l.snapshot.entries

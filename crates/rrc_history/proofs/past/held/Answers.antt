@@ -9,8 +9,8 @@ use Rattle.rrc_history.proofs.past.held.Goals as goal
 
 pub loop-place-init : goal.loop-place-init
 loop-place-init c =
-    held_start c.args.snapshot.now (key_of c.args.key) c.as_slice.result.now (option_map held_in c.entry_at-held.result) c.entry_at-held.ensures
-    (c.as_slice.ensures ∙ ap (λ (s : Snapshot). s.entries) c.snapshot.view_is)
+    held_start c.args.snapshot.now (key_of c.args.key) c.snapshot.inside.entries (option_map held_in c.entry_at-held.result) c.entry_at-held.ensures
+    (ap (λ (s : Snapshot). s.entries) c.snapshot.view_is)
 
 pub loop-place-preserved : goal.loop-place-preserved
 loop-place-preserved c =

@@ -1,6 +1,6 @@
-use Rattle.std.proofs.Common.{◌≡◌, drop}
+use Rattle.std.proofs.Common.{◌≡◌, length}
 use Rattle.rrc_history.specs.Past.{place_of}
 use Rattle.rrc_history.proofs.past.place_of.Given as goal
 
-abbrev pub invariant-loop-passed : goal.invariant-loop-passed
-invariant-loop-passed l = place_of l.key (drop l.passed l.entries) ≡ place_of l.key l.entries
+abbrev pub invariant-loop-entry : goal.invariant-loop-entry
+invariant-loop-entry l = record { left : l.behind ≡ length l.entry-iterator; same : place_of l.key l.entry-iterator ≡ place_of l.key l.entries }

@@ -6,8 +6,8 @@ use Rattle.rrc_history.proofs.past.touch.Goals.{then-is_touched, else-is_touched
 
 pub loop-place-init : goal.loop-place-init
 loop-place-init c =
-    touch_start c.args.snapshot.now c.args.key.now c.as_slice.result.now c.place_of-touch.result c.place_of-touch.ensures
-    (c.as_slice.ensures ∙ ap (λ (s : Snapshot). s.entries) c.snapshot.view_is)
+    touch_start c.args.snapshot.now c.args.key.now c.snapshot.inside.entries c.place_of-touch.result c.place_of-touch.ensures
+    (ap (λ (s : Snapshot). s.entries) c.snapshot.view_is)
 
 pub loop-place-preserved : goal.loop-place-preserved
 loop-place-preserved c =
