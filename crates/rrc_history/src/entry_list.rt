@@ -28,9 +28,9 @@ pub(crate) struct Batched {
 #[derive(Debug, Drop)]
 pub struct EntryList {
     /// The first entries, which no other list has.
-    own: Vec<Entry>,
+    pub(crate) own: Vec<Entry>,
     /// Those behind them.
-    batched: Batched,
+    pub(crate) batched: Batched,
 }
 
 impl Model for EntryList {
