@@ -86,7 +86,7 @@ pub joined_all : (first : ChapterOf) (behind : List ChapterOf) (whole : WholeOf)
 joined_all first behind whole is = (is.snapshot, sym (append-nil whole.events) ∙ is.events, is.last ∙ is.closing)
 
 -- a history that leads to its closing keeps the laws
-pub laws_by : (result : Result WholeOf ChainFault) → IfOk result (λ whole. LeadTo whole.snapshot whole.events whole.closing)
+pub laws_by : {E : Type 0} (result : Result WholeOf E) → IfOk result (λ whole. LeadTo whole.snapshot whole.events whole.closing)
     → IfOk result (λ whole. AllKeepLaws whole.snapshot (reverse whole.events))
 laws_by (Ok whole) leads = legal_keeps_laws whole.snapshot (reverse whole.events) leads.legal
 laws_by (Err fault) leads = leads

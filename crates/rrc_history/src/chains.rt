@@ -1,4 +1,4 @@
-ghost use Rattle.std.specs.Prelude.{◌≡◌, ◌⊎◌, ◌++◌, [], ◌∷◌, reverse, Some, None, IfOk, IfErr, OnOk, OnErr, Err};
+ghost use Rattle.std.specs.Prelude.{◌≡◌, ◌⊎◌, ◌++◌, [], ◌∷◌, reverse, Some, None, IfOk, IfErr, OnOk};
 ghost use Rattle.std.specs.Vec.Iter.{into_iter_items};
 ghost use Rattle.rrc_history.specs.Chapters.{LeadTo};
 ghost use Rattle.rrc_history.specs.Chains.{IsWhole, chain_fault, fault_from, link_fault, follows};
@@ -84,14 +84,26 @@ pub fn chain(alloc: Global, chapters: Vec<Chapter>) -> Result<Whole, ChainFault>
     if let Some(fault) = first_fault(chapters.as_slice()) {
         return Err(fault);
     }
+    Ok(join_chained(alloc, chapters)?)
+}
+
+/// The history that chapters are of which each goes on from the one before it, as `chain` answers it: such are the chapters that a
+/// shelf closed. It compares nothing: its time is in proportion to the events, and to what the snapshots between hold where nothing
+/// else holds them, since these are let go. An error is that memory was refused.
+pub fn join_chained(alloc: Global, chapters: Vec<Chapter>) -> Result<Whole, AllocError>
+    requires { chain_fault chapters.items ≡ None }
+    ensures whole { IfOk result (λ whole. IsWhole chapters.items whole) }
+    ensures leads { IfOk result (λ whole. LeadTo whole.snapshot whole.events whole.closing) }
+    ensures laws { IfOk result (λ whole. AllKeepLaws whole.snapshot (reverse whole.events)) }
+{
     let mut behind = chapters.into_iter();
     match behind.next() {
-        None => Err(ChainFault::NumberGap(0)),
+        None => unreachable!(),
         Some(first) => join(alloc, first, behind),
     }
 }
 
-fn first_fault(chapters: &[Chapter]) -> Option<ChainFault>
+pub(crate) fn first_fault(chapters: &[Chapter]) -> Option<ChainFault>
     ensures { result ≡ chain_fault chapters.now }
 {
     match chapters.split_first() {
@@ -135,11 +147,10 @@ fn follows(before: &Chapter, chapter: &Chapter) -> bool
 }
 
 /// The history of a chapter and those behind it, of which each goes on from the one before it.
-fn join(alloc: Global, first: Chapter, behind: IntoIter<Chapter>) -> Result<Whole, ChainFault>
+fn join(alloc: Global, first: Chapter, behind: IntoIter<Chapter>) -> Result<Whole, AllocError>
     requires { fault_from 1 first (into_iter_items behind) ≡ None }
     ensures whole { IfOk result (λ whole. IsWhole (first ∷ into_iter_items behind) whole) }
     ensures leads { IfOk result (λ whole. LeadTo whole.snapshot whole.events whole.closing) }
-    ensures memory { OnErr result (result ≡ Err ChainFault.Memory) }
 {
     let mut whole = Whole::open(alloc, first)?;
     for chapter in behind {
@@ -150,10 +161,9 @@ fn join(alloc: Global, first: Chapter, behind: IntoIter<Chapter>) -> Result<Whol
 
 impl Whole {
     /// The history of one chapter.
-    fn open(alloc: Global, chapter: Chapter) -> Result<Whole, ChainFault>
+    fn open(alloc: Global, chapter: Chapter) -> Result<Whole, AllocError>
         ensures ok { IfOk result (λ whole. whole ≡ record { snapshot = chapter.snapshot; events = chapter.events; closing = chapter.closing }) }
         ensures leads { IfOk result (λ whole. LeadTo whole.snapshot whole.events whole.closing) }
-        ensures memory { OnErr result (result ≡ Err ChainFault.Memory) }
     {
         let mut events = Vec::new(alloc);
         events.append(&mut chapter.events.into_vec())?;
@@ -165,11 +175,10 @@ impl Whole {
     }
 
     /// The history with a chapter that goes on from it.
-    fn extended(self, chapter: Chapter) -> Result<Whole, ChainFault>
+    fn extended(self, chapter: Chapter) -> Result<Whole, AllocError>
         requires { chapter.snapshot ≡ self.closing }
         ensures ok { IfOk result (λ whole. whole ≡ record { snapshot = self.snapshot; events = self.events ++ chapter.events; closing = chapter.closing }) }
         ensures leads { IfOk result (λ whole. LeadTo whole.snapshot whole.events whole.closing) }
-        ensures memory { OnErr result (result ≡ Err ChainFault.Memory) }
     {
         let mut events = self.events.into_vec();
         events.append(&mut chapter.events.into_vec())?;

@@ -21,7 +21,7 @@ mod tests;
 pub use ask::{Ask, Mode, Purpose};
 pub use audits::{FirstBad, audit};
 pub use body::{Body, Trust};
-pub use chains::{ChainFault, Whole, chain};
+pub use chains::{ChainFault, Whole, chain, join_chained};
 pub use chapter::Chapter;
 pub use entry_list::{Entries, EntryList};
 pub use event::{Event, Outcome, Reply, RrSet, Soa, Tag};

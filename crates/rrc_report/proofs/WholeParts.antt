@@ -1,16 +1,18 @@
 -- The whole histories of shelves, one after another.
 use Rattle.std.proofs.Common.{◌≡◌, ◌^◌, ℕ, Bool, true, false, List, [], ◌∷◌, ◌++◌, refl, sym, subst, ◌∙◌}
-use Rattle.std.specs.Prelude.{Result, Ok, Err, IfErr}
+use Rattle.std.specs.Prelude.{None, Result, Ok, Err, IfErr}
 use Rattle.std.specs.Result.{IsErrAnd}
 use Rattle.std.specs.List.{AllZip, Any}
 use Rattle.std.proofs.lemmas.Bool.{false≢true}
 use Rattle.std.proofs.lemmas.List.Elements.{All-push}
 use Rattle.rrc_history.specs.declared.rules.Rules.{Rules}
 use Rattle.rrc_history.specs.declared.snapshot.Snapshot.{Snapshot}
-use Rattle.rrc_history.specs.Chains.{WholeOf}
+use Rattle.rrc_history.specs.Chains.{WholeOf, chain_fault}
+use Rattle.rrc_history.specs.Chapters.{ChapterOf}
 use Rattle.rrc_history.specs.Same.{snapshot_eq}
 use Rattle.rrc_history.specs.lemmas.SameLaws.{snapshot_eq-Decides}
-use Rattle.rrc_share.specs.Shelf.{ShelfOf}
+use Rattle.rrc_cache.specs.Part.{PartOf}
+use Rattle.rrc_share.specs.Shelf.{ShelfOf, AreBefore, Shuts}
 use Rattle.rrc_trace.specs.declared.fault.ReplayFault.{ReplayFault}
 use Rattle.rrc_trace.specs.declared.fault.ReplayFault.TheVariants.{BadLine, TooManyLines, Read, Write, Strayed, Memory, Spent, TooManyQuestions, NotLegal}
 use Rattle.rrc_report.specs.Reports.{IsOfShelf, IsPartOf, empty_under}
@@ -20,6 +22,16 @@ use Rattle.rrc_report.proofs.Zips.{zip_push, zip_pick, any_within, any_alone}
 
 abbrev IsLast : ShelfOf → Type 0
 IsLast shelf = shelf.part.number ≡ 2 ^ 62
+
+-- closed chapters chain, as one was closed last
+some_chained : (closed : List ChapterOf) (chapter : ChapterOf) (part : PartOf) → AreBefore (closed ++ chapter ∷ []) part → chain_fault (closed ++ chapter ∷ []) ≡ None
+some_chained [] chapter part before = before.chained
+some_chained (first ∷ closed) chapter part before = before.chained
+
+pub shut_chained : (old new : ShelfOf) (chapters : List ChapterOf) → Shuts old new → chapters ≡ new.closed → AreBefore chapters new.part → chain_fault chapters ≡ None
+shut_chained old new chapters shuts are before =
+    let all : chapters ≡ old.closed ++ shuts.chapter ∷ [] = are ∙ shuts.closed in
+    subst (λ cs. chain_fault cs ≡ None) (sym all) (some_chained old.closed shuts.chapter new.part (subst (λ cs. AreBefore cs new.part) all before))
 
 pub one_spent : (lines : ℕ) (shelf : ShelfOf) → shelf.part.number ≡ 2 ^ 62 → CanNotClose lines (shelf ∷ []) (Spent lines)
 one_spent lines shelf last = (refl, any_within IsLast [] shelf [] last)

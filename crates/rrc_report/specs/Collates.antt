@@ -1,5 +1,5 @@
 -- Why what the workers say gives no report.
-use Rattle.std.specs.Prelude.{◌≡◌, ℕ, ◌^◌, List, length}
+use Rattle.std.specs.Prelude.{◌≡◌, ◌^◌, List, length}
 use Rattle.std.specs.List.{Any}
 use Rattle.rrc_share.specs.Shelf.{ShelfOf}
 use Rattle.rrc_trace.specs.declared.line.Line.{Line}

@@ -6,7 +6,7 @@ ghost use Rattle.rrc_report.specs.Steps.{AreParts, CanNotClose};
 ghost use Rattle.rrc_report.specs.Wholes.{IsKeptBy};
 
 use rrc_cache::Refusal;
-use rrc_history::{ChainFault, EntryList, Rules, Snapshot, Whole, chain};
+use rrc_history::{EntryList, Rules, Snapshot, Whole, join_chained};
 use rrc_name::Sequence;
 use rrc_share::{Shelf, on_shelf_checkpoint};
 use rrc_trace::ReplayFault;
@@ -23,13 +23,7 @@ fn whole_of(alloc: Global, lines: u64, shelf: Shelf) -> Result<Whole, ReplayFaul
         Err(Refusal::HistoryFull) => return Err(ReplayFault::Spent(lines)),
         Err(Refusal::MomentTooLarge | Refusal::Memory) => return Err(ReplayFault::Memory),
     }
-    match chain(alloc, shelf.take_chapters()) {
-        Ok(whole) => Ok(whole),
-        Err(ChainFault::Memory) => Err(ReplayFault::Memory),
-        Err(ChainFault::NumberGap(_) | ChainFault::NotTheSameContents(_)) => {
-            Err(ReplayFault::NotLegal)
-        }
-    }
+    Ok(join_chained(alloc, shelf.take_chapters())?)
 }
 
 /// The snapshot of a new part, which holds nothing.

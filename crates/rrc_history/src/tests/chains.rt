@@ -1,5 +1,6 @@
 use super::{Kept, snapshot};
-use crate::{ChainFault, Chapter, Snapshot, Whole, chain};
+use crate::chains::first_fault;
+use crate::{ChainFault, Chapter, Snapshot, Whole, chain, join_chained};
 use rrc_name::{Sequence, Shared};
 use std::alloc::Global;
 use std::test::Fail;
@@ -36,12 +37,16 @@ fn quiet(alloc: Global, quiet: Quiet<'_>) -> Result<Chapter, Fail> {
     around(alloc, number, Shared::new(alloc, held)?)
 }
 
-fn chained(alloc: Global, quiets: &[Quiet<'_>]) -> Result<Result<Whole, ChainFault>, Fail> {
+fn listed(alloc: Global, quiets: &[Quiet<'_>]) -> Result<Vec<Chapter>, Fail> {
     let mut chapters = Vec::new(alloc);
     for each in quiets {
         chapters.push(quiet(alloc, *each)?)?;
     }
-    Ok(chain(alloc, chapters))
+    Ok(chapters)
+}
+
+fn chained(alloc: Global, quiets: &[Quiet<'_>]) -> Result<Result<Whole, ChainFault>, Fail> {
+    Ok(chain(alloc, listed(alloc, quiets)?))
 }
 
 /// The fault of a chain of these chapters, if it has one.
@@ -66,6 +71,20 @@ fn chains_chapters(rt: HostRuntime) -> Result<(), Fail> {
         rt.alloc(),
         &[(7, 2, 3, LOW), (8, 2, 3, LOW), (9, 2, 3, LOW)],
     )??;
+    assert!(rt;
+        whole.snapshot.first == 3 && whole.events.len() == 0 && whole.closing.entries.len() == 1
+    );
+    Ok(())
+}
+
+#[test]
+fn joins_chapters_that_chain(rt: HostRuntime) -> Result<(), Fail> {
+    let alloc = rt.alloc();
+    let chapters = listed(alloc, &[(7, 2, 3, LOW), (8, 2, 3, LOW), (9, 2, 3, LOW)])?;
+    if first_fault(chapters.as_slice()).is_some() {
+        return Err("the chapters do not chain".into());
+    }
+    let whole = join_chained(alloc, chapters)?;
     assert!(rt;
         whole.snapshot.first == 3 && whole.events.len() == 0 && whole.closing.entries.len() == 1
     );
