@@ -161,20 +161,6 @@ gathering_new batches places left shared fresh new gathered after place entry is
       (put_filled (shared ++ fresh ∷ []) (shared ++ new ∷ []) gathered place entry is.filled (stay_more shared fresh (entry ∷ []) new grown) at);
 }
 
-pub gathering_shared : (batches : List (List Entry)) (places : List Place) (left at : ℕ) (shared : List (List Entry)) (fresh : List Entry) (gathered after : List Place) (place : Place) (entry : Entry)
-    → IsGathering batches places left shared fresh gathered → at < left → after ≡ gathered ++ place ∷ [] → entry_in (shared ++ fresh ∷ []) place ≡ Some entry
-    → IsGathering batches places at shared fresh after
-gathering_shared batches places left at shared fresh gathered after place entry is less put found = record {
-  named = is.named;
-  within = omega (arith, is.within, less);
-  shares = elim is.shares [
-    | inl none ↦ absurd (omega (arith, none, less))
-    | inr same ↦ inr same
-  ];
-  filled = subst (λ (ps : List Place). AreFilled (shared ++ fresh ∷ []) (reverse ps)) (sym put)
-      (put_filled (shared ++ fresh ∷ []) (shared ++ fresh ∷ []) gathered place entry is.filled (stay_same (shared ++ fresh ∷ [])) found);
-}
-
 -- the earlier list, and what is gathered
 abbrev pub seen : List Entry → List Entry → GatheringOf
 seen before gathered = record { before = before; gathered = gathered }

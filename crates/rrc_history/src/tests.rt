@@ -1,5 +1,6 @@
 mod audits;
 mod chains;
+mod entry_lists;
 mod snapshots;
 
 use crate::name::{Key, Name, NameFault, Octets, Sequence, Shared, Slot};

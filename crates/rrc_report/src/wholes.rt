@@ -6,7 +6,7 @@ ghost use Rattle.rrc_report.specs.Steps.{AreParts, CanNotClose};
 ghost use Rattle.rrc_report.specs.Wholes.{IsKeptBy};
 
 use rrc_cache::Refusal;
-use rrc_history::{ChainFault, Rules, Snapshot, Whole, chain};
+use rrc_history::{ChainFault, EntryList, Rules, Snapshot, Whole, chain};
 use rrc_name::Sequence;
 use rrc_share::{Shelf, on_shelf_checkpoint};
 use rrc_trace::ReplayFault;
@@ -39,7 +39,7 @@ fn empty_under(alloc: Global, rules: Rules) -> Snapshot
     Snapshot {
         rules,
         first: 0,
-        entries: Sequence::new(alloc),
+        entries: EntryList::new(alloc),
     }
 }
 

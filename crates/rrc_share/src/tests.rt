@@ -62,9 +62,9 @@ fn stand(shelf: &Shelf) -> (usize, u64, usize) {
 /// Whether the chapter that is open began behind event 0, with just the entry that that one stored.
 fn opens_with_event_0(shelf: &Shelf) -> bool {
     let opening = shelf.part().snapshot();
-    match opening.entries.as_slice() {
-        [entry] => opening.first == 1 && entry.number == 0,
-        _ => false,
+    match opening.entries.get(0) {
+        Some(entry) => opening.first == 1 && opening.entries.len() == 1 && entry.number == 0,
+        None => false,
     }
 }
 
