@@ -10,6 +10,7 @@ ghost use Rattle.rrc_history.specs.Sound.{AreSound};
 ghost use Rattle.rrc_history.specs.Entries.{AreApart, goes, keys_of_dead, promoted, staying};
 ghost use Rattle.rrc_cache.specs.Beside.{AreMarked, is_beside};
 ghost use Rattle.rrc_cache.specs.Deaths.{dead_among, deaths_of, is_gone_by};
+ghost use Rattle.rrc_cache.specs.Numbers.{AreKnownByNumber};
 ghost use Rattle.rrc_cache.specs.Pairs.{entries_in, AreOwn};
 
 use crate::beside::Beside;
@@ -17,8 +18,8 @@ use crate::deaths::{Death, Deaths};
 use crate::judge;
 use crate::seeded::Seeded;
 use lru::LruCache;
-use rrc_history::{Entry, Rules, Snapshot};
-use rrc_name::{Key, KeyRef, Name, Sequence};
+use rrc_history::{Entry, EntryList, Rules, Snapshot};
+use rrc_name::{Key, KeyRef, Name};
 use std::alloc::{AllocError, Global};
 use std::marker::Model;
 
@@ -71,11 +72,11 @@ impl Store {
         ensures sound { AreSound snapshot.now.rules.capacity snapshot.now.first snapshot.now.entries }
     {
         let rules = snapshot.rules();
-        let entries = snapshot.entries.as_slice();
+        let entries = &snapshot.entries;
         let mut store = Store::new(alloc, seed, rules)?;
         // The last one first, since each is put in front.
         for place in (0..entries.len()).rev() {
-            store.put(entries[place].clone()?)?;
+            store.put(entries.entry(place).clone()?)?;
         }
         Ok(store)
     }
@@ -151,15 +152,22 @@ impl Store {
         due
     }
 
-    /// A copy of the entries, the key touched last first.
-    pub(crate) fn entries(&self, alloc: Global) -> Result<Sequence<Entry>, AllocError>
+    /// The entries, the key touched last first, as a list that shares with an earlier one those that both hold. They are told by
+    /// their numbers.
+    pub(crate) fn entries_beside(
+        &self,
+        alloc: Global,
+        before: &EntryList,
+    ) -> Result<EntryList, AllocError>
+        requires { AreKnownByNumber self.now.entries before.now }
         ensures { IfOk result (λ entries. entries ≡ self.now.entries) }
     {
-        let mut entries = Vec::with_capacity(alloc, self.cache.len())?;
-        for (_, entry) in self.cache.iter() {
-            entries.push(entry.clone()?)?;
+        let mut gathering = before.gather(alloc, self.cache.len())?;
+        // The last one first, since each is put in front.
+        for (_, entry) in self.cache.iter().rev() {
+            gathering.put(entry)?;
         }
-        Ok(Sequence::from_vec(entries))
+        gathering.finish()
     }
 
     /// Puts an entry in front, in the place of the one that its key had. An `Err` leaves all as it was.

@@ -223,7 +223,7 @@ fn opens(
     number: u64,
     wanted: &[(&str, u64, u64)],
 ) -> Result<bool, Fail> {
-    let entries = part.snapshot().entries.as_slice();
+    let entries = &part.snapshot().entries;
     for (entry, (name, moment, number)) in entries.iter().zip(wanted) {
         let key = key(alloc, name, Slot::Set(1))?;
         if entry.key != key || entry.moment != *moment || entry.number != *number {

@@ -21,6 +21,33 @@ fn a_closing_knows_who_was_touched_last(rt: HostRuntime) -> Result<(), Fail> {
 }
 
 #[test]
+fn a_closing_has_what_stayed_beside_what_is_new(rt: HostRuntime) -> Result<(), Fail> {
+    let asked = (14, "a.example.", Purpose::Answer, Mode::NoStale);
+    let (a, b, c) = (
+        ("a.example.", 10, 0),
+        ("b.example.", 13, 3),
+        ("c.example.", 12, 2),
+    );
+    let steps = [
+        Step::Put((10, "a.example.", AA, 60, 1), KEPT),
+        Step::Put((11, "b.example.", AA, 60, 2), KEPT),
+        Step::Put((12, "c.example.", AA, 60, 3), KEPT),
+        Step::Close((1, 0, 3, 3)),
+        Step::Put((13, "b.example.", AA, 60, 4), KEPT),
+        Step::Close((2, 3, 1, 3)),
+        Step::Opens(3, &[b, c, a]),
+        Step::Ask(asked, Ok(Seen::Fresh(56, 1))),
+        Step::Close((3, 4, 1, 3)),
+        Step::Opens(4, &[a, b, c]),
+        Step::Put((15, "d.example.", AA, 60, 5), KEPT),
+        Step::Close((4, 5, 1, 3)),
+        Step::Opens(5, &[("d.example.", 15, 5), a, b]),
+    ];
+    assert_eq!(rt; astray(rt.alloc(), 3, 4096, &steps)?, None);
+    Ok(())
+}
+
+#[test]
 fn the_next_chapter_has_room(rt: HostRuntime) -> Result<(), Fail> {
     let asked = (101, "a.example.", Purpose::Answer, Mode::NoStale);
     let steps = [

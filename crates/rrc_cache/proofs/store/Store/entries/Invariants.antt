@@ -1,8 +1,0 @@
--- the copies so far are those of the entries so far
-use Rattle.std.proofs.Common.{◌≡◌, map}
-use Rattle.std.specs.Map.Iter.{deref_pair}
-use Rattle.rrc_cache.specs.Pairs.{entries_in}
-use Rattle.rrc_cache.proofs.store.Store.entries.Given as goal
-
-abbrev pub invariant-loop-entry : goal.invariant-loop-entry
-invariant-loop-entry l = l.entries.items ≡ entries_in (map deref_pair l.yielded)
