@@ -1,2 +1,3 @@
 pub mod OfferMoments
 pub mod AuditLemmas
+pub mod QuestionNumbers

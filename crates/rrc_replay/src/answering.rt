@@ -1,4 +1,5 @@
 ghost use Rattle.std.specs.Prelude.{◌≡◌, ◌<◌, ◌≤◌, [], length};
+ghost use Rattle.std.specs.List.{Contains};
 ghost use Rattle.rrc_marks.specs.Seen.{IsPassOf};
 ghost use Rattle.rrc_history.specs.Lives.{LAST_MOMENT};
 
@@ -75,6 +76,7 @@ fn fetch_or_join<R: Wait, G: Gate>(
     line: usize,
     fetch: &Fetch,
 ) -> Result<Answer, Refused>
+    requires stands { Contains common.now.trace.now (Line.Fetch fetch.now) }
     requires timely { fetch.now.moment ≤ LAST_MOMENT }
     requires own { IsPassOf common.now.marks.now pass.old }
     requires free { pass.old.view.held ≡ [] }
@@ -83,8 +85,7 @@ fn fetch_or_join<R: Wait, G: Gate>(
     ensures turns { pass.new.view.turns ≡ pass.old.view.turns }
 {
     let Some(mark) = common.questions.number(fetch)? else {
-        // Each fetch of the trace has its question there; were there none, no other fetch would show for this answer, and the replay strayed.
-        return Ok(Answer::Joined);
+        unreachable!()
     };
     if common.marks.begin(pass, mark) == Began::Taken {
         return Ok(Answer::Joined);
@@ -104,6 +105,7 @@ fn answer_fetch<R: Wait, G: Gate>(
     line: usize,
     fetch: &Fetch,
 ) -> Result<Answer, Refused>
+    requires stands { Contains common.now.trace.now (Line.Fetch fetch.now) }
     requires timely { fetch.now.moment ≤ LAST_MOMENT }
     requires own { IsPassOf common.now.marks.now pass.old }
     requires free { pass.old.view.held ≡ [] }

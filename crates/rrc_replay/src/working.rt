@@ -1,5 +1,6 @@
 ghost use Rattle.std.specs.Prelude.{◌≡◌, ◌<◌, ◌≤◌, [], length};
 ghost use Rattle.rrc_marks.specs.Seen.{IsPassOf};
+ghost use Rattle.rrc_trace.specs.Questions.{questions_of};
 
 use crate::answering::answer;
 use crate::calls::Refused;
@@ -22,6 +23,7 @@ pub(crate) struct Common<'a, G> {
     pub(crate) marks: &'a Marks,
     pub(crate) gate: &'a G,
     pub(crate) ghost lines: { marks.now.lines ≡ length trace.now },
+    pub(crate) ghost asked: { questions.now ≡ questions_of trace.now },
     pub(crate) ghost marked: { length questions.now ≤ marks.now.marks },
 }
 

@@ -1,0 +1,8 @@
+use Rattle.std.proofs.Common.{sym, ◌∙◌}
+use Rattle.rrc_replay.proofs.QuestionNumbers.{numbered}
+use Rattle.rrc_replay.proofs.answering.fetch_or_join.Goals as goal
+
+pub unreachable-requires : goal.unreachable-requires
+unreachable-requires g c =
+    numbered c.args.common.now.trace.now c.args.common.now.questions.now c.args.fetch.now c.args.common.now.asked c.requires.stands
+    (sym c.in_ok-mark.ensures ∙ c.in_default.is)
