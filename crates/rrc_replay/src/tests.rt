@@ -33,6 +33,10 @@ const FETCHES_BY_ONE: &str =
 const FETCHES_BY_TWO: &str =
     "0 fetch fetched 1 kept fresh 60 a.example. c0000201\n1 fetch joined\n";
 
+/// A fetch of data that are not to be kept, so that the next fetch of the question finds nothing either (RFC 2181 section 8).
+const FETCH_FOR_NOTHING: &str =
+    "fetch 100 a.example. 1 example. 1234840000010001000000000161076578616d706c650000010001c00c00010001000000000004c0000201\n";
+
 /// Two questions that nothing answers.
 const TWO_ASKS: &str = "ask 1 a.example. 1 answer none\nask 1 a.example. 1 answer none\n";
 
@@ -205,5 +209,45 @@ fn a_run_writes_a_long_report(rt: HostRuntime) -> Result<(), Fail> {
         assert_eq!(rt; writer.taken.as_slice(), wanted.as_str().as_bytes());
         assert!(rt; writer.asked <= 4_096);
     }
+    Ok(())
+}
+
+/// So many sets.
+fn puts(alloc: Global, count: usize) -> Result<String, AllocError> {
+    let mut trace = String::new(alloc);
+    for number in 0..count {
+        write!(trace, "put 1 n{number}.example. 1 4 60 c0000201\n")?;
+    }
+    Ok(trace)
+}
+
+/// Sets that make it take a while to close a chapter, and so many fetches of one question, behind each of which a chapter is closed.
+fn fetches_among_sets(alloc: Global, sets: usize, fetches: usize) -> Result<String, AllocError> {
+    let mut trace = puts(alloc, sets)?;
+    for _ in 0..fetches {
+        trace.push_str(FETCH_FOR_NOTHING)?;
+        trace.push_str("checkpoint\n")?;
+    }
+    Ok(trace)
+}
+
+/// A worker holds its mark until it has asked again. It often waits for the part just before that, since others close its chapter
+/// all the while, and were the mark free then, another worker would fetch the same in its midst, and the replay would stray.
+#[test]
+fn a_mark_is_held_until_all_is_asked(rt: HostRuntime) -> Result<(), Fail> {
+    let config = by(4).ok_or("the config is in range")?;
+    let trace = fetches_among_sets(rt.alloc(), 100, 100)?;
+    let mut written = Vec::new(rt.alloc());
+    run(
+        &rt,
+        rt.alloc(),
+        &mut trace.as_str().as_bytes(),
+        &mut written,
+        &config,
+        [0; 16],
+        Audit::Skipped,
+        &OpenGate,
+    )?;
+    assert!(rt; !written.is_empty());
     Ok(())
 }
