@@ -43,6 +43,19 @@ fn a_set_that_dies_sooner_each_time_dies_by_the_last_time(rt: HostRuntime) -> Re
 }
 
 #[test]
+fn a_dead_key_counts_until_it_is_swept(rt: HostRuntime) -> Result<(), Fail> {
+    let alloc = rt.alloc();
+    assert_eq!(rt; part(alloc, 4, 2000)?.len(), 0);
+    let mut part = put_often(alloc, 3, 1, 0)?;
+    let dead = 12 + 5000 + 86_400;
+    put(alloc, &mut part, 1, (dead, "c.example.", AA, 60, 1))??;
+    assert_eq!(rt; part.len(), 3);
+    assert_eq!(rt; sweep(&mut part, dead)?, 1);
+    assert_eq!(rt; part.len(), 2);
+    Ok(())
+}
+
+#[test]
 fn sweeps_in_canonical_order(rt: HostRuntime) -> Result<(), Fail> {
     let order = [
         ("example.", Slot::Set(1)),
