@@ -1,18 +1,20 @@
 -- The whole histories of shelves, one after another.
-use Rattle.std.proofs.Common.{◌≡◌, ◌^◌, ℕ, Bool, true, false, List, [], ◌∷◌, ◌++◌, refl, sym, subst, ◌∙◌}
+use Rattle.std.proofs.Common.{◌≡◌, ◌^◌, ℕ, Bool, true, false, List, [], ◌∷◌, ◌++◌, reverse, refl, sym, ap, subst, ◌∙◌}
 use Rattle.std.specs.Prelude.{None, Result, Ok, Err, IfErr}
 use Rattle.std.specs.Result.{IsErrAnd}
 use Rattle.std.specs.List.{AllZip, Any}
 use Rattle.std.proofs.lemmas.Bool.{false≢true}
+use Rattle.std.proofs.lemmas.List.{append-nil}
 use Rattle.std.proofs.lemmas.List.Elements.{All-push}
 use Rattle.rrc_history.specs.declared.rules.Rules.{Rules}
 use Rattle.rrc_history.specs.declared.snapshot.Snapshot.{Snapshot}
-use Rattle.rrc_history.specs.Chains.{WholeOf, chain_fault}
-use Rattle.rrc_history.specs.Chapters.{ChapterOf}
+use Rattle.rrc_history.specs.Chains.{WholeOf, IsWhole, chain_fault, events_of}
+use Rattle.rrc_history.specs.Chapters.{ChapterOf, LeadTo}
+use Rattle.rrc_history.specs.WholeLaws.{AllKeepLaws}
 use Rattle.rrc_history.specs.Same.{snapshot_eq}
 use Rattle.rrc_history.specs.lemmas.SameLaws.{snapshot_eq-Decides}
 use Rattle.rrc_cache.specs.Part.{PartOf}
-use Rattle.rrc_share.specs.Shelf.{ShelfOf, AreBefore, Shuts}
+use Rattle.rrc_share.specs.Shelf.{ShelfOf, AreBefore, Shuts, first_snapshot}
 use Rattle.rrc_trace.specs.declared.fault.ReplayFault.{ReplayFault}
 use Rattle.rrc_trace.specs.declared.fault.ReplayFault.TheVariants.{BadLine, TooManyLines, Read, Write, Strayed, Memory, Spent, TooManyQuestions, NotLegal}
 use Rattle.rrc_report.specs.Reports.{IsOfShelf, IsPartOf, empty_under}
@@ -32,6 +34,26 @@ pub shut_chained : (old new : ShelfOf) (chapters : List ChapterOf) → Shuts old
 shut_chained old new chapters shuts are before =
     let all : chapters ≡ old.closed ++ shuts.chapter ∷ [] = are ∙ shuts.closed in
     subst (λ cs. chain_fault cs ≡ None) (sym all) (some_chained old.closed shuts.chapter new.part (subst (λ cs. AreBefore cs new.part) all before))
+
+-- the history that a shelf's closed chapters are is that of the shelf, where its part has no event yet
+closed_whole : (closed : List ChapterOf) (part : PartOf) (chapters : List ChapterOf) (whole : WholeOf) → chapters ≡ closed → part.events ≡ [] → IsWhole chapters whole
+    → IsOfShelf (record { closed = closed; part = part }) whole
+closed_whole closed part [] whole are none is = absurd is
+closed_whole closed part (chapter ∷ behind) whole are none is = record {
+  opening = is.0 ∙ ap (λ cs. first_snapshot cs part) are;
+  events = is.1 ∙ (ap events_of are ∙ (sym (append-nil (events_of closed)) ∙ ap (λ es. events_of closed ++ es) (sym none)));
+}
+
+-- the history that the chapters are once the last one was closed is that of the shelf before
+pub shut_kept : (old new : ShelfOf) (chapters : List ChapterOf) (whole : WholeOf) → Shuts old new → chapters ≡ new.closed → IsWhole chapters whole
+    → LeadTo whole.snapshot whole.events whole.closing → AllKeepLaws whole.snapshot (reverse whole.events) → IsKeptBy old whole
+shut_kept old new chapters whole shuts are is leads laws =
+    let of_new = closed_whole new.closed new.part chapters whole are (ap (λ (p : PartOf). p.events) shuts.part.next) is in
+    record {
+      of_shelf = record { opening = of_new.opening ∙ shuts.same.opening; events = of_new.events ∙ shuts.same.history };
+      leads = leads;
+      laws = laws;
+    }
 
 pub one_spent : (lines : ℕ) (shelf : ShelfOf) → shelf.part.number ≡ 2 ^ 62 → CanNotClose lines (shelf ∷ []) (Spent lines)
 one_spent lines shelf last = (refl, any_within IsLast [] shelf [] last)
