@@ -6,7 +6,7 @@ pub mod Stored
 pub mod Sound
 pub mod Marked
 pub mod Placing
-pub mod Numbered
+pub mod Following
 pub mod Leaving
 pub mod Written
 pub mod Keeping

@@ -1,6 +1,6 @@
 -- What the calls of a map of entries by their keys leave of the entries, in the words of a history.
 use Rattle.std.proofs.Common.{◌≡◌, ℕ, zero, suc, ◌+◌, ◌-◌, ◌<◌, List, [], ◌∷◌, ◌++◌, length, take, Bool, true, false, ◌||◌, Option, Some, None, refl, sym, ap, subst, ◌∙◌, arith}
-use Rattle.std.specs.Prelude.{cond}
+use Rattle.std.specs.Prelude.{cond, is_some}
 use Rattle.std.specs.List.{AllByRecursion, IsDistinct, slice_get}
 use Rattle.std.specs.Option.{option_map, option_map_or}
 use Rattle.std.specs.Map.{keys_of, lookup, lookup_entry, remove_entry}
@@ -11,7 +11,7 @@ use Rattle.rrc_name.specs.lemmas.KeyLaws.{key_eq-same}
 use Rattle.rrc_history.specs.declared.snapshot.Entry.{Entry}
 use Rattle.rrc_history.specs.Past.{entry_at, last_key}
 use Rattle.rrc_history.specs.Entries.{LacksKey, AreApart, goes, in_front, promoted, staying}
-use Rattle.rrc_history.specs.lemmas.Apart.{staying-lacks, staying-middle}
+use Rattle.rrc_history.specs.lemmas.Apart.{entry_at-middle, staying-lacks, staying-middle}
 use Rattle.rrc_cache.specs.Pairs.{entries_in, AreOwn, StoreOf}
 
 -- ---- the view
@@ -124,6 +124,20 @@ own_promoted test pairs own = by (lookup_entry test pairs) refl
     by None is = own
     by (Some pair) is = ((pair_is_own test pairs pair own is).1, own_removed test pairs own)
 
+-- the first one is then the one that was found
+pub promoted_first : (test : KeyOf → Bool) (pairs : List (KeyOf × Entry)) → is_some (lookup test pairs) ≡ true
+    → option_map (λ pair. pair.1.number) (slice_get (lru.promoted test pairs) 0) ≡ option_map (λ entry. entry.number) (lookup test pairs)
+promoted_first test pairs some = by (lookup_entry test pairs) refl
+  where
+    by : (found : Option (KeyOf × Entry)) → lookup_entry test pairs ≡ found
+        → option_map (λ pair. pair.1.number) (slice_get (lru.promoted test pairs) 0) ≡ option_map (λ entry. entry.number) (lookup test pairs)
+    by None is =
+        let none : lookup test pairs ≡ None = entry_of_pair test pairs ∙ ap (option_map (λ p. p.1)) is in
+        let bad : false ≡ true = sym (ap is_some none) ∙ some in absurd cc
+    by (Some pair) is =
+        let found : lookup test pairs ≡ Some pair.1 = entry_of_pair test pairs ∙ ap (option_map (λ p. p.1)) is in
+        rw (is, found) refl
+
 -- ---- puts
 
 -- the pairs after a put
@@ -131,7 +145,7 @@ abbrev put_over : ℕ → KeyOf → Entry → List (KeyOf × Entry) → Option (
 put_over most key entry pairs found = option_map_or (λ pair. (pair.0, entry) ∷ remove_entry (key_eq key) pairs) found ((key, entry) ∷ take (most - 1) pairs)
 
 -- where the first so many are all
-all_taken : {X : Type 0} (n : ℕ) (xs : List X) → length xs < n + 1 → take n xs ≡ xs
+pub all_taken : {X : Type 0} (n : ℕ) (xs : List X) → length xs < n + 1 → take n xs ≡ xs
 all_taken zero [] lt = refl
 all_taken (suc n) [] lt = refl
 all_taken zero (x ∷ xs) lt = absurd (omega arith)
@@ -202,6 +216,14 @@ last_gone pairs pair apart is =
     let front : List Entry = entries_in (take (length pairs - 1) pairs) in
     let split : entries_in pairs ≡ front ++ pair.1 ∷ [] = last_behind pairs pair is in
     ap (staying (goes pair.1.key None)) split ∙ (staying-middle front pair.1 [] (subst AreApart split apart) ∙ append-nil front)
+
+-- it is found under its key
+pub last_found : (pairs : List (KeyOf × Entry)) (pair : KeyOf × Entry) → AreApart (entries_in pairs) → lru.last_entry pairs ≡ Some pair
+    → entry_at pair.1.key (entries_in pairs) ≡ Some pair.1
+last_found pairs pair apart is =
+    let front : List Entry = entries_in (take (length pairs - 1) pairs) in
+    let split : entries_in pairs ≡ front ++ pair.1 ∷ [] = last_behind pairs pair is in
+    ap (entry_at pair.1.key) split ∙ entry_at-middle front pair.1 [] (subst AreApart split apart)
 
 pub taken_in : (pairs : List (KeyOf × Entry)) → entries_in (take (length pairs - 1) pairs) ≡ take (length (entries_in pairs) - 1) (entries_in pairs)
 taken_in pairs = sym (take-map (λ pair. pair.1) (length pairs - 1) pairs) ∙ ap (λ n. take (n - 1) (entries_in pairs)) (sym (length_in pairs))

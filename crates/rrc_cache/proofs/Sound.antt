@@ -65,7 +65,7 @@ sound_of snapshot past capacity first entries contents few made = record {
   timely = made.timely;
 }
 
-numbered_staying : (out : KeyOf → Bool) (entries : List Entry) → AreNumberedApart entries → AreNumberedApart (staying out entries)
+pub numbered_staying : (out : KeyOf → Bool) (entries : List Entry) → AreNumberedApart entries → AreNumberedApart (staying out entries)
 numbered_staying out [] apart = tt
 numbered_staying out (entry ∷ entries) apart = by (out entry.key) refl (numbered_staying out entries apart.1)
   where
@@ -120,7 +120,7 @@ made_kept_after LessTrusted offer number evicted entries fit timely made = made_
 -- ---- an ask
 
 -- the entry that is found under a key has another number than those of other keys
-numbered_found : (key : KeyOf) (entries : List Entry) (entry : Entry) → entry_at key entries ≡ Some entry → AreNumberedApart entries
+pub numbered_found : (key : KeyOf) (entries : List Entry) (entry : Entry) → entry_at key entries ≡ Some entry → AreNumberedApart entries
     → AllByRecursion (λ other. (entry.number == other.number) ≡ false) (staying (goes key None) entries)
 numbered_found key [] entry h apart = absurd cc
 numbered_found key (first ∷ entries) entry h apart = by (key_eq key first.key) refl (λ later. numbered_found key entries entry later apart.1)

@@ -6,6 +6,7 @@ mod beside;
 mod closing;
 mod deaths;
 mod entries;
+mod followed;
 mod found;
 mod judge;
 mod part;

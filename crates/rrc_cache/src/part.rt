@@ -198,7 +198,7 @@ impl Part {
         }
         let alloc = *self.events.allocator();
         let (rules, first) = (self.snapshot.rules(), self.next_number());
-        let closing = closing::closing(alloc, &self.store, &self.snapshot.entries, rules, first)?;
+        let closing = self.store.close(alloc, rules, first)?;
         let opening = closing.clone()?;
         let number = self.number;
         self.number = number + 1;

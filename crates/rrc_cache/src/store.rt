@@ -1,7 +1,9 @@
 ghost use Rattle.std.specs.Prelude.{◌≡◌, ◌-◌, ◌≤◌, [], ◌∷◌, None, length, take, true, false, IfOk, OnOk, OnErr};
-ghost use Rattle.std.specs.Option.{option_copied};
+ghost use Rattle.std.specs.Map.{lookup};
+ghost use Rattle.std.specs.Option.{option_copied, option_map};
+ghost use Rattle.lru.specs.LruCache.{lru_cache, promoted as lru_promoted};
 ghost use Rattle.rrc_name.specs.declared.slot.Slot.{Slot};
-ghost use Rattle.rrc_name.specs.Key.{KeyOf};
+ghost use Rattle.rrc_name.specs.Key.{KeyOf, key_eq};
 ghost use Rattle.rrc_name.specs.KeyRef.{key_of};
 ghost use Rattle.rrc_history.specs.Lives.{LAST_MOMENT};
 ghost use Rattle.rrc_history.specs.Past.{entry_at, is_among, last_key};
@@ -10,16 +12,16 @@ ghost use Rattle.rrc_history.specs.Sound.{AreSound};
 ghost use Rattle.rrc_history.specs.Entries.{AreApart, goes, keys_of_dead, promoted, staying};
 ghost use Rattle.rrc_cache.specs.Beside.{AreMarked, is_beside};
 ghost use Rattle.rrc_cache.specs.Deaths.{dead_among, deaths_of, is_gone_by};
-ghost use Rattle.rrc_cache.specs.Numbers.{AreKnownByNumber};
 ghost use Rattle.rrc_cache.specs.Pairs.{entries_in, AreOwn};
 
 use crate::beside::Beside;
 use crate::deaths::{Death, Deaths};
+use crate::followed::{self, Followed};
 use crate::judge;
 use crate::seeded::Seeded;
 use lru::LruCache;
 use rrc_history::{Entry, EntryList, Rules, Snapshot};
-use rrc_name::{Key, KeyRef, Name};
+use rrc_name::{Key, KeyRef, Name, Shared};
 use std::alloc::{AllocError, Global};
 use std::marker::Model;
 
@@ -35,16 +37,19 @@ pub struct Store {
     beside: Beside,
     /// For how many seconds a set may be stale, on which deaths depend.
     stale: u64,
+    /// What became of the entries with which the chapter began, while less happened than these are many.
+    followed: Option<Followed>,
 }
 
 impl Model for Store {
+    ghost use Rattle.rrc_cache.specs.Followed.{IsFollowed};
     ghost use Rattle.rrc_cache.specs.Pairs.{entries_in, IsStore, StoreOf};
 
     ghost Value = { StoreOf };
 
     ghost view = { λ s. record { stale = s.stale; entries = entries_in s.cache.entries } };
 
-    ghost invariant = { λ s. IsStore s.stale s.cache s.deaths s.beside };
+    ghost invariant = { λ s. IsStore s.stale s.cache s.deaths s.beside × IsFollowed s.followed (entries_in s.cache.entries) };
 }
 
 impl Store {
@@ -59,6 +64,7 @@ impl Store {
             deaths: Deaths::new(alloc),
             beside: Beside::new(alloc, seeded, 2 * rules.capacity as usize)?,
             stale: rules.stale,
+            followed: None,
         })
     }
 
@@ -152,22 +158,34 @@ impl Store {
         due
     }
 
-    /// The entries, the key touched last first, as a list that shares with an earlier one those that both hold. They are told by
-    /// their numbers.
-    pub(crate) fn entries_beside(
-        &self,
-        alloc: Global,
-        before: &EntryList,
-    ) -> Result<EntryList, AllocError>
-        requires { AreKnownByNumber self.now.entries before.now }
+    /// The entries, the key touched last first, as a list that shares with those with which the chapter began what did not move since.
+    fn entries(&self, alloc: Global) -> Result<EntryList, AllocError>
         ensures { IfOk result (λ entries. entries ≡ self.now.entries) }
     {
-        let mut gathering = before.gather(alloc, self.cache.len())?;
-        // The last one first, since each is put in front.
-        for (_, entry) in self.cache.iter().rev() {
-            gathering.put(entry)?;
-        }
-        gathering.finish()
+        let left = followed::left(alloc, &self.followed)?;
+        let front = first_entries(alloc, &self.cache, self.cache.len() - left.len())?;
+        left.led_by(alloc, front)
+    }
+
+    /// What is held, as the snapshot with which one chapter ends and the next begins. The next event has the number `first`.
+    pub(crate) fn close(
+        &mut self,
+        alloc: Global,
+        rules: Rules,
+        first: u64,
+    ) -> Result<Shared<Snapshot>, AllocError>
+        requires { AreSound rules.capacity first self.old.entries }
+        ensures ok { IfOk result (λ snapshot. snapshot ≡ record { rules = rules; first = first; entries = self.old.entries }) }
+        ensures same { self.new ≡ self.old }
+    {
+        let snapshot = Snapshot {
+            rules,
+            first,
+            entries: self.entries(alloc)?,
+        };
+        let snapshot = Shared::new(alloc, snapshot)?;
+        self.followed = Some(Followed::new(alloc, snapshot.clone()?));
+        Ok(snapshot)
     }
 
     /// Puts an entry in front, in the place of the one that its key had. An `Err` leaves all as it was.
@@ -198,7 +216,9 @@ impl Store {
         let _ = self.cache.len();
         self.deaths.reserve()?;
         self.beside.note(&entry.key);
+        let number = entry.number;
         let old = self.cache.put(key, entry)?;
+        self.followed = followed::with_put(self.followed.take(), followed::number_of(&old), number);
         if !is_gone_by(old, self.stale, time) {
             self.deaths.add(Death { time, key: dying });
         }
@@ -221,7 +241,8 @@ impl Store {
     {
         // The length is read for what it tells: no two entries have the same key.
         let _ = self.cache.len();
-        self.cache.promote(key);
+        let moved = promote(&mut self.cache, key);
+        self.followed = followed::with_gone(self.followed.take(), moved);
     }
 
     /// Removes the entry of a key.
@@ -230,7 +251,8 @@ impl Store {
     {
         // The length is read for what it tells: no two entries have the same key.
         let _ = self.cache.len();
-        let _ = self.cache.pop(key);
+        let gone = followed::number_of(&self.cache.pop(key));
+        self.followed = followed::with_gone(self.followed.take(), gone);
     }
 
     /// Removes the last entry, and answers its key.
@@ -240,10 +262,23 @@ impl Store {
     {
         // The length is read for what it tells: no two entries have the same key.
         let _ = self.cache.len();
-        match self.cache.pop_lru() {
-            Some((key, _)) => Some(key),
-            None => None,
-        }
+        let (key, entry) = self.cache.pop_lru()?;
+        self.followed = followed::with_move(self.followed.take(), entry.number);
+        Some(key)
+    }
+}
+
+/// Moves the entry of a key to the front, and answers its number, if there is one.
+fn promote(cache: &mut LruCache<Key, Entry, Seeded>, key: KeyRef<'_>) -> Option<u64>
+    ensures cache { cache.new ≡ lru_cache (lru_promoted (key_eq (key_of key.entry)) cache.old.entries) cache.old.cap }
+    ensures number { result ≡ option_map (λ entry. entry.number) (lookup (key_eq (key_of key.entry)) cache.old.entries) }
+{
+    if !cache.promote(key) {
+        return None;
+    }
+    match cache.peek_mru() {
+        Some((_, entry)) => Some(entry.number),
+        None => None,
     }
 }
 
@@ -302,6 +337,24 @@ fn mark_anew(beside: &mut Beside, cache: &LruCache<Key, Entry, Seeded>)
         beside.note(&entry.key);
     }
     beside.count_anew();
+}
+
+/// The first so many entries.
+fn first_entries(
+    alloc: Global,
+    cache: &LruCache<Key, Entry, Seeded>,
+    count: usize,
+) -> Result<Vec<Entry>, AllocError>
+    ensures { IfOk result (λ first. first.items ≡ take count (entries_in cache.now.entries)) }
+{
+    let mut first = Vec::with_capacity(alloc, count)?;
+    for (_, entry) in cache.iter() {
+        if first.len() >= count {
+            return Ok(first);
+        }
+        first.push(entry.clone()?)?;
+    }
+    Ok(first)
 }
 
 /// The deaths of the entries.

@@ -2,8 +2,8 @@ pub mod Audited
 pub mod Candidates
 pub mod Counting
 pub mod Evicting
-pub mod Gathered
 pub mod Joining
 pub mod Places
 pub mod Removing
+pub mod Renewed
 pub mod Walking

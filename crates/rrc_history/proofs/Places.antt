@@ -1,6 +1,6 @@
 -- What places name in batches of entries.
 use Rattle.std.specs.Prelude.{◌≡◌, ℕ, zero, suc, ◌+◌, ◌-◌, ◌<◌, ◌≤◌, Bool, true, false, not, ◌&&◌, Option, Some, None, IsSome, List, [], ◌∷◌, ◌++◌, length, slice_get}
-use Rattle.std.proofs.Common.{refl, arith, sym, ap, ◌∙◌, get_or, drop}
+use Rattle.std.proofs.Common.{refl, arith, sym, ap, subst, ◌∙◌, get_or, drop}
 use Rattle.std.specs.List.{AllByRecursion, cons_option}
 use Rattle.std.specs.Cmp.Lexicographic.{pointwise}
 use Rattle.std.proofs.lemmas.List.{length-append, get_or-append_right, drop_more}
@@ -25,6 +25,11 @@ all_at P [] i d all less = absurd (omega (arith, less))
 all_at P (x ∷ xs) zero d all less = all.0
 all_at P (x ∷ xs) (suc i) d all less = all_at P xs i d all.1 (omega (arith, less))
 
+pub kept_outer : {X : Type 0} (xss more : List (List X)) (i j : ℕ) → IsSome (slice_get (get_or xss i []) j) → slice_get (get_or (xss ++ more) i []) j ≡ slice_get (get_or xss i []) j
+kept_outer [] more i j is = absurd cc
+kept_outer (xs ∷ xss) more zero j is = refl
+kept_outer (xs ∷ xss) more (suc i) j is = kept_outer xss more i j is
+
 -- ---- of entries at places
 
 longer : (found : Option Entry) (entries : List Entry) → IsSome found → length (cons_option found entries) ≡ suc (length entries)
@@ -46,6 +51,20 @@ at_place batches [] i d entry filled less is = absurd (omega (arith, less))
 at_place batches (place ∷ places) zero d entry filled less is = rw (← is) refl
 at_place batches (place ∷ places) (suc i) d entry filled less is =
     at_place batches places i d entry filled.1 (omega (arith, less)) is ∙ sym (behind (entry_in batches place) (entries_at batches places) i entry filled.0)
+
+-- what the places name in some batches, they name in others too
+pub record StayIn (old new : List (List Entry)) : Type 0 where
+  pub named : (place : Place) → IsSome (entry_in old place) → entry_in new place ≡ entry_in old place
+
+pub same_entries : (old new : List (List Entry)) (places : List Place) → AreFilled old places → StayIn old new → entries_at new places ≡ entries_at old places
+same_entries old new [] filled stay = refl
+same_entries old new (place ∷ places) filled stay =
+    ap (λ found. cons_option found (entries_at new places)) (stay.named place filled.0) ∙ ap (cons_option (entry_in old place)) (same_entries old new places filled.1 stay)
+
+pub same_filled : (old new : List (List Entry)) (places : List Place) → AreFilled old places → StayIn old new → AreFilled new places
+same_filled old new [] filled stay = tt
+same_filled old new (place ∷ places) filled stay =
+    (subst (λ (found : Option Entry). IsSome found) (sym (stay.named place filled.0)) filled.0, same_filled old new places filled.1 stay)
 
 -- ---- of a list of entries, the first of its own and the others at places
 

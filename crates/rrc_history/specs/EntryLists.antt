@@ -1,6 +1,6 @@
 -- Lists of entries that share what they have in common: each names an entry by its place in a batch of entries.
-use Rattle.std.specs.Prelude.{◌≡◌, ◌⊎◌, ℕ, ◌≤◌, List, [], ◌∷◌, ◌++◌, length, reverse, Option, IsSome, filter_map, slice_get, slice_index_or}
-use Rattle.std.specs.List.{AllByRecursion}
+use Rattle.std.specs.Prelude.{ℕ, List, [], Option, Some, None, IsSome, Bool, false, not, ◌==◌, filter, filter_map, slice_get, slice_index_or}
+use Rattle.std.specs.List.{AllByRecursion, list_any}
 use Rattle.rrc_history.specs.declared.snapshot.Entry.{Entry}
 use Rattle.rrc_history.specs.declared.entry_list.Place.{Place}
 
@@ -16,10 +16,19 @@ entries_at batches places = filter_map (entry_in batches) places
 abbrev pub AreFilled : List (List Entry) → List Place → Type 0
 AreFilled batches places = AllByRecursion (λ place. IsSome (entry_in batches place)) places
 
--- what holds while a list is made beside one of batches and places, of which so many in front are left to look at: its batches are
--- those of the earlier list, or none is left, and each of its places, the last one first, has an entry in them or in the fresh batch
-pub record IsGathering (batches : List (List Entry)) (places : List Place) (left : ℕ) (shared : List (List Entry)) (fresh : List Entry) (gathered : List Place) : Type 0 where
-  pub named : AreFilled batches places
-  pub within : left ≤ length places
-  pub shares : (left ≡ 0) ⊎ (shared ≡ batches)
-  pub filled : AreFilled (shared ++ fresh ∷ []) (reverse gathered)
+-- an entry has one of the numbers
+abbrev pub has_number : List ℕ → Entry → Bool
+has_number numbers entry = list_any (λ number. number == entry.number) numbers
+
+-- the entries that have none of the numbers, in their order
+abbrev pub without : List ℕ → List Entry → List Entry
+without numbers entries = filter (λ entry. not (has_number numbers entry)) entries
+
+-- there is an entry, and it has none of the numbers
+abbrev pub stays : List ℕ → Option Entry → Bool
+stays numbers None = false
+stays numbers (Some entry) = not (has_number numbers entry)
+
+-- the places whose entries have none of the numbers, in their order
+abbrev pub staying : List ℕ → List (List Entry) → List Place → List Place
+staying numbers batches places = filter (λ place. stays numbers (entry_in batches place)) places

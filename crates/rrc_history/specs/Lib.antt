@@ -5,7 +5,6 @@ pub mod Limits
 pub mod Lives
 pub mod Snapshots
 pub mod EntryLists
-pub mod Gatherings
 pub mod Judged
 pub mod Past
 pub mod Right

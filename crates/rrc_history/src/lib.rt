@@ -8,11 +8,11 @@ mod chains;
 mod chapter;
 mod entry_list;
 mod event;
-mod gathering;
 mod judge;
 mod laws;
 mod offer;
 mod past;
+mod renewing;
 mod rules;
 mod snapshot;
 #[cfg(test)]
@@ -25,7 +25,6 @@ pub use chains::{ChainFault, Whole, chain, join_chained};
 pub use chapter::Chapter;
 pub use entry_list::{Entries, EntryList};
 pub use event::{Event, Outcome, Reply, RrSet, Soa, Tag};
-pub use gathering::Gathering;
 pub use laws::{
     calls_determine_the_history, legal_histories_keep_the_laws, same_snapshots_are_one,
     snapshots_lead_to_themselves, sound_entries_have_no_fault,

@@ -7,6 +7,7 @@ ghost use Rattle.rrc_report.specs.Filling.{answered_by, AreIn, IsMissed};
 ghost use Rattle.rrc_report.specs.Steps.{given_from, as_taken, AreComplete};
 
 use crate::done::{Answered, Done};
+use crate::joined::joined;
 use crate::telling::completed;
 use rrc_history::Event;
 use rrc_name::Sequence;
@@ -19,7 +20,7 @@ fn answered_by(alloc: Global, done: Vec<Done>) -> Result<Vec<Answered>, AllocErr
 {
     let mut all = Vec::new(alloc);
     for one in done {
-        all.append(&mut one.answers.into_vec())?;
+        all = joined(all, one.answers.into_vec())?;
     }
     Ok(all)
 }

@@ -5,6 +5,7 @@ mod collating;
 mod completing;
 mod config;
 mod done;
+mod joined;
 mod laws;
 mod offering;
 mod report;

@@ -5,6 +5,7 @@ ghost use Rattle.rrc_report.specs.Steps.{given_by, given_from, IsTaskOf, AreTask
 
 use crate::config::Config;
 use crate::done::{Answered, Done};
+use crate::joined::joined;
 use crate::scripting::script_of;
 use rrc_collate::Task;
 use rrc_trace::{Questions, ReplayFault, Trace};
@@ -75,7 +76,7 @@ pub(crate) fn tasks_of(
     let mut tasks = Vec::new(alloc);
     for (worker, one) in done.iter().enumerate() {
         match tasks_by(alloc, trace, config, questions, worker, one)? {
-            Some(mut own) => tasks.append(&mut own)?,
+            Some(own) => tasks = joined(tasks, own)?,
             None => return Ok(None),
         }
     }

@@ -1,8 +1,5 @@
-ghost use Rattle.std.specs.Prelude.{◌≡◌, true};
-ghost use Rattle.rrc_history.specs.Gatherings.{IsKnownByNumber};
-
 use super::entry;
-use crate::{Entry, EntryList, Gathering};
+use crate::{Entry, EntryList};
 use std::alloc::{AllocError, Global};
 use std::test::Fail;
 
@@ -42,43 +39,15 @@ fn shows(list: &EntryList, wanted: &[Entry]) -> bool {
         && list.iter().next() == wanted.first()
 }
 
-/// Whether an entry is another, where they have the same number.
-fn agrees(other: &Entry, entry: &Entry) -> bool
-    ensures { result ≡ true → other.now.number ≡ entry.now.number → other.now ≡ entry.now }
-{
-    other.number != entry.number || *other == *entry
-}
-
-/// Whether whichever entry of a list has the number of an entry is that entry.
-fn is_known(list: &EntryList, entry: &Entry) -> bool
-    ensures { result ≡ true → IsKnownByNumber entry.now list.now }
-{
-    for other in list {
-        if !agrees(other, entry) {
-            return false;
-        }
-    }
-    true
-}
-
-fn put(gathering: &mut Gathering<'_>, before: &EntryList, entry: &Entry) -> Result<(), Fail>
-    requires { gathering.old.before ≡ before.now }
-    ensures { gathering.new.before ≡ before.now }
-{
-    if !is_known(before, entry) {
-        return Err("another entry has the number".into());
-    }
-    gathering.put(entry)?;
-    Ok(())
-}
-
-/// The list of entries, made beside an earlier one.
-fn beside(alloc: Global, before: &EntryList, entries: &[Entry]) -> Result<EntryList, Fail> {
-    let mut gathering = before.gather(alloc, entries.len())?;
-    for place in (0..entries.len()).rev() {
-        put(&mut gathering, before, &entries[place])?;
-    }
-    Ok(gathering.finish()?)
+/// A list without the entries of some numbers, and with new ones in front.
+fn renewed(
+    alloc: Global,
+    list: &EntryList,
+    front: &[u64],
+    gone: &[u64],
+) -> Result<EntryList, Fail> {
+    let front = entries(alloc, front)?;
+    Ok(list.without(alloc, gone)?.led_by(alloc, front)?)
 }
 
 /// How many entries there are in the batches of a list.
@@ -104,29 +73,32 @@ fn holds_entries_in_order(rt: HostRuntime) -> Result<(), Fail> {
 }
 
 #[test]
-fn shares_what_both_hold(rt: HostRuntime) -> Result<(), Fail> {
+fn renews_a_list(rt: HostRuntime) -> Result<(), Fail> {
     let alloc = rt.alloc();
     let own = EntryList::from_vec(entries(alloc, &[4, 3, 2, 1])?);
-    let first = beside(alloc, &own, entries(alloc, &[4, 3, 2, 1])?.as_slice())?;
-    assert!(rt; first == own && sizes(alloc, &first)?.as_slice() == [4].as_slice());
-    // One is new, one is gone, and one came to the front.
-    let wanted = entries(alloc, &[2, 5, 4, 1])?;
-    let second = beside(alloc, &first, wanted.as_slice())?;
-    assert!(rt; shows(&second, wanted.as_slice()));
-    assert!(rt; sizes(alloc, &second)?.as_slice() == [4, 2].as_slice());
-    let third = beside(alloc, &second, wanted.as_slice())?;
-    assert!(rt; third == second && sizes(alloc, &third)?.as_slice() == [4, 2].as_slice());
+    let first = renewed(alloc, &own, &[5], &[3, 9])?;
+    assert!(rt; shows(&first, entries(alloc, &[5, 4, 2, 1])?.as_slice()));
+    // One is gone, one came to the front, and one is new.
+    let second = renewed(alloc, &first, &[4, 6], &[4, 1, 4])?;
+    assert!(rt; shows(&second, entries(alloc, &[4, 6, 5, 2])?.as_slice()));
+    assert!(rt; sizes(alloc, &first)?.as_slice() == [3, 1].as_slice());
+    assert!(rt; sizes(alloc, &second)?.as_slice() == [3, 1, 2].as_slice());
+    let none = second.without(alloc, &[2, 4, 5, 6])?;
+    assert!(rt; shows(&none, &[]));
+    let led = EntryList::from_vec(entries(alloc, &[2, 1])?).led_by(alloc, entries(alloc, &[3])?)?;
+    assert!(rt; shows(&led, entries(alloc, &[3, 2, 1])?.as_slice()));
+    assert!(rt; sizes(alloc, &led)?.as_slice() == [3].as_slice());
     Ok(())
 }
 
 #[test]
-fn begins_anew_where_batches_are_many(rt: HostRuntime) -> Result<(), Fail> {
+fn renews_in_few_batches(rt: HostRuntime) -> Result<(), Fail> {
     let alloc = rt.alloc();
-    let mut list = EntryList::new(alloc);
-    for number in 0..200 {
-        let wanted = entries(alloc, &[number, 1000])?;
-        list = beside(alloc, &list, wanted.as_slice())?;
-        assert!(rt; shows(&list, wanted.as_slice()) && list.batched.batches.len() <= 64);
+    let mut list = EntryList::from_vec(entries(alloc, &[1000])?);
+    for number in 0..200u64 {
+        list = renewed(alloc, &list, &[number], &[number.saturating_sub(1)])?;
+        assert!(rt; shows(&list, entries(alloc, &[number, 1000])?.as_slice()));
+        assert!(rt; list.batched.batches.len() <= 64);
     }
     Ok(())
 }

@@ -1,4 +1,4 @@
-use Rattle.std.proofs.Common.{◌≡◌, List, ◌++◌, map, rules}
+use Rattle.std.proofs.Common.{List, map}
 use Rattle.rrc_collate.specs.declared.task.Task.{Task}
 use Rattle.rrc_report.specs.Steps.{given_by, AreTasks}
 use Rattle.rrc_report.proofs.TaskLemmas.{tasks_of_more, no_tasks_of}
@@ -19,7 +19,6 @@ loop-worker-preserved c =
     let one = c.index-done-worker.result in
     let own : AreTasks c.args.config.now c.args.trace.now c.args.questions.now (map (given_by i) one.answers) c.in-Some.own.items =
     rw c.in-Some.is at c.in_ok-own.ensures.some in
-    let added : c.append.new.self.items ≡ c.loop-worker.tasks.items ++ c.in-Some.own.items = search rules in
-    rw added
+    rw c.in_ok-tasks-in-Some.ensures
     (tasks_of_more c.args.config.now c.args.trace.now c.args.questions.now i c.args.done.now one c.loop-worker.tasks.items c.in-Some.own.items
     c.loop-worker-test.true c.index-done-worker.is c.loop-worker.invariant own)

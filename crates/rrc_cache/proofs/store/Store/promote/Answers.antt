@@ -1,36 +1,50 @@
 use Rattle.std.proofs.Common.{◌≡◌, List, ap, sym, subst, ◌∙◌}
-use Rattle.lru.specs.LruCache.{LruCache}
+use Rattle.std.specs.List.{IsDistinct}
+use Rattle.std.specs.Map.{keys_of, lookup}
+use Rattle.lru.specs.LruCache.{LruCache, lru_cache}
+use Rattle.lru.specs.LruCache.{promoted as lru_promoted}
 use Rattle.rrc_name.specs.Key.{KeyOf, key_eq}
 use Rattle.rrc_name.specs.KeyRef.{key_of}
 use Rattle.rrc_history.specs.declared.snapshot.Entry.{Entry}
-use Rattle.rrc_history.specs.Entries.{promoted}
+use Rattle.rrc_history.specs.Entries.{AreApart, promoted}
 use Rattle.rrc_cache.specs.Beside.{AreMarked}
 use Rattle.rrc_cache.specs.Deaths.{AreForeseen}
-use Rattle.rrc_cache.specs.Pairs.{entries_in}
+use Rattle.rrc_cache.specs.Followed.{HasGivenWay, IsFollowed}
+use Rattle.rrc_cache.specs.Pairs.{entries_in, AreOwn}
+use Rattle.rrc_cache.proofs.Following.{promoted_way}
 use Rattle.rrc_cache.proofs.Marked.{promoted_marked}
-use Rattle.rrc_cache.proofs.Paired.{apart_in, edited, promoted_in, own_promoted}
+use Rattle.rrc_cache.proofs.Paired.{apart_in, edited, found_in_pairs, promoted_in, own_promoted}
 use Rattle.rrc_cache.proofs.Timed.{promoted_foreseen}
 use Rattle.rrc_cache.proofs.store.Store.promote.Goals as goal
 
-entries_after : (c : goal.After-promote) → entries_in c.promote.new.self.entries ≡ promoted (key_of c.args.key) (entries_in c.self.inside.cache.entries)
-entries_after c =
-    let pairs : List (KeyOf × Entry) = c.self.inside.cache.entries in
-    ap (λ (cache : LruCache KeyOf Entry). entries_in cache.entries) c.promote.ensures.entries
-    ∙ promoted_in (key_of c.args.key) pairs c.self.invariant.own (apart_in pairs c.self.invariant.own c.len.ensures.valid.0)
+after : (key : KeyOf) (cache new : LruCache KeyOf Entry) → AreOwn cache.entries → IsDistinct key_eq (keys_of cache.entries)
+    → new ≡ lru_cache (lru_promoted (key_eq key) cache.entries) cache.cap → promoted key (entries_in cache.entries) ≡ entries_in new.entries
+after key cache new own distinct is =
+    sym (ap (λ (now : LruCache KeyOf Entry). entries_in now.entries) is ∙ promoted_in key cache.entries own (apart_in cache.entries own distinct))
 
 pub invariant_of-self : goal.invariant_of-self
 invariant_of-self c =
     let pairs : List (KeyOf × Entry) = c.self.inside.cache.entries in
-    let P : List Entry → Type 0 = λ entries. AreForeseen c.self.inside.stale entries c.self.inside.deaths in
-    record {
-      own = rw c.promote.ensures.entries (own_promoted (key_eq (key_of c.args.key)) pairs c.self.invariant.own);
-      wide = rw c.promote.ensures.entries c.self.invariant.wide;
-      limit = c.self.invariant.limit;
-      foreseen = subst P (sym (entries_after c)) (promoted_foreseen c.self.inside.stale (entries_in pairs) c.self.inside.deaths c.self.invariant.foreseen (key_of c.args.key));
-      marked = subst (AreMarked c.self.inside.beside) (sym (entries_after c)) (promoted_marked c.self.inside.beside (key_of c.args.key) (entries_in pairs) c.self.invariant.marked);
-    }
+    let key : KeyOf = key_of c.args.key in
+    let is : promoted key (entries_in pairs) ≡ entries_in c.promote-moved.new.cache.entries =
+    after key c.self.inside.cache c.promote-moved.new.cache c.self.invariant.0.own c.len.ensures.valid.0 c.promote-moved.ensures.cache in
+    let apart : AreApart (entries_in pairs) = apart_in pairs c.self.invariant.0.own c.len.ensures.valid.0 in (
+      record {
+        own = rw c.promote-moved.ensures.cache (own_promoted (key_eq key) pairs c.self.invariant.0.own);
+        wide = rw c.promote-moved.ensures.cache c.self.invariant.0.wide;
+        limit = c.self.invariant.0.limit;
+        foreseen = subst (λ entries. AreForeseen c.self.inside.stale entries c.self.inside.deaths) is
+            (promoted_foreseen c.self.inside.stale (entries_in pairs) c.self.inside.deaths c.self.invariant.0.foreseen key);
+        marked = subst (AreMarked c.self.inside.beside) is (promoted_marked c.self.inside.beside key (entries_in pairs) c.self.invariant.0.marked);
+      },
+      subst (IsFollowed c.with_gone.result) is
+          (promoted_way key (entries_in pairs) (lookup (key_eq key) pairs) c.self.inside.followed c.with_gone.result apart
+          (sym (found_in_pairs key pairs c.self.invariant.0.own))
+          (subst (λ number. HasGivenWay number c.self.inside.followed c.with_gone.result) c.promote-moved.ensures.number
+          (subst (λ old. HasGivenWay c.promote-moved.result old c.with_gone.result) c.take.ensures.value c.with_gone.ensures)) c.self.invariant.1),
+    )
 
 pub returns : goal.returns
 returns c =
-    edited (promoted (key_of c.args.key)) c.self.inside.stale (entries_in c.self.inside.cache.entries) (entries_in c.promote.new.self.entries) c.args.self.now
-    (entries_after c) c.self.view_is
+    edited (promoted (key_of c.args.key)) c.self.inside.stale (entries_in c.self.inside.cache.entries) (entries_in c.promote-moved.new.cache.entries) c.args.self.now
+    (sym (after (key_of c.args.key) c.self.inside.cache c.promote-moved.new.cache c.self.invariant.0.own c.len.ensures.valid.0 c.promote-moved.ensures.cache)) c.self.view_is

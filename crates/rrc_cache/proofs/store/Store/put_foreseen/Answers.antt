@@ -1,16 +1,20 @@
 use Rattle.std.proofs.Common.{◌≡◌, ℕ, Bool, ◌∷◌, ◌^◌, ◌<◌, ◌||◌, length, List, Option, None, true, false, refl, ap, sym, subst, ◌∙◌, arith}
 use Rattle.std.specs.List.{IsDistinct}
 use Rattle.std.specs.Map.{keys_of, lookup}
+use Rattle.std.specs.Option.{option_map}
 use Rattle.lru.specs.LruCache.{LruCache, lru_cache, put_entries}
 use Rattle.rrc_name.specs.Key.{KeyOf, key_eq}
 use Rattle.rrc_history.specs.declared.snapshot.Entry.{Entry}
 use Rattle.rrc_history.specs.Entries.{goes, staying}
 use Rattle.rrc_history.specs.Past.{entry_at}
 use Rattle.rrc_cache.specs.declared.deaths.Death.{Death}
+use Rattle.rrc_cache.specs.declared.followed.Followed.{Followed}
 use Rattle.rrc_cache.specs.Beside.{AreMarked, BesideOf, is_beside, may_hold}
 use Rattle.rrc_cache.specs.Deaths.{AreForeseen, DeathsOf, dies_by, is_by, is_gone_by}
 use Rattle.rrc_cache.specs.Dying.{time_of_death}
+use Rattle.rrc_cache.specs.Followed.{IsFollowed, IsPut}
 use Rattle.rrc_cache.specs.Pairs.{entries_in, AreOwn, IsStore}
+use Rattle.rrc_cache.proofs.Following.{put_followed}
 use Rattle.rrc_cache.proofs.Marked.{put_marked}
 use Rattle.rrc_cache.proofs.Paired.{apart_in, edited, found_in_pairs, put_in, own_put}
 use Rattle.rrc_cache.proofs.Stored.{noted_store, same_store}
@@ -52,6 +56,12 @@ module _ (stale : ℕ) (cache new : LruCache KeyOf Entry) (deaths : DeathsOf) (b
         marked = subst (AreMarked noted) (sym after) (put_marked beside noted entry (entries_in cache.entries) own_noted others_noted store.marked);
       }
 
+  followed : (found : Option Entry) (before now : Option Followed) → entry_at entry.key (entries_in cache.entries) ≡ found
+      → IsPut (option_map (λ e. e.number) found) entry.number before now → IsFollowed before (entries_in cache.entries) → IsFollowed now (entries_in new.entries)
+  followed found before now was put follows =
+      subst (IsFollowed now) (sym after)
+      (put_followed entry (entries_in cache.entries) found before now (apart_in cache.entries store.own distinct) was put follows)
+
 -- a death that is added foresees the entry, and what another foresees it still does
 module _ (stale : ℕ) (cache : LruCache KeyOf Entry) (deaths added : DeathsOf) (beside : BesideOf) (entry : Entry) (store : IsStore stale cache deaths beside) (death : Death)
     (adds : (key : KeyOf) (time : ℕ) → dies_by added key time ≡ (is_by key time death || dies_by deaths key time)) where
@@ -75,12 +85,20 @@ invariant_of-self-then-not-is_gone_by c =
     let cache = c.self.inside.cache in
     let entry = c.args.entry in
     let beside = c.self.inside.beside in
-    let store : IsStore stale cache c.reserve.new.self beside = same_store stale cache beside c.self.inside.deaths c.reserve.new.self c.reserve.ensures.same c.self.invariant in
+    let store : IsStore stale cache c.reserve.new.self beside = same_store stale cache beside c.self.inside.deaths c.reserve.new.self c.reserve.ensures.same c.self.invariant.0 in
+    let was : entry_at entry.key (entries_in cache.entries) ≡ c.in_ok-old.old =
+    held c.in_ok-key.key entry.key cache.entries c.in_ok-old.old c.self.invariant.0.own c.in_ok-key.ensures.cases c.in_ok-old.ensures.old in
     let death : Death = record { time = c.time_of_death-time.result; key = c.in_ok-dying.dying } in
-    kept stale cache c.put.new.self c.reserve.new.self beside c.in_ok-key.key entry store c.len.ensures.valid.0 (omega (arith, c.len.ensures.len, c.len.ensures.fits))
-    c.in_ok-key.ensures.cases c.in_ok-old.ensures.entries c.add.new.self c.note.new.self
-    (added_foreseen stale cache c.reserve.new.self c.add.new.self beside entry store death c.add.ensures c.time_of_death-time.ensures c.in_ok-dying.ensures.cases)
-    c.note.ensures.own c.note.ensures.others
+    let put : IsPut (option_map (λ e. e.number) c.in_ok-old.old) entry.number c.self.inside.followed c.with_put.result =
+    subst (λ old. IsPut (option_map (λ e. e.number) c.in_ok-old.old) entry.number old c.with_put.result) c.take.ensures.value
+    (subst (λ number. IsPut number entry.number c.take.result c.with_put.result) c.number_of.ensures c.with_put.ensures) in (
+      kept stale cache c.put.new.self c.reserve.new.self beside c.in_ok-key.key entry store c.len.ensures.valid.0 (omega (arith, c.len.ensures.len, c.len.ensures.fits))
+          c.in_ok-key.ensures.cases c.in_ok-old.ensures.entries c.add.new.self c.note.new.self
+          (added_foreseen stale cache c.reserve.new.self c.add.new.self beside entry store death c.add.ensures c.time_of_death-time.ensures c.in_ok-dying.ensures.cases)
+          c.note.ensures.own c.note.ensures.others,
+      followed stale cache c.put.new.self c.reserve.new.self beside c.in_ok-key.key entry store c.len.ensures.valid.0 (omega (arith, c.len.ensures.len, c.len.ensures.fits))
+          c.in_ok-key.ensures.cases c.in_ok-old.ensures.entries c.in_ok-old.old c.self.inside.followed c.with_put.result was put c.self.invariant.1,
+    )
 
 pub invariant_of-self-else-not-is_gone_by : goal.invariant_of-self-else-not-is_gone_by
 invariant_of-self-else-not-is_gone_by c =
@@ -88,36 +106,42 @@ invariant_of-self-else-not-is_gone_by c =
     let cache = c.self.inside.cache in
     let entry = c.args.entry in
     let beside = c.self.inside.beside in
-    let store : IsStore stale cache c.reserve.new.self beside = same_store stale cache beside c.self.inside.deaths c.reserve.new.self c.reserve.ensures.same c.self.invariant in
+    let store : IsStore stale cache c.reserve.new.self beside = same_store stale cache beside c.self.inside.deaths c.reserve.new.self c.reserve.ensures.same c.self.invariant.0 in
     let gone : is_gone_by stale (time_of_death stale entry) c.in_ok-old.old ≡ true =
     sym (ap (λ (time : ℕ). is_gone_by stale time c.in_ok-old.old) c.time_of_death-time.ensures) ∙ (sym c.is_gone_by.ensures ∙ c.if-not-is_gone_by.false) in
     let was : entry_at entry.key (entries_in cache.entries) ≡ c.in_ok-old.old =
-    held c.in_ok-key.key entry.key cache.entries c.in_ok-old.old c.self.invariant.own c.in_ok-key.ensures.cases c.in_ok-old.ensures.old in
-    kept stale cache c.put.new.self c.reserve.new.self beside c.in_ok-key.key entry store c.len.ensures.valid.0 (omega (arith, c.len.ensures.len, c.len.ensures.fits))
-    c.in_ok-key.ensures.cases c.in_ok-old.ensures.entries c.reserve.new.self c.note.new.self
-    (put_foreseen stale (entries_in cache.entries) c.reserve.new.self store.foreseen entry c.reserve.new.self (λ key time is. is)
-    (foreseen_before stale (entries_in cache.entries) c.reserve.new.self store.foreseen entry c.in_ok-old.old was gone))
-    c.note.ensures.own c.note.ensures.others
+    held c.in_ok-key.key entry.key cache.entries c.in_ok-old.old c.self.invariant.0.own c.in_ok-key.ensures.cases c.in_ok-old.ensures.old in
+    let put : IsPut (option_map (λ e. e.number) c.in_ok-old.old) entry.number c.self.inside.followed c.with_put.result =
+    subst (λ old. IsPut (option_map (λ e. e.number) c.in_ok-old.old) entry.number old c.with_put.result) c.take.ensures.value
+    (subst (λ number. IsPut number entry.number c.take.result c.with_put.result) c.number_of.ensures c.with_put.ensures) in (
+      kept stale cache c.put.new.self c.reserve.new.self beside c.in_ok-key.key entry store c.len.ensures.valid.0 (omega (arith, c.len.ensures.len, c.len.ensures.fits))
+          c.in_ok-key.ensures.cases c.in_ok-old.ensures.entries c.reserve.new.self c.note.new.self
+          (put_foreseen stale (entries_in cache.entries) c.reserve.new.self store.foreseen entry c.reserve.new.self (λ key time is. is)
+          (foreseen_before stale (entries_in cache.entries) c.reserve.new.self store.foreseen entry c.in_ok-old.old was gone))
+          c.note.ensures.own c.note.ensures.others,
+      followed stale cache c.put.new.self c.reserve.new.self beside c.in_ok-key.key entry store c.len.ensures.valid.0 (omega (arith, c.len.ensures.len, c.len.ensures.fits))
+          c.in_ok-key.ensures.cases c.in_ok-old.ensures.entries c.in_ok-old.old c.self.inside.followed c.with_put.result was put c.self.invariant.1,
+    )
 
 pub invariant_of-self-in_err-old : goal.invariant_of-self-in_err-old
 invariant_of-self-in_err-old c =
     let stale = c.self.inside.stale in
     let cache = c.self.inside.cache in
     let beside = c.self.inside.beside in
-    let store : IsStore stale cache c.reserve.new.self beside = same_store stale cache beside c.self.inside.deaths c.reserve.new.self c.reserve.ensures.same c.self.invariant in
-    subst (λ (now : LruCache KeyOf Entry). IsStore stale now c.reserve.new.self c.note.new.self) (sym c.in_err-old.ensures.err)
-    (noted_store stale cache beside c.note.new.self c.reserve.new.self c.note.ensures.others store)
+    let store : IsStore stale cache c.reserve.new.self beside = same_store stale cache beside c.self.inside.deaths c.reserve.new.self c.reserve.ensures.same c.self.invariant.0 in
+    subst (λ (now : LruCache KeyOf Entry). IsStore stale now c.reserve.new.self c.note.new.self × IsFollowed c.self.inside.followed (entries_in now.entries)) (sym c.in_err-old.ensures.err)
+    (noted_store stale cache beside c.note.new.self c.reserve.new.self c.note.ensures.others store, c.self.invariant.1)
 
 pub returns-then-not-is_gone_by-clause-ok : goal.returns-then-not-is_gone_by-clause-ok
 returns-then-not-is_gone_by-clause-ok c =
     let cache = c.self.inside.cache in
     edited (with_entry c.args.entry) c.self.inside.stale (entries_in cache.entries) (entries_in c.put.new.self.entries) c.args.self.now
-    (after c.self.inside.stale cache c.put.new.self c.self.inside.deaths c.self.inside.beside c.in_ok-key.key c.args.entry c.self.invariant c.len.ensures.valid.0
+    (after c.self.inside.stale cache c.put.new.self c.self.inside.deaths c.self.inside.beside c.in_ok-key.key c.args.entry c.self.invariant.0 c.len.ensures.valid.0
     (omega (arith, c.len.ensures.len, c.len.ensures.fits)) c.in_ok-key.ensures.cases c.in_ok-old.ensures.entries) c.self.view_is
 
 pub returns-else-not-is_gone_by-clause-ok : goal.returns-else-not-is_gone_by-clause-ok
 returns-else-not-is_gone_by-clause-ok c =
     let cache = c.self.inside.cache in
     edited (with_entry c.args.entry) c.self.inside.stale (entries_in cache.entries) (entries_in c.put.new.self.entries) c.args.self.now
-    (after c.self.inside.stale cache c.put.new.self c.self.inside.deaths c.self.inside.beside c.in_ok-key.key c.args.entry c.self.invariant c.len.ensures.valid.0
+    (after c.self.inside.stale cache c.put.new.self c.self.inside.deaths c.self.inside.beside c.in_ok-key.key c.args.entry c.self.invariant.0 c.len.ensures.valid.0
     (omega (arith, c.len.ensures.len, c.len.ensures.fits)) c.in_ok-key.ensures.cases c.in_ok-old.ensures.entries) c.self.view_is

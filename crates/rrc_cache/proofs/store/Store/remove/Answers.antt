@@ -1,6 +1,7 @@
 use Rattle.std.proofs.Common.{◌≡◌, List, None, ap, sym, subst, ◌∙◌}
 use Rattle.std.specs.List.{IsDistinct}
-use Rattle.std.specs.Map.{keys_of, remove_entry}
+use Rattle.std.specs.Map.{keys_of, lookup, remove_entry}
+use Rattle.std.specs.Option.{option_map}
 use Rattle.lru.specs.LruCache.{LruCache, lru_cache}
 use Rattle.rrc_name.specs.Key.{KeyOf, key_eq}
 use Rattle.rrc_name.specs.KeyRef.{key_of}
@@ -8,9 +9,11 @@ use Rattle.rrc_history.specs.declared.snapshot.Entry.{Entry}
 use Rattle.rrc_history.specs.Entries.{goes, staying}
 use Rattle.rrc_cache.specs.Beside.{AreMarked}
 use Rattle.rrc_cache.specs.Deaths.{AreForeseen}
+use Rattle.rrc_cache.specs.Followed.{HasGivenWay, IsFollowed}
 use Rattle.rrc_cache.specs.Pairs.{entries_in, AreOwn}
+use Rattle.rrc_cache.proofs.Following.{given_way}
 use Rattle.rrc_cache.proofs.Marked.{removed_marked}
-use Rattle.rrc_cache.proofs.Paired.{apart_in, edited, removed_in, own_removed}
+use Rattle.rrc_cache.proofs.Paired.{apart_in, edited, found_in_pairs, removed_in, own_removed}
 use Rattle.rrc_cache.proofs.Timed.{removed_foreseen}
 use Rattle.rrc_cache.proofs.store.Store.remove.Goals as goal
 
@@ -24,17 +27,24 @@ invariant_of-self c =
     let key : KeyOf = key_of c.args.key in
     let before : List Entry = entries_in c.self.inside.cache.entries in
     let is : staying (goes key None) before ≡ entries_in c.pop.new.self.entries =
-    sym (after key c.self.inside.cache c.pop.new.self c.self.invariant.own c.len.ensures.valid.0 c.pop.ensures.entries) in
-    record {
-      own = rw c.pop.ensures.entries (own_removed (key_eq key) c.self.inside.cache.entries c.self.invariant.own);
-      wide = rw c.pop.ensures.entries c.self.invariant.wide;
-      limit = c.self.invariant.limit;
-      foreseen = subst (λ entries. AreForeseen c.self.inside.stale entries c.self.inside.deaths) is
-          (removed_foreseen c.self.inside.stale before c.self.inside.deaths c.self.invariant.foreseen key);
-      marked = subst (AreMarked c.self.inside.beside) is (removed_marked c.self.inside.beside key before c.self.invariant.marked);
-    }
+    sym (after key c.self.inside.cache c.pop.new.self c.self.invariant.0.own c.len.ensures.valid.0 c.pop.ensures.entries) in
+    let pairs : List (KeyOf × Entry) = c.self.inside.cache.entries in
+    let gave : HasGivenWay (option_map (λ entry. entry.number) (lookup (key_eq key) pairs)) c.self.inside.followed c.with_gone.result =
+    subst (λ number. HasGivenWay number c.self.inside.followed c.with_gone.result) (c.number_of-gone.ensures ∙ ap (option_map (λ entry. entry.number)) c.pop.ensures.value) (subst (λ old. HasGivenWay c.number_of-gone.result old c.with_gone.result) c.take.ensures.value c.with_gone.ensures) in (
+      record {
+        own = rw c.pop.ensures.entries (own_removed (key_eq key) pairs c.self.invariant.0.own);
+        wide = rw c.pop.ensures.entries c.self.invariant.0.wide;
+        limit = c.self.invariant.0.limit;
+        foreseen = subst (λ entries. AreForeseen c.self.inside.stale entries c.self.inside.deaths) is
+            (removed_foreseen c.self.inside.stale before c.self.inside.deaths c.self.invariant.0.foreseen key);
+        marked = subst (AreMarked c.self.inside.beside) is (removed_marked c.self.inside.beside key before c.self.invariant.0.marked);
+      },
+      subst (IsFollowed c.with_gone.result) is
+          (given_way key before (lookup (key_eq key) pairs) c.self.inside.followed c.with_gone.result (apart_in pairs c.self.invariant.0.own c.len.ensures.valid.0)
+          (sym (found_in_pairs key pairs c.self.invariant.0.own)) gave c.self.invariant.1),
+    )
 
 pub returns : goal.returns
 returns c =
     edited (staying (goes (key_of c.args.key) None)) c.self.inside.stale (entries_in c.self.inside.cache.entries) (entries_in c.pop.new.self.entries) c.args.self.now
-    (after (key_of c.args.key) c.self.inside.cache c.pop.new.self c.self.invariant.own c.len.ensures.valid.0 c.pop.ensures.entries) c.self.view_is
+    (after (key_of c.args.key) c.self.inside.cache c.pop.new.self c.self.invariant.0.own c.len.ensures.valid.0 c.pop.ensures.entries) c.self.view_is

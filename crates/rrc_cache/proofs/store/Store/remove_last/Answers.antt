@@ -7,9 +7,11 @@ use Rattle.rrc_history.specs.Past.{last_key}
 use Rattle.rrc_history.specs.Entries.{AreApart, goes, staying}
 use Rattle.rrc_cache.specs.Beside.{AreMarked}
 use Rattle.rrc_cache.specs.Deaths.{AreForeseen}
+use Rattle.rrc_cache.specs.Followed.{IsFollowed, HasMoved}
 use Rattle.rrc_cache.specs.Pairs.{entries_in, StoreOf}
+use Rattle.rrc_cache.proofs.Following.{removed_followed}
 use Rattle.rrc_cache.proofs.Marked.{removed_marked}
-use Rattle.rrc_cache.proofs.Paired.{apart_in, edited, last_gone, last_in, none_taken, own_taken, taken_in}
+use Rattle.rrc_cache.proofs.Paired.{apart_in, edited, last_found, last_gone, last_in, none_taken, own_taken, taken_in}
 use Rattle.rrc_cache.proofs.Timed.{removed_foreseen}
 use Rattle.rrc_cache.proofs.store.Store.remove_last.Goals as goal
 
@@ -23,52 +25,59 @@ front entries = take (length entries - 1) entries
 after : (cache new : LruCache KeyOf Entry) → new ≡ lru_cache (take (length cache.entries - 1) cache.entries) cache.cap → entries_in new.entries ≡ front (entries_in cache.entries)
 after cache new is = ap (λ (now : LruCache KeyOf Entry). entries_in now.entries) is ∙ taken_in cache.entries
 
-pub invariant_of-self : goal.invariant_of-self
-invariant_of-self c =
-    let pairs : List (KeyOf × Entry) = c.self.inside.cache.entries in
-    let pair : KeyOf × Entry = (c.in-Some.key, c.in-Some.field-0-1) in
-    let is : last_entry pairs ≡ Some pair = sym c.pop_lru.ensures.value ∙ c.in-Some.is in
-    let apart : AreApart (entries_in pairs) = apart_in pairs c.self.invariant.own c.len.ensures.valid.0 in
-    let left : staying (goes pair.1.key None) (entries_in pairs) ≡ entries_in c.pop_lru.new.self.entries =
-    last_gone pairs pair apart is ∙ ap (λ (cache : LruCache KeyOf Entry). entries_in cache.entries) (sym c.pop_lru.ensures.entries) in
-    record {
-      own = rw c.pop_lru.ensures.entries (own_taken (length pairs - 1) pairs c.self.invariant.own);
-      wide = rw c.pop_lru.ensures.entries c.self.invariant.wide;
-      limit = c.self.invariant.limit;
-      foreseen = subst (λ entries. AreForeseen c.self.inside.stale entries c.self.inside.deaths) left
-          (removed_foreseen c.self.inside.stale (entries_in pairs) c.self.inside.deaths c.self.invariant.foreseen pair.1.key);
-      marked = subst (AreMarked c.self.inside.beside) left (removed_marked c.self.inside.beside pair.1.key (entries_in pairs) c.self.invariant.marked);
-    }
-
 pub invariant_of-self-2 : goal.invariant_of-self-2
 invariant_of-self-2 c =
     let pairs : List (KeyOf × Entry) = c.self.inside.cache.entries in
-    let left : entries_in pairs ≡ entries_in c.pop_lru.new.self.entries =
-    ap entries_in (none_taken pairs (sym c.pop_lru.ensures.value ∙ c.in-None.is)) ∙ ap (λ (cache : LruCache KeyOf Entry). entries_in cache.entries) (sym c.pop_lru.ensures.entries) in
-    record {
-      own = rw c.pop_lru.ensures.entries (own_taken (length pairs - 1) pairs c.self.invariant.own);
-      wide = rw c.pop_lru.ensures.entries c.self.invariant.wide;
-      limit = c.self.invariant.limit;
-      foreseen = subst (λ entries. AreForeseen c.self.inside.stale entries c.self.inside.deaths) left c.self.invariant.foreseen;
-      marked = subst (AreMarked c.self.inside.beside) left c.self.invariant.marked;
-    }
+    let pair : KeyOf × Entry = (c.in_ok-key.key, c.in_ok-key.entry) in
+    let is : last_entry pairs ≡ Some pair = sym c.pop_lru.ensures.value ∙ c.in_ok-key.was in
+    let apart : AreApart (entries_in pairs) = apart_in pairs c.self.invariant.0.own c.len.ensures.valid.0 in
+    let left : staying (goes pair.1.key None) (entries_in pairs) ≡ entries_in c.pop_lru.new.self.entries =
+    last_gone pairs pair apart is ∙ ap (λ (cache : LruCache KeyOf Entry). entries_in cache.entries) (sym c.pop_lru.ensures.entries) in (
+      record {
+        own = rw c.pop_lru.ensures.entries (own_taken (length pairs - 1) pairs c.self.invariant.0.own);
+        wide = rw c.pop_lru.ensures.entries c.self.invariant.0.wide;
+        limit = c.self.invariant.0.limit;
+        foreseen = subst (λ entries. AreForeseen c.self.inside.stale entries c.self.inside.deaths) left
+            (removed_foreseen c.self.inside.stale (entries_in pairs) c.self.inside.deaths c.self.invariant.0.foreseen pair.1.key);
+        marked = subst (AreMarked c.self.inside.beside) left (removed_marked c.self.inside.beside pair.1.key (entries_in pairs) c.self.invariant.0.marked);
+      },
+      subst (IsFollowed c.with_move.result) left
+          (removed_followed pair.1.key pair.1 (entries_in pairs) c.self.inside.followed c.with_move.result apart (last_found pairs pair apart is)
+          (subst (λ old. HasMoved pair.1.number old c.with_move.result) c.take.ensures.value c.with_move.ensures) c.self.invariant.1),
+    )
 
-pub returns-in-Some-clause-value : goal.returns-in-Some-clause-value
-returns-in-Some-clause-value c =
-    sym (ap key_of_pair c.in-Some.is)
-    ∙ (ap key_of_pair c.pop_lru.ensures.value ∙ (last_in c.self.inside.cache.entries c.self.invariant.own ∙ ap (λ (store : StoreOf). last_key store.entries) c.self.view_is))
+pub invariant_of-self : goal.invariant_of-self
+invariant_of-self c =
+    let pairs : List (KeyOf × Entry) = c.self.inside.cache.entries in
+    let left : entries_in pairs ≡ entries_in c.pop_lru.new.self.entries =
+    ap entries_in (none_taken pairs (sym c.pop_lru.ensures.value ∙ c.in_err-key.was)) ∙ ap (λ (cache : LruCache KeyOf Entry). entries_in cache.entries) (sym c.pop_lru.ensures.entries) in (
+      record {
+        own = rw c.pop_lru.ensures.entries (own_taken (length pairs - 1) pairs c.self.invariant.0.own);
+        wide = rw c.pop_lru.ensures.entries c.self.invariant.0.wide;
+        limit = c.self.invariant.0.limit;
+        foreseen = subst (λ entries. AreForeseen c.self.inside.stale entries c.self.inside.deaths) left c.self.invariant.0.foreseen;
+        marked = subst (AreMarked c.self.inside.beside) left c.self.invariant.0.marked;
+      },
+      subst (IsFollowed c.self.inside.followed) left c.self.invariant.1,
+    )
 
 pub returns-clause-value : goal.returns-clause-value
 returns-clause-value c =
-    sym (ap key_of_pair c.in-None.is)
-    ∙ (ap key_of_pair c.pop_lru.ensures.value ∙ (last_in c.self.inside.cache.entries c.self.invariant.own ∙ ap (λ (store : StoreOf). last_key store.entries) c.self.view_is))
+    sym (ap key_of_pair (c.in_ok-key.was))
+    ∙ (ap key_of_pair c.pop_lru.ensures.value ∙ (last_in c.self.inside.cache.entries c.self.invariant.0.own ∙ ap (λ (store : StoreOf). last_key store.entries) c.self.view_is))
 
-pub returns-in-Some-clause-entries : goal.returns-in-Some-clause-entries
-returns-in-Some-clause-entries c =
-    edited front c.self.inside.stale (entries_in c.self.inside.cache.entries) (entries_in c.pop_lru.new.self.entries) c.args.self.now
-    (after c.self.inside.cache c.pop_lru.new.self c.pop_lru.ensures.entries) c.self.view_is
+pub returns-in_err-key-clause-value : goal.returns-in_err-key-clause-value
+returns-in_err-key-clause-value c =
+    c.from_residual.ensures
+    ∙ (sym (ap key_of_pair (c.in_err-key.was))
+    ∙ (ap key_of_pair c.pop_lru.ensures.value ∙ (last_in c.self.inside.cache.entries c.self.invariant.0.own ∙ ap (λ (store : StoreOf). last_key store.entries) c.self.view_is)))
 
 pub returns-clause-entries : goal.returns-clause-entries
 returns-clause-entries c =
+    edited front c.self.inside.stale (entries_in c.self.inside.cache.entries) (entries_in c.pop_lru.new.self.entries) c.args.self.now
+    (after c.self.inside.cache c.pop_lru.new.self c.pop_lru.ensures.entries) c.self.view_is
+
+pub returns-in_err-key-clause-entries : goal.returns-in_err-key-clause-entries
+returns-in_err-key-clause-entries c =
     edited front c.self.inside.stale (entries_in c.self.inside.cache.entries) (entries_in c.pop_lru.new.self.entries) c.args.self.now
     (after c.self.inside.cache c.pop_lru.new.self c.pop_lru.ensures.entries) c.self.view_is

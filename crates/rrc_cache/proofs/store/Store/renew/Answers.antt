@@ -8,7 +8,9 @@ use Rattle.rrc_cache.proofs.Timed.{all_foreseen}
 use Rattle.rrc_cache.proofs.store.Store.renew.Goals as goal
 
 pub invariant_of-self : goal.invariant_of-self
-invariant_of-self c =
-    foreseen_store c.self.inside.stale c.self.inside.cache c.self.inside.beside c.self.inside.deaths c.of.result c.self.invariant
-    (all_foreseen c.self.inside.stale (entries_in c.self.inside.cache.entries) c.of.result
-    (λ key time. c.of.ensures key time ∙ ap (λ (deaths : List Death). list_any (is_by key time) deaths) c.in-Ok.ensures))
+invariant_of-self c = (
+  foreseen_store c.self.inside.stale c.self.inside.cache c.self.inside.beside c.self.inside.deaths c.of.result c.self.invariant.0
+      (all_foreseen c.self.inside.stale (entries_in c.self.inside.cache.entries) c.of.result
+      (λ key time. c.of.ensures key time ∙ ap (λ (deaths : List Death). list_any (is_by key time) deaths) c.in-Ok.ensures)),
+  c.self.invariant.1,
+)

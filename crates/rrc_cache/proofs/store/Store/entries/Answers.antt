@@ -1,0 +1,43 @@
+use Rattle.std.proofs.Common.{◌≡◌, ℕ, ◌-◌, ◌+◌, List, ◌++◌, length, take, ap, sym, ◌∙◌, arith}
+use Rattle.std.proofs.Math.Seq.{take-append_seam}
+use Rattle.std.proofs.lemmas.List.{length-append, length-map}
+use Rattle.std.proofs.lemmas.Result.{IfOk-weaker}
+use Rattle.rrc_name.specs.Key.{KeyOf}
+use Rattle.rrc_history.specs.declared.snapshot.Entry.{Entry}
+use Rattle.rrc_cache.specs.Followed.{left_of}
+use Rattle.rrc_cache.specs.Pairs.{entries_in, StoreOf}
+use Rattle.rrc_cache.proofs.Following.{front_of}
+use Rattle.rrc_cache.proofs.store.Store.entries.Goals as goal
+
+-- those in front are as many as the others are not
+front_length : (all front left : List Entry) → all ≡ front ++ left → length all ≡ length front + length left
+front_length all front left is = ap length is ∙ length-append front left
+
+first_of : (all front left : List Entry) (count : ℕ) → all ≡ front ++ left → count ≡ length all - length left → take count all ≡ front
+first_of all front left count is long =
+    let lengths : length all ≡ length front + length left = front_length all front left is in
+    let as_many : count ≡ length front = omega (arith, lengths, long) in
+    ap (λ n. take n all) as_many ∙ (ap (take (length front)) is ∙ take-append_seam front left)
+
+pub overflow_sub-len : goal.overflow_sub-len
+overflow_sub-len c =
+    let pairs : List (KeyOf × Entry) = c.self.inside.cache.entries in
+    let front = front_of c.self.inside.followed (entries_in pairs) c.self.invariant.1 in
+    let lengths : length (entries_in pairs) ≡ length front.0 + length (left_of c.self.inside.followed) = front_length (entries_in pairs) front.0 (left_of c.self.inside.followed) front.1 in
+    let mapped : length (entries_in pairs) ≡ length pairs = length-map pairs (λ pair. pair.1) in
+    let left : c.len-2.result ≡ length (left_of c.self.inside.followed) = c.len-2.ensures ∙ ap length c.in_ok-left.ensures in
+    omega (arith, lengths, mapped, left, c.len.ensures.len)
+
+pub returns : goal.returns
+returns c =
+    let pairs : List (KeyOf × Entry) = c.self.inside.cache.entries in
+    let left : List Entry = left_of c.self.inside.followed in
+    let front = front_of c.self.inside.followed (entries_in pairs) c.self.invariant.1 in
+    let mapped : length (entries_in pairs) ≡ length pairs = length-map pairs (λ pair. pair.1) in
+    let length_left : c.len-2.result ≡ length left = c.len-2.ensures ∙ ap length c.in_ok-left.ensures in
+    let first : c.in_ok-front.front.items ≡ front.0 =
+    c.in_ok-front.ensures ∙ first_of (entries_in pairs) front.0 left (c.len.result - c.len-2.result) front.1 (omega (arith, mapped, length_left, c.len.ensures.len)) in
+    IfOk-weaker c.led_by.result (λ list. list ≡ c.in_ok-front.front.items ++ c.in_ok-left.left) (λ list. list ≡ c.args.self.now.entries)
+    (λ list is. is
+    ∙ (ap (λ es. es ++ c.in_ok-left.left) first
+    ∙ (ap (λ es. front.0 ++ es) c.in_ok-left.ensures ∙ (sym front.1 ∙ ap (λ (store : StoreOf). store.entries) c.self.view_is)))) c.led_by.ensures

@@ -1,0 +1,6 @@
+use Rattle.std.proofs.Common.{◌≡◌, take}
+use Rattle.rrc_history.specs.EntryLists.{staying}
+use Rattle.rrc_history.proofs.renewing.places_staying.Given as goal
+
+abbrev pub invariant-loop-at : goal.invariant-loop-at
+invariant-loop-at l = l.places.items ≡ staying l.gone.keys l.batched.batches.items (take l.at l.batched.places.items)
