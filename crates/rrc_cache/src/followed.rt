@@ -1,4 +1,4 @@
-ghost use Rattle.std.specs.Prelude.{◌≡◌, [], IfOk};
+ghost use Rattle.std.specs.Prelude.{◌≡◌, [], true, IfOk};
 ghost use Rattle.std.specs.Option.{option_map};
 ghost use Rattle.rrc_cache.specs.Followed.{left_of, HasCome, HasGivenWay, HasMoved, IsPut};
 
@@ -42,31 +42,48 @@ pub(crate) fn left(alloc: Global, followed: &Option<Followed>) -> Result<EntryLi
     }
 }
 
-/// After the entry of a number was touched or removed. Where as many moved as the chapter began with, or memory is refused, they are
-/// followed no more: then a closing costs no more than what moved.
-pub(crate) fn with_move(followed: Option<Followed>, number: u64) -> Option<Followed>
-    ensures { HasMoved number followed result }
+/// Notes that the entry of a number was touched or removed. Where as many moved as the chapter began with, or memory is refused, they
+/// are followed no more: then a closing costs no more than what moved.
+pub(crate) fn note_move(followed: &mut Option<Followed>, number: u64)
+    ensures { HasMoved number followed.old followed.new }
 {
-    let mut followed = followed?;
-    if followed.moved.len() >= followed.opening.entries.len() {
-        return None;
-    }
-    match followed.moved.push(number) {
-        Ok(()) => Some(followed),
-        Err(_) => None,
+    if !add_move(followed, number) {
+        *followed = None;
     }
 }
 
-/// After an entry of a number came, which was greater than all others.
-fn with_new(followed: Option<Followed>, number: u64) -> Option<Followed>
-    ensures { HasCome number followed result }
+/// Adds a number to those that moved, and answers whether there was room for it.
+fn add_move(followed: &mut Option<Followed>, number: u64) -> bool
+    ensures { result ≡ true → HasMoved number followed.old followed.new }
 {
-    let mut followed = followed?;
-    if number < followed.next {
-        return None;
+    match followed {
+        Some(it) if it.moved.len() < it.opening.entries.len() => it.moved.push(number).is_ok(),
+        Some(_) => false,
+        None => true,
     }
-    followed.next = number.checked_add(1)?;
-    Some(followed)
+}
+
+/// Notes that an entry of a number came, which was greater than all others.
+fn note_new(followed: &mut Option<Followed>, number: u64)
+    ensures { HasCome number followed.old followed.new }
+{
+    if !step_over(followed, number) {
+        *followed = None;
+    }
+}
+
+/// Makes the number behind one the next, and answers whether none was greater.
+fn step_over(followed: &mut Option<Followed>, number: u64) -> bool
+    ensures { result ≡ true → HasCome number followed.old followed.new }
+{
+    match followed {
+        Some(it) if it.next <= number && number < u64::MAX => {
+            it.next = number + 1;
+            true
+        }
+        Some(_) => false,
+        None => true,
+    }
 }
 
 /// The number of what a key held, if anything.
@@ -79,23 +96,19 @@ pub(crate) fn number_of(held: &Option<Entry>) -> Option<u64>
     }
 }
 
-/// After the entry of a number, if there is one, was touched or removed.
-pub(crate) fn with_gone(followed: Option<Followed>, number: Option<u64>) -> Option<Followed>
-    ensures { HasGivenWay number followed result }
+/// Notes that the entry of a number, if there is one, was touched or removed.
+pub(crate) fn note_gone(followed: &mut Option<Followed>, number: Option<u64>)
+    ensures { HasGivenWay number followed.old followed.new }
 {
-    match number {
-        Some(number) => with_move(followed, number),
-        None => followed,
+    if let Some(number) = number {
+        note_move(followed, number);
     }
 }
 
-/// After an entry of a number came in the place of that of another, if its key held one.
-pub(crate) fn with_put(
-    followed: Option<Followed>,
-    held: Option<u64>,
-    number: u64,
-) -> Option<Followed>
-    ensures { IsPut held number followed result }
+/// Notes that an entry of a number came in the place of that of another, if its key held one.
+pub(crate) fn note_put(followed: &mut Option<Followed>, held: Option<u64>, number: u64)
+    ensures { IsPut held number followed.old followed.new }
 {
-    with_new(with_gone(followed, held), number)
+    note_gone(followed, held);
+    note_new(followed, number);
 }

@@ -218,7 +218,7 @@ impl Store {
         self.beside.note(&entry.key);
         let number = entry.number;
         let old = self.cache.put(key, entry)?;
-        self.followed = followed::with_put(self.followed.take(), followed::number_of(&old), number);
+        followed::note_put(&mut self.followed, followed::number_of(&old), number);
         if !is_gone_by(old, self.stale, time) {
             self.deaths.add(Death { time, key: dying });
         }
@@ -242,7 +242,7 @@ impl Store {
         // The length is read for what it tells: no two entries have the same key.
         let _ = self.cache.len();
         let moved = promote(&mut self.cache, key);
-        self.followed = followed::with_gone(self.followed.take(), moved);
+        followed::note_gone(&mut self.followed, moved);
     }
 
     /// Removes the entry of a key.
@@ -252,7 +252,7 @@ impl Store {
         // The length is read for what it tells: no two entries have the same key.
         let _ = self.cache.len();
         let gone = followed::number_of(&self.cache.pop(key));
-        self.followed = followed::with_gone(self.followed.take(), gone);
+        followed::note_gone(&mut self.followed, gone);
     }
 
     /// Removes the last entry, and answers its key.
@@ -263,7 +263,7 @@ impl Store {
         // The length is read for what it tells: no two entries have the same key.
         let _ = self.cache.len();
         let (key, entry) = self.cache.pop_lru()?;
-        self.followed = followed::with_move(self.followed.take(), entry.number);
+        followed::note_move(&mut self.followed, entry.number);
         Some(key)
     }
 }

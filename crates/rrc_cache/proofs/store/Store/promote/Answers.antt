@@ -37,11 +37,11 @@ invariant_of-self c =
             (promoted_foreseen c.self.inside.stale (entries_in pairs) c.self.inside.deaths c.self.invariant.0.foreseen key);
         marked = subst (AreMarked c.self.inside.beside) is (promoted_marked c.self.inside.beside key (entries_in pairs) c.self.invariant.0.marked);
       },
-      subst (IsFollowed c.with_gone.result) is
-          (promoted_way key (entries_in pairs) (lookup (key_eq key) pairs) c.self.inside.followed c.with_gone.result apart
+      subst (IsFollowed c.note_gone.new.followed) is
+          (promoted_way key (entries_in pairs) (lookup (key_eq key) pairs) c.self.inside.followed c.note_gone.new.followed apart
           (sym (found_in_pairs key pairs c.self.invariant.0.own))
-          (subst (λ number. HasGivenWay number c.self.inside.followed c.with_gone.result) c.promote-moved.ensures.number
-          (subst (λ old. HasGivenWay c.promote-moved.result old c.with_gone.result) c.take.ensures.value c.with_gone.ensures)) c.self.invariant.1),
+          (subst (λ number. HasGivenWay number c.self.inside.followed c.note_gone.new.followed) c.promote-moved.ensures.number c.note_gone.ensures)
+          c.self.invariant.1),
     )
 
 pub returns : goal.returns

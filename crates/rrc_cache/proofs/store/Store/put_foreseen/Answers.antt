@@ -89,15 +89,14 @@ invariant_of-self-then-not-is_gone_by c =
     let was : entry_at entry.key (entries_in cache.entries) ≡ c.in_ok-old.old =
     held c.in_ok-key.key entry.key cache.entries c.in_ok-old.old c.self.invariant.0.own c.in_ok-key.ensures.cases c.in_ok-old.ensures.old in
     let death : Death = record { time = c.time_of_death-time.result; key = c.in_ok-dying.dying } in
-    let put : IsPut (option_map (λ e. e.number) c.in_ok-old.old) entry.number c.self.inside.followed c.with_put.result =
-    subst (λ old. IsPut (option_map (λ e. e.number) c.in_ok-old.old) entry.number old c.with_put.result) c.take.ensures.value
-    (subst (λ number. IsPut number entry.number c.take.result c.with_put.result) c.number_of.ensures c.with_put.ensures) in (
+    let put : IsPut (option_map (λ e. e.number) c.in_ok-old.old) entry.number c.self.inside.followed c.note_put.new.followed =
+    subst (λ number. IsPut number entry.number c.self.inside.followed c.note_put.new.followed) c.number_of.ensures c.note_put.ensures in (
       kept stale cache c.put.new.self c.reserve.new.self beside c.in_ok-key.key entry store c.len.ensures.valid.0 (omega (arith, c.len.ensures.len, c.len.ensures.fits))
           c.in_ok-key.ensures.cases c.in_ok-old.ensures.entries c.add.new.self c.note.new.self
           (added_foreseen stale cache c.reserve.new.self c.add.new.self beside entry store death c.add.ensures c.time_of_death-time.ensures c.in_ok-dying.ensures.cases)
           c.note.ensures.own c.note.ensures.others,
       followed stale cache c.put.new.self c.reserve.new.self beside c.in_ok-key.key entry store c.len.ensures.valid.0 (omega (arith, c.len.ensures.len, c.len.ensures.fits))
-          c.in_ok-key.ensures.cases c.in_ok-old.ensures.entries c.in_ok-old.old c.self.inside.followed c.with_put.result was put c.self.invariant.1,
+          c.in_ok-key.ensures.cases c.in_ok-old.ensures.entries c.in_ok-old.old c.self.inside.followed c.note_put.new.followed was put c.self.invariant.1,
     )
 
 pub invariant_of-self-else-not-is_gone_by : goal.invariant_of-self-else-not-is_gone_by
@@ -111,16 +110,15 @@ invariant_of-self-else-not-is_gone_by c =
     sym (ap (λ (time : ℕ). is_gone_by stale time c.in_ok-old.old) c.time_of_death-time.ensures) ∙ (sym c.is_gone_by.ensures ∙ c.if-not-is_gone_by.false) in
     let was : entry_at entry.key (entries_in cache.entries) ≡ c.in_ok-old.old =
     held c.in_ok-key.key entry.key cache.entries c.in_ok-old.old c.self.invariant.0.own c.in_ok-key.ensures.cases c.in_ok-old.ensures.old in
-    let put : IsPut (option_map (λ e. e.number) c.in_ok-old.old) entry.number c.self.inside.followed c.with_put.result =
-    subst (λ old. IsPut (option_map (λ e. e.number) c.in_ok-old.old) entry.number old c.with_put.result) c.take.ensures.value
-    (subst (λ number. IsPut number entry.number c.take.result c.with_put.result) c.number_of.ensures c.with_put.ensures) in (
+    let put : IsPut (option_map (λ e. e.number) c.in_ok-old.old) entry.number c.self.inside.followed c.note_put.new.followed =
+    subst (λ number. IsPut number entry.number c.self.inside.followed c.note_put.new.followed) c.number_of.ensures c.note_put.ensures in (
       kept stale cache c.put.new.self c.reserve.new.self beside c.in_ok-key.key entry store c.len.ensures.valid.0 (omega (arith, c.len.ensures.len, c.len.ensures.fits))
           c.in_ok-key.ensures.cases c.in_ok-old.ensures.entries c.reserve.new.self c.note.new.self
           (put_foreseen stale (entries_in cache.entries) c.reserve.new.self store.foreseen entry c.reserve.new.self (λ key time is. is)
           (foreseen_before stale (entries_in cache.entries) c.reserve.new.self store.foreseen entry c.in_ok-old.old was gone))
           c.note.ensures.own c.note.ensures.others,
       followed stale cache c.put.new.self c.reserve.new.self beside c.in_ok-key.key entry store c.len.ensures.valid.0 (omega (arith, c.len.ensures.len, c.len.ensures.fits))
-          c.in_ok-key.ensures.cases c.in_ok-old.ensures.entries c.in_ok-old.old c.self.inside.followed c.with_put.result was put c.self.invariant.1,
+          c.in_ok-key.ensures.cases c.in_ok-old.ensures.entries c.in_ok-old.old c.self.inside.followed c.note_put.new.followed was put c.self.invariant.1,
     )
 
 pub invariant_of-self-in_err-old : goal.invariant_of-self-in_err-old

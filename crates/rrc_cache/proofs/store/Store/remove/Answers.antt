@@ -29,8 +29,8 @@ invariant_of-self c =
     let is : staying (goes key None) before ≡ entries_in c.pop.new.self.entries =
     sym (after key c.self.inside.cache c.pop.new.self c.self.invariant.0.own c.len.ensures.valid.0 c.pop.ensures.entries) in
     let pairs : List (KeyOf × Entry) = c.self.inside.cache.entries in
-    let gave : HasGivenWay (option_map (λ entry. entry.number) (lookup (key_eq key) pairs)) c.self.inside.followed c.with_gone.result =
-    subst (λ number. HasGivenWay number c.self.inside.followed c.with_gone.result) (c.number_of-gone.ensures ∙ ap (option_map (λ entry. entry.number)) c.pop.ensures.value) (subst (λ old. HasGivenWay c.number_of-gone.result old c.with_gone.result) c.take.ensures.value c.with_gone.ensures) in (
+    let gave : HasGivenWay (option_map (λ entry. entry.number) (lookup (key_eq key) pairs)) c.self.inside.followed c.note_gone.new.followed =
+    subst (λ number. HasGivenWay number c.self.inside.followed c.note_gone.new.followed) (c.number_of-gone.ensures ∙ ap (option_map (λ entry. entry.number)) c.pop.ensures.value) c.note_gone.ensures in (
       record {
         own = rw c.pop.ensures.entries (own_removed (key_eq key) pairs c.self.invariant.0.own);
         wide = rw c.pop.ensures.entries c.self.invariant.0.wide;
@@ -39,8 +39,8 @@ invariant_of-self c =
             (removed_foreseen c.self.inside.stale before c.self.inside.deaths c.self.invariant.0.foreseen key);
         marked = subst (AreMarked c.self.inside.beside) is (removed_marked c.self.inside.beside key before c.self.invariant.0.marked);
       },
-      subst (IsFollowed c.with_gone.result) is
-          (given_way key before (lookup (key_eq key) pairs) c.self.inside.followed c.with_gone.result (apart_in pairs c.self.invariant.0.own c.len.ensures.valid.0)
+      subst (IsFollowed c.note_gone.new.followed) is
+          (given_way key before (lookup (key_eq key) pairs) c.self.inside.followed c.note_gone.new.followed (apart_in pairs c.self.invariant.0.own c.len.ensures.valid.0)
           (sym (found_in_pairs key pairs c.self.invariant.0.own)) gave c.self.invariant.1),
     )
 

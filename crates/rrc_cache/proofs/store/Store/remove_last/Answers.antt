@@ -7,7 +7,7 @@ use Rattle.rrc_history.specs.Past.{last_key}
 use Rattle.rrc_history.specs.Entries.{AreApart, goes, staying}
 use Rattle.rrc_cache.specs.Beside.{AreMarked}
 use Rattle.rrc_cache.specs.Deaths.{AreForeseen}
-use Rattle.rrc_cache.specs.Followed.{IsFollowed, HasMoved}
+use Rattle.rrc_cache.specs.Followed.{IsFollowed}
 use Rattle.rrc_cache.specs.Pairs.{entries_in, StoreOf}
 use Rattle.rrc_cache.proofs.Following.{removed_followed}
 use Rattle.rrc_cache.proofs.Marked.{removed_marked}
@@ -41,9 +41,9 @@ invariant_of-self-2 c =
             (removed_foreseen c.self.inside.stale (entries_in pairs) c.self.inside.deaths c.self.invariant.0.foreseen pair.1.key);
         marked = subst (AreMarked c.self.inside.beside) left (removed_marked c.self.inside.beside pair.1.key (entries_in pairs) c.self.invariant.0.marked);
       },
-      subst (IsFollowed c.with_move.result) left
-          (removed_followed pair.1.key pair.1 (entries_in pairs) c.self.inside.followed c.with_move.result apart (last_found pairs pair apart is)
-          (subst (λ old. HasMoved pair.1.number old c.with_move.result) c.take.ensures.value c.with_move.ensures) c.self.invariant.1),
+      subst (IsFollowed c.note_move.new.followed) left
+          (removed_followed pair.1.key pair.1 (entries_in pairs) c.self.inside.followed c.note_move.new.followed apart (last_found pairs pair apart is)
+          c.note_move.ensures c.self.invariant.1),
     )
 
 pub invariant_of-self : goal.invariant_of-self
