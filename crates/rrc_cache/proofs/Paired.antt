@@ -5,6 +5,7 @@ use Rattle.std.specs.List.{AllByRecursion, IsDistinct, slice_get}
 use Rattle.std.specs.Option.{option_map, option_map_or}
 use Rattle.std.specs.Map.{keys_of, lookup, lookup_entry, remove_entry}
 use Rattle.std.proofs.lemmas.List.{append-nil, take-map}
+use Rattle.std.proofs.lemmas.Option.{slice_get_past}
 use Rattle.lru.specs.LruCache as lru
 use Rattle.rrc_name.specs.Key.{KeyOf, key_eq}
 use Rattle.rrc_name.specs.lemmas.KeyLaws.{key_eq-same}
@@ -139,6 +140,15 @@ promoted_first test pairs some = by (lookup_entry test pairs) refl
         rw (is, found) refl
 
 -- ---- puts
+
+-- what a push hands back where there is room: the key, with what it had
+pub displaced_in : (key : KeyOf) (entry : Entry) (cache : lru.LruCache KeyOf Entry) → length cache.entries < cache.cap
+    → lru.displaced key_eq cache key entry ≡ option_map (λ old. (key, old)) (lookup (key_eq key) cache.entries)
+displaced_in key entry cache room = by (lookup (key_eq key) cache.entries)
+  where
+    by : (found : Option Entry) → option_map_or (λ old. Some (key, old)) found (slice_get cache.entries (cache.cap - 1)) ≡ option_map (λ old. (key, old)) found
+    by None = slice_get_past cache.entries (cache.cap - 1) (omega (arith, room))
+    by (Some old) = refl
 
 -- the pairs after a put
 abbrev put_over : ℕ → KeyOf → Entry → List (KeyOf × Entry) → Option (KeyOf × Entry) → List (KeyOf × Entry)

@@ -1,5 +1,5 @@
 -- What is kept beside the sets of a name: that it does not exist, that asking for a type of it failed.
-use Rattle.std.specs.Prelude.{◌≡◌, ℕ, ◌%◌, List, [], ◌∷◌, length, Bool, true, false, slice_index_or}
+use Rattle.std.specs.Prelude.{◌≡◌, ℕ, ◌-◌, bit_and, List, [], ◌∷◌, length, Bool, true, false, slice_index_or}
 use Rattle.std.specs.List.{AllByRecursion, fold}
 use Rattle.std.specs.Hash.FoldHasher as folding
 use Rattle.rrc_cache.specs.declared.seeded.Seeded.{Seeded}
@@ -13,9 +13,9 @@ is_beside (Set rtype) = false
 is_beside Nx = true
 is_beside (Failed rtype) = true
 
--- the place of a name, by its hash behind the seed
+-- the place of a name: the lowest bits of its hash behind the seed
 abbrev pub place_of : Seeded → ℕ → List ℕ → ℕ
-place_of seeded places name = folding.finish (fold folding.write seeded.fed (name ∷ [])) % places
+place_of seeded places name = bit_and (folding.finish (fold folding.write seeded.fed (name ∷ []))) (places - 1)
 
 -- a mark for each place, and the seed by which names have their places
 pub record BesideOf : Type 0 where

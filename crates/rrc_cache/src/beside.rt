@@ -38,7 +38,7 @@ impl Model for Beside {
 }
 
 impl Beside {
-    /// A table of so many places, of which none is marked.
+    /// A table of so many places, of which none is marked. Where they are a power of two, each name may have any of them.
     pub(crate) fn new(alloc: Global, seeded: Seeded, places: usize) -> Result<Beside, AllocError>
         requires { 0 < places }
     {
@@ -108,11 +108,11 @@ fn is_beside(slot: Slot) -> bool
     }
 }
 
-/// The place of a name among so many.
+/// The place of a name among so many: the lowest bits of its hash, since a division would take longer than the hash.
 fn place_of(seeded: &Seeded, places: usize, name: &Name) -> usize
     requires { 0 < places }
     ensures value { result ≡ place_of seeded.now places name.now }
     ensures within { result < places }
 {
-    (seeded.hash_one(name) % places as u64) as usize
+    (seeded.hash_one(name) & (places as u64 - 1)) as usize
 }

@@ -1,7 +1,7 @@
-ghost use Rattle.std.specs.Prelude.{◌≡◌, ◌-◌, ◌≤◌, [], ◌∷◌, None, length, take, true, false, IfOk, OnOk, OnErr};
+ghost use Rattle.std.specs.Prelude.{◌≡◌, ◌-◌, ◌<◌, ◌≤◌, [], ◌∷◌, None, length, take, true, false, IfOk, IsSome, OnOk, OnErr};
 ghost use Rattle.std.specs.Map.{lookup};
 ghost use Rattle.std.specs.Option.{option_copied, option_map};
-ghost use Rattle.lru.specs.LruCache.{lru_cache, promoted as lru_promoted};
+ghost use Rattle.lru.specs.LruCache.{lru_cache, put_entries, promoted as lru_promoted};
 ghost use Rattle.rrc_name.specs.declared.slot.Slot.{Slot};
 ghost use Rattle.rrc_name.specs.Key.{KeyOf, key_eq};
 ghost use Rattle.rrc_name.specs.KeyRef.{key_of};
@@ -53,8 +53,8 @@ impl Model for Store {
 }
 
 impl Store {
-    /// No entries. Keys are hashed behind the seed, and sets may be stale for as many seconds as the rules say. There are two marks
-    /// for each key that may be kept.
+    /// No entries. Keys are hashed behind the seed, and sets may be stale for as many seconds as the rules say. There are two to
+    /// four marks for each key that may be kept.
     pub(crate) fn new(alloc: Global, seed: [u8; 16], rules: Rules) -> Result<Store, AllocError>
         ensures { IfOk result (λ store. store ≡ record { stale = rules.stale; entries = [] }) }
     {
@@ -62,7 +62,7 @@ impl Store {
         Ok(Store {
             cache: LruCache::unbounded_with_hasher(alloc, seeded)?,
             deaths: Deaths::new(alloc),
-            beside: Beside::new(alloc, seeded, 2 * rules.capacity as usize)?,
+            beside: Beside::new(alloc, seeded, (2 * rules.capacity as usize).next_power_of_two())?,
             stale: rules.stale,
             followed: None,
         })
@@ -82,7 +82,7 @@ impl Store {
         let mut store = Store::new(alloc, seed, rules)?;
         // The last one first, since each is put in front.
         for place in (0..entries.len()).rev() {
-            store.put(entries.entry(place).clone()?)?;
+            store.put(entries.entry(place).clone()?, false)?;
         }
         Ok(store)
     }
@@ -188,12 +188,14 @@ impl Store {
         Ok(snapshot)
     }
 
-    /// Puts an entry in front, in the place of the one that its key had. An `Err` leaves all as it was.
-    pub(crate) fn put(&mut self, entry: Entry) -> Result<(), AllocError>
+    /// Puts an entry in front, in the place of the one that its key had. An `Err` leaves all as it was. Where the caller knows that the key
+    /// has one, `is_held` says so, which saves an owner of the key; else it is false.
+    pub(crate) fn put(&mut self, entry: Entry, is_held: bool) -> Result<(), AllocError>
+        requires held { is_held ≡ true → IsSome (entry_at entry.key self.old.entries) }
         ensures ok { OnOk result (self.new ≡ record self.old { entries = entry ∷ staying (goes entry.key None) self.old.entries }) }
         ensures err { OnErr result (self.new ≡ self.old) }
     {
-        self.put_foreseen(entry)?;
+        self.put_foreseen(entry, is_held)?;
         if self.deaths.are_many(self.cache.len()) {
             self.renew();
         }
@@ -204,23 +206,23 @@ impl Store {
     }
 
     /// Puts an entry in front, and sees to it that a death comes no later than it dies, and that its name is marked where it stands
-    /// beside the sets. There is a death already where it takes the place of what dies no later.
-    fn put_foreseen(&mut self, entry: Entry) -> Result<(), AllocError>
+    /// beside the sets.
+    fn put_foreseen(&mut self, entry: Entry, is_held: bool) -> Result<(), AllocError>
+        requires held { is_held ≡ true → IsSome (entry_at entry.key self.old.entries) }
         ensures ok { OnOk result (self.new ≡ record self.old { entries = entry ∷ staying (goes entry.key None) self.old.entries }) }
         ensures err { OnErr result (self.new ≡ self.old) }
     {
-        let key = entry.key.clone()?;
-        let dying = entry.key.clone()?;
         let time = judge::time_of_death(&entry, self.stale);
         // The length is read for what it tells: there is room, and no two entries have the same key.
         let _ = self.cache.len();
         self.deaths.reserve()?;
         self.beside.note(&entry.key);
         let number = entry.number;
-        let old = self.cache.put(key, entry)?;
+        let (key, old) = put_over(&mut self.cache, entry, is_held)?;
         followed::note_put(&mut self.followed, followed::number_of(&old), number);
         if !is_gone_by(old, self.stale, time) {
-            self.deaths.add(Death { time, key: dying });
+            let death = Death { time, key };
+            self.deaths.add(death);
         }
         Ok(())
     }
@@ -279,6 +281,30 @@ fn promote(cache: &mut LruCache<Key, Entry, Seeded>, key: KeyRef<'_>) -> Option<
     match cache.peek_mru() {
         Some((_, entry)) => Some(entry.number),
         None => None,
+    }
+}
+
+/// Puts an entry in front under its key, and answers one like that, and what it had. An `Err` leaves all as it was.
+fn put_over(
+    cache: &mut LruCache<Key, Entry, Seeded>,
+    entry: Entry,
+    is_held: bool,
+) -> Result<(Key, Option<Entry>), AllocError>
+    requires held { is_held ≡ true → IsSome (lookup (key_eq entry.key) cache.old.entries) }
+    requires room { length cache.old.entries < cache.old.cap }
+    ensures key { IfOk result (λ told. told.0 ≡ entry.key) }
+    ensures old { IfOk result (λ told. told.1 ≡ lookup (key_eq entry.key) cache.old.entries) }
+    ensures entries { OnOk result (cache.new ≡ lru_cache (put_entries key_eq cache.old entry.key entry) cache.old.cap) }
+    ensures err { OnErr result (cache.new ≡ cache.old) }
+{
+    let key = entry.key.clone()?;
+    let spare = if is_held { None } else { Some(entry.key.clone()?) };
+    match cache.push(key, entry)? {
+        Some((key, old)) => Ok((key, Some(old))),
+        None => {
+            let Some(key) = spare else { unreachable!() };
+            Ok((key, None))
+        }
     }
 }
 

@@ -1,4 +1,5 @@
 use Rattle.std.proofs.Common.{◌≡◌, ℕ, Bool, ◌∷◌, ◌^◌, ◌<◌, ◌||◌, length, List, Option, None, true, false, refl, ap, sym, subst, ◌∙◌, arith}
+use Rattle.std.specs.Prelude.{IsSome}
 use Rattle.std.specs.List.{IsDistinct}
 use Rattle.std.specs.Map.{keys_of, lookup}
 use Rattle.std.specs.Option.{option_map}
@@ -13,7 +14,7 @@ use Rattle.rrc_cache.specs.Beside.{AreMarked, BesideOf, is_beside, may_hold}
 use Rattle.rrc_cache.specs.Deaths.{AreForeseen, DeathsOf, dies_by, is_by, is_gone_by}
 use Rattle.rrc_cache.specs.Dying.{time_of_death}
 use Rattle.rrc_cache.specs.Followed.{IsFollowed, IsPut}
-use Rattle.rrc_cache.specs.Pairs.{entries_in, AreOwn, IsStore}
+use Rattle.rrc_cache.specs.Pairs.{entries_in, AreOwn, IsStore, StoreOf}
 use Rattle.rrc_cache.proofs.Following.{put_followed}
 use Rattle.rrc_cache.proofs.Marked.{put_marked}
 use Rattle.rrc_cache.proofs.Paired.{apart_in, edited, found_in_pairs, put_in, own_put}
@@ -79,6 +80,12 @@ module _ (stale : ℕ) (cache : LruCache KeyOf Entry) (deaths added : DeathsOf) 
       (λ key time is. adds key time ∙ also (is_by key time death) (dies_by deaths key time) is)
       (adds entry.key dies ∙ ap (λ b. b || dies_by deaths entry.key dies) here)
 
+pub put_over-requires-clause-held : goal.put_over-requires-clause-held
+put_over-requires-clause-held c = λ is.
+    let pairs : List (KeyOf × Entry) = c.self.inside.cache.entries in
+    let own : lookup (key_eq c.args.entry.key) pairs ≡ entry_at c.args.entry.key (entries_in pairs) = found_in_pairs c.args.entry.key pairs c.self.invariant.0.own in
+    subst (λ found. IsSome found) (ap (λ (store : StoreOf). entry_at c.args.entry.key store.entries) (sym c.self.view_is) ∙ sym own) (c.requires.held is)
+
 pub invariant_of-self-then-not-is_gone_by : goal.invariant_of-self-then-not-is_gone_by
 invariant_of-self-then-not-is_gone_by c =
     let stale = c.self.inside.stale in
@@ -86,17 +93,17 @@ invariant_of-self-then-not-is_gone_by c =
     let entry = c.args.entry in
     let beside = c.self.inside.beside in
     let store : IsStore stale cache c.reserve.new.self beside = same_store stale cache beside c.self.inside.deaths c.reserve.new.self c.reserve.ensures.same c.self.invariant.0 in
-    let was : entry_at entry.key (entries_in cache.entries) ≡ c.in_ok-old.old =
-    held c.in_ok-key.key entry.key cache.entries c.in_ok-old.old c.self.invariant.0.own c.in_ok-key.ensures.cases c.in_ok-old.ensures.old in
-    let death : Death = record { time = c.time_of_death-time.result; key = c.in_ok-dying.dying } in
-    let put : IsPut (option_map (λ e. e.number) c.in_ok-old.old) entry.number c.self.inside.followed c.note_put.new.followed =
+    let was : entry_at entry.key (entries_in cache.entries) ≡ c.in_ok-key.old =
+    held entry.key entry.key cache.entries c.in_ok-key.old c.self.invariant.0.own refl c.in_ok-key.ensures.old in
+    let death : Death = record { time = c.time_of_death-time.result; key = c.in_ok-key.key } in
+    let put : IsPut (option_map (λ e. e.number) c.in_ok-key.old) entry.number c.self.inside.followed c.note_put.new.followed =
     subst (λ number. IsPut number entry.number c.self.inside.followed c.note_put.new.followed) c.number_of.ensures c.note_put.ensures in (
-      kept stale cache c.put.new.self c.reserve.new.self beside c.in_ok-key.key entry store c.len.ensures.valid.0 (omega (arith, c.len.ensures.len, c.len.ensures.fits))
-          c.in_ok-key.ensures.cases c.in_ok-old.ensures.entries c.add.new.self c.note.new.self
-          (added_foreseen stale cache c.reserve.new.self c.add.new.self beside entry store death c.add.ensures c.time_of_death-time.ensures c.in_ok-dying.ensures.cases)
+      kept stale cache c.put_over.new.cache c.reserve.new.self beside entry.key entry store c.len.ensures.valid.0 (omega (arith, c.len.ensures.len, c.len.ensures.fits))
+          refl c.in_ok-key.ensures.entries c.add.new.self c.note.new.self
+          (added_foreseen stale cache c.reserve.new.self c.add.new.self beside entry store death c.add.ensures c.time_of_death-time.ensures c.in_ok-key.ensures.key)
           c.note.ensures.own c.note.ensures.others,
-      followed stale cache c.put.new.self c.reserve.new.self beside c.in_ok-key.key entry store c.len.ensures.valid.0 (omega (arith, c.len.ensures.len, c.len.ensures.fits))
-          c.in_ok-key.ensures.cases c.in_ok-old.ensures.entries c.in_ok-old.old c.self.inside.followed c.note_put.new.followed was put c.self.invariant.1,
+      followed stale cache c.put_over.new.cache c.reserve.new.self beside entry.key entry store c.len.ensures.valid.0 (omega (arith, c.len.ensures.len, c.len.ensures.fits))
+          refl c.in_ok-key.ensures.entries c.in_ok-key.old c.self.inside.followed c.note_put.new.followed was put c.self.invariant.1,
     )
 
 pub invariant_of-self-else-not-is_gone_by : goal.invariant_of-self-else-not-is_gone_by
@@ -106,40 +113,40 @@ invariant_of-self-else-not-is_gone_by c =
     let entry = c.args.entry in
     let beside = c.self.inside.beside in
     let store : IsStore stale cache c.reserve.new.self beside = same_store stale cache beside c.self.inside.deaths c.reserve.new.self c.reserve.ensures.same c.self.invariant.0 in
-    let gone : is_gone_by stale (time_of_death stale entry) c.in_ok-old.old ≡ true =
-    sym (ap (λ (time : ℕ). is_gone_by stale time c.in_ok-old.old) c.time_of_death-time.ensures) ∙ (sym c.is_gone_by.ensures ∙ c.if-not-is_gone_by.false) in
-    let was : entry_at entry.key (entries_in cache.entries) ≡ c.in_ok-old.old =
-    held c.in_ok-key.key entry.key cache.entries c.in_ok-old.old c.self.invariant.0.own c.in_ok-key.ensures.cases c.in_ok-old.ensures.old in
-    let put : IsPut (option_map (λ e. e.number) c.in_ok-old.old) entry.number c.self.inside.followed c.note_put.new.followed =
+    let gone : is_gone_by stale (time_of_death stale entry) c.in_ok-key.old ≡ true =
+    sym (ap (λ (time : ℕ). is_gone_by stale time c.in_ok-key.old) c.time_of_death-time.ensures) ∙ (sym c.is_gone_by.ensures ∙ c.if-not-is_gone_by.false) in
+    let was : entry_at entry.key (entries_in cache.entries) ≡ c.in_ok-key.old =
+    held entry.key entry.key cache.entries c.in_ok-key.old c.self.invariant.0.own refl c.in_ok-key.ensures.old in
+    let put : IsPut (option_map (λ e. e.number) c.in_ok-key.old) entry.number c.self.inside.followed c.note_put.new.followed =
     subst (λ number. IsPut number entry.number c.self.inside.followed c.note_put.new.followed) c.number_of.ensures c.note_put.ensures in (
-      kept stale cache c.put.new.self c.reserve.new.self beside c.in_ok-key.key entry store c.len.ensures.valid.0 (omega (arith, c.len.ensures.len, c.len.ensures.fits))
-          c.in_ok-key.ensures.cases c.in_ok-old.ensures.entries c.reserve.new.self c.note.new.self
+      kept stale cache c.put_over.new.cache c.reserve.new.self beside entry.key entry store c.len.ensures.valid.0 (omega (arith, c.len.ensures.len, c.len.ensures.fits))
+          refl c.in_ok-key.ensures.entries c.reserve.new.self c.note.new.self
           (put_foreseen stale (entries_in cache.entries) c.reserve.new.self store.foreseen entry c.reserve.new.self (λ key time is. is)
-          (foreseen_before stale (entries_in cache.entries) c.reserve.new.self store.foreseen entry c.in_ok-old.old was gone))
+          (foreseen_before stale (entries_in cache.entries) c.reserve.new.self store.foreseen entry c.in_ok-key.old was gone))
           c.note.ensures.own c.note.ensures.others,
-      followed stale cache c.put.new.self c.reserve.new.self beside c.in_ok-key.key entry store c.len.ensures.valid.0 (omega (arith, c.len.ensures.len, c.len.ensures.fits))
-          c.in_ok-key.ensures.cases c.in_ok-old.ensures.entries c.in_ok-old.old c.self.inside.followed c.note_put.new.followed was put c.self.invariant.1,
+      followed stale cache c.put_over.new.cache c.reserve.new.self beside entry.key entry store c.len.ensures.valid.0 (omega (arith, c.len.ensures.len, c.len.ensures.fits))
+          refl c.in_ok-key.ensures.entries c.in_ok-key.old c.self.inside.followed c.note_put.new.followed was put c.self.invariant.1,
     )
 
-pub invariant_of-self-in_err-old : goal.invariant_of-self-in_err-old
-invariant_of-self-in_err-old c =
+pub invariant_of-self-in_err-key : goal.invariant_of-self-in_err-key
+invariant_of-self-in_err-key c =
     let stale = c.self.inside.stale in
     let cache = c.self.inside.cache in
     let beside = c.self.inside.beside in
     let store : IsStore stale cache c.reserve.new.self beside = same_store stale cache beside c.self.inside.deaths c.reserve.new.self c.reserve.ensures.same c.self.invariant.0 in
-    subst (λ (now : LruCache KeyOf Entry). IsStore stale now c.reserve.new.self c.note.new.self × IsFollowed c.self.inside.followed (entries_in now.entries)) (sym c.in_err-old.ensures.err)
+    subst (λ (now : LruCache KeyOf Entry). IsStore stale now c.reserve.new.self c.note.new.self × IsFollowed c.self.inside.followed (entries_in now.entries)) (sym c.in_err-key.ensures.err)
     (noted_store stale cache beside c.note.new.self c.reserve.new.self c.note.ensures.others store, c.self.invariant.1)
 
 pub returns-then-not-is_gone_by-clause-ok : goal.returns-then-not-is_gone_by-clause-ok
 returns-then-not-is_gone_by-clause-ok c =
     let cache = c.self.inside.cache in
-    edited (with_entry c.args.entry) c.self.inside.stale (entries_in cache.entries) (entries_in c.put.new.self.entries) c.args.self.now
-    (after c.self.inside.stale cache c.put.new.self c.self.inside.deaths c.self.inside.beside c.in_ok-key.key c.args.entry c.self.invariant.0 c.len.ensures.valid.0
-    (omega (arith, c.len.ensures.len, c.len.ensures.fits)) c.in_ok-key.ensures.cases c.in_ok-old.ensures.entries) c.self.view_is
+    edited (with_entry c.args.entry) c.self.inside.stale (entries_in cache.entries) (entries_in c.put_over.new.cache.entries) c.args.self.now
+    (after c.self.inside.stale cache c.put_over.new.cache c.self.inside.deaths c.self.inside.beside c.args.entry.key c.args.entry c.self.invariant.0 c.len.ensures.valid.0
+    (omega (arith, c.len.ensures.len, c.len.ensures.fits)) refl c.in_ok-key.ensures.entries) c.self.view_is
 
 pub returns-else-not-is_gone_by-clause-ok : goal.returns-else-not-is_gone_by-clause-ok
 returns-else-not-is_gone_by-clause-ok c =
     let cache = c.self.inside.cache in
-    edited (with_entry c.args.entry) c.self.inside.stale (entries_in cache.entries) (entries_in c.put.new.self.entries) c.args.self.now
-    (after c.self.inside.stale cache c.put.new.self c.self.inside.deaths c.self.inside.beside c.in_ok-key.key c.args.entry c.self.invariant.0 c.len.ensures.valid.0
-    (omega (arith, c.len.ensures.len, c.len.ensures.fits)) c.in_ok-key.ensures.cases c.in_ok-old.ensures.entries) c.self.view_is
+    edited (with_entry c.args.entry) c.self.inside.stale (entries_in cache.entries) (entries_in c.put_over.new.cache.entries) c.args.self.now
+    (after c.self.inside.stale cache c.put_over.new.cache c.self.inside.deaths c.self.inside.beside c.args.entry.key c.args.entry c.self.invariant.0 c.len.ensures.valid.0
+    (omega (arith, c.len.ensures.len, c.len.ensures.fits)) refl c.in_ok-key.ensures.entries) c.self.view_is
