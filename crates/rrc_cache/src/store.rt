@@ -62,7 +62,11 @@ impl Store {
         Ok(Store {
             cache: LruCache::unbounded_with_hasher(alloc, seeded)?,
             deaths: Deaths::new(alloc),
-            beside: Beside::new(alloc, seeded, (2 * rules.capacity as usize).next_power_of_two())?,
+            beside: Beside::new(
+                alloc,
+                seeded,
+                (2 * rules.capacity as usize).next_power_of_two(),
+            )?,
             stale: rules.stale,
             followed: None,
         })
@@ -298,7 +302,11 @@ fn put_over(
     ensures err { OnErr result (cache.new ≡ cache.old) }
 {
     let key = entry.key.clone()?;
-    let spare = if is_held { None } else { Some(entry.key.clone()?) };
+    let spare = if is_held {
+        None
+    } else {
+        Some(entry.key.clone()?)
+    };
     match cache.push(key, entry)? {
         Some((key, old)) => Ok((key, Some(old))),
         None => {

@@ -1,4 +1,5 @@
 pub mod Words
+pub mod Operations
 pub mod Calls
 pub mod Same
 pub mod Hands

@@ -1,5 +1,4 @@
-use crate::script::Operation;
-use rrc_name::Sequence;
+use crate::operations::Operations;
 
 /// What became of a line that may be a fetch.
 #[derive(Clone, Copy, Debug, PartialEq, Eq, Hash)]
@@ -18,5 +17,5 @@ pub struct Task {
     pub worker: usize,
     pub line: usize,
     pub fate: Fate,
-    pub operations: Sequence<Operation>,
+    pub operations: Operations,
 }

@@ -3,8 +3,8 @@ ghost use Rattle.std.specs.List.{All};
 ghost use Rattle.rrc_collate.specs.Fetches.{IsNumbered};
 
 use crate::{
-    Call, Fate, Operation, Task, Valued, are_joined, collate, deal, each_line_stands, have_others,
-    is_call_of, never_falls, owners, tag_of,
+    Call, Fate, Operation, Operations, Task, Valued, are_joined, collate, deal, each_line_stands,
+    have_others, is_call_of, never_falls, owners, tag_of,
 };
 use rrc_history::{Event, Tag, Whole};
 use rrc_name::Sequence;
@@ -153,7 +153,7 @@ fn tasks_of(alloc: Global, rows: &[(usize, usize, Fate)]) -> Result<Vec<Task>, A
             worker: *worker,
             line: *line,
             fate: *fate,
-            operations: Sequence::new(alloc),
+            operations: Operations::none(alloc),
         })?;
     }
     Ok(tasks)

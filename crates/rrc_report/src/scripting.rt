@@ -8,9 +8,8 @@ ghost use Rattle.rrc_report.specs.Scripts.{offer_of, failure_of, offering, askin
 use crate::config::Config;
 use crate::offering::{ask_at, failure_at, offer_at, offers_fetched, offers_in};
 use crate::script::Script;
-use rrc_collate::{Call, Fate, Operation};
+use rrc_collate::{Call, Fate, Operation, Operations};
 use rrc_history::{Ask, Mode, Offer};
-use rrc_name::Sequence;
 use rrc_sets::part_of;
 use rrc_trace::{Answer, Fetch, Line, Questions, ReplayFault, Response};
 use rrc_wire::{WireFault, one_message_or_fault, read_message};
@@ -39,10 +38,10 @@ fn asking(config: &Config, ask: Ask) -> Operation
 /// Puts offers behind operations, in order.
 fn add_offers(
     config: &Config,
-    operations: &mut Sequence<Operation>,
+    operations: &mut Vec<Operation>,
     offers: Vec<Offer>,
 ) -> Result<(), AllocError>
-    ensures { OnOk result (operations.new ≡ operations.old ++ map (offering config.now.parts) offers.items) }
+    ensures { OnOk result (operations.new.items ≡ operations.old.items ++ map (offering config.now.parts) offers.items) }
 {
     for offer in offers {
         operations.push(offering(config, offer))?;
@@ -50,18 +49,8 @@ fn add_offers(
     Ok(())
 }
 
-/// One operation alone.
-fn alone(alloc: Global, operation: Operation) -> Result<Sequence<Operation>, AllocError>
-    ensures { IfOk result (λ operations. operations ≡ operation ∷ []) }
-{
-    // No room to spare: a trace may have as many of these lists as lines.
-    let mut operations = Sequence::from_vec(Vec::with_capacity(alloc, 1)?);
-    operations.push(operation)?;
-    Ok(operations)
-}
-
 /// The script of a line that fetches nothing.
-fn plain(operations: Sequence<Operation>) -> Script
+fn plain(operations: Operations) -> Script
     ensures { result ≡ plain operations }
 {
     Script {
@@ -95,9 +84,9 @@ fn response_script(
             return Ok(None);
         }
     };
-    let mut operations = Sequence::from_vec(Vec::with_capacity(alloc, offers.len())?);
+    let mut operations = Vec::with_capacity(alloc, offers.len())?;
     add_offers(config, &mut operations, offers)?;
-    Ok(Some(plain(operations)))
+    Ok(Some(plain(Operations::from_vec(operations))))
 }
 
 /// The script of a response whose octets have this first fault, or `None` where they have not.
@@ -116,7 +105,7 @@ fn refused_script(
             Ok(None)
         }
         Err(WireFault::Memory) => Err(ReplayFault::Memory),
-        Err(found) if found == fault => Ok(Some(plain(Sequence::new(alloc)))),
+        Err(found) if found == fault => Ok(Some(plain(Operations::none(alloc)))),
         Err(_) => Ok(None),
     }
 }
@@ -134,19 +123,18 @@ fn fetching(
     config: &Config,
     fetch: &Fetch,
     offers: Vec<Offer>,
-) -> Result<Sequence<Operation>, AllocError>
+) -> Result<Operations, AllocError>
     ensures { IfOk result (λ operations. operations ≡ fetching config.now.parts fetch.now offers.items) }
 {
-    let mut operations = Sequence::from_vec(Vec::with_capacity(alloc, offers.len() + 2)?);
+    let mut operations = Vec::with_capacity(alloc, offers.len() + 2)?;
     operations.push(first_ask(config, fetch)?)?;
     add_offers(config, &mut operations, offers)?;
     operations.push(asking(config, ask_at(fetch, Mode::Now)?))?;
-    Ok(operations)
+    Ok(Operations::from_vec(operations))
 }
 
 /// The script of a fetch that another one of its question stood in for, or `None` where its question has no number.
 fn joined_script(
-    alloc: Global,
     config: &Config,
     questions: &Questions,
     fetch: &Fetch,
@@ -159,7 +147,7 @@ fn joined_script(
         return Ok(None);
     };
     Ok(Some(Script {
-        operations: alone(alloc, first_ask(config, fetch)?)?,
+        operations: Operations::alone(first_ask(config, fetch)?),
         fate: Fate::Joined { question },
     }))
 }
@@ -188,17 +176,17 @@ fn fetched_script(
 }
 
 /// A sweep of each part, in order.
-fn sweeping(alloc: Global, config: &Config, moment: u64) -> Result<Sequence<Operation>, AllocError>
+fn sweeping(alloc: Global, config: &Config, moment: u64) -> Result<Operations, AllocError>
     ensures { IfOk result (λ operations. operations ≡ sweeping moment 0 config.now.parts) }
 {
-    let mut operations = Sequence::from_vec(Vec::with_capacity(alloc, config.parts)?);
+    let mut operations = Vec::with_capacity(alloc, config.parts)?;
     for part in 0..config.parts {
         operations.push(Operation {
             part,
             call: Call::Sweep(moment),
         })?;
     }
-    Ok(operations)
+    Ok(Operations::from_vec(operations))
 }
 
 /// What a fetch calls for, where it got an answer of this kind, or `None` where it can't get one.
@@ -214,9 +202,9 @@ fn fetch_script(
     ensures err { IfErr result (λ fault. fault ≡ faults.Memory) }
 {
     match answer {
-        Answer::Hit(_) => Ok(Some(plain(alone(alloc, first_ask(config, fetch)?)?))),
-        Answer::Held(_) => Ok(Some(plain(alone(alloc, first_ask(config, fetch)?)?))),
-        Answer::Joined => joined_script(alloc, config, questions, fetch),
+        Answer::Hit(_) => Ok(Some(plain(Operations::alone(first_ask(config, fetch)?)))),
+        Answer::Held(_) => Ok(Some(plain(Operations::alone(first_ask(config, fetch)?)))),
+        Answer::Joined => joined_script(config, questions, fetch),
         Answer::Fetched { .. } => fetched_script(alloc, config, questions, fetch),
         _ => Ok(None),
     }
@@ -239,14 +227,14 @@ pub(crate) fn script_of(
     match (line, answer) {
         (Line::Put(put), Answer::Put(_)) => {
             let offer = offer_at(put, limits)?;
-            Ok(Some(plain(alone(alloc, offering(config, offer))?)))
+            Ok(Some(plain(Operations::alone(offering(config, offer)))))
         }
         (Line::Ask(ask), Answer::Ask(_)) => {
-            Ok(Some(plain(alone(alloc, asking(config, ask.clone()?))?)))
+            Ok(Some(plain(Operations::alone(asking(config, ask.clone()?)))))
         }
         (Line::Fail(failed), Answer::Fail(_)) => {
             let offer = failure_at(failed.moment, &failed.name, failed.rtype, limits)?;
-            Ok(Some(plain(alone(alloc, offering(config, offer))?)))
+            Ok(Some(plain(Operations::alone(offering(config, offer)))))
         }
         (Line::Response(response), Answer::Response(_)) => response_script(alloc, config, response),
         (Line::Response(response), Answer::Refused(fault)) => refused_script(
@@ -256,7 +244,7 @@ pub(crate) fn script_of(
         (Line::Sweep(moment), Answer::Swept(_)) => {
             Ok(Some(plain(sweeping(alloc, config, *moment)?)))
         }
-        (Line::Checkpoint, Answer::Closed) => Ok(Some(plain(Sequence::new(alloc)))),
+        (Line::Checkpoint, Answer::Closed) => Ok(Some(plain(Operations::none(alloc)))),
         _ => Ok(None),
     }
 }

@@ -4,4 +4,4 @@ use Rattle.rrc_report.specs.Scripts.{offering}
 use Rattle.rrc_report.proofs.scripting.add_offers.Given as goal
 
 abbrev pub invariant-loop-offer : goal.invariant-loop-offer
-invariant-loop-offer l = l.operations ≡ l.initial.operations ++ map (offering l.config.parts) l.yielded
+invariant-loop-offer l = l.operations.items ≡ l.initial.operations.items ++ map (offering l.config.parts) l.yielded

@@ -15,9 +15,9 @@ sweep_more moment part rest before after all more is =
 pub loop-part-preserved : goal.loop-part-preserved
 loop-part-preserved c =
     λ rest left.
-    sweep_more c.args.moment c.loop-part.part rest c.loop-part.operations c.push.new.self (sweeping c.args.moment 0 c.args.config.now.parts) c.in_ok-push.ensures.ok
+    sweep_more c.args.moment c.loop-part.part rest c.loop-part.operations.items c.push.new.self.items (sweeping c.args.moment 0 c.args.config.now.parts) c.in_ok-push.ensures.items
     (c.loop-part.invariant (suc rest) (omega (arith, left)))
 
 pub returns : goal.returns
 returns c =
-    sym (append-nil c.loop-part.operations) ∙ c.loop-part.invariant 0 (omega (arith, c.loop-part-test.false, c.loop-part.auto.part-end))
+    c.from_vec.ensures ∙ (sym (append-nil c.loop-part.operations.items) ∙ c.loop-part.invariant 0 (omega (arith, c.loop-part-test.false, c.loop-part.auto.part-end)))
