@@ -1,10 +1,10 @@
 -- the tables of fates and of turns
 use Rattle.std.proofs.Common.{◌≡◌, ℕ, ◌+◌, ◌<◌, ◌≤◌, zero, suc, Bool, true, false, cond, eqb, List, [], ◌∷◌, ◌++◌, length, get_or, Option, Some, None, Result, Ok, Err, refl, sym, ◌∙◌, ap, subst, ⊎_elim, arith, IsTrue, ◌↔◌}
 use Rattle.std.specs.Prelude.{IfOk, IfSome}
-use Rattle.std.specs.List.{All}
+use Rattle.std.specs.List.{All, AllByRecursion}
 use Rattle.std.proofs.lemmas.Bool.{cases_lt, eq-eqb, ne_eqb, cond-true, cond-false}
 use Rattle.std.proofs.lemmas.List.{append-nil, append_assoc, get_or_past, get_or_default}
-use Rattle.std.proofs.lemmas.List.Elements.{All-nil, All-cons, All-head, All-tail}
+use Rattle.std.proofs.lemmas.List.Elements.{All-nil, All-cons, All-head, All-tail, recursion_from_All}
 use Rattle.rrc_history.specs.declared.event.Event.{Event}
 use Rattle.rrc_history.specs.declared.event.Tag.{Tag}
 use Rattle.rrc_history.specs.declared.chains.Whole.{Whole}
@@ -16,9 +16,10 @@ use Rattle.rrc_collate.specs.Words.{NeverFalls}
 use Rattle.rrc_collate.specs.Calls.{tag_of}
 use Rattle.rrc_collate.specs.Hands.{AreNamed}
 use Rattle.rrc_collate.specs.Fetches.{listed, IsNumbered}
-use Rattle.rrc_collate.specs.Turns.{first_fate, fate_from, AreFates, last_from, turn_from, AreTurns, turn_with, turn_told, turns_told}
+use Rattle.rrc_collate.specs.Turns.{first_fate, fate_from, AreFates, last_from, turn_from, AreTurns, is_fetched, turn_with, turn_told, turns_told}
 use Rattle.rrc_collate.specs.Collated.{last_behind, last_of, fate_of, turn_by, turn_at, turns_in, histories_of}
 use Rattle.rrc_collate.proofs.Fetched.{with_listed}
+use Rattle.rrc_collate.proofs.Pairs.{pairs_nil}
 
 pub told_more : (fates : List (Option Fate)) (turns : List ℕ) (events : List Event) (next : Event)
     → turns_told fates turns (events ++ next ∷ []) ≡ turns_told fates turns events ++ listed (turn_told fates turns (tag_of next))
@@ -197,3 +198,36 @@ in_turn_by (Ok all) lines tasks fates turns wholes are_fates are_turns named tol
   λ holds. rise_to lines tasks (histories_of wholes) fates turns wholes are_fates are_turns named (told.0 holds),
   λ rise. told.1 (to_rise lines tasks (histories_of wholes) fates turns wholes are_fates are_turns named rise),
 )
+
+-- ---- where nothing was fetched
+
+abbrev HasNotFetched : Task → Type 0
+HasNotFetched task = is_fetched task.fate ≡ false
+
+unfetched_fate : (line : ℕ) (tasks : List Task) → AllByRecursion HasNotFetched tasks → is_fetched (fate_of line tasks) ≡ false
+unfetched_fate line [] none = refl
+unfetched_fate line (task ∷ tasks) none =
+    let rest = unfetched_fate line tasks none.1 in
+    elim (eqb task.line line) as (λ b. is_fetched (cond b task.fate (fate_of line tasks)) ≡ false) [ true ↦ none.0 | false ↦ rest ]
+
+unfetched_turn : (histories : List (List Event)) (line : ℕ) (fate : Fate) → is_fetched fate ≡ false → turn_by histories line fate ≡ []
+unfetched_turn histories line Plain none = refl
+unfetched_turn histories line (Joined question) none = refl
+unfetched_turn histories line (Fetched question home) none = absurd cc
+
+no_turn : (tasks : List Task) (histories : List (List Event)) (tag : Tag) → AllByRecursion HasNotFetched tasks → turn_at tasks histories tag ≡ []
+no_turn tasks histories tag none =
+    let fetched = unfetched_turn histories tag.line (fate_of tag.line tasks) (unfetched_fate tag.line tasks none) in
+    elim (eqb tag.place 0) as (λ b. cond b [] (turn_by histories tag.line (fate_of tag.line tasks)) ≡ []) [ true ↦ refl | false ↦ fetched ]
+
+no_turns : (tasks : List Task) (histories : List (List Event)) (history : List Event) → AllByRecursion HasNotFetched tasks → turns_in tasks histories history ≡ []
+no_turns tasks histories [] none = refl
+no_turns tasks histories (event ∷ behind) none =
+    ap (λ l. l ++ turns_in tasks histories behind) (no_turn tasks histories (tag_of event) none) ∙ no_turns tasks histories behind none
+
+-- no history has fetches out of turn
+pub none_out_of_turn : (tasks : List Task) (histories : List (List Event)) → All HasNotFetched tasks
+    → All (λ history. NeverFalls (turns_in tasks histories history)) histories
+none_out_of_turn tasks histories none k d lt =
+    subst NeverFalls (sym (no_turns tasks histories (get_or histories k d) (recursion_from_All HasNotFetched tasks none)))
+    (pairs_nil (λ (earlier later : Valued). earlier.class ≡ later.class → earlier.value ≤ later.value))

@@ -1,5 +1,5 @@
 -- Tables of what became of each line, and of the turns of fetches.
-use Rattle.std.specs.Prelude.{◌≡◌, ◌<◌, ℕ, ◌+◌, ◌==◌, List, [], ◌∷◌, ◌++◌, length, slice_index_or, Bool, false, Option, Some, None, if◌then◌else◌}
+use Rattle.std.specs.Prelude.{◌≡◌, ◌<◌, ℕ, ◌+◌, ◌==◌, List, [], ◌∷◌, ◌++◌, length, slice_index_or, Bool, true, false, Option, Some, None, if◌then◌else◌}
 use Rattle.rrc_history.specs.declared.event.Event.{Event}
 use Rattle.rrc_history.specs.declared.event.Tag.{Tag}
 use Rattle.rrc_collate.specs.declared.valued.Valued.{Valued}
@@ -23,6 +23,12 @@ fate_from known line (task ∷ behind) = fate_from (if task.line == line then fi
 pub record AreFates (lines : ℕ) (tasks : List Task) (fates : List (Option Fate)) : Type 0 where
   pub size : length fates ≡ lines
   pub each : (line : ℕ) → line < lines → slice_index_or fates line None ≡ fate_from None line tasks
+
+-- a line fetched a question
+abbrev pub is_fetched : Fate → Bool
+is_fetched Plain = false
+is_fetched (Joined question) = false
+is_fetched (Fetched question home) = true
 
 -- a line fetched a question of a name in this part
 abbrev pub is_home : ℕ → Option Fate → Bool

@@ -1,10 +1,10 @@
-ghost use Rattle.std.specs.Prelude.{◌≡◌, ◌<◌, ◌↔◌, ℕ, length, slice_index_or, None, if◌then◌else◌, IfOk, IfSome, IsTrue};
+ghost use Rattle.std.specs.Prelude.{◌≡◌, ◌<◌, ◌↔◌, ℕ, length, slice_index_or, None, false, if◌then◌else◌, IfOk, IfSome, IsTrue};
 ghost use Rattle.std.specs.List.{All};
 ghost use Rattle.rrc_collate.specs.Words.{NeverFalls};
 ghost use Rattle.rrc_collate.specs.Hands.{AreNamed};
 ghost use Rattle.rrc_collate.specs.Collated.{histories_of, turns_in};
 ghost use Rattle.rrc_collate.specs.Fetches.{IsNumbered};
-ghost use Rattle.rrc_collate.specs.Turns.{first_fate, AreFates, is_home, last_from, AreTurns, turn_told, turns_told};
+ghost use Rattle.rrc_collate.specs.Turns.{first_fate, AreFates, is_fetched, is_home, last_from, AreTurns, turn_told, turns_told};
 
 use crate::falls::never_falls;
 use crate::fetching::put;
@@ -139,10 +139,33 @@ fn all_rise(
     Ok(true)
 }
 
+fn is_fetched(fate: Fate) -> bool
+    ensures { result ≡ is_fetched fate }
+{
+    match fate {
+        Fate::Plain => false,
+        Fate::Joined { .. } => false,
+        Fate::Fetched { .. } => true,
+    }
+}
+
+/// Whether no task fetched a question.
+fn none_fetched(tasks: &[Task]) -> bool
+    ensures { IsTrue result ↔ All (λ task. is_fetched task.fate ≡ false) tasks.now }
+{
+    for task in tasks {
+        if is_fetched(task.fate) {
+            return false;
+        }
+    }
+    true
+}
+
 /// Whether in every part the fetches of a question stand one behind the other, never mixed, and in the same order in all parts: in
 /// the order of their turns. The lines are numbered from 0, and there are `lines` of them, and so are the questions.
 ///
-/// Its time is linear in lines, tasks, questions for each part, and events, and so is its memory.
+/// Its time is linear in lines, tasks, questions for each part, and events, and so is its memory. Where nothing was fetched, as in most
+/// traces, it looks at the tasks alone and takes no memory.
 pub fn are_in_turn(
     alloc: Global,
     lines: usize,
@@ -155,6 +178,9 @@ pub fn are_in_turn(
     requires named { All (λ whole. AreNamed lines whole.events) wholes.now }
     ensures { IfOk result (λ all. IsTrue all ↔ All (λ history. NeverFalls (turns_in tasks.now (histories_of wholes.now) history)) (histories_of wholes.now)) }
 {
+    if none_fetched(tasks) {
+        return Ok(true);
+    }
     let fates = fates_in(alloc, lines, tasks)?;
     let turns = turns_in(alloc, fates.as_slice(), wholes)?;
     all_rise(alloc, questions, fates.as_slice(), turns.as_slice(), wholes)

@@ -1,10 +1,10 @@
-use Rattle.std.proofs.Common.{subst, sym, ◌∙◌}
+use Rattle.std.proofs.Common.{refl, subst, sym, ◌∙◌}
 use Rattle.std.specs.List.{All}
 use Rattle.rrc_history.specs.declared.chains.Whole.{Whole}
 use Rattle.rrc_collate.specs.Hands.{AreNamed}
 use Rattle.rrc_collate.specs.Collated.{histories_of}
 use Rattle.rrc_collate.specs.Turns.{AreFates, AreTurns}
-use Rattle.rrc_collate.proofs.Turned.{fates_numbered, in_turn_by}
+use Rattle.rrc_collate.proofs.Turned.{fates_numbered, in_turn_by, none_out_of_turn}
 use Rattle.rrc_collate.proofs.turning.are_in_turn.Goals as goal
 
 pub turns_in-requires : goal.turns_in-requires
@@ -21,6 +21,12 @@ pub all_rise-requires-clause-named : goal.all_rise-requires-clause-named
 all_rise-requires-clause-named c =
     let are = subst (λ items. AreFates c.args.lines c.args.tasks.now items) (sym c.as_slice-2.ensures.value) c.in_ok-fates.ensures in
     subst (λ n. All (λ (whole : Whole). AreNamed n whole.events) c.args.wholes.now) (sym are.size) c.requires.named
+
+pub returns-then-none_fetched : goal.returns-then-none_fetched
+returns-then-none_fetched c = (
+  λ _. none_out_of_turn c.args.tasks.now (histories_of c.args.wholes.now) (c.none_fetched.ensures.0 c.if-none_fetched.true),
+  λ _. refl,
+)
 
 pub returns : goal.returns
 returns c =
