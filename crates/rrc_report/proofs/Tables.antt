@@ -1,17 +1,14 @@
 -- The table of the answers of lines, one line more at a time.
-use Rattle.std.proofs.Common.{◌≡◌, ◌≢◌, ℕ, zero, suc, ◌+◌, ◌<◌, true, false, eqb, List, [], ◌∷◌, ◌++◌, length, get_or, set, take, map, Option, Some, None, refl, sym, ap, subst, ◌∙◌, ⊎_elim, arith}
-use Rattle.std.specs.Prelude.{slice_get, is_some, Result, Ok, Err, IfOk, IfSome, IfNone}
-use Rattle.std.specs.Option.{MatchOption}
-use Rattle.std.specs.List.{All, AllPairs, AllZip, Contains}
+use Rattle.std.proofs.Common.{◌≡◌, ◌≢◌, ℕ, zero, suc, ◌+◌, ◌<◌, List, [], ◌∷◌, ◌++◌, length, get_or, set, take, map, Some, refl, sym, ap, subst, ◌∙◌, arith}
+use Rattle.std.specs.Prelude.{slice_get}
+use Rattle.std.specs.List.{All, AllPairs, AllZip}
 use Rattle.std.proofs.Math.ListN.{get_or-map as read_map}
-use Rattle.std.proofs.lemmas.Bool.{false≢true, cases_Bool, eqb-true, cond-false}
-use Rattle.std.proofs.lemmas.Option.{get_or_from_slice_get}
 use Rattle.std.proofs.lemmas.List.{get_or-map, length-map, length-append, map-append, take_more}
 use Rattle.std.proofs.lemmas.List.Elements.{All-head, All-tail, All-map}
 use Rattle.rrc_history.specs.declared.event.Event.{Event}
 use Rattle.rrc_trace.specs.declared.answer.Answer.{Answer}
 use Rattle.rrc_collate.specs.declared.valued.Valued.{Valued}
-use Rattle.rrc_collate.specs.Words.{NoneTwice, AllBelow, class_of, AreSharedOut}
+use Rattle.rrc_collate.specs.Words.{NoneTwice, AllBelow}
 use Rattle.rrc_report.specs.declared.done.Answered.{Answered}
 use Rattle.rrc_report.specs.declared.done.Done.{Done}
 use Rattle.rrc_report.specs.Answers.{Completes}
@@ -35,33 +32,33 @@ set_same (y ∷ ys) zero x within = refl
 set_same (y ∷ ys) (suc i) x within = set_same ys i x (omega (arith, within))
 
 -- the answers of other lines stay
-others_stay : (table : List (Option Answer)) (line : ℕ) (answer : Answer) (given : List Answered) (events : List (List Event)) → All (λ one. one.line ≢ line) given
-    → AreIn table given events → AreIn (set table line (Some answer)) given events
+others_stay : (table : List Answer) (line : ℕ) (answer : Answer) (given : List Answered) (events : List (List Event)) → All (λ one. one.line ≢ line) given
+    → AreIn table given events → AreIn (set table line answer) given events
 others_stay table line answer [] [] other are = tt
 others_stay table line answer [] (own ∷ events) other are = absurd are
 others_stay table line answer (one ∷ given) [] other are = absurd are
 others_stay table line answer (one ∷ given) (own ∷ events) other are = (
   record {
     answer = are.0.answer;
-    found = set_other table line one.line (Some answer) (All-head (λ one. one.line ≢ line) one given other) ∙ are.0.found;
+    found = set_other table line one.line answer (All-head (λ one. one.line ≢ line) one given other) ∙ are.0.found;
     completes = are.0.completes;
   },
   others_stay table line answer given events (All-tail (λ one. one.line ≢ line) one given other) are.1,
 )
 
-in_more : (table : List (Option Answer)) (given : List Answered) (events : List (List Event)) (one : Answered) (own : List Event) (answer : Answer) → AreIn table given events
+in_more : (table : List Answer) (given : List Answered) (events : List (List Event)) (one : Answered) (own : List Event) (answer : Answer) → AreIn table given events
     → All (λ other. other.line ≢ one.line) given → one.line < length table → Completes one.answer answer own
-    → AreIn (set table one.line (Some answer)) (given ++ one ∷ []) (events ++ own ∷ [])
+    → AreIn (set table one.line answer) (given ++ one ∷ []) (events ++ own ∷ [])
 in_more table given events one own answer are other within completes =
-    zip_push (StandsIn (set table one.line (Some answer))) given events one own (others_stay table one.line answer given events other are)
-    (record { answer = answer; found = set_same table one.line (Some answer) within; completes = completes })
+    zip_push (StandsIn (set table one.line answer)) given events one own (others_stay table one.line answer given events other are)
+    (record { answer = answer; found = set_same table one.line answer within; completes = completes })
 
 -- one line more, of which the events are told by what points to them
-pub fill_more : {Q B : Type 0} (items : Q → List B) (now : B → Event) (table : List (Option Answer)) (count : ℕ) (before : List Answered) (one : Answered) (behind given : List Answered)
+pub fill_more : {Q B : Type 0} (items : Q → List B) (now : B → Event) (table : List Answer) (count : ℕ) (before : List Answered) (one : Answered) (behind given : List Answered)
     (events : List Q) (place : ℕ) (own : Q) (answer : Answer) → All (λ one. one.line < count) given → AllPairs (λ earlier later. earlier.line ≢ later.line) given
     → length events ≡ length given → length table ≡ count → before ++ one ∷ behind ≡ given → place ≡ length before → own ≡ get_or events place own
     → AreIn table before (take place (map (λ own. map now (items own)) events)) → Completes one.answer answer (map now (items own))
-    → AreIn (set table one.line (Some answer)) (before ++ one ∷ []) (take (place + 1) (map (λ own. map now (items own)) events))
+    → AreIn (set table one.line answer) (before ++ one ∷ []) (take (place + 1) (map (λ own. map now (items own)) events))
 fill_more {Q} {B} items now table count before one behind given events place own answer below once size room are at own_is so_far completes =
     let f : Q → List Event = λ own. map now (items own) in
     let line : one.line < count = All-head (λ one. one.line < count) one behind (all_right (λ one. one.line < count) before (one ∷ behind) (subst (All (λ one. one.line < count)) (sym are) below)) in
@@ -71,7 +68,7 @@ fill_more {Q} {B} items now table count before one behind given events place own
     let also : place < length (map f events) = let m = length-map events f in omega (arith, within, m) in
     let more : take (place + 1) (map f events) ≡ take place (map f events) ++ f own ∷ [] =
     take_more (map f events) place (f own) also ∙ ap (λ e. take place (map f events) ++ e ∷ []) (get_or-map f events place own (f own) within ∙ ap f (sym own_is)) in
-    subst (AreIn (set table one.line (Some answer)) (before ++ one ∷ [])) (sym more)
+    subst (AreIn (set table one.line answer) (before ++ one ∷ [])) (sym more)
     (in_more table before (take place (map f events)) one (f own) answer so_far apart (omega (arith, line, room)) completes)
 
 -- ---- what workers say that they did, with the worker and without
@@ -106,40 +103,16 @@ lines_once given once i j d below within same =
 
 -- ---- the table once all lines were done
 
-some_there : (answers : List Answer) (i : ℕ) (answer : Answer) → slice_get (map Some answers) i ≡ Some (Some answer) → slice_get answers i ≡ Some answer
-some_there [] i answer found = absurd cc
-some_there (first ∷ answers) zero answer found = cc
-some_there (first ∷ answers) (suc i) answer found = some_there answers i answer found
-
-all_stand : (answers : List Answer) (given : List Given) (events : List (List Event)) → AreIn (map Some answers) (map as_answered given) events → AllZip (StandsComplete answers) given events
+all_stand : (answers : List Answer) (given : List Given) (events : List (List Event)) → AreIn answers (map as_answered given) events → AllZip (StandsComplete answers) given events
 all_stand answers [] [] are = tt
 all_stand answers [] (own ∷ events) are = absurd are
 all_stand answers (one ∷ given) [] are = absurd are
 all_stand answers (one ∷ given) (own ∷ events) are =
-    (record { answer = are.0.answer; answer_is = some_there answers one.line are.0.answer are.0.found; completes = are.0.completes }, all_stand answers given events are.1)
+    (record { answer = are.0.answer; answer_is = are.0.found; completes = are.0.completes }, all_stand answers given events are.1)
 
--- a line that was taken has its answer in the table
-line_there : (line : ℕ) (table : List (Option Answer)) (given : List Given) (events : List (List Event)) → is_some (class_of line (map as_taken given)) ≡ true
-    → AreIn table (map as_answered given) events → (answer : Answer) × (slice_get table line ≡ Some (Some answer))
-line_there line table [] events taken are = absurd (false≢true taken)
-line_there line table (one ∷ given) [] taken are = absurd are
-line_there line table (one ∷ given) (own ∷ events) taken are =
-    ⊎_elim
-    (λ (same : eqb one.line line ≡ true). (are.0.answer, ap (slice_get table) (sym (eqb-true one.line line same)) ∙ are.0.found))
-    (λ (other : eqb one.line line ≡ false).
-    line_there line table given events
-    (sym (ap is_some (cond-false (eqb one.line line) (Some one.worker) (class_of line (map as_taken given)) other)) ∙ taken) are.1)
-    (cases_Bool (eqb one.line line))
-
--- where each line was taken no place is empty
-none_empty : (count : ℕ) (table : List (Option Answer)) (given : List Given) (events : List (List Event)) → length table ≡ count → AreSharedOut count (map as_taken given)
-    → AreIn table (map as_answered given) events → Contains table None → ⊥
-none_empty count table given events size shared are none =
-    let within = none.1 in
-    let here : none.0 < count = omega (arith, within, size) in
-    let found = line_there none.0 table given events (shared.each none.0 here) are in
-    let bad : None ≡ Some found.0 = sym none.2 ∙ get_or_from_slice_get table none.0 (Some found.0) None found.1 in
-    cc
+pub all_complete : (count : ℕ) (answers : List Answer) (given : List Given) (events : List (List Event)) → length answers ≡ count → AreIn answers (map as_answered given) events
+    → AreComplete count given events answers
+all_complete count answers given events size are = record { size = size; each = all_stand answers given events are }
 
 -- where the events of a line complete no answer there are none
 pub none_complete : (count : ℕ) (given : List Given) (events : List (List Event)) (answers : List Answer) → IsMissed (map as_answered given) events
@@ -153,23 +126,3 @@ none_complete count given events answers missed are =
     let is : as_answered (get_or given missed.place one) ≡ missed.one = sym (read_map as_answered given missed.place one) ∙ missed.is in
     let P : Answered → Type 0 = λ a. Completes a.answer stands.answer (get_or events missed.place []) in
     missed.none stands.answer (subst P is stands.completes)
-
--- ---- what `lines_of` answers
-
-pub some_lines : {V E : Type 0} (items : V → List Answer) (count : ℕ) (table : List (Option Answer)) (given : List Given) (events : List (List Event)) (result : Result (Option V) E)
-    → length table ≡ count → AreIn table (map as_answered given) events
-    → IfOk result (λ all. MatchOption all (Contains table None) (λ answers. map Some (items answers) ≡ table))
-    → IfOk result (λ found. IfSome found (λ answers. AreComplete count given events (items answers)))
-some_lines items count table given events (Err e) size are all = tt
-some_lines items count table given events (Ok None) size are all = tt
-some_lines items count table given events (Ok (Some answers)) size are all = record {
-  size = sym (length-map (items answers) Some) ∙ (ap length all ∙ size);
-  each = all_stand (items answers) given events (subst (λ t. AreIn t (map as_answered given) events) (sym all) are);
-}
-
-pub no_lines : {V E : Type 0} (items : V → List Answer) (P : Type 0) (count : ℕ) (table : List (Option Answer)) (given : List Given) (events : List (List Event)) (result : Result (Option V) E)
-    → length table ≡ count → AreSharedOut count (map as_taken given) → AreIn table (map as_answered given) events
-    → IfOk result (λ all. MatchOption all (Contains table None) (λ answers. map Some (items answers) ≡ table)) → IfOk result (λ found. IfNone found P)
-no_lines items P count table given events (Err e) size shared are all = tt
-no_lines items P count table given events (Ok None) size shared are all = absurd (none_empty count table given events size shared are all)
-no_lines items P count table given events (Ok (Some answers)) size shared are all = tt

@@ -1,5 +1,5 @@
 -- A table with a place for the answer of each line. The clauses of private functions alone cite these words.
-use Rattle.std.specs.Prelude.{◌≡◌, ◌<◌, ℕ, List, [], ◌∷◌, ◌++◌, length, slice_get, slice_index_or, Option, Some}
+use Rattle.std.specs.Prelude.{◌≡◌, ◌<◌, ℕ, List, [], ◌∷◌, ◌++◌, length, slice_get, slice_index_or, Some}
 use Rattle.std.specs.List.{AllZip}
 use Rattle.rrc_history.specs.declared.event.Event.{Event}
 use Rattle.rrc_trace.specs.declared.answer.Answer.{Answer}
@@ -13,12 +13,12 @@ answered_by [] = []
 answered_by (one ∷ done) = one.answers ++ answered_by done
 
 -- the answer of a line stands in its place, and completes what was given
-pub record StandsIn (table : List (Option Answer)) (given : Answered) (events : List Event) : Type 0 where
+pub record StandsIn (table : List Answer) (given : Answered) (events : List Event) : Type 0 where
   pub answer : Answer
-  pub found : slice_get table given.line ≡ Some (Some answer)
+  pub found : slice_get table given.line ≡ Some answer
   pub completes : Completes given.answer answer events
 
-abbrev pub AreIn : List (Option Answer) → List Answered → List (List Event) → Type 0
+abbrev pub AreIn : List Answer → List Answered → List (List Event) → Type 0
 AreIn table given events = AllZip (StandsIn table) given events
 
 -- the events of one of the lines complete no answer

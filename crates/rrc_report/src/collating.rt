@@ -75,6 +75,7 @@ pub fn collate(
     else {
         return Err(ReplayFault::Strayed);
     };
+    drop(tasks);
     let shares = shares_of(alloc, done.as_slice())?;
     let Some(lines) = lines_of(alloc, count, done, events.as_slice())? else {
         return Err(ReplayFault::Strayed);

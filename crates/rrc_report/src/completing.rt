@@ -1,6 +1,5 @@
-ghost use Rattle.std.specs.Prelude.{◌≡◌, ◌≢◌, ◌<◌, List, length, map, Some, None, IfOk, IfSome, IfNone, true, false};
-ghost use Rattle.std.specs.Option.{MatchOption};
-ghost use Rattle.std.specs.List.{All, AllPairs, Contains};
+ghost use Rattle.std.specs.Prelude.{◌≡◌, ◌≢◌, ◌<◌, List, length, map, IfOk, IfSome, IfNone, true, false};
+ghost use Rattle.std.specs.List.{All, AllPairs};
 ghost use Rattle.rrc_trace.specs.declared.answer.Answer.{Answer};
 ghost use Rattle.rrc_collate.specs.Words.{AreSharedOut};
 ghost use Rattle.rrc_report.specs.Filling.{answered_by, AreIn, IsMissed};
@@ -25,13 +24,13 @@ fn answered_by(alloc: Global, done: Vec<Done>) -> Result<Vec<Answered>, AllocErr
     Ok(all)
 }
 
-/// A table with so many places, and nothing in them.
-fn empty_table(alloc: Global, count: usize) -> Result<Vec<Option<Answer>>, AllocError>
+/// A table with so many places. What stands in them tells nothing yet.
+fn blank_table(alloc: Global, count: usize) -> Result<Vec<Answer>, AllocError>
     ensures { IfOk result (λ table. length table.items ≡ count) }
 {
     let mut table = Vec::with_capacity(alloc, count)?;
     for _ in 0..count {
-        table.push(None)?;
+        table.push(Answer::Closed)?;
     }
     Ok(table)
 }
@@ -39,7 +38,7 @@ fn empty_table(alloc: Global, count: usize) -> Result<Vec<Option<Answer>>, Alloc
 /// Puts the answer of each line into its place, completed by the line's events. `false` where the events tell another answer.
 fn fill(
     alloc: Global,
-    table: &mut [Option<Answer>],
+    table: &mut [Answer],
     given: Vec<Answered>,
     events: &[Vec<&Event>],
 ) -> Result<bool, AllocError>
@@ -53,29 +52,15 @@ fn fill(
     for one in given {
         match completed(alloc, one.answer, events[place].as_slice())? {
             None => return Ok(false),
-            Some(answer) => table[one.line] = Some(answer),
+            Some(answer) => table[one.line] = answer,
         }
         place += 1;
     }
     Ok(true)
 }
 
-/// What is there, where all of it is.
-fn all_of(alloc: Global, table: Vec<Option<Answer>>) -> Result<Option<Sequence<Answer>>, AllocError>
-    ensures { IfOk result (λ all. MatchOption all (Contains table.items None) (λ answers. map Some answers ≡ table.items)) }
-{
-    let mut answers = Vec::with_capacity(alloc, table.len())?;
-    for found in table {
-        match found {
-            None => return Ok(None),
-            Some(answer) => answers.push(answer)?,
-        }
-    }
-    Ok(Some(Sequence::from_vec(answers)))
-}
-
-/// What each of so many lines got, in order, completed by their events; or `None` where the events tell other answers. Its time is
-/// linear in lines and events.
+/// What each of so many lines got, in order, completed by their events; or `None` where the events tell other answers. As each line was
+/// taken, each place of the table is written. Its time is linear in lines and events.
 pub(crate) fn lines_of(
     alloc: Global,
     count: usize,
@@ -88,9 +73,9 @@ pub(crate) fn lines_of(
     ensures none { IfOk result (λ found. IfNone found ((answers : List Answer) → AreComplete count (given_from 0 done.items) (map (λ own. map (λ event. event.now) own.items) events.now) answers → ⊥)) }
 {
     let given = answered_by(alloc, done)?;
-    let mut table = empty_table(alloc, count)?;
+    let mut table = blank_table(alloc, count)?;
     if !fill(alloc, table.as_mut_slice(), given, events)? {
         return Ok(None);
     }
-    all_of(alloc, table)
+    Ok(Some(Sequence::from_vec(table)))
 }

@@ -1,16 +1,13 @@
-use Rattle.std.proofs.Common.{◌≡◌, ◌<◌, ◌≢◌, List, Option, length, map, Bor, ap, subst, sym, ◌∙◌}
-use Rattle.std.specs.Prelude.{IfOk, Some, None}
-use Rattle.std.specs.Option.{MatchOption}
-use Rattle.std.specs.List.{All, AllPairs, Contains}
+use Rattle.std.proofs.Common.{◌≡◌, ◌<◌, ◌≢◌, List, length, map, Bor, ap, subst, sym, ◌∙◌}
+use Rattle.std.specs.List.{All, AllPairs}
 use Rattle.std.proofs.lemmas.List.{length-map}
 use Rattle.rrc_history.specs.declared.event.Event.{Event}
-use Rattle.rrc_trace.specs.declared.answer.Answer.{Answer}
 use Rattle.rrc_report.specs.declared.done.Answered.{Answered}
 use Rattle.rrc_report.specs.Filling.{AreIn, IsMissed}
 use Rattle.rrc_report.specs.Steps.{given_from, AreComplete}
 use Rattle.rrc_report.proofs.Completed.{as_answered}
 use Rattle.rrc_report.proofs.Zips.{written_back}
-use Rattle.rrc_report.proofs.Tables.{bare, lines_below, lines_once, none_complete, some_lines, no_lines}
+use Rattle.rrc_report.proofs.Tables.{all_complete, bare, lines_below, lines_once, none_complete}
 use Rattle.rrc_report.proofs.completing.lines_of.Goals as goal
 
 pub fill-requires-clause-below : goal.fill-requires-clause-below
@@ -56,22 +53,5 @@ returns-clause-some c =
     let room = c.as_mut_slice.ensures.len in
     let stays = c.fill.auto.table in
     let back = written_back c.in_ok-table.table.len c.fill.new.table c.in_ok-table.table.items (stays ∙ room) (sym same ∙ room) in
-    let all =
-    subst (λ (table : List (Option Answer)). IfOk c.all_of.result (λ all. MatchOption all (Contains table None) (λ answers. map Some answers ≡ table))) back c.all_of.ensures in
-    some_lines (λ answers. answers) c.args.count c.fill.new.table given events c.all_of.result size are all
-
-pub returns-clause-none : goal.returns-clause-none
-returns-clause-none c =
-    let now : Bor Event → Event = λ event. event.now in
-    let given = given_from 0 c.args.done.items in
-    let events = map (λ own. map now own.items) c.args.events.now in
-    let is : c.in_ok-given.given.items ≡ map as_answered given = c.in_ok-given.ensures ∙ sym (bare 0 c.args.done.items) in
-    let size : length c.fill.new.table ≡ c.args.count = c.fill.auto.table ∙ (ap length c.as_mut_slice.ensures.value ∙ c.in_ok-table.ensures) in
-    let are = subst (λ given. AreIn c.fill.new.table given events) is (c.in_ok-fill.ensures.filled c.if-not-branch.false) in
-    let same = ap length c.as_mut_slice.ensures.value in
-    let room = c.as_mut_slice.ensures.len in
-    let stays = c.fill.auto.table in
-    let back = written_back c.in_ok-table.table.len c.fill.new.table c.in_ok-table.table.items (stays ∙ room) (sym same ∙ room) in
-    let all =
-    subst (λ (table : List (Option Answer)). IfOk c.all_of.result (λ all. MatchOption all (Contains table None) (λ answers. map Some answers ≡ table))) back c.all_of.ensures in
-    no_lines (λ answers. answers) ((answers : List Answer) → AreComplete c.args.count given events answers → ⊥) c.args.count c.fill.new.table given events c.all_of.result size c.requires.shared_out are all
+    let whole = all_complete c.args.count c.fill.new.table given events size are in
+    subst (AreComplete c.args.count given events) (sym back ∙ sym c.from_vec.ensures) whole

@@ -1,6 +1,6 @@
 -- so many places
 use Rattle.std.proofs.Common.{◌≡◌, length}
-use Rattle.rrc_report.proofs.completing.empty_table.Given as goal
+use Rattle.rrc_report.proofs.completing.blank_table.Given as goal
 
 abbrev pub invariant-loop : goal.invariant-loop
 invariant-loop l = length l.table.items ≡ l.counter
