@@ -12,8 +12,8 @@ use std::marker::Model;
 ///
 /// A name has a place in a table, by its hash behind the seed, so that nobody can pick names that share a place. The place of a name
 /// is marked with the first thing that is put beside its sets, and stays marked when that goes, and two names may share a place: a
-/// mark says only that looking is worth while. It costs an octet for each place, of which there are two for each key that may be
-/// kept, and a hash of the name for each ask. Once a quarter of the places were newly marked the table is made anew from what is
+/// mark says only that looking is worth while. It costs an octet for each place, of which there are two to four for each key that
+/// may be kept, and a hash of the name for each ask. Once a quarter of the places were newly marked the table is made anew from what is
 /// kept then.
 ///
 /// Contracts see which names may hold something.
