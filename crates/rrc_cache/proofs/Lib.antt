@@ -8,6 +8,7 @@ pub mod Marked
 pub mod Placing
 pub mod Following
 pub mod Leaving
+pub mod Put
 pub mod Written
 pub mod Keeping
 pub mod Answering

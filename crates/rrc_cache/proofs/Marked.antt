@@ -26,6 +26,12 @@ none_beside beside entries key are unmarked at = by (entry_at key entries) refl
         let bad : false ≡ true = sym unmarked ∙ (ap (λ (k : KeyOf). may_hold beside k.name) own ∙ holds) in
         absurd cc
 
+-- the name of a key that holds something is marked
+pub held_marked : (beside : BesideOf) (key : KeyOf) (entries : List Entry) (entry : Entry) → entry_at key entries ≡ Some entry → AreMarked beside entries
+    → is_beside key.slot ≡ true → may_hold beside key.name ≡ true
+held_marked beside key entries entry is are =
+    subst (λ (k : KeyOf). is_beside k.slot ≡ true → may_hold beside k.name ≡ true) (sym (entry_at-key key entries entry is)) (marked_found beside key entries entry is are)
+
 -- one that is marked stays so where no mark goes
 pub one_still_marked : (old new : BesideOf) → ((name : List ℕ) → may_hold old name ≡ true → may_hold new name ≡ true) → (entry : Entry) → IsMarked old entry → IsMarked new entry
 one_still_marked old new stay entry is = λ at. stay entry.key.name (is at)

@@ -1,9 +1,9 @@
 -- What the calls of a map of entries by their keys leave of the entries, in the words of a history.
 use Rattle.std.proofs.Common.{◌≡◌, ℕ, zero, suc, ◌+◌, ◌-◌, ◌<◌, List, [], ◌∷◌, ◌++◌, length, take, Bool, true, false, ◌||◌, Option, Some, None, refl, sym, ap, subst, ◌∙◌, arith}
-use Rattle.std.specs.Prelude.{cond, is_some}
+use Rattle.std.specs.Prelude.{cond, is_some, IsSome}
 use Rattle.std.specs.List.{AllByRecursion, IsDistinct, slice_get}
 use Rattle.std.specs.Option.{option_map, option_map_or}
-use Rattle.std.specs.Map.{keys_of, lookup, lookup_entry, remove_entry}
+use Rattle.std.specs.Map.{keys_of, lookup, lookup_entry, remove_entry, set_value}
 use Rattle.std.proofs.lemmas.List.{append-nil, take-map}
 use Rattle.std.proofs.lemmas.Option.{slice_get_past}
 use Rattle.lru.specs.LruCache as lru
@@ -149,6 +149,69 @@ displaced_in key entry cache room = by (lookup (key_eq key) cache.entries)
     by : (found : Option Entry) → option_map_or (λ old. Some (key, old)) found (slice_get cache.entries (cache.cap - 1)) ≡ option_map (λ old. (key, old)) found
     by None = slice_get_past cache.entries (cache.cap - 1) (omega (arith, room))
     by (Some old) = refl
+
+-- the pair that passes a test is found with what was written there
+lookup_entry-written : (test : KeyOf → Bool) (entry : Entry) (pairs : List (KeyOf × Entry))
+    → lookup_entry test (set_value test pairs entry) ≡ option_map (λ pair. (pair.0, entry)) (lookup_entry test pairs)
+lookup_entry-written test entry [] = refl
+lookup_entry-written test entry (pair ∷ pairs) = by (test pair.0) refl (lookup_entry-written test entry pairs)
+  where
+    written : List (KeyOf × Entry)
+    written = set_value test pairs entry
+
+    cut : Bool → Option (KeyOf × Entry)
+    cut b = lookup_entry test (cond b ((pair.0, entry) ∷ pairs) (pair ∷ written))
+
+    found : Bool → Option (KeyOf × Entry)
+    found b = option_map (λ p. (p.0, entry)) (cond b (Some pair) (lookup_entry test pairs))
+
+    by : (b : Bool) → test pair.0 ≡ b → lookup_entry test written ≡ option_map (λ p. (p.0, entry)) (lookup_entry test pairs)
+        → lookup_entry test (set_value test (pair ∷ pairs) entry) ≡ option_map (λ p. (p.0, entry)) (lookup_entry test (pair ∷ pairs))
+    by true is rest = ap cut is ∙ (ap (λ b. cond b (Some (pair.0, entry)) (lookup_entry test pairs)) is ∙ sym (ap found is))
+    by false is rest = ap cut is ∙ (ap (λ b. cond b (Some pair) (lookup_entry test written)) is ∙ (rest ∙ sym (ap found is)))
+
+-- and the others stay
+remove_entry-written : (test : KeyOf → Bool) (entry : Entry) (pairs : List (KeyOf × Entry)) → remove_entry test (set_value test pairs entry) ≡ remove_entry test pairs
+remove_entry-written test entry [] = refl
+remove_entry-written test entry (pair ∷ pairs) = by (test pair.0) refl (remove_entry-written test entry pairs)
+  where
+    written : List (KeyOf × Entry)
+    written = set_value test pairs entry
+
+    cut : Bool → List (KeyOf × Entry)
+    cut b = remove_entry test (cond b ((pair.0, entry) ∷ pairs) (pair ∷ written))
+
+    left : Bool → List (KeyOf × Entry)
+    left b = cond b pairs (pair ∷ remove_entry test pairs)
+
+    by : (b : Bool) → test pair.0 ≡ b → remove_entry test written ≡ remove_entry test pairs
+        → remove_entry test (set_value test (pair ∷ pairs) entry) ≡ remove_entry test (pair ∷ pairs)
+    by true is rest = ap cut is ∙ (ap (λ b. cond b pairs ((pair.0, entry) ∷ remove_entry test pairs)) is ∙ sym (ap left is))
+    by false is rest = ap cut is ∙ (ap (λ b. cond b written (pair ∷ remove_entry test written)) is ∙ (ap (λ ps. pair ∷ ps) rest ∙ sym (ap left is)))
+
+-- what is there may be written there
+pub written_same : (test : KeyOf → Bool) (entry : Entry) (pairs : List (KeyOf × Entry)) → lookup test pairs ≡ Some entry → set_value test pairs entry ≡ pairs
+written_same test entry [] is = refl
+written_same test entry (pair ∷ pairs) is = by (test pair.0) refl (written_same test entry pairs)
+  where
+    by : (b : Bool) → test pair.0 ≡ b → (lookup test pairs ≡ Some entry → set_value test pairs entry ≡ pairs) → set_value test (pair ∷ pairs) entry ≡ pair ∷ pairs
+    by true at rest = let same : pair.1 ≡ entry = cc (rw at at is) in rw at (ap (λ e. (pair.0, e) ∷ pairs) (sym same))
+    by false at rest = rw at (ap (λ ps. pair ∷ ps) (rest (rw at at is)))
+
+-- what a key has is written over, and comes to the front: that is a put
+pub written_put : (key : KeyOf) (entry : Entry) (cache : lru.LruCache KeyOf Entry) → IsSome (lookup (key_eq key) cache.entries)
+    → lru.promoted (key_eq key) (set_value (key_eq key) cache.entries entry) ≡ lru.put_entries key_eq cache key entry
+written_put key entry cache some = by (lookup_entry (key_eq key) cache.entries) refl
+  where
+    by : (found : Option (KeyOf × Entry)) → lookup_entry (key_eq key) cache.entries ≡ found
+        → lru.promoted (key_eq key) (set_value (key_eq key) cache.entries entry) ≡ lru.put_entries key_eq cache key entry
+    by None is =
+        let none : lookup (key_eq key) cache.entries ≡ None = entry_of_pair (key_eq key) cache.entries ∙ ap (option_map (λ p. p.1)) is in
+        let bad : false ≡ true = subst (λ found. IsSome found) none some in absurd cc
+    by (Some pair) is =
+        let found : lookup_entry (key_eq key) (set_value (key_eq key) cache.entries entry) ≡ Some (pair.0, entry) =
+        lookup_entry-written (key_eq key) entry cache.entries ∙ ap (option_map (λ p. (p.0, entry))) is in
+        rw (is, found) (ap (λ ps. (pair.0, entry) ∷ ps) (remove_entry-written (key_eq key) entry cache.entries))
 
 -- the pairs after a put
 abbrev put_over : ℕ → KeyOf → Entry → List (KeyOf × Entry) → Option (KeyOf × Entry) → List (KeyOf × Entry)

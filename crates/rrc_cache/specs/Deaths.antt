@@ -8,6 +8,7 @@ use Rattle.rrc_history.specs.declared.snapshot.Entry.{Entry}
 use Rattle.rrc_history.specs.Past.{entry_at}
 use Rattle.rrc_history.specs.Right.{is_swept}
 use Rattle.rrc_cache.specs.declared.deaths.Death.{Death}
+use Rattle.rrc_cache.specs.declared.store.Leaving.{Leaving}
 use Rattle.rrc_cache.specs.Dying.{time_of_death}
 
 -- the death of an entry
@@ -53,6 +54,10 @@ AreForeseen stale entries deaths = (key : KeyOf) → IsForeseen stale deaths (en
 abbrev pub is_gone_by : ℕ → ℕ → Option Entry → Bool
 is_gone_by stale time None = false
 is_gone_by stale time (Some entry) = nat_le (time_of_death stale entry) time
+
+-- of an entry that another comes in the place of: its number, and from when on it is dead
+abbrev pub leaving_of : ℕ → Entry → Leaving
+leaving_of stale entry = record { number = entry.number; dies = time_of_death stale entry }
 
 -- the keys of deaths under which something dead is kept
 abbrev pub dead_among : ℕ → ℕ → List Entry → List Death → List KeyOf

@@ -1,8 +1,13 @@
 -- When an entry dies.
 use Rattle.std.specs.Prelude.{ℕ, ◌+◌, ◌-◌, ◌^◌, ◌==◌, min, if◌then◌else◌}
+use Rattle.rrc_history.specs.declared.body.Body.{Body}
 use Rattle.rrc_history.specs.declared.snapshot.Entry.{Entry}
 use Rattle.rrc_history.specs.Lives.{span}
 
--- the moment from which on an entry can answer no more: once its span is over, and where it has none before all moments
+-- the moment from which on a body of a moment can answer no more: once its span is over, and where it has none before all moments
+abbrev pub dies_at : ℕ → Body → ℕ → ℕ
+dies_at stale body moment = if span stale body == 0 then 0 else min (moment + span stale body) (2 ^ 64 - 1)
+
+-- the moment from which on an entry can answer no more
 abbrev pub time_of_death : ℕ → Entry → ℕ
-time_of_death stale entry = if span stale entry.body == 0 then 0 else min (entry.moment + span stale entry.body) (2 ^ 64 - 1)
+time_of_death stale entry = dies_at stale entry.body entry.moment

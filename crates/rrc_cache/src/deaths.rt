@@ -14,7 +14,9 @@ use std::cmp::Ordering;
 use std::collections::BinaryHeap;
 use std::marker::Model;
 
-/// How many deaths may wait beyond two for each entry.
+/// How many deaths may wait for each entry before they are made anew, and how many beyond those.
+const MOST_OF_ONE: usize = 3;
+
 const SPARE: usize = 64;
 
 /// From which moment on what a key holds may answer no more. Deaths are compared by their times alone, the other way round, since
@@ -135,7 +137,7 @@ impl Deaths {
 
     /// Whether there are far more than so many entries need.
     pub(crate) fn are_many(&self, entries: usize) -> bool {
-        self.waiting.len() > entries.saturating_mul(2).saturating_add(SPARE)
+        self.waiting.len() > entries.saturating_mul(MOST_OF_ONE).saturating_add(SPARE)
     }
 
     /// Makes room for one more.

@@ -1,69 +1,29 @@
-ghost use Rattle.std.specs.Prelude.{◌≡◌, ◌≤◌, length, true, IfOk, IsSome, OnErr};
+ghost use Rattle.std.specs.Prelude.{◌≡◌, ◌≤◌, length, true, IfOk, OnErr};
 ghost use Rattle.rrc_history.specs.Fits.{fits};
-ghost use Rattle.rrc_history.specs.Past.{entry_at, entry_of};
+ghost use Rattle.rrc_history.specs.Past.{entry_of};
 ghost use Rattle.rrc_cache.specs.Taken.{IsPlaced, IsTaken};
 
 use crate::judge;
-use crate::store::Store;
-use rrc_history::{Body, Entry, Offer, Outcome};
-use rrc_name::{Key, KeyRef, Name};
+use crate::store::{Leaving, Store};
+use rrc_history::{Entry, Offer, Outcome};
+use rrc_name::{Key, KeyRef};
 use std::alloc::AllocError;
 
-/// A name that is to be kept where something is held: the name of what is held, where that is spelled alike. The owners of one name are
-/// counted in one place of memory, which the look-up of what is held has just read.
-fn name_beside(held: Option<&Entry>, name: &Name) -> Result<Name, AllocError>
-    ensures { IfOk result (λ kept. kept ≡ name.now) }
-{
-    match held {
-        Some(entry) if entry.key.name == *name => entry.key.name.clone(),
-        _ => name.clone(),
-    }
-}
-
-/// A body that is to be kept where something is held.
-fn body_beside(held: Option<&Entry>, body: &Body) -> Result<Body, AllocError>
-    ensures { IfOk result (λ kept. kept ≡ body.now) }
-{
-    match body {
-        Body::Positive {
-            trust,
-            ttl,
-            owner,
-            items,
-        } => Ok(Body::Positive {
-            trust: *trust,
-            ttl: *ttl,
-            owner: name_beside(held, owner)?,
-            items: items.clone()?,
-        }),
-        Body::Negative { .. } | Body::Failure { .. } => body.clone(),
-    }
-}
-
-/// What a kept offer stores where something is held.
-fn entry_of(held: Option<&Entry>, offer: &Offer, number: u64) -> Result<Entry, AllocError>
+/// What a kept offer stores.
+fn entry_of(offer: &Offer, number: u64) -> Result<Entry, AllocError>
     ensures { IfOk result (λ entry. entry ≡ entry_of offer.now number) }
 {
     Ok(Entry {
-        key: Key {
-            name: name_beside(held, &offer.key.name)?,
-            slot: offer.key.slot,
-        },
-        body: body_beside(held, &offer.body)?,
+        key: offer.key.clone()?,
+        body: offer.body.clone()?,
         moment: offer.moment,
         number,
     })
 }
 
 /// Puts an entry in front, and removes the key touched least recently where there are then more than there may be. An `Err`
-/// leaves the entries as they were. Of `is_held` see `Store::put`.
-fn place(
-    store: &mut Store,
-    entry: Entry,
-    is_held: bool,
-    capacity: u64,
-) -> Result<Option<Key>, AllocError>
-    requires held { is_held ≡ true → IsSome (entry_at entry.key store.old.entries) }
+/// leaves the entries as they were.
+fn place(store: &mut Store, entry: Entry, capacity: u64) -> Result<Option<Key>, AllocError>
     requires some { 1 ≤ capacity }
     requires room { length store.old.entries ≤ capacity }
     ensures ok { IfOk result (λ evicted. IsPlaced capacity entry store.old.entries evicted store.new.entries) }
@@ -72,7 +32,7 @@ fn place(
 {
     // The length is read for what it tells: no two entries have the same key.
     let _ = store.len();
-    store.put(entry, is_held)?;
+    store.put(entry)?;
     if store.len() as u64 > capacity {
         Ok(store.remove_last())
     } else {
@@ -97,17 +57,18 @@ pub(crate) fn take(
     let key = KeyRef::of(&offer.key);
     let held = store.get(key);
     let outcome = judge::verdict(held, offer);
-    let evicted = match outcome {
-        Outcome::Kept => {
-            let is_held = held.is_some();
-            let entry = entry_of(held, offer, number)?;
-            place(store, entry, is_held, capacity)?
+    let evicted = match (outcome, held) {
+        (Outcome::Kept, Some(entry)) => {
+            let leaving = Leaving::of(entry, store.stale());
+            store.replace(offer, number, leaving)?;
+            None
         }
-        Outcome::Cleared => {
+        (Outcome::Kept, None) => place(store, entry_of(offer, number)?, capacity)?,
+        (Outcome::Cleared, _) => {
             store.remove(key);
             None
         }
-        Outcome::LessTrusted => None,
+        (Outcome::LessTrusted, _) => None,
     };
     Ok((outcome, evicted))
 }

@@ -5,7 +5,7 @@ ghost use Rattle.rrc_history.specs.Entries.{found_among};
 ghost use Rattle.rrc_history.specs.Past.{entry_at, key_at};
 ghost use Rattle.rrc_history.specs.Lives.{ttl_of, rank, rank_of, is_unexpired, span, IsTimely};
 ghost use Rattle.rrc_history.specs.Judged.{outranks, verdict, later_governs, governing, is_before, recent_failure, retry_from, may_be_stale, may_serve, reply_of_living_set, reply_of_living_soa, reply_of_entry, reply_of, reply_by, answering};
-ghost use Rattle.rrc_cache.specs.Dying.{time_of_death};
+ghost use Rattle.rrc_cache.specs.Dying.{dies_at, time_of_death};
 ghost use Rattle.rrc_cache.specs.Found.{found_in};
 ghost use Rattle.rrc_cache.specs.Reply.{reply_in};
 
@@ -57,16 +57,24 @@ fn span(body: &Body, stale: u64) -> u64
     }
 }
 
-/// The moment from which on an entry can answer no more. One that may not answer for a second is dead at every moment, also before
-/// its own.
+/// The moment from which on a body of a moment can answer no more. One that may not answer for a second is dead at every moment, also
+/// before its own.
+pub(crate) fn dies_at(body: &Body, moment: u64, stale: u64) -> u64
+    requires { stale ≤ 604800 }
+    ensures { result ≡ dies_at stale body.now moment }
+{
+    match span(body, stale) {
+        0 => 0,
+        span => moment.saturating_add(span),
+    }
+}
+
+/// The moment from which on an entry can answer no more.
 pub(crate) fn time_of_death(entry: &Entry, stale: u64) -> u64
     requires { stale ≤ 604800 }
     ensures { result ≡ time_of_death stale entry.now }
 {
-    match span(&entry.body, stale) {
-        0 => 0,
-        span => entry.moment.saturating_add(span),
-    }
+    dies_at(&entry.body, entry.moment, stale)
 }
 
 fn is_unexpired(entry: &Entry, moment: u64) -> bool

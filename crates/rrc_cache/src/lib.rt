@@ -9,6 +9,7 @@ mod entries;
 mod followed;
 mod found;
 mod judge;
+mod overwriting;
 mod part;
 mod rechecks;
 mod refusal;

@@ -1,4 +1,4 @@
-ghost use Rattle.std.specs.Prelude.{◌≡◌, ◌-◌, ◌<◌, ◌≤◌, [], ◌∷◌, None, length, take, true, false, IfOk, IsSome, OnOk, OnErr};
+ghost use Rattle.std.specs.Prelude.{◌≡◌, ◌-◌, ◌<◌, ◌≤◌, [], ◌∷◌, Some, None, length, take, nat_le, true, false, if◌then◌else◌, IfOk, OnOk, OnErr};
 ghost use Rattle.std.specs.Map.{lookup};
 ghost use Rattle.std.specs.Option.{option_copied, option_map};
 ghost use Rattle.lru.specs.LruCache.{lru_cache, put_entries, promoted as lru_promoted};
@@ -6,28 +6,48 @@ ghost use Rattle.rrc_name.specs.declared.slot.Slot.{Slot};
 ghost use Rattle.rrc_name.specs.Key.{KeyOf, key_eq};
 ghost use Rattle.rrc_name.specs.KeyRef.{key_of};
 ghost use Rattle.rrc_history.specs.Lives.{LAST_MOMENT};
-ghost use Rattle.rrc_history.specs.Past.{entry_at, is_among, last_key};
+ghost use Rattle.rrc_history.specs.Past.{entry_at, entry_of, is_among, last_key};
 ghost use Rattle.rrc_history.specs.Right.{is_swept};
 ghost use Rattle.rrc_history.specs.Sound.{AreSound};
 ghost use Rattle.rrc_history.specs.Entries.{AreApart, goes, keys_of_dead, promoted, staying};
 ghost use Rattle.rrc_cache.specs.Beside.{AreMarked, is_beside};
-ghost use Rattle.rrc_cache.specs.Deaths.{dead_among, deaths_of, is_gone_by};
+ghost use Rattle.rrc_cache.specs.Deaths.{dead_among, deaths_of, is_gone_by, leaving_of};
 ghost use Rattle.rrc_cache.specs.Pairs.{entries_in, AreOwn};
 
 use crate::beside::Beside;
 use crate::deaths::{Death, Deaths};
 use crate::followed::{self, Followed};
 use crate::judge;
+use crate::overwriting::overwrite;
 use crate::seeded::Seeded;
 use lru::LruCache;
-use rrc_history::{Entry, EntryList, Rules, Snapshot};
+use rrc_history::{Entry, EntryList, Offer, Rules, Snapshot};
 use rrc_name::{Key, KeyRef, Name, Shared};
 use std::alloc::{AllocError, Global};
 use std::marker::Model;
 
+/// Of an entry that another comes in the place of: its number, and from when on it is dead.
+#[derive(Clone, Copy)]
+pub(crate) struct Leaving {
+    pub(crate) number: u64,
+    pub(crate) dies: u64,
+}
+
+impl Leaving {
+    pub(crate) fn of(entry: &Entry, stale: u64) -> Leaving
+        requires { stale ≤ 604800 }
+        ensures { result ≡ leaving_of stale entry.now }
+    {
+        Leaving {
+            number: entry.number,
+            dies: judge::time_of_death(entry, stale),
+        }
+    }
+}
+
 /// Entries by key, and deaths by time. Contracts see for how many seconds a set may be stale, and the list of the entries,
 /// the key touched last first. A look-up takes no memory, and a call takes about as long in a large store as in a small one, on
-/// the average over many puts: after as many as there are entries the deaths may be made anew.
+/// the average over many puts: after twice as many as there are entries the deaths may be made anew.
 #[derive(Debug, Drop)]
 pub struct Store {
     cache: LruCache<Key, Entry, Seeded>,
@@ -86,7 +106,7 @@ impl Store {
         let mut store = Store::new(alloc, seed, rules)?;
         // The last one first, since each is put in front.
         for place in (0..entries.len()).rev() {
-            store.put(entries.entry(place).clone()?, false)?;
+            store.put(entries.entry(place).clone()?)?;
         }
         Ok(store)
     }
@@ -192,27 +212,57 @@ impl Store {
         Ok(snapshot)
     }
 
-    /// Puts an entry in front, in the place of the one that its key had. An `Err` leaves all as it was. Where the caller knows that the key
-    /// has one, `is_held` says so, which saves an owner of the key; else it is false.
-    pub(crate) fn put(&mut self, entry: Entry, is_held: bool) -> Result<(), AllocError>
-        requires held { is_held ≡ true → IsSome (entry_at entry.key self.old.entries) }
+    /// For how many seconds a set may be stale.
+    pub(crate) fn stale(&self) -> u64
+        ensures value { result ≡ self.now.stale }
+        ensures limit { result ≤ 604800 }
+    {
+        self.stale
+    }
+
+    /// Puts an entry in front, in the place of the one that its key had. An `Err` leaves all as it was.
+    pub(crate) fn put(&mut self, entry: Entry) -> Result<(), AllocError>
         ensures ok { OnOk result (self.new ≡ record self.old { entries = entry ∷ staying (goes entry.key None) self.old.entries }) }
         ensures err { OnErr result (self.new ≡ self.old) }
     {
-        self.put_foreseen(entry, is_held)?;
+        self.put_foreseen(entry)?;
+        self.tidy();
+        Ok(())
+    }
+
+    /// Puts what an offer stores in front, where its key has an entry, which is written over: it is the one that is told to leave. The
+    /// name of its key stays, and that of its set where the offered one is spelled alike, so that their owners need not be counted
+    /// anew. An `Err` leaves all as it was.
+    pub(crate) fn replace(
+        &mut self,
+        offer: &Offer,
+        number: u64,
+        leaving: Leaving,
+    ) -> Result<(), AllocError>
+        requires held { option_map (leaving_of self.old.stale) (entry_at offer.now.key self.old.entries) ≡ Some leaving }
+        ensures ok { OnOk result (self.new ≡ record self.old { entries = entry_of offer.now number ∷ staying (goes offer.now.key None) self.old.entries }) }
+        ensures err { OnErr result (self.new ≡ self.old) }
+    {
+        self.replace_foreseen(offer, number, leaving)?;
+        self.tidy();
+        Ok(())
+    }
+
+    /// Makes the deaths anew where they are many, and the marks where they are worn.
+    fn tidy(&mut self)
+        ensures { self.new ≡ self.old }
+    {
         if self.deaths.are_many(self.cache.len()) {
             self.renew();
         }
         if self.beside.is_worn() {
             mark_anew(&mut self.beside, &self.cache);
         }
-        Ok(())
     }
 
     /// Puts an entry in front, and sees to it that a death comes no later than it dies, and that its name is marked where it stands
     /// beside the sets.
-    fn put_foreseen(&mut self, entry: Entry, is_held: bool) -> Result<(), AllocError>
-        requires held { is_held ≡ true → IsSome (entry_at entry.key self.old.entries) }
+    fn put_foreseen(&mut self, entry: Entry) -> Result<(), AllocError>
         ensures ok { OnOk result (self.new ≡ record self.old { entries = entry ∷ staying (goes entry.key None) self.old.entries }) }
         ensures err { OnErr result (self.new ≡ self.old) }
     {
@@ -222,10 +272,34 @@ impl Store {
         self.deaths.reserve()?;
         self.beside.note(&entry.key);
         let number = entry.number;
-        let (key, old) = put_over(&mut self.cache, entry, is_held)?;
+        let (key, old) = put_over(&mut self.cache, entry)?;
         followed::note_put(&mut self.followed, followed::number_of(&old), number);
         if !is_gone_by(old, self.stale, time) {
             let death = Death { time, key };
+            self.deaths.add(death);
+        }
+        Ok(())
+    }
+
+    /// Puts what an offer stores in front, where its key has an entry, and sees to it that a death comes no later than it dies.
+    fn replace_foreseen(
+        &mut self,
+        offer: &Offer,
+        number: u64,
+        leaving: Leaving,
+    ) -> Result<(), AllocError>
+        requires held { option_map (leaving_of self.old.stale) (entry_at offer.now.key self.old.entries) ≡ Some leaving }
+        ensures ok { OnOk result (self.new ≡ record self.old { entries = entry_of offer.now number ∷ staying (goes offer.now.key None) self.old.entries }) }
+        ensures err { OnErr result (self.new ≡ self.old) }
+    {
+        let time = judge::dies_at(&offer.body, offer.moment, self.stale);
+        // The length is read for what it tells: there is room, and no two entries have the same key.
+        let _ = self.cache.len();
+        self.deaths.reserve()?;
+        let death = death_before(leaving, &offer.key, time)?;
+        overwrite(&mut self.cache, offer, number)?;
+        followed::note_put(&mut self.followed, Some(leaving.number), number);
+        if let Some(death) = death {
             self.deaths.add(death);
         }
         Ok(())
@@ -292,9 +366,7 @@ fn promote(cache: &mut LruCache<Key, Entry, Seeded>, key: KeyRef<'_>) -> Option<
 fn put_over(
     cache: &mut LruCache<Key, Entry, Seeded>,
     entry: Entry,
-    is_held: bool,
 ) -> Result<(Key, Option<Entry>), AllocError>
-    requires held { is_held ≡ true → IsSome (lookup (key_eq entry.key) cache.old.entries) }
     requires room { length cache.old.entries < cache.old.cap }
     ensures key { IfOk result (λ told. told.0 ≡ entry.key) }
     ensures old { IfOk result (λ told. told.1 ≡ lookup (key_eq entry.key) cache.old.entries) }
@@ -302,18 +374,24 @@ fn put_over(
     ensures err { OnErr result (cache.new ≡ cache.old) }
 {
     let key = entry.key.clone()?;
-    let spare = if is_held {
-        None
-    } else {
-        Some(entry.key.clone()?)
-    };
+    let spare = entry.key.clone()?;
     match cache.push(key, entry)? {
-        Some((key, old)) => Ok((key, Some(old))),
-        None => {
-            let Some(key) = spare else { unreachable!() };
-            Ok((key, None))
-        }
+        Some((_, old)) => Ok((spare, Some(old))),
+        None => Ok((spare, None)),
     }
+}
+
+/// The death that is to wait for a key's new entry, which dies at a time: none where the entry that leaves has one that comes no later.
+fn death_before(leaving: Leaving, key: &Key, time: u64) -> Result<Option<Death>, AllocError>
+    ensures { IfOk result (λ death. death ≡ (if nat_le leaving.dies time then None else Some (record { time = time; key = key.now }))) }
+{
+    if leaving.dies <= time {
+        return Ok(None);
+    }
+    Ok(Some(Death {
+        time,
+        key: key.clone()?,
+    }))
 }
 
 /// Whether what a key held, if anything, dies at a time or before.
