@@ -8,7 +8,7 @@ use crate::chapter::Chapter;
 use crate::event::Event;
 use crate::snapshot::Snapshot;
 use rrc_name::{Sequence, Shared};
-use std::alloc::{AllocError, Global};
+use std::alloc::AllocError;
 use std::marker::Model;
 use std::vec::IntoIter;
 use thiserror::Error;
@@ -74,7 +74,7 @@ impl From<AllocError> for ChainFault {
 /// The first chapter that does not go on from the one before it is answered for, by its place in the list: `NumberGap` where its
 /// number or that of its first event is not the next, else `NotTheSameContents` where its snapshot is not the closing before it,
 /// octet for octet, rules counted. No chapters at all are `NumberGap(0)`. `Memory` comes last.
-pub fn chain(alloc: Global, chapters: Vec<Chapter>) -> Result<Whole, ChainFault>
+pub fn chain(chapters: Vec<Chapter>) -> Result<Whole, ChainFault>
     ensures whole { IfOk result (λ whole. IsWhole chapters.items whole) }
     ensures leads { IfOk result (λ whole. LeadTo whole.snapshot whole.events whole.closing) }
     ensures laws { IfOk result (λ whole. AllKeepLaws whole.snapshot (reverse whole.events)) }
@@ -84,13 +84,13 @@ pub fn chain(alloc: Global, chapters: Vec<Chapter>) -> Result<Whole, ChainFault>
     if let Some(fault) = first_fault(chapters.as_slice()) {
         return Err(fault);
     }
-    Ok(join_chained(alloc, chapters)?)
+    Ok(join_chained(chapters)?)
 }
 
 /// The history that chapters are of which each goes on from the one before it, as `chain` answers it: such are the chapters that a
 /// shelf closed. It compares nothing: its time is in proportion to the events, and to what the snapshots between hold where nothing
 /// else holds them, since these are let go. An error is that memory was refused.
-pub fn join_chained(alloc: Global, chapters: Vec<Chapter>) -> Result<Whole, AllocError>
+pub fn join_chained(chapters: Vec<Chapter>) -> Result<Whole, AllocError>
     requires { chain_fault chapters.items ≡ None }
     ensures whole { IfOk result (λ whole. IsWhole chapters.items whole) }
     ensures leads { IfOk result (λ whole. LeadTo whole.snapshot whole.events whole.closing) }
@@ -99,7 +99,7 @@ pub fn join_chained(alloc: Global, chapters: Vec<Chapter>) -> Result<Whole, Allo
     let mut behind = chapters.into_iter();
     match behind.next() {
         None => unreachable!(),
-        Some(first) => join(alloc, first, behind),
+        Some(first) => join(first, behind),
     }
 }
 
@@ -147,12 +147,12 @@ fn follows(before: &Chapter, chapter: &Chapter) -> bool
 }
 
 /// The history of a chapter and those behind it, of which each goes on from the one before it.
-fn join(alloc: Global, first: Chapter, behind: IntoIter<Chapter>) -> Result<Whole, AllocError>
+fn join(first: Chapter, behind: IntoIter<Chapter>) -> Result<Whole, AllocError>
     requires { fault_from 1 first (into_iter_items behind) ≡ None }
     ensures whole { IfOk result (λ whole. IsWhole (first ∷ into_iter_items behind) whole) }
     ensures leads { IfOk result (λ whole. LeadTo whole.snapshot whole.events whole.closing) }
 {
-    let mut whole = Whole::open(alloc, first)?;
+    let mut whole = Whole::open(first);
     for chapter in behind {
         whole = whole.extended(chapter)?;
     }
@@ -160,18 +160,16 @@ fn join(alloc: Global, first: Chapter, behind: IntoIter<Chapter>) -> Result<Whol
 }
 
 impl Whole {
-    /// The history of one chapter.
-    fn open(alloc: Global, chapter: Chapter) -> Result<Whole, AllocError>
-        ensures ok { IfOk result (λ whole. whole ≡ record { snapshot = chapter.snapshot; events = chapter.events; closing = chapter.closing }) }
-        ensures leads { IfOk result (λ whole. LeadTo whole.snapshot whole.events whole.closing) }
+    /// The history of one chapter, whose events are moved nowhere.
+    fn open(chapter: Chapter) -> Whole
+        ensures value { result ≡ record { snapshot = chapter.snapshot; events = chapter.events; closing = chapter.closing } }
+        ensures leads { LeadTo result.snapshot result.events result.closing }
     {
-        let mut events = Vec::new(alloc);
-        events.append(&mut chapter.events.into_vec())?;
-        Ok(Whole {
+        Whole {
             snapshot: chapter.snapshot,
-            events: Sequence::from_vec(events),
+            events: chapter.events,
             closing: chapter.closing,
-        })
+        }
     }
 
     /// The history with a chapter that goes on from it.

@@ -13,7 +13,7 @@ use rrc_trace::ReplayFault;
 use std::alloc::Global;
 
 /// The whole history of a shelf, over all its chapters. `Spent` of the number of lines where the chapter that is open can't be closed.
-fn whole_of(alloc: Global, lines: u64, shelf: Shelf) -> Result<Whole, ReplayFault>
+fn whole_of(lines: u64, shelf: Shelf) -> Result<Whole, ReplayFault>
     ensures whole { IfOk result (IsKeptBy shelf) }
     ensures err { IfErr result (CanNotClose lines (shelf ∷ [])) }
 {
@@ -23,7 +23,7 @@ fn whole_of(alloc: Global, lines: u64, shelf: Shelf) -> Result<Whole, ReplayFaul
         Err(Refusal::HistoryFull) => return Err(ReplayFault::Spent(lines)),
         Err(Refusal::MomentTooLarge | Refusal::Memory) => return Err(ReplayFault::Memory),
     }
-    Ok(join_chained(alloc, shelf.take_chapters())?)
+    Ok(join_chained(shelf.take_chapters())?)
 }
 
 /// The snapshot of a new part, which holds nothing.
@@ -59,7 +59,7 @@ pub(crate) fn wholes_of(
     let empty = empty_under(alloc, *rules);
     let mut wholes = Vec::with_capacity(alloc, shelves.len())?;
     for shelf in shelves {
-        let whole = whole_of(alloc, lines, shelf)?;
+        let whole = whole_of(lines, shelf)?;
         if !begins_with(&whole, &empty) {
             return Ok(None);
         }

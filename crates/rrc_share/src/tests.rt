@@ -104,8 +104,8 @@ fn an_ask_and_a_sweep_close_it_too(rt: HostRuntime) -> Result<(), Fail> {
 }
 
 /// How many events the chapters have that a shelf closed, as one history. The shelf has them no more.
-fn taken(alloc: Global, shelf: &mut Shelf) -> Result<usize, Fail> {
-    let whole = chain(alloc, shelf.take_chapters())?;
+fn taken(shelf: &mut Shelf) -> Result<usize, Fail> {
+    let whole = chain(shelf.take_chapters())?;
     Ok(whole.events.len())
 }
 
@@ -116,7 +116,7 @@ fn chapters_that_are_taken_chain(rt: HostRuntime) -> Result<(), Fail> {
     on_shelf_checkpoint(&mut shelf)?;
     on_shelf_checkpoint(&mut shelf)?;
     assert_eq!(rt; stand(&shelf), (2, 3, 0));
-    assert_eq!(rt; taken(alloc, &mut shelf)?, 1);
+    assert_eq!(rt; taken(&mut shelf)?, 1);
     assert_eq!(rt; stand(&shelf), (0, 3, 0));
     Ok(())
 }

@@ -80,7 +80,7 @@ fn events_of_both(alloc: Global, first: Chapter, second: Chapter) -> Result<usiz
     let mut chapters = Vec::with_capacity(alloc, 2)?;
     chapters.push(first)?;
     chapters.push(second)?;
-    let whole = chain(alloc, chapters)?;
+    let whole = chain(chapters)?;
     Ok(whole.events.len())
 }
 

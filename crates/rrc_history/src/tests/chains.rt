@@ -46,7 +46,7 @@ fn listed(alloc: Global, quiets: &[Quiet<'_>]) -> Result<Vec<Chapter>, Fail> {
 }
 
 fn chained(alloc: Global, quiets: &[Quiet<'_>]) -> Result<Result<Whole, ChainFault>, Fail> {
-    Ok(chain(alloc, listed(alloc, quiets)?))
+    Ok(chain(listed(alloc, quiets)?))
 }
 
 /// The fault of a chain of these chapters, if it has one.
@@ -84,7 +84,7 @@ fn joins_chapters_that_chain(rt: HostRuntime) -> Result<(), Fail> {
     if first_fault(chapters.as_slice()).is_some() {
         return Err("the chapters do not chain".into());
     }
-    let whole = join_chained(alloc, chapters)?;
+    let whole = join_chained(chapters)?;
     assert!(rt;
         whole.snapshot.first == 3 && whole.events.len() == 0 && whole.closing.entries.len() == 1
     );

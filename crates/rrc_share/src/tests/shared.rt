@@ -68,7 +68,7 @@ fn parts_are_swept_and_closed_one_by_one(rt: HostRuntime) -> Result<(), Fail> {
     }
     let late = cache.sweep_part(&rt, 2, TAG, (1 << 40) + 1);
     assert_eq!(rt; late, Err(Refusal::MomentTooLarge));
-    let whole = chain(alloc, cache.take_chapters(&rt, 1))?;
+    let whole = chain(cache.take_chapters(&rt, 1))?;
     assert_eq!(rt; whole.events.len(), 2);
     let wanted = [(1, 2, 0), (0, 2, 0), (0, 1, 0), (0, 1, 0)];
     assert!(rt; stands(cache.into_parts().as_slice(), &wanted));

@@ -6,9 +6,9 @@ use Rattle.rrc_history.proofs.chains.join.Goals as goal
 
 pub loop-chapter-init : goal.loop-chapter-init
 loop-chapter-init c =
-    let P : List ChapterOf → Type 0 = IsJoined c.args.first (into_iter_items c.args.behind) c.in_ok-whole.whole in
+    let P : List ChapterOf → Type 0 = IsJoined c.args.first (into_iter_items c.args.behind) c.open-whole.result in
     subst P (sym (ap into_iter_items c.into_iter-chapter-iterator.ensures.into_iter_gives))
-    (joined_first c.args.first (into_iter_items c.args.behind) c.in_ok-whole.whole c.requires c.in_ok-whole.ensures.ok c.in_ok-whole.ensures.leads)
+    (joined_first c.args.first (into_iter_items c.args.behind) c.open-whole.result c.requires c.open-whole.ensures.value c.open-whole.ensures.leads)
 
 pub extended-requires : goal.extended-requires
 extended-requires c =
@@ -19,5 +19,5 @@ extended-requires c =
 pub loop-chapter-preserved : goal.loop-chapter-preserved
 loop-chapter-preserved c =
     let P : List ChapterOf → Type 0 = IsJoined c.args.first (into_iter_items c.args.behind) c.loop-chapter.whole in
-    joined_more c.args.first (into_iter_items c.args.behind) c.loop-chapter.whole c.in_ok-whole-2.whole c.in-Some.chapter (into_iter_items c.next.new.self)
-    (subst P c.in-Some.ensures.steps.0 c.loop-chapter.invariant) c.in_ok-whole-2.ensures.ok c.in_ok-whole-2.ensures.leads
+    joined_more c.args.first (into_iter_items c.args.behind) c.loop-chapter.whole c.in_ok-whole.whole c.in-Some.chapter (into_iter_items c.next.new.self)
+    (subst P c.in-Some.ensures.steps.0 c.loop-chapter.invariant) c.in_ok-whole.ensures.ok c.in_ok-whole.ensures.leads
