@@ -1,5 +1,5 @@
 -- the fetches and the joins of tasks, as values of classes
-use Rattle.std.proofs.Common.{◌≡◌, ℕ, ◌<◌, Bool, List, [], ◌∷◌, ◌++◌, Option, Some, None, Result, Ok, Err, refl, sym, ◌∙◌, ap, subst, arith, ⊎_elim, IsTrue, ◌↔◌}
+use Rattle.std.proofs.Common.{◌≡◌, ℕ, ◌<◌, Bool, false, List, [], ◌∷◌, ◌++◌, Option, Some, None, Result, Ok, Err, refl, sym, ◌∙◌, ap, subst, arith, ⊎_elim, IsTrue, ◌↔◌}
 use Rattle.std.specs.Prelude.{IfOk, IfSome}
 use Rattle.std.specs.List.{All, Contains}
 use Rattle.std.proofs.lemmas.List.{append-nil, append_assoc}
@@ -10,6 +10,7 @@ use Rattle.rrc_collate.specs.declared.task.Fate.{Fate}
 use Rattle.rrc_collate.specs.declared.task.Fate.TheVariants.{Plain, Joined, Fetched}
 use Rattle.rrc_collate.specs.Joining.{HasOther}
 use Rattle.rrc_collate.specs.Fetches.{fetch_by, join_by, listed, picked, IsNumbered}
+use Rattle.rrc_collate.specs.Turns.{is_fetched}
 use Rattle.rrc_collate.specs.Collated.{IsFetchOf, HasFetcher, IsJoinedTo}
 
 pub picked_more : (pick : ℕ → Fate → Option Valued) (tasks : List Task) (next : Task) → picked pick (tasks ++ next ∷ []) ≡ picked pick tasks ++ listed (pick next.worker next.fate)
@@ -173,3 +174,15 @@ joins_below questions tasks joins are numbered =
     (picked_all Below join_by tasks
     (All-weaker (λ (task : Task). IsNumbered questions task.fate) (λ (task : Task). IfSome (join_by task.worker task.fate) Below)
     (λ task own. join_below questions task.worker task.fate own) tasks numbered))
+
+-- where there are no questions, no line fetched or joined one
+plain_of : (questions : ℕ) (fate : Fate) → questions ≡ 0 → IsNumbered questions fate → fate ≡ Plain
+plain_of questions Plain none is = refl
+plain_of questions (Joined question) none is = absurd (omega (arith, none, is))
+plain_of questions (Fetched question home) none is = absurd (omega (arith, none, is))
+
+pub none_are_fetched : (questions : ℕ) (tasks : List Task) → questions ≡ 0 → All (λ (task : Task). IsNumbered questions task.fate) tasks
+    → All (λ (task : Task). is_fetched task.fate ≡ false) tasks
+none_are_fetched questions tasks none numbered =
+    All-weaker (λ (task : Task). IsNumbered questions task.fate) (λ (task : Task). is_fetched task.fate ≡ false)
+    (λ task is. ap is_fetched (plain_of questions task.fate none is)) tasks numbered

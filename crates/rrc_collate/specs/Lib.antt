@@ -3,6 +3,7 @@ pub mod Operations
 pub mod Calls
 pub mod Same
 pub mod Hands
+pub mod Drawn
 pub mod Drawing
 pub mod Tasks
 pub mod Collated

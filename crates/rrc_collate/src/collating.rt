@@ -4,11 +4,12 @@ ghost use Rattle.rrc_history.specs.declared.event.Event.{Event};
 ghost use Rattle.rrc_collate.specs.Fetches.{IsNumbered};
 ghost use Rattle.rrc_collate.specs.Collated.{histories_of, IsCollated};
 
+use crate::drawn::Drawn;
 use crate::fetching::are_joined;
 use crate::ordering::order;
 use crate::task::Task;
 use crate::turning::are_in_turn;
-use rrc_history::{Event, Whole};
+use rrc_history::Whole;
 use std::alloc::{AllocError, Global};
 
 /// The events of each task, as `order` answers them, where what the workers did fits the parts' histories: they are just what the
@@ -23,7 +24,7 @@ pub fn collate<'a>(
     questions: usize,
     wholes: &'a [Whole],
     tasks: &[Task],
-) -> Result<Option<Vec<Vec<&'a Event>>>, AllocError>
+) -> Result<Option<Vec<Drawn<'a>>>, AllocError>
     requires workers { All (λ task. task.worker < workers) tasks.now }
     requires parts { All (λ task. All (λ operation. operation.part < length wholes.now) task.operations) tasks.now }
     requires questions { All (λ task. IsNumbered questions task.fate) tasks.now }

@@ -3,9 +3,9 @@ ghost use Rattle.std.specs.List.{All};
 ghost use Rattle.rrc_collate.specs.Tasks.{AreDone, AreOnlyDone, CanNotBeDone};
 
 use crate::drawing::draw;
+use crate::drawn::Drawn;
 use crate::hands::Hands;
 use crate::task::Task;
-use rrc_history::Event;
 use std::alloc::{AllocError, Global};
 
 /// The events of tasks, in order: each task takes those of its operations from its worker's hands. `None` where a hand has other
@@ -15,7 +15,7 @@ pub fn draw_all<'a>(
     parts: &mut [Hands<'a>],
     workers: usize,
     tasks: &[Task],
-) -> Result<Option<Vec<Vec<&'a Event>>>, AllocError>
+) -> Result<Option<Vec<Drawn<'a>>>, AllocError>
     requires hands { All (λ hands. length hands ≡ workers) parts.old }
     requires workers { All (λ task. task.worker < workers) tasks.now }
     requires parts { All (λ task. All (λ operation. operation.part < length parts.old) task.operations) tasks.now }

@@ -2,6 +2,7 @@ ghost use Rattle.std.specs.Prelude.{◌≡◌, ◌<◌, ◌↔◌, [], length, d
 ghost use Rattle.std.specs.List.{All};
 ghost use Rattle.rrc_collate.specs.Drawing.{IsNext, IsFirst, HasNoFirst, IsDrawn, IsOnlyDraw, CanNotDraw};
 
+use crate::drawn::Drawn;
 use crate::hands::Hands;
 use crate::script::{Call, Operation, is_call_of, tag_of};
 use rrc_history::{Event, Tag};
@@ -38,14 +39,14 @@ pub fn draw<'a>(
     worker: usize,
     line: u64,
     script: &[Operation],
-) -> Result<Option<Vec<&'a Event>>, AllocError>
+) -> Result<Option<Drawn<'a>>, AllocError>
     requires workers { All (λ hands. worker < length hands) parts.old }
     requires parts { All (λ operation. operation.part < length parts.old) script.now }
     ensures drawn { IfOk result (λ drawn. IfSome drawn (λ events. IsDrawn parts.old worker line script.now (map (λ event. event.now) events.items) parts.new)) }
     ensures only { IfOk result (λ drawn. IfSome drawn (λ events. IsOnlyDraw parts.old worker line script.now (map (λ event. event.now) events.items) parts.new)) }
     ensures none { IfOk result (λ drawn. IfNone drawn (CanNotDraw parts.old worker line script.now)) }
 {
-    let mut events = Vec::with_capacity(alloc, script.len())?;
+    let mut events = Drawn::with_capacity(alloc, script.len())?;
     for (place, operation) in script.iter().enumerate() {
         let tag = Tag {
             line,
@@ -53,7 +54,7 @@ pub fn draw<'a>(
         };
         match take_next(&mut parts[operation.part], worker, tag, &operation.call) {
             None => return Ok(None),
-            Some(event) => events.push(event)?,
+            Some(event) => events.push(alloc, event)?,
         }
     }
     Ok(Some(events))

@@ -4,6 +4,7 @@
 mod collating;
 mod doing;
 mod drawing;
+mod drawn;
 mod falls;
 mod fetching;
 mod hands;
@@ -22,6 +23,7 @@ mod valued;
 pub use collating::collate;
 pub use doing::draw_all;
 pub use drawing::draw;
+pub use drawn::Drawn;
 pub use falls::never_falls;
 pub use fetching::are_joined;
 pub use hands::{Hands, deal};

@@ -5,12 +5,13 @@ ghost use Rattle.rrc_collate.specs.Hands.{AreNamed, AreDealt};
 ghost use Rattle.rrc_collate.specs.Collated.{taken_by, histories_of, AreWritten, AreInOrder};
 
 use crate::doing::draw_all;
+use crate::drawn::Drawn;
 use crate::falls::never_falls;
 use crate::hands::{Hands, deal};
 use crate::owning::owners;
 use crate::task::Task;
 use crate::valued::Valued;
-use rrc_history::{Event, Whole};
+use rrc_history::Whole;
 use std::alloc::{AllocError, Global};
 
 /// Which worker took which line.
@@ -68,7 +69,7 @@ fn events_in<'a>(
     owners: &[usize],
     wholes: &'a [Whole],
     tasks: &[Task],
-) -> Result<Option<Vec<Vec<&'a Event>>>, AllocError>
+) -> Result<Option<Vec<Drawn<'a>>>, AllocError>
     requires owners { All (λ owner. owner < workers) owners.now }
     requires workers { All (λ task. task.worker < workers) tasks.now }
     requires parts { All (λ task. All (λ operation. operation.part < length wholes.now) task.operations) tasks.now }
@@ -102,7 +103,7 @@ pub fn order<'a>(
     workers: usize,
     wholes: &'a [Whole],
     tasks: &[Task],
-) -> Result<Option<Vec<Vec<&'a Event>>>, AllocError>
+) -> Result<Option<Vec<Drawn<'a>>>, AllocError>
     requires workers { All (λ task. task.worker < workers) tasks.now }
     requires parts { All (λ task. All (λ operation. operation.part < length wholes.now) task.operations) tasks.now }
     ensures ordered { IfOk result (λ found. IfSome found (λ events. AreInOrder lines workers tasks.now (histories_of wholes.now) (map (λ own. map (λ event. event.now) own.items) events.items))) }

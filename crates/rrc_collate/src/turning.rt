@@ -149,10 +149,14 @@ fn is_fetched(fate: Fate) -> bool
     }
 }
 
-/// Whether no task fetched a question.
-fn none_fetched(tasks: &[Task]) -> bool
+/// Whether no task fetched one of so many questions.
+fn none_fetched(questions: usize, tasks: &[Task]) -> bool
+    requires { All (λ task. IsNumbered questions task.fate) tasks.now }
     ensures { IsTrue result ↔ All (λ task. is_fetched task.fate ≡ false) tasks.now }
 {
+    if questions == 0 {
+        return true;
+    }
     for task in tasks {
         if is_fetched(task.fate) {
             return false;
@@ -165,7 +169,7 @@ fn none_fetched(tasks: &[Task]) -> bool
 /// the order of their turns. The lines are numbered from 0, and there are `lines` of them, and so are the questions.
 ///
 /// Its time is linear in lines, tasks, questions for each part, and events, and so is its memory. Where nothing was fetched, as in most
-/// traces, it looks at the tasks alone and takes no memory.
+/// traces, it looks at the tasks at most and takes no memory.
 pub fn are_in_turn(
     alloc: Global,
     lines: usize,
@@ -178,7 +182,7 @@ pub fn are_in_turn(
     requires named { All (λ whole. AreNamed lines whole.events) wholes.now }
     ensures { IfOk result (λ all. IsTrue all ↔ All (λ history. NeverFalls (turns_in tasks.now (histories_of wholes.now) history)) (histories_of wholes.now)) }
 {
-    if none_fetched(tasks) {
+    if none_fetched(questions, tasks) {
         return Ok(true);
     }
     let fates = fates_in(alloc, lines, tasks)?;

@@ -8,7 +8,7 @@ ghost use Rattle.rrc_report.specs.Steps.{given_from, as_taken, AreComplete};
 use crate::done::{Answered, Done};
 use crate::joined::joined;
 use crate::telling::completed;
-use rrc_history::Event;
+use rrc_collate::Drawn;
 use rrc_name::Sequence;
 use rrc_trace::Answer;
 use std::alloc::{AllocError, Global};
@@ -40,7 +40,7 @@ fn fill(
     alloc: Global,
     table: &mut [Answer],
     given: Vec<Answered>,
-    events: &[Vec<&Event>],
+    events: &[Drawn<'_>],
 ) -> Result<bool, AllocError>
     requires below { All (λ one. one.line < length table.old) given.items }
     requires once { AllPairs (λ earlier later. earlier.line ≢ later.line) given.items }
@@ -65,7 +65,7 @@ pub(crate) fn lines_of(
     alloc: Global,
     count: usize,
     done: Vec<Done>,
-    events: &[Vec<&Event>],
+    events: &[Drawn<'_>],
 ) -> Result<Option<Sequence<Answer>>, AllocError>
     requires shared_out { AreSharedOut count (map as_taken (given_from 0 done.items)) }
     requires size { length events.now ≡ length (given_from 0 done.items) }

@@ -1,7 +1,8 @@
-use Rattle.std.proofs.Common.{◌≡◌, ◌+◌, ◌++◌, ◌∷◌, [], List, Vec, Global, Bor, take, drop, map, ap, subst, sym, ◌∙◌, arith}
+use Rattle.std.proofs.Common.{◌≡◌, ◌+◌, ◌++◌, ◌∷◌, [], List, Bor, take, drop, map, ap, subst, sym, ◌∙◌, arith}
 use Rattle.std.specs.Prelude.{IfSome, IfNone}
 use Rattle.std.proofs.lemmas.List.{drop_more, drop_all, take_more}
 use Rattle.rrc_history.specs.declared.event.Event.{Event}
+use Rattle.rrc_collate.specs.Drawn.{DrawnOf}
 use Rattle.rrc_collate.specs.Drawing.{IsDrawn, IsOnlyDraw, CanNotDraw}
 use Rattle.rrc_collate.specs.Tasks.{AreDone}
 use Rattle.rrc_collate.proofs.Dealing.{shown, shown_push}
@@ -18,7 +19,7 @@ returns-in-None-clause-none c =
     let can_not = subst (λ operations. CanNotDraw parts task.worker task.line operations) c.as_slice-operations.ensures none in
     let behind : drop i tasks ≡ task ∷ drop (i + 1) tasks = drop_more tasks i task c.loop-task-test.true ∙ ap (λ t. t ∷ drop (i + 1) tasks) (sym c.task-item.is) in
     let now : Bor Event → Event = λ borrowed. borrowed.now in
-    let items : Vec (Bor Event) Global → List (Bor Event) = λ own. own.items in
+    let items : DrawnOf → List (Bor Event) = λ own. own.items in
     let done = shown items now c.loop-task.events.items in
     λ events behinds fit.
     let rest = subst (λ ts. AllFitOn parts ts done events behinds) behind (c.loop-task.invariant.rest events behinds fit) in
@@ -33,7 +34,7 @@ loop-task-preserved c =
     let task = c.task-item.result in
     let own = c.in-Some.own in
     let now : Bor Event → Event = λ borrowed. borrowed.now in
-    let items : Vec (Bor Event) Global → List (Bor Event) = λ own. own.items in
+    let items : DrawnOf → List (Bor Event) = λ own. own.items in
     let done = shown items now c.loop-task.events.items in
     let drawn = map now own.items in
     let operations = c.as_slice-operations.result.now in
@@ -60,7 +61,7 @@ pub returns-clause-only : goal.returns-clause-only
 returns-clause-only c =
     let none = drop_all c.loop-task.task-index c.args.tasks.now (omega (arith, c.loop-task-test.false)) in
     let now : Bor Event → Event = λ borrowed. borrowed.now in
-    let items : Vec (Bor Event) Global → List (Bor Event) = λ own. own.items in
+    let items : DrawnOf → List (Bor Event) = λ own. own.items in
     let done = shown items now c.loop-task.events.items in
     λ events behinds fit.
     all_fit_all c.loop-task.parts done events behinds

@@ -1,8 +1,9 @@
-use Rattle.std.proofs.Common.{◌≡◌, List, Vec, Global, Bor, [], length, ap, subst, sym, ◌∙◌}
+use Rattle.std.proofs.Common.{◌≡◌, List, Bor, [], length, ap, subst, sym, ◌∙◌}
 use Rattle.std.specs.Prelude.{IfSome, IfNone, is_some}
 use Rattle.std.specs.List.{All, AllZip}
 use Rattle.std.proofs.lemmas.Bool.{false≢true}
 use Rattle.rrc_history.specs.declared.event.Event.{Event}
+use Rattle.rrc_collate.specs.Drawn.{DrawnOf}
 use Rattle.rrc_collate.specs.Hands.{AreDealt}
 use Rattle.rrc_collate.specs.Tasks.{AreDone, AreOnlyDone, CanNotBeDone}
 use Rattle.rrc_collate.specs.Collated.{histories_of}
@@ -54,7 +55,7 @@ returns-then-are_empty-clause-written c =
     let dealt = subst (λ parts. AllZip (Dealt c.args.workers c.args.owners.now) histories parts) (sym c.as_mut_slice.ensures.value)
     (zip_histories (Dealt c.args.workers c.args.owners.now) c.args.wholes.now c.in-Some.parts.items all) in
     let now : Bor Event → Event = λ borrowed. borrowed.now in
-    let items : Vec (Bor Event) Global → List (Bor Event) = λ own. own.items in
+    let items : DrawnOf → List (Bor Event) = λ own. own.items in
     let events = shown items now c.in-Some-2.events.items in
     let done = subst (λ found. IfSome found (λ events. AreDone parts tasks (shown items now events.items) left)) c.in-Some-2.is c.in_ok-draw_all.ensures.done in
     let size = c.as_mut_slice.ensures.len in
@@ -76,7 +77,7 @@ returns-then-are_empty-clause-only c =
     let dealt = subst (λ parts. AllZip (Dealt c.args.workers c.args.owners.now) histories parts) (sym c.as_mut_slice.ensures.value)
     (zip_histories (Dealt c.args.workers c.args.owners.now) c.args.wholes.now c.in-Some.parts.items all) in
     let now : Bor Event → Event = λ borrowed. borrowed.now in
-    let items : Vec (Bor Event) Global → List (Bor Event) = λ own. own.items in
+    let items : DrawnOf → List (Bor Event) = λ own. own.items in
     let events = shown items now c.in-Some-2.events.items in
     let only = subst (λ found. IfSome found (λ events. AreOnlyDone parts tasks (shown items now events.items) left)) c.in-Some-2.is c.in_ok-draw_all.ensures.only in
     λ others written.
@@ -92,7 +93,7 @@ returns-clause-strayed c =
     let dealt = subst (λ parts. AllZip (Dealt c.args.workers c.args.owners.now) histories parts) (sym c.as_mut_slice.ensures.value)
     (zip_histories (Dealt c.args.workers c.args.owners.now) c.args.wholes.now c.in-Some.parts.items all) in
     let now : Bor Event → Event = λ borrowed. borrowed.now in
-    let items : Vec (Bor Event) Global → List (Bor Event) = λ own. own.items in
+    let items : DrawnOf → List (Bor Event) = λ own. own.items in
     let events = shown items now c.in-Some-2.events.items in
     let done = subst (λ found. IfSome found (λ events. AreDone parts tasks (shown items now events.items) left)) c.in-Some-2.is c.in_ok-draw_all.ensures.done in
     let only = subst (λ found. IfSome found (λ events. AreOnlyDone parts tasks (shown items now events.items) left)) c.in-Some-2.is c.in_ok-draw_all.ensures.only in

@@ -2,6 +2,7 @@ use Rattle.std.proofs.Common.{◌<◌, List, Vec, Global, Bor, ap, subst, sym, �
 use Rattle.std.specs.Prelude.{IfSome, is_some}
 use Rattle.std.specs.List.{All}
 use Rattle.rrc_history.specs.declared.event.Event.{Event}
+use Rattle.rrc_collate.specs.Drawn.{DrawnOf}
 use Rattle.rrc_collate.specs.declared.valued.Valued.{Valued}
 use Rattle.rrc_collate.specs.Words.{NeverFalls, AreSharedOut, AreOwners}
 use Rattle.rrc_collate.specs.Collated.{taken_by, histories_of}
@@ -33,8 +34,8 @@ returns-clause-ordered c =
     subst (λ taken. AreOwners c.args.lines taken owners) is_taken
     (subst (λ items. AreOwners c.args.lines c.as_slice-2.result.now items) (sym c.as_slice-in-Some.ensures.value) found) in
     let now : Bor Event → Event = λ borrowed. borrowed.now in
-    let items : Vec (Bor Event) Global → List (Bor Event) = λ own. own.items in
-    let show : Vec (Vec (Bor Event) Global) Global → List (List Event) = λ events. shown items now events.items in
+    let items : DrawnOf → List (Bor Event) = λ own. own.items in
+    let show : Vec DrawnOf Global → List (List Event) = λ events. shown items now events.items in
     let shared_out = subst (λ taken. AreSharedOut c.args.lines taken) is_taken (c.in_ok-owners.ensures.shared_out.0 (ap is_some c.in-Some.is)) in
     let rising = subst (λ taken. NeverFalls taken) (c.as_slice.ensures.value ∙ c.in_ok-taken.ensures) (c.in_ok-never_falls.ensures.0 c.if-not-branch.false) in
     ordered_by show c.args.lines c.args.workers owners c.args.tasks.now (histories_of c.args.wholes.now) c.events_in.result shared_out rising are c.events_in.ensures.written
@@ -48,8 +49,8 @@ returns-clause-only c =
     subst (λ taken. AreOwners c.args.lines taken owners) is_taken
     (subst (λ items. AreOwners c.args.lines c.as_slice-2.result.now items) (sym c.as_slice-in-Some.ensures.value) found) in
     let now : Bor Event → Event = λ borrowed. borrowed.now in
-    let items : Vec (Bor Event) Global → List (Bor Event) = λ own. own.items in
-    let show : Vec (Vec (Bor Event) Global) Global → List (List Event) = λ events. shown items now events.items in
+    let items : DrawnOf → List (Bor Event) = λ own. own.items in
+    let show : Vec DrawnOf Global → List (List Event) = λ events. shown items now events.items in
     only_by show c.args.lines c.args.workers owners c.args.tasks.now (histories_of c.args.wholes.now) c.events_in.result are c.events_in.ensures.only
 
 pub returns-clause-strayed : goal.returns-clause-strayed

@@ -6,6 +6,7 @@ use Rattle.std.proofs.lemmas.Slice.Zip.{AllZip-long}
 use Rattle.rrc_history.specs.declared.event.Event.{Event}
 use Rattle.rrc_trace.specs.declared.answer.Answer.{Answer}
 use Rattle.rrc_trace.specs.Questions.{questions_of}
+use Rattle.rrc_collate.specs.Drawn.{DrawnOf}
 use Rattle.rrc_collate.specs.declared.task.Task.{Task}
 use Rattle.rrc_collate.specs.Collated.{histories_of}
 use Rattle.rrc_collate.specs.Collated as collated
@@ -19,11 +20,11 @@ use Rattle.rrc_report.proofs.collating.collate.Goals.{then-len-config-via-then-l
 use Rattle.rrc_report.proofs.collating.collate.Goals as goal
 
 -- the events of tasks, as lists
-abbrev shown : List (Vec (Bor Event) Global) → List (List Event)
+abbrev shown : List DrawnOf → List (List Event)
 shown events = map (λ own. map (λ event. event.now) own.items) events
 
 -- the same of a vector of them
-abbrev drawn : Vec (Vec (Bor Event) Global) Global → List (List Event)
+abbrev drawn : Vec DrawnOf Global → List (List Event)
 drawn events = shown events.items
 
 pub returns-then-len-config-clause-err : goal.returns-then-len-config-clause-err
@@ -134,7 +135,7 @@ lines_of-requires-clause-shared_out c =
     let count : c.len-count.result ≡ length lines = cc in
     let whole : c.as_slice-2.result.now ≡ wholes = c.as_slice-2.ensures in
     let events = drawn c.in-Some-3.events in
-    let fitting = some_of (λ (e : Vec (Vec (Bor Event) Global) Global). collated.IsCollated c.len-count.result config.workers c.as_slice-3.result.now (histories_of c.as_slice-2.result.now) (drawn e)) c.in_ok-events.field-0 c.in-Some-3.events c.in-Some-3.is c.in_ok-events.ensures.collated in
+    let fitting = some_of (λ (e : Vec DrawnOf Global). collated.IsCollated c.len-count.result config.workers c.as_slice-3.result.now (histories_of c.as_slice-2.result.now) (drawn e)) c.in_ok-events.field-0 c.in-Some-3.events c.in-Some-3.is c.in_ok-events.ensures.collated in
     let fits = rw (count, read, whole) at fitting in
     subst (λ n. AreSharedOut n (map as_taken (given_from 0 done))) (sym count) (given_shared_out config lines done tasks (histories_of wholes) events are fits)
 
@@ -153,10 +154,10 @@ lines_of-requires-clause-size c =
     let count : c.len-count.result ≡ length lines = cc in
     let whole : c.as_slice-2.result.now ≡ wholes = c.as_slice-2.ensures in
     let events = drawn c.in-Some-3.events in
-    let fitting = some_of (λ (e : Vec (Vec (Bor Event) Global) Global). collated.IsCollated c.len-count.result config.workers c.as_slice-3.result.now (histories_of c.as_slice-2.result.now) (drawn e)) c.in_ok-events.field-0 c.in-Some-3.events c.in-Some-3.is c.in_ok-events.ensures.collated in
+    let fitting = some_of (λ (e : Vec DrawnOf Global). collated.IsCollated c.len-count.result config.workers c.as_slice-3.result.now (histories_of c.as_slice-2.result.now) (drawn e)) c.in_ok-events.field-0 c.in-Some-3.events c.in-Some-3.is c.in_ok-events.ensures.collated in
     let fits = rw (count, read, whole) at fitting in
     ap length c.as_slice-5.ensures.value
-    ∙ (sym (length-map c.in-Some-3.events.items (λ (own : Vec (Bor Event) Global). map (λ event. event.now) own.items))
+    ∙ (sym (length-map c.in-Some-3.events.items (λ (own : DrawnOf). map (λ event. event.now) own.items))
     ∙ events_given config lines done tasks (histories_of wholes) events are fits)
 
 pub returns-in_default-4-clause-err : goal.returns-in_default-4-clause-err
@@ -176,7 +177,7 @@ returns-in_default-4-clause-err c =
     let count : c.len-count.result ≡ length lines = cc in
     let whole : c.as_slice-2.result.now ≡ wholes = c.as_slice-2.ensures in
     let handed : c.as_slice-5.result.now ≡ c.in-Some-3.events.items = c.as_slice-5.ensures.value in
-    let one = some_of (λ (e : Vec (Vec (Bor Event) Global) Global). (others : List (List Event)) → collated.IsCollated c.len-count.result config.workers c.as_slice-3.result.now (histories_of c.as_slice-2.result.now) others → others ≡ drawn e) c.in_ok-events.field-0 c.in-Some-3.events c.in-Some-3.is c.in_ok-events.ensures.only in
+    let one = some_of (λ (e : Vec DrawnOf Global). (others : List (List Event)) → collated.IsCollated c.len-count.result config.workers c.as_slice-3.result.now (histories_of c.as_slice-2.result.now) others → others ≡ drawn e) c.in_ok-events.field-0 c.in-Some-3.events c.in-Some-3.is c.in_ok-events.ensures.only in
     let none = none_of ((answers : List Answer) → AreComplete c.len-count.result (given_from 0 done) (shown c.as_slice-5.result.now) answers → ⊥) c.in_ok-lines.field-0 c.in_default-4.is c.in_ok-lines.ensures.none in
     answer_stray c.one_script.ensures config lines shelves done wholes tasks (drawn c.in-Some-3.events) parts are
     (rw (count, read, whole) at one) (rw (count, handed) at none)
@@ -198,7 +199,7 @@ returns-clause-collated c =
     let count : c.len-count.result ≡ length lines = cc in
     let whole : c.as_slice-2.result.now ≡ wholes = c.as_slice-2.ensures in
     let events = drawn c.in-Some-3.events in
-    let fitting = some_of (λ (e : Vec (Vec (Bor Event) Global) Global). collated.IsCollated c.len-count.result config.workers c.as_slice-3.result.now (histories_of c.as_slice-2.result.now) (drawn e)) c.in_ok-events.field-0 c.in-Some-3.events c.in-Some-3.is c.in_ok-events.ensures.collated in
+    let fitting = some_of (λ (e : Vec DrawnOf Global). collated.IsCollated c.len-count.result config.workers c.as_slice-3.result.now (histories_of c.as_slice-2.result.now) (drawn e)) c.in_ok-events.field-0 c.in-Some-3.events c.in-Some-3.is c.in_ok-events.ensures.collated in
     let fits = rw (count, read, whole) at fitting in
     let workers : length done ≡ config.workers = omega arith in
     let handed : c.as_slice-5.result.now ≡ c.in-Some-3.events.items = c.as_slice-5.ensures.value in
@@ -233,7 +234,7 @@ returns-clause-holds c =
     let count : c.len-count.result ≡ length lines = cc in
     let whole : c.as_slice-2.result.now ≡ wholes = c.as_slice-2.ensures in
     let events = drawn c.in-Some-3.events in
-    let fitting = some_of (λ (e : Vec (Vec (Bor Event) Global) Global). collated.IsCollated c.len-count.result config.workers c.as_slice-3.result.now (histories_of c.as_slice-2.result.now) (drawn e)) c.in_ok-events.field-0 c.in-Some-3.events c.in-Some-3.is c.in_ok-events.ensures.collated in
+    let fitting = some_of (λ (e : Vec DrawnOf Global). collated.IsCollated c.len-count.result config.workers c.as_slice-3.result.now (histories_of c.as_slice-2.result.now) (drawn e)) c.in_ok-events.field-0 c.in-Some-3.events c.in-Some-3.is c.in_ok-events.ensures.collated in
     let fits = rw (count, read, whole) at fitting in
     let workers : length done ≡ config.workers = omega arith in
     let handed : c.as_slice-5.result.now ≡ c.in-Some-3.events.items = c.as_slice-5.ensures.value in

@@ -3,6 +3,7 @@ use Rattle.std.specs.Prelude.{IfSome}
 use Rattle.std.specs.Vec.Iter.{into_iter_items}
 use Rattle.std.proofs.lemmas.List.{length_push}
 use Rattle.rrc_history.specs.declared.event.Event.{Event}
+use Rattle.rrc_collate.specs.Drawn.{DrawnOf}
 use Rattle.rrc_report.specs.Answers.{Completes}
 use Rattle.rrc_report.proofs.Tables.{fill_more}
 use Rattle.rrc_report.proofs.completing.fill.Goals as goal
@@ -10,7 +11,7 @@ use Rattle.rrc_report.proofs.completing.fill.Goals as goal
 pub loop-one-preserved : goal.loop-one-preserved
 loop-one-preserved c =
     let now : Bor Event → Event = λ event. event.now in
-    let items : Vec (Bor Event) Global → List (Bor Event) = λ own. own.items in
+    let items : DrawnOf → List (Bor Event) = λ own. own.items in
     let one = c.in-Some.one in
     let behind = into_iter_items c.next.new.self in
     let steps = c.in-Some.ensures.steps.0 in
