@@ -1,6 +1,7 @@
 //! A part of the cache, lent to one thread: each call appends one event to its history and answers what stands in it.
 #![tactic(auto)]
 
+mod ahead;
 mod answer;
 mod beside;
 mod closing;

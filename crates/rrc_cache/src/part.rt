@@ -3,7 +3,7 @@ ghost use Rattle.std.specs.Prelude.{◌≡◌, ◌<◌, ◌≤◌, ◌↔◌, �
 use crate::refusal::Refusal;
 use crate::reply::ReplyRef;
 use crate::store::Store;
-use crate::{answer, closing, entries, judge, sweep};
+use crate::{ahead, answer, closing, entries, judge, sweep};
 use rrc_history::{Ask, Chapter, Event, LAST_MOMENT, Offer, Outcome, Reply, Rules, Snapshot, Tag};
 use rrc_name::{Sequence, Shared};
 use std::alloc::Global;
@@ -127,6 +127,7 @@ impl Part {
         ensures err { OnErr result (self.new ≡ self.old) }
         ensures due { IsDue self.old offer.moment result }
     {
+        ahead::load_data(&offer.body);
         self.admit(offer.moment)?;
         let number = self.next_number();
         self.events.reserve(1)?;

@@ -17,9 +17,9 @@ ghost use Rattle.rrc_cache.specs.Pairs.{entries_in, AreOwn};
 use crate::beside::Beside;
 use crate::deaths::{Death, Deaths};
 use crate::followed::{self, Followed};
-use crate::judge;
 use crate::overwriting::overwrite;
 use crate::seeded::Seeded;
+use crate::{ahead, judge};
 use lru::LruCache;
 use rrc_history::{Entry, EntryList, Offer, Rules, Snapshot};
 use rrc_name::{Key, KeyRef, Name, Shared};
@@ -123,7 +123,9 @@ impl Store {
     pub(crate) fn get(&self, key: KeyRef<'_>) -> Option<&Entry>
         ensures { option_copied result ≡ entry_at (key_of key.entry) self.now.entries }
     {
-        self.cache.peek(key)
+        let held = self.cache.peek(key);
+        ahead::load_held(held);
+        held
     }
 
     /// Whether something may be kept of a name beside its sets. Where not, no look-up finds any of that.

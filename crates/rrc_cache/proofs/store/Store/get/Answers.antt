@@ -7,6 +7,6 @@ use Rattle.rrc_cache.proofs.store.Store.get.Goals as goal
 
 pub returns : goal.returns
 returns c =
-    c.peek.ensures
+    c.peek-held.ensures
     ∙ (found_in_pairs (key_of c.args.key) c.self.inside.cache.entries c.self.invariant.0.own
     ∙ ap (λ (store : StoreOf). entry_at (key_of c.args.key) store.entries) c.self.view_is)
