@@ -18,8 +18,6 @@ mod reply;
 mod seeded;
 mod store;
 mod sweep;
-#[cfg(test)]
-mod tests;
 
 pub use part::Part;
 pub use rechecks::{RecheckFault, recheck, recheck_seeded};

@@ -15,8 +15,6 @@ mod ordering;
 mod owning;
 mod script;
 mod task;
-#[cfg(test)]
-mod tests;
 mod turning;
 mod valued;
 

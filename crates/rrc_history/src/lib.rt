@@ -15,8 +15,6 @@ mod past;
 mod renewing;
 mod rules;
 mod snapshot;
-#[cfg(test)]
-mod tests;
 
 pub use ask::{Ask, Mode, Purpose};
 pub use audits::{FirstBad, audit};

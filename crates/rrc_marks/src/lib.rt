@@ -13,6 +13,3 @@ pub use fault::MarksFault;
 pub use law::{each_step_is_counted, each_step_keeps_the_rule, the_rule_tells_passes_apart};
 pub use marks::Marks;
 pub use pass::Pass;
-
-#[cfg(test)]
-mod tests;

@@ -7,19 +7,11 @@ mod key_ref;
 mod label;
 mod laws;
 mod name;
-#[cfg(test)]
-mod name_tests;
 mod octets;
 mod order;
-#[cfg(test)]
-mod order_tests;
 mod printed;
 mod sequence;
-#[cfg(test)]
-mod sequence_tests;
 mod shared;
-#[cfg(test)]
-mod shared_tests;
 mod slot;
 mod text;
 mod wire;

@@ -8,8 +8,6 @@ mod gate;
 mod limits;
 mod replaying;
 mod running;
-#[cfg(test)]
-mod tests;
 mod working;
 
 pub use auditing::Audit;

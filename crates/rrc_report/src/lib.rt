@@ -13,8 +13,6 @@ mod script;
 mod scripting;
 mod tasking;
 mod telling;
-#[cfg(test)]
-mod tests;
 mod wholes;
 
 pub use collating::collate;

@@ -20,6 +20,3 @@ pub use limits::Limits;
 pub use parts::part_of;
 pub use reply::offers;
 pub use times::life;
-
-#[cfg(test)]
-mod tests;

@@ -4,8 +4,6 @@
 mod calls;
 mod shared;
 mod shelf;
-#[cfg(test)]
-mod tests;
 
 pub use calls::{on_shelf_ask, on_shelf_checkpoint, on_shelf_offer, on_shelf_sweep};
 pub use shared::SharedCache;

@@ -19,8 +19,6 @@ mod pieces;
 mod questions;
 mod reading;
 mod report;
-#[cfg(test)]
-mod tests;
 mod trace;
 mod word;
 mod writing;

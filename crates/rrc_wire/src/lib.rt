@@ -27,8 +27,6 @@ mod layout;
 mod message;
 mod name;
 mod plain;
-#[cfg(test)]
-mod plain_tests;
 mod question;
 mod record;
 mod same;
@@ -42,6 +40,3 @@ pub use question::Question;
 pub use record::Rr;
 pub use rrc_name::{Name, NameFault, Octets, Sequence};
 pub use same::{laws_of_sameness, lowered_rdata, same_rdata};
-
-#[cfg(test)]
-mod tests;

@@ -3,9 +3,11 @@
 
 mod options;
 
+use clap::ArgMatches;
 use clap::error::ErrorKind;
-use rrc_replay::OpenGate;
+use rrc_replay::report::Config;
 use rrc_replay::trace::ReplayFault;
+use rrc_replay::{Audit, OpenGate};
 use std::io::BufReader;
 use std::process::ExitCode;
 use std::random::RandomSource;
@@ -40,45 +42,79 @@ fn random_seed(rt: &HostRuntime) -> io::Result<[u8; 16]> {
     Ok(seed)
 }
 
+/// What the arguments ask for.
+enum Wanted {
+    Replay(Config, Audit),
+    /// Nothing more is done: the help was told, or what is wrong with them.
+    End(ExitCode),
+}
+
+/// What arguments that fit the command line ask for.
+fn wanted_by(matches: &ArgMatches<'_>) -> Wanted {
+    match options::config_in(matches) {
+        Some(config) => Wanted::Replay(config, options::audit_in(matches)),
+        None => Wanted::End(ExitCode::from(WRONG_ARGUMENTS)),
+    }
+}
+
+/// Tells the help, or what is wrong with the arguments, unless it is that memory was refused.
+fn told_of_arguments(rt: &HostRuntime, error: &clap::Error) -> Result<Wanted, ReplayFault> {
+    if error.kind() == ErrorKind::OutOfMemory {
+        return Err(ReplayFault::Memory);
+    }
+    let _ = error.print(rt);
+    Ok(Wanted::End(ExitCode::from(if error.use_stderr() {
+        WRONG_ARGUMENTS
+    } else {
+        0
+    })))
+}
+
+fn read_arguments(rt: &HostRuntime, words: &[String]) -> Result<Wanted, ReplayFault> {
+    match options::command(rt.alloc())?.try_get_matches_from(words) {
+        Ok(matches) => Ok(wanted_by(&matches)),
+        Err(error) => told_of_arguments(rt, &error),
+    }
+}
+
 /// Replays the trace on standard input, with threads from a handle that may start them.
 fn replayed<T: Threads + Wait + Sync>(
     rt: &HostRuntime,
     threads: &T,
-    words: &[String],
-) -> Result<ExitCode, ReplayFault> {
+    config: &Config,
+    audit: Audit,
+    seed: [u8; 16],
+) -> Result<(), ReplayFault> {
     let alloc = rt.alloc();
-    let matches = match options::command(alloc)?.try_get_matches_from(words) {
-        Ok(matches) => matches,
-        Err(error) if error.kind() == ErrorKind::OutOfMemory => return Err(ReplayFault::Memory),
-        Err(error) => {
-            let _ = error.print(rt);
-            return Ok(ExitCode::from(if error.use_stderr() {
-                WRONG_ARGUMENTS
-            } else {
-                0
-            }));
-        }
-    };
-    let Some(config) = options::config_in(&matches) else {
-        return Ok(ExitCode::from(WRONG_ARGUMENTS));
-    };
     let mut reader = BufReader::new(alloc, rt.reader()).map_err(|_| ReplayFault::Memory)?;
     let mut writer = io::writer(rt);
-    let Ok(seed) = random_seed(rt) else {
-        let _ = eprintln!(rt; "rrcache: the system gave no random octets");
-        return Ok(ExitCode::from(FAULT));
-    };
-    let audit = options::audit_in(&matches);
     rrc_replay::run(
         threads,
         alloc,
         &mut reader,
         &mut writer,
-        &config,
+        config,
         seed,
         audit,
         &OpenGate,
-    )?;
+    )
+}
+
+/// Does what the arguments ask for.
+fn ended<T: Threads + Wait + Sync>(
+    rt: &HostRuntime,
+    threads: &T,
+    words: &[String],
+) -> Result<ExitCode, ReplayFault> {
+    let (config, audit) = match read_arguments(rt, words)? {
+        Wanted::Replay(config, audit) => (config, audit),
+        Wanted::End(code) => return Ok(code),
+    };
+    let Ok(seed) = random_seed(rt) else {
+        let _ = eprintln!(rt; "rrcache: the system gave no random octets");
+        return Ok(ExitCode::from(FAULT));
+    };
+    replayed(rt, threads, &config, audit, seed)?;
     Ok(ExitCode::SUCCESS)
 }
 
@@ -90,7 +126,7 @@ fn main(rt: HostRuntime) -> ExitCode {
         }
         Err(_) => return no_text(&rt),
     };
-    match replayed(&rt, &rt, words.as_slice()) {
+    match ended(&rt, &rt, words.as_slice()) {
         Ok(code) => code,
         Err(fault) => told(&rt, fault),
     }

@@ -4,57 +4,71 @@ use rrc_replay::report::Config;
 use rrc_replay::{Audit, usual_limits};
 use std::alloc::{AllocError, Global};
 
-/// The command line of the program.
-pub(crate) fn command<'a>(alloc: Global) -> Result<Command<'a>, AllocError> {
-    let workers = Arg::new(alloc, "workers")
-        .long("workers")
+/// An option that takes a number from the least to the most.
+fn number<'a>(
+    alloc: Global,
+    name: &'a str,
+    help: &'a str,
+    usual: &'a str,
+    least: i64,
+    most: i64,
+) -> Arg<'a> {
+    Arg::new(alloc, name)
+        .long(name)
         .value_name("N")
-        .help("How many threads take the lines of the trace")
+        .help(help)
         .action(ArgAction::Set)
-        .default_value("1")
-        .value_parser(value_parser!(u64).range(1..=64));
-    let parts = Arg::new(alloc, "parts")
-        .long("parts")
-        .value_name("N")
-        .help("How many parts the cache has, each under a lock of its own")
-        .action(ArgAction::Set)
-        .default_value("1")
-        .value_parser(value_parser!(u64).range(1..=64));
-    let capacity = Arg::new(alloc, "capacity")
-        .long("capacity")
-        .value_name("N")
-        .help("How many keys a part of the cache may hold")
-        .action(ArgAction::Set)
-        .default_value("1024")
-        .value_parser(value_parser!(u64).range(1..=65_536));
-    let chapter = Arg::new(alloc, "chapter")
-        .long("chapter")
-        .value_name("N")
-        .help("How many events a chapter of a part's history may have")
-        .action(ArgAction::Set)
-        .default_value("4096")
-        .value_parser(value_parser!(u64).range(1..=1_048_576));
-    let stale = Arg::new(alloc, "stale")
-        .long("stale")
-        .value_name("N")
-        .help("For how many seconds past its time to live a set may answer")
-        .action(ArgAction::Set)
-        .default_value("86400")
-        .value_parser(value_parser!(u64).range(0..=604_800));
-    let audit = Arg::new(alloc, "audit")
+        .default_value(usual)
+        .value_parser(value_parser!(u64).range(least..=most))
+}
+
+fn workers<'a>(alloc: Global) -> Arg<'a> {
+    let help = "How many threads take the lines of the trace";
+    number(alloc, "workers", help, "1", 1, 64)
+}
+
+fn parts<'a>(alloc: Global) -> Arg<'a> {
+    let help = "How many parts the cache has, each under a lock of its own";
+    number(alloc, "parts", help, "1", 1, 64)
+}
+
+fn capacity<'a>(alloc: Global) -> Arg<'a> {
+    let help = "How many keys a part of the cache may hold";
+    number(alloc, "capacity", help, "1024", 1, 65_536)
+}
+
+fn chapter<'a>(alloc: Global) -> Arg<'a> {
+    let help = "How many events a chapter of a part's history may have";
+    number(alloc, "chapter", help, "4096", 1, 1_048_576)
+}
+
+fn stale<'a>(alloc: Global) -> Arg<'a> {
+    let help = "For how many seconds past its time to live a set may answer";
+    number(alloc, "stale", help, "86400", 0, 604_800)
+}
+
+fn audit<'a>(alloc: Global) -> Arg<'a> {
+    Arg::new(alloc, "audit")
         .long("audit")
         .help("Makes each call again and compares its event, before the report is written")
-        .action(ArgAction::SetTrue);
-    Command::new(alloc, "rrcache")
-        .about(
-            "Replays a trace of cache operations from standard input, and writes its report to standard output",
-        )
-        .arg(workers)?
-        .arg(parts)?
-        .arg(capacity)?
-        .arg(chapter)?
-        .arg(stale)?
-        .arg(audit)
+        .action(ArgAction::SetTrue)
+}
+
+fn program<'a>(alloc: Global) -> Command<'a> {
+    Command::new(alloc, "rrcache").about(
+        "Replays a trace of cache operations from standard input, and writes its report to standard output",
+    )
+}
+
+/// The command line of the program.
+pub(crate) fn command<'a>(alloc: Global) -> Result<Command<'a>, AllocError> {
+    program(alloc)
+        .arg(workers(alloc))?
+        .arg(parts(alloc))?
+        .arg(capacity(alloc))?
+        .arg(chapter(alloc))?
+        .arg(stale(alloc))?
+        .arg(audit(alloc))
 }
 
 /// The workers, the parts and the rules that the arguments give, with the usual limits.

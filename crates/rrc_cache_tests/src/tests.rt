@@ -1,0 +1,336 @@
+mod beside;
+mod chapters;
+mod eviction;
+mod limits;
+mod owners;
+mod rechecks;
+mod replies;
+mod seeds;
+mod sweeps;
+
+use rrc_cache::{Part, Refusal};
+use rrc_history::{
+    Ask, Body, Event, Mode, Offer, Outcome, Purpose, Reply, RrSet, Rules, Soa, Tag, Trust,
+};
+use rrc_name::{Key, Name, NameFault, Octets, Sequence, Shared, Slot};
+use std::alloc::{AllocError, Global};
+use std::test::Fail;
+
+const AA: Trust = Trust::AuthoritativeAnswer;
+
+const KEPT: Result<Outcome, Refusal> = Ok(Outcome::Kept);
+
+/// A part for as many keys, in a chapter for as many events.
+fn part(alloc: Global, capacity: u64, chapter: u64) -> Result<Part, Fail> {
+    let rules = Rules::new(capacity, chapter, 86_400).ok_or("no rules")?;
+    Ok(Part::new(alloc, rules)?)
+}
+
+fn key(alloc: Global, name: &str, slot: Slot) -> Result<Key, NameFault> {
+    let name = Name::from_text(alloc, name)?;
+    Ok(Key::of(&name, slot)?)
+}
+
+/// The one address 192.0.2.`host`.
+fn address(alloc: Global, host: u8) -> Result<Shared<Sequence<Octets>>, AllocError> {
+    let mut items = Sequence::new(alloc);
+    items.push(Octets::from_slice(alloc, &[192, 0, 2, host])?)?;
+    Ok(Shared::new(alloc, items)?)
+}
+
+/// The address of an owner.
+fn set(alloc: Global, owner: &str, host: u8) -> Result<RrSet, NameFault> {
+    let owner = Name::from_text(alloc, owner)?;
+    let items = address(alloc, host)?;
+    Ok(RrSet { owner, items })
+}
+
+/// The SOA record of an owner, whose data end with an octet.
+fn soa(alloc: Global, owner: &str, last: u8) -> Result<Soa, NameFault> {
+    let owner = Name::from_text(alloc, owner)?;
+    let octets = Octets::from_slice(alloc, &[0, 0, 1, last])?;
+    let octets = Shared::new(alloc, octets)?;
+    Ok(Soa { owner, octets })
+}
+
+/// What is offered for a name, in short.
+#[derive(Clone, Copy)]
+enum Held {
+    /// The address 192.0.2.`host`: the rank, the seconds and the host.
+    Set(Trust, u32, u8),
+    /// That what a slot is for does not exist, from an authoritative answer, for 300 seconds.
+    Denial(Slot),
+    /// That asking for addresses failed, for some seconds.
+    Failure(u32),
+}
+
+/// An offer, in short: the moment, the name, and what is offered for it.
+type Offered<'a> = (u64, &'a str, Held);
+
+fn slot_of(held: Held) -> Slot {
+    match held {
+        Held::Set(..) => Slot::Set(1),
+        Held::Denial(slot) => slot,
+        Held::Failure(_) => Slot::Failed(1),
+    }
+}
+
+fn positive(
+    alloc: Global,
+    owner: &str,
+    (trust, ttl, host): (Trust, u32, u8),
+) -> Result<Body, NameFault> {
+    let RrSet { owner, items } = set(alloc, owner, host)?;
+    Ok(Body::Positive {
+        trust,
+        ttl,
+        owner,
+        items,
+    })
+}
+
+/// A negative answer, whose SOA record ends with the octet 44.
+fn negative(alloc: Global) -> Result<Body, NameFault> {
+    let Soa { owner, octets } = soa(alloc, "example.", 44)?;
+    Ok(Body::Negative {
+        trust: AA,
+        ttl: 300,
+        soa_owner: owner,
+        soa: octets,
+    })
+}
+
+fn body(alloc: Global, owner: &str, held: Held) -> Result<Body, NameFault> {
+    match held {
+        Held::Set(trust, ttl, host) => positive(alloc, owner, (trust, ttl, host)),
+        Held::Denial(_) => negative(alloc),
+        Held::Failure(ttl) => Ok(Body::Failure { ttl }),
+    }
+}
+
+fn offer(alloc: Global, offered: Offered<'_>) -> Result<Offer, Fail> {
+    let (moment, name, held) = offered;
+    let key = key(alloc, name, slot_of(held))?;
+    let body = body(alloc, name, held)?;
+    Ok(Offer::new(key, body, moment)?)
+}
+
+/// A question: the moment, the name, the type, the purpose and the mode.
+type Question<'a> = (u64, &'a str, u16, Purpose, Mode);
+
+fn question(alloc: Global, question: Question<'_>) -> Result<Ask, NameFault> {
+    let (moment, name, rtype, purpose, mode) = question;
+    let key = key(alloc, name, Slot::Nx)?;
+    Ok(Ask {
+        name: key.name().clone()?,
+        rtype,
+        moment,
+        purpose,
+        mode,
+    })
+}
+
+/// A reply, in short: the owner, the last octet of its address or of its SOA record, and the time
+/// left.
+#[derive(Clone, Copy)]
+enum Replied<'a> {
+    Fresh(&'a str, u8, u32),
+    Stale(&'a str, u8, u32),
+    NoData(&'a str, u8, u32),
+    NxDomain(&'a str, u8, u32),
+    Miss(Option<u64>),
+}
+
+fn reply(alloc: Global, replied: Replied<'_>) -> Result<Reply, NameFault> {
+    match replied {
+        Replied::Fresh(owner, host, left) => {
+            let set = set(alloc, owner, host)?;
+            Ok(Reply::Fresh { set, left })
+        }
+        Replied::Stale(owner, host, left) => {
+            let set = set(alloc, owner, host)?;
+            Ok(Reply::Stale { set, left })
+        }
+        Replied::NoData(owner, last, left) => {
+            let soa = soa(alloc, owner, last)?;
+            Ok(Reply::NoData { soa, left })
+        }
+        Replied::NxDomain(owner, last, left) => {
+            let soa = soa(alloc, owner, last)?;
+            Ok(Reply::NxDomain { soa, left })
+        }
+        Replied::Miss(retry_from) => Ok(Reply::Miss { retry_from }),
+    }
+}
+
+/// The keys of the addresses of these names.
+fn keys(alloc: Global, names: &[&str]) -> Result<Sequence<Key>, NameFault> {
+    let mut keys = Sequence::new(alloc);
+    for name in names {
+        let key = key(alloc, name, Slot::Set(1))?;
+        keys.push(key)?;
+    }
+    Ok(keys)
+}
+
+/// Whether a question that is asked as line `line` of a trace gets this.
+fn gets(
+    alloc: Global,
+    part: &mut Part,
+    line: u64,
+    asked: Question<'_>,
+    wanted: Result<Replied<'_>, Refusal>,
+) -> Result<bool, Fail> {
+    let asked = question(alloc, asked)?;
+    match (part.ask(Tag { line, place: 0 }, &asked), wanted) {
+        (Ok(got), Ok(wanted)) => Ok(got == reply(alloc, wanted)?),
+        (Err(got), Err(wanted)) => Ok(got == wanted),
+        _ => Ok(false),
+    }
+}
+
+/// Whether a question would get this.
+fn would_get(
+    alloc: Global,
+    part: &Part,
+    asked: Question<'_>,
+    wanted: Replied<'_>,
+) -> Result<bool, Fail> {
+    let asked = question(alloc, asked)?;
+    let lent = part.would_answer(&asked).to_owned()?;
+    Ok(lent == reply(alloc, wanted)?)
+}
+
+/// Whether the last event is a kept offer that evicted the addresses of the name.
+fn has_evicted(alloc: Global, part: &Part, name: &str) -> Result<bool, Fail> {
+    let gone = key(alloc, name, Slot::Set(1))?;
+    match part.events().last() {
+        Some(
+            Event::Offered {
+                outcome: Outcome::Kept,
+                evicted: Some(evicted),
+                ..
+            },
+        ) => Ok(*evicted == gone),
+        _ => Ok(false),
+    }
+}
+
+/// Whether the last event is a sweep of the addresses of these names, in this order.
+fn has_swept(alloc: Global, part: &Part, names: &[&str]) -> Result<bool, Fail> {
+    let wanted = keys(alloc, names)?;
+    match part.events().last() {
+        Some(Event::Swept { gone, .. }) => Ok(*gone == wanted),
+        _ => Ok(false),
+    }
+}
+
+/// A closed chapter, in short: its number, the number of its first event, how many events it has,
+/// and how many keys it left held.
+type Closed = (u64, u64, usize, usize);
+
+/// Closes a chapter, with whose closing the part goes on.
+fn close(part: &mut Part) -> Result<Closed, Fail> {
+    let chapter = part.checkpoint()?;
+    if chapter.closing() != part.snapshot() {
+        return Err("the part goes on from something else")?;
+    }
+    Ok((
+        chapter.number(),
+        chapter.snapshot().first,
+        chapter.events().len(),
+        chapter.closing().entries.len(),
+    ))
+}
+
+/// Whether nothing was taken in a chapter of this number, which began with the addresses of these
+/// names, each with the moment and the number of its offer, in this order.
+fn opens(
+    alloc: Global,
+    part: &Part,
+    number: u64,
+    wanted: &[(&str, u64, u64)],
+) -> Result<bool, Fail> {
+    let entries = &part.snapshot().entries;
+    for (entry, (name, moment, number)) in entries.iter().zip(wanted) {
+        let key = key(alloc, name, Slot::Set(1))?;
+        if entry.key != key || entry.moment != *moment || entry.number != *number {
+            return Ok(false);
+        }
+    }
+    Ok(part.number() == number && part.events().is_empty() && entries.len() == wanted.len())
+}
+
+/// Whether the part is in the chapter it began with, and has taken nothing but the offer of a line,
+/// which it kept.
+fn has_only(part: &Part, line: u64) -> bool {
+    let opening = part.snapshot();
+    if opening.first != 0 || !opening.entries.is_empty() || part.events().len() != 1 {
+        return false;
+    }
+    match part.events().first() {
+        Some(Event::Offered { tag, outcome, .. }) => tag.line == line && *outcome == Outcome::Kept,
+        _ => false,
+    }
+}
+
+/// A call of a part with what it is to answer, or what a part is to tell of itself.
+#[derive(Clone, Copy)]
+enum Step<'a> {
+    Offer(Offered<'a>, Result<Outcome, Refusal>),
+    Ask(Question<'a>, Result<Replied<'a>, Refusal>),
+    Would(Question<'a>, Replied<'a>),
+    Sweep(u64, Result<usize, Refusal>),
+    Close(Closed),
+    /// A chapter of this number began with these names, moments and numbers.
+    Opens(u64, &'a [(&'a str, u64, u64)]),
+    /// Whether the chapter has room.
+    Room(bool),
+    /// Nothing was taken but the offer of that line.
+    Only(u64),
+    /// The last offer evicted the addresses of a name.
+    Evicted(&'a str),
+    /// The last sweep removed the addresses of these names.
+    Swept(&'a [&'a str]),
+}
+
+/// Whether a step goes as it is to, as line `line` of a trace.
+fn goes(alloc: Global, part: &mut Part, line: u64, step: Step<'_>) -> Result<bool, Fail> {
+    match step {
+        Step::Offer(offered, wanted) => {
+            let offer = offer(alloc, offered)?;
+            Ok(part.offer(Tag { line, place: 0 }, offer) == wanted)
+        }
+        Step::Ask(asked, wanted) => gets(alloc, part, line, asked, wanted),
+        Step::Would(asked, wanted) => would_get(alloc, part, asked, wanted),
+        Step::Sweep(moment, wanted) => Ok(part.sweep(Tag { line, place: 0 }, moment) == wanted),
+        Step::Close(wanted) => Ok(close(part)? == wanted),
+        Step::Opens(number, wanted) => opens(alloc, part, number, wanted),
+        Step::Room(wanted) => Ok(part.has_room() == wanted),
+        Step::Only(line) => Ok(has_only(part, line)),
+        Step::Evicted(name) => has_evicted(alloc, part, name),
+        Step::Swept(names) => has_swept(alloc, part, names),
+    }
+}
+
+/// The place of the first step that goes otherwise than it is to. The steps are the lines of a
+/// trace, from line 0 on.
+fn astray_in(alloc: Global, part: &mut Part, steps: &[Step<'_>]) -> Result<Option<usize>, Fail> {
+    for (line, step) in steps.iter().enumerate() {
+        if !goes(alloc, part, line as u64, *step)? {
+            return Ok(Some(line));
+        }
+    }
+    Ok(None)
+}
+
+/// The same in a new part for as many keys, in a chapter for as many events.
+fn astray(
+    alloc: Global,
+    capacity: u64,
+    chapter: u64,
+    steps: &[Step<'_>],
+) -> Result<Option<usize>, Fail> {
+    let mut part = part(alloc, capacity, chapter)?;
+    astray_in(alloc, &mut part, steps)
+}

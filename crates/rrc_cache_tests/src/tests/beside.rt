@@ -1,0 +1,46 @@
+use super::{AA, Held, KEPT, Replied, Step, astray_in, offer, part};
+use rrc_cache::Part;
+use rrc_history::{Mode, Purpose, Tag};
+use rrc_name::Slot;
+use std::alloc::Global;
+use std::test::Fail;
+
+/// Offers at moment 100 that so many names do not exist.
+fn deny_many(alloc: Global, part: &mut Part, names: u64) -> Result<(), Fail> {
+    for number in 0..names {
+        let name = format!(in alloc; "{number}.example.")?;
+        let offer = offer(alloc, (100, name.as_str(), Held::Denial(Slot::Nx)))?;
+        part.offer(Tag { line: 0, place: 0 }, offer)?;
+    }
+    Ok(())
+}
+
+// Under 65 keys there are 130 marks, so that after more than 32 they are made anew.
+#[test]
+fn finds_what_is_beside_sets_behind_many_others(rt: HostRuntime) -> Result<(), Fail> {
+    let failed = (395, "a.example.", 1, Purpose::Answer, Mode::NoStale);
+    let denied = (120, "b.example.", 1, Purpose::Answer, Mode::NoStale);
+    let held = (120, "c.example.", 1, Purpose::Answer, Mode::NoStale);
+    let last = (120, "59.example.", 1, Purpose::Answer, Mode::NoStale);
+    let other = (120, "d.example.", 1, Purpose::Answer, Mode::NoStale);
+    let offers = [
+        Step::Offer((100, "a.example.", Held::Set(AA, 60, 1)), KEPT),
+        Step::Offer((100, "b.example.", Held::Set(AA, 300, 2)), KEPT),
+        Step::Offer((100, "c.example.", Held::Set(AA, 300, 3)), KEPT),
+        Step::Offer((390, "a.example.", Held::Failure(30)), KEPT),
+    ];
+    let asks = [
+        Step::Would(failed, Replied::Miss(Some(420))),
+        Step::Would(held, Replied::Fresh("c.example.", 3, 280)),
+        Step::Would(last, Replied::NxDomain("example.", 44, 280)),
+        Step::Would(other, Replied::Miss(None)),
+        Step::Offer((110, "b.example.", Held::Denial(Slot::Nx)), KEPT),
+        Step::Would(denied, Replied::NxDomain("example.", 44, 290)),
+        Step::Would(held, Replied::Fresh("c.example.", 3, 280)),
+    ];
+    let mut part = part(rt.alloc(), 65, 4096)?;
+    assert_eq!(rt; astray_in(rt.alloc(), &mut part, &offers)?, None);
+    deny_many(rt.alloc(), &mut part, 60)?;
+    assert_eq!(rt; astray_in(rt.alloc(), &mut part, &asks)?, None);
+    Ok(())
+}

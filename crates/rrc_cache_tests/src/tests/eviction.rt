@@ -1,0 +1,36 @@
+use super::{AA, Held, KEPT, Replied, Step, astray, astray_in};
+use rrc_cache::Part;
+use rrc_history::{Mode, Purpose, Rules};
+use std::test::Fail;
+
+const SET: Held = Held::Set(AA, 60, 1);
+
+#[test]
+fn would_answer_touches_nothing(rt: HostRuntime) -> Result<(), Fail> {
+    let asked = (12, "a.example.", 1, Purpose::Answer, Mode::NoStale);
+    let steps = [
+        Step::Offer((10, "a.example.", SET), KEPT),
+        Step::Offer((11, "b.example.", Held::Set(AA, 60, 2)), KEPT),
+        Step::Would(asked, Replied::Fresh("a.example.", 1, 58)),
+        Step::Offer((13, "c.example.", Held::Set(AA, 60, 3)), KEPT),
+        Step::Evicted("a.example."),
+    ];
+    assert_eq!(rt; astray(rt.alloc(), 2, 4096, &steps)?, None);
+    Ok(())
+}
+
+#[test]
+fn a_seed_changes_no_reply(rt: HostRuntime) -> Result<(), Fail> {
+    let asked = (12, "b.example.", 1, Purpose::Answer, Mode::NoStale);
+    let steps = [
+        Step::Offer((10, "a.example.", SET), KEPT),
+        Step::Offer((10, "b.example.", SET), KEPT),
+        Step::Offer((10, "c.example.", SET), KEPT),
+        Step::Evicted("a.example."),
+        Step::Would(asked, Replied::Fresh("b.example.", 1, 58)),
+    ];
+    let rules = Rules::new(2, 4096, 86_400).ok_or("no rules")?;
+    let mut part = Part::seeded(rt.alloc(), rules, [7; 16])?;
+    assert_eq!(rt; astray_in(rt.alloc(), &mut part, &steps)?, None);
+    Ok(())
+}

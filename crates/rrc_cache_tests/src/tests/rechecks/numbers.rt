@@ -1,0 +1,34 @@
+use super::{MISS, asked, both_say};
+use crate::tests::Question;
+use rrc_cache::recheck;
+use rrc_history::{Mode, Purpose, Rules, Snapshot, audit};
+use std::alloc::Global;
+use std::test::Fail;
+
+const ASKED: Question<'static> = (115, "a.example.", 1, Purpose::Answer, Mode::NoStale);
+
+/// The first event that is not right of two from a snapshot of nothing in front of event `first`.
+fn numbered_from(alloc: Global, first: u64) -> Result<Option<usize>, Fail> {
+    let rules = Rules::new(2, 4096, 86_400).ok_or("no rules")?;
+    let snapshot = Snapshot::new(rules, first, Vec::new(alloc))?;
+    let mut events = Vec::new(alloc);
+    for _ in 0..2 {
+        let event = asked(alloc, ASKED, MISS)?;
+        events.push(event)?;
+    }
+    let rechecked = recheck(alloc, &snapshot, events.as_slice());
+    both_say(audit(&snapshot, events.as_slice()), rechecked)
+}
+
+#[test]
+fn finds_a_number_of_63_bits(rt: HostRuntime) -> Result<(), Fail> {
+    for (first, bad) in [
+        ((1 << 62) - 2, None),
+        ((1 << 62) - 1, Some(1)),
+        (1 << 62, Some(0)),
+        (u64::MAX, Some(0)),
+    ] {
+        assert_eq!(rt; numbered_from(rt.alloc(), first)?, bad);
+    }
+    Ok(())
+}

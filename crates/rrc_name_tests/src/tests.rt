@@ -1,0 +1,5 @@
+mod keys;
+mod names;
+mod orders;
+mod sequences;
+mod shared_values;

@@ -1,4 +1,0 @@
-mod collating;
-mod tasking;
-mod telling;
-mod wholes;

@@ -1,0 +1,66 @@
+mod shared;
+mod shelf;
+
+use rrc_cache::Part;
+use rrc_history::{Ask, Body, Mode, Offer, Purpose, Reply, Rules, Tag};
+use rrc_name::{Key, Name, Slot};
+use rrc_share::{Shelf, on_shelf_offer};
+use std::alloc::Global;
+use std::test::Fail;
+
+const TAG: Tag = Tag { line: 0, place: 0 };
+
+/// Rules for many keys, in chapters for as many events.
+fn rules(chapter: u64) -> Result<Rules, Fail> {
+    Ok(Rules::new(1024, chapter, 86_400).ok_or("no rules")?)
+}
+
+/// That asking for the addresses of a name failed, at a moment, for 30 seconds.
+fn failure(alloc: Global, name: &str, moment: u64) -> Result<Offer, Fail> {
+    let key = Key::of(&Name::from_text(alloc, name)?, Slot::Failed(1))?;
+    Ok(Offer::new(key, Body::Failure { ttl: 30 }, moment)?)
+}
+
+/// A shelf in chapters of one event, which was told at moment 10 that asking for the addresses of
+/// `a.example.` failed.
+fn told(alloc: Global) -> Result<Shelf, Fail> {
+    let mut shelf = Shelf::new(alloc, Part::new(alloc, rules(1)?)?);
+    let offer = failure(alloc, "a.example.", 10)?;
+    on_shelf_offer(&mut shelf, TAG, offer)?;
+    Ok(shelf)
+}
+
+/// A question for the addresses of a name.
+fn question(alloc: Global, name: &str, moment: u64) -> Result<Ask, Fail> {
+    let key = Key::of(&Name::from_text(alloc, name)?, Slot::Nx)?;
+    Ok(Ask {
+        name: key.name().clone()?,
+        rtype: 1,
+        moment,
+        purpose: Purpose::Any,
+        mode: Mode::NoStale,
+    })
+}
+
+/// Whether a reply is none, and asking may be tried again from a moment on.
+fn is_retried_from(reply: &Reply, moment: u64) -> bool {
+    match reply {
+        Reply::Miss { retry_from } => *retry_from == Some(moment),
+        _ => false,
+    }
+}
+
+/// How many chapters are closed, the number of the one that is open, and how many events that has.
+fn stand(shelf: &Shelf) -> (usize, u64, usize) {
+    let part = shelf.part();
+    (shelf.closed().len(), part.number(), part.events().len())
+}
+
+/// Whether the chapter that is open began behind event 0, with just the entry that that one stored.
+fn opens_with_event_0(shelf: &Shelf) -> bool {
+    let opening = shelf.part().snapshot();
+    match opening.entries.get(0) {
+        Some(entry) => opening.first == 1 && opening.entries.len() == 1 && entry.number == 0,
+        None => false,
+    }
+}

@@ -1,0 +1,44 @@
+use super::{TAG, is_retried_from, question, stand, told};
+use rrc_cache::Refusal;
+use rrc_history::chain;
+use rrc_share::{Shelf, on_shelf_ask, on_shelf_checkpoint, on_shelf_sweep};
+use std::test::Fail;
+
+#[test]
+fn a_late_moment_closes_no_chapter(rt: HostRuntime) -> Result<(), Fail> {
+    let mut shelf = told(rt.alloc())?;
+    let late = on_shelf_sweep(&mut shelf, TAG, (1 << 40) + 1);
+    assert_eq!(rt; late, Err(Refusal::MomentTooLarge));
+    assert_eq!(rt; shelf.closed().len(), 0);
+    Ok(())
+}
+
+#[test]
+fn an_ask_and_a_sweep_close_a_full_chapter(rt: HostRuntime) -> Result<(), Fail> {
+    let alloc = rt.alloc();
+    let mut shelf = told(alloc)?;
+    let ask = question(alloc, "a.example.", 12)?;
+    let reply = on_shelf_ask(&mut shelf, TAG, &ask)?;
+    assert!(rt; is_retried_from(&reply, 40) && stand(&shelf) == (1, 2, 1));
+    let removed = on_shelf_sweep(&mut shelf, TAG, 40)?;
+    assert!(rt; removed == 1 && stand(&shelf) == (2, 3, 1));
+    Ok(())
+}
+
+/// How many events the chapters have that a shelf closed, as one history. The shelf has them no
+/// more.
+fn taken(shelf: &mut Shelf) -> Result<usize, Fail> {
+    let whole = chain(shelf.take_chapters())?;
+    Ok(whole.events.len())
+}
+
+#[test]
+fn chapters_that_are_taken_chain(rt: HostRuntime) -> Result<(), Fail> {
+    let mut shelf = told(rt.alloc())?;
+    on_shelf_checkpoint(&mut shelf)?;
+    on_shelf_checkpoint(&mut shelf)?;
+    assert_eq!(rt; stand(&shelf), (2, 3, 0));
+    assert_eq!(rt; taken(&mut shelf)?, 1);
+    assert_eq!(rt; stand(&shelf), (0, 3, 0));
+    Ok(())
+}

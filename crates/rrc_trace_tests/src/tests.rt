@@ -1,0 +1,7 @@
+mod fakes;
+mod faults;
+mod questions;
+mod readers;
+mod reports;
+mod traces;
+mod writers;
