@@ -1,0 +1,62 @@
+"""What the prover's processes take of the processors, by the crate that they check."""
+import os
+import re
+import threading
+from collections import defaultdict
+from pathlib import Path
+
+TICKS = os.sysconf("SC_CLK_TCK")
+# How often the processes are looked at: what one does behind the last look counts for nothing.
+SECONDS = 1.0
+CRATE = re.compile(rb"/rattle\0(check|build)\0.*--crate-name\0([^\0]+)\0", re.DOTALL)
+
+
+def kind_of(command):
+    """Whether the words of a check are those of a crate's proof, of its tests or of an edit."""
+    if b"\0--test\0" in command:
+        return "tests"
+    return "edits" if b"/rt-edits-" in command else "proof"
+
+
+def used_by(pid):
+    """When a process began, in ticks, and the seconds that it and the children that it waited for have used."""
+    fields = (Path("/proc") / pid / "stat").read_bytes().rpartition(b")")[2].split()
+    return fields[19], sum(map(int, fields[11:15])) / TICKS
+
+
+class Watch(threading.Thread):
+    """Looks at the prover's processes until it is left. `crates` is the processor seconds of each crate by kind."""
+
+    def __init__(self):
+        super().__init__(daemon=True)
+        self.ended, self.seen = threading.Event(), {}
+
+    def look(self):
+        for pid in filter(str.isdigit, os.listdir("/proc")):
+            try:
+                command = (Path("/proc") / pid / "cmdline").read_bytes()
+                if found := CRATE.search(command):
+                    begun, used = used_by(pid)
+                    self.seen[pid, begun] = found[2].decode(), kind_of(command), used
+            except OSError:
+                # it has ended meanwhile
+                continue
+
+    @property
+    def crates(self):
+        found = defaultdict(lambda: defaultdict(float))
+        for name, kind, used in self.seen.values():
+            found[name][kind] += used
+        return found
+
+    def run(self):
+        while not self.ended.wait(SECONDS):
+            self.look()
+
+    def __enter__(self):
+        self.start()
+        return self
+
+    def __exit__(self, *_):
+        self.ended.set()
+        self.join()
