@@ -16,6 +16,11 @@ pub record Replays (config : Config) (read : Option (List ℕ)) (lines : List Li
   pub trace : IsTraceFrom read lines
   pub collated : IsCollated config lines report
 
+-- what was read is a trace, and this is a report of it
+pub record IsReportOf (config : Config) (read : Option (List ℕ)) (report : Report) : Type 0 where
+  pub lines : List Line
+  pub replays : Replays config read lines report
+
 -- what was read is a trace, and what was written is the text of a report of it, and nothing else
 pub record Reports (config : Config) (read old new : Option (List ℕ)) : Type 0 where
   pub lines : List Line

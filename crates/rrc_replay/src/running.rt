@@ -1,12 +1,14 @@
-ghost use Rattle.std.specs.Prelude.{IfErr, OnOk};
+ghost use Rattle.std.specs.Prelude.{◌≢◌, IfOk, IfErr, OnOk};
 ghost use Rattle.std.specs.Io.KnownBytes.{IsAtEnd};
-ghost use Rattle.rrc_replay.specs.Run.{Reports, IsFirstFaultOf, LeavesWriter};
+ghost use Rattle.rrc_report.specs.Reports.{IsCollated};
+ghost use Rattle.rrc_replay.specs.Faults.{IsOfReplay};
+ghost use Rattle.rrc_replay.specs.Run.{Reports, IsReportOf, IsFirstFaultOf, LeavesWriter};
 
 use crate::auditing::{Audit, audit_all};
 use crate::gate::Gate;
 use crate::replaying::replay;
-use rrc_report::Config;
-use rrc_trace::{ReplayFault, read_trace, write_report};
+use rrc_report::{Config, Report};
+use rrc_trace::{ReplayFault, Trace, read_trace, write_report};
 use std::alloc::Global;
 use std::io::{Read, Write};
 use std::sync::Wait;
@@ -32,8 +34,43 @@ pub fn run<T: Threads + Wait + Sync, R: Read, W: Write, G: Gate + Sync>(
     ensures fault { IfErr result (IsFirstFaultOf (R.remaining reader.old)) }
     ensures writer { IfErr result (LeavesWriter config.now (R.remaining reader.old) (W.contents writer.old) (W.contents writer.new)) }
 {
-    let trace = read_trace(alloc, reader)?;
-    let report = replay(rt, alloc, &trace, config, seed, gate)?;
-    audit_all(alloc, report.wholes.as_slice(), seed, audit)?;
+    let report = reported(rt, alloc, reader, config, seed, audit, gate)?;
     write_report(alloc, writer, report.lines.as_slice())
+}
+
+/// Reads a whole trace and makes the report of it.
+fn reported<T: Threads + Wait + Sync, R: Read, G: Gate + Sync>(
+    rt: &T,
+    alloc: Global,
+    reader: &mut R,
+    config: &Config,
+    seed: [u8; 16],
+    audit: Audit,
+    gate: &G,
+) -> Result<Report, ReplayFault>
+    ensures ok { IfOk result (IsReportOf config.now (R.remaining reader.old)) }
+    ensures whole { OnOk result (IsAtEnd (R.remaining reader.new)) }
+    ensures fault { IfErr result (IsFirstFaultOf (R.remaining reader.old)) }
+    ensures no_write { IfErr result (λ fault. fault ≢ ReplayFault.Write) }
+{
+    let trace = read_trace(alloc, reader)?;
+    audited(rt, alloc, &trace, config, seed, audit, gate)
+}
+
+/// Replays a trace, and audits the histories of the parts where that is wanted.
+fn audited<T: Threads + Wait + Sync, G: Gate + Sync>(
+    rt: &T,
+    alloc: Global,
+    trace: &Trace,
+    config: &Config,
+    seed: [u8; 16],
+    audit: Audit,
+    gate: &G,
+) -> Result<Report, ReplayFault>
+    ensures collated { IfOk result (IsCollated config.now trace.now) }
+    ensures err { IfErr result IsOfReplay }
+{
+    let report = replay(rt, alloc, trace, config, seed, gate)?;
+    audit_all(alloc, report.wholes.as_slice(), seed, audit)?;
+    Ok(report)
 }
