@@ -58,13 +58,12 @@ fn made(alloc: Global, offered: Offered<'_>) -> Result<Body, NameFault> {
 }
 
 /// The number of an offer's fault, if it has one, and the key and the body that came back.
-fn came_back(offer: Result<Offer, OfferFault>) -> (Option<u8>, Key, Body) {
+fn came_back(offer: &Result<Offer, OfferFault>) -> (Option<u8>, (&Key, &Body)) {
     match offer {
-        Ok(offer) => (None, offer.key, offer.body),
+        Ok(offer) => (None, (&offer.key, &offer.body)),
         Err(fault) => {
-            let number = fault.number();
             let OfferFault::WrongBody { key, body } = fault;
-            (Some(number), key, body)
+            (Some(fault.number()), (key, body))
         }
     }
 }
@@ -97,15 +96,25 @@ fn are_those(
     Ok(*key == self::key(alloc, slot)? && *body == made(alloc, offered)?)
 }
 
-/// The number of the fault of an offer for `a.example.`, if it has one. Either way its key and its
-/// body come back as they were.
-fn fault(alloc: Global, slot: Slot, offered: Offered<'_>) -> Result<Option<u8>, Fail> {
-    let (fault, key, body) = came_back(offer(alloc, slot, offered)?);
-    if are_those(alloc, slot, offered, (&key, &body))? {
+/// The number of the fault of what became of an offer for `a.example.`, if it has one. Either way
+/// its key and its body come back as they were.
+fn fault_of(
+    alloc: Global,
+    slot: Slot,
+    offered: Offered<'_>,
+    offer: &Result<Offer, OfferFault>,
+) -> Result<Option<u8>, Fail> {
+    let (fault, those) = came_back(offer);
+    if are_those(alloc, slot, offered, those)? {
         Ok(fault)
     } else {
         Err("something else came back")?
     }
+}
+
+/// The number of the fault of an offer for `a.example.`, if it has one.
+fn fault(alloc: Global, slot: Slot, offered: Offered<'_>) -> Result<Option<u8>, Fail> {
+    fault_of(alloc, slot, offered, &offer(alloc, slot, offered)?)
 }
 
 /// The place of the first body that has another fault under its slot than it is to have.
@@ -208,13 +217,15 @@ fn answers_the_rules_it_was_given(rt: HostRuntime) -> Result<(), Fail> {
     Ok(())
 }
 
+/// Whether a copy of an offer at moment 100 is like it.
+fn is_copy(copy: &Offer, offer: &Offer) -> bool {
+    copy.key == offer.key && copy.body == offer.body && copy.moment == 100
+}
+
 /// Whether an offer at moment 100 is taken, and its clone is like it.
-fn is_offer_cloned(offer: Result<Offer, OfferFault>) -> Result<bool, AllocError> {
+fn is_offer_cloned(offer: &Result<Offer, OfferFault>) -> Result<bool, AllocError> {
     match offer {
-        Ok(offer) => {
-            let copy = offer.clone()?;
-            Ok(copy.key == offer.key && copy.body == offer.body && copy.moment == 100)
-        }
+        Ok(offer) => Ok(is_copy(&offer.clone()?, offer)),
         Err(_) => Ok(false),
     }
 }
@@ -222,7 +233,7 @@ fn is_offer_cloned(offer: Result<Offer, OfferFault>) -> Result<bool, AllocError>
 #[test]
 fn clones_an_offer(rt: HostRuntime) -> Result<(), Fail> {
     let set = Offered::Set("A.example.", true, 60);
-    assert!(rt; is_offer_cloned(offer(rt.alloc(), Slot::Set(1), set)?)?);
+    assert!(rt; is_offer_cloned(&offer(rt.alloc(), Slot::Set(1), set)?)?);
     Ok(())
 }
 
@@ -293,8 +304,13 @@ fn reply(alloc: Global, replied: Replied) -> Result<Reply, NameFault> {
 }
 
 /// Whether the clone of a reply is like another.
+fn is_clone_like(one: &Reply, other: &Reply) -> Result<bool, NameFault> {
+    Ok(one.clone()? == *other)
+}
+
+/// Whether the clone of the reply that is made of one is like that of another.
 fn is_reply_cloned(alloc: Global, one: Replied, other: Replied) -> Result<bool, NameFault> {
-    Ok(reply(alloc, one)?.clone()? == reply(alloc, other)?)
+    is_clone_like(&reply(alloc, one)?, &reply(alloc, other)?)
 }
 
 #[test]
@@ -314,11 +330,13 @@ fn clones_replies(rt: HostRuntime) -> Result<(), Fail> {
 }
 
 /// Whether the clone of a body is like another.
+fn is_body_like(one: &Body, other: &Body) -> Result<bool, NameFault> {
+    Ok(one.clone()? == *other)
+}
+
+/// Whether the clone of the body that is made of one is like that of another.
 fn is_body_cloned(alloc: Global, one: Offered<'_>, other: Offered<'_>) -> Result<bool, NameFault> {
-    let one = made(alloc, one)?;
-    let copy = one.clone()?;
-    let other = made(alloc, other)?;
-    Ok(copy == other)
+    is_body_like(&made(alloc, one)?, &made(alloc, other)?)
 }
 
 #[test]

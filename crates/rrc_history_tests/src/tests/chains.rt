@@ -100,10 +100,7 @@ fn joined(
     if !goes_on(&first, &second) || !goes_on(&second, &third) {
         return Ok(None);
     }
-    let mut chapters = Vec::new(alloc);
-    chapters.push(first)?;
-    chapters.push(second)?;
-    chapters.push(third)?;
+    let chapters = Vec::from_array(alloc, [first, second, third])?;
     Ok(Some(join_chained(chapters)?))
 }
 

@@ -39,6 +39,12 @@ fn shows(list: &EntryList, wanted: &[Entry]) -> bool {
         && list.iter().next() == wanted.first()
 }
 
+/// Whether a list shows the entries of these numbers.
+fn shows_those(alloc: Global, list: &EntryList, numbers: &[u64]) -> Result<bool, Fail> {
+    let wanted = entries(alloc, numbers)?;
+    Ok(shows(list, wanted.as_slice()))
+}
+
 /// A list without the entries of some numbers, and with new ones in front.
 fn renewed(
     alloc: Global,
@@ -68,6 +74,11 @@ fn owners(alloc: Global, list: &EntryList) -> Result<Vec<usize>, AllocError> {
     Ok(owners)
 }
 
+/// Whether the data of each entry of a list have so many owners.
+fn have_owners(alloc: Global, list: &EntryList, wanted: &[usize]) -> Result<bool, AllocError> {
+    Ok(owners(alloc, list)?.as_slice() == wanted)
+}
+
 #[test]
 fn holds_entries_in_order(rt: HostRuntime) -> Result<(), Fail> {
     let wanted = entries(rt.alloc(), &[7, 5, 6])?;
@@ -87,12 +98,12 @@ fn renews_a_list(rt: HostRuntime) -> Result<(), Fail> {
     let own = EntryList::from_vec(entries(alloc, &[4, 3, 2, 1])?);
     // What no other list has is copied.
     let first = renewed(alloc, &own, &[5], &[3, 9])?;
-    assert!(rt; shows(&first, entries(alloc, &[5, 4, 2, 1])?.as_slice()));
-    assert!(rt; owners(alloc, &first)?.as_slice() == [1, 2, 2, 2].as_slice());
+    assert!(rt; shows_those(alloc, &first, &[5, 4, 2, 1])?);
+    assert!(rt; have_owners(alloc, &first, &[1, 2, 2, 2])?);
     // One is gone, one came to the front, and one is new. The others are shared.
     let second = renewed(alloc, &first, &[4, 6], &[4, 1, 4])?;
-    assert!(rt; shows(&second, entries(alloc, &[4, 6, 5, 2])?.as_slice()));
-    assert!(rt; owners(alloc, &second)?.as_slice() == [1, 1, 1, 2].as_slice());
+    assert!(rt; shows_those(alloc, &second, &[4, 6, 5, 2])?);
+    assert!(rt; have_owners(alloc, &second, &[1, 1, 1, 2])?);
     let none = second.without(alloc, &[2, 4, 5, 6])?;
     assert!(rt; shows(&none, &[]));
     Ok(())
@@ -102,11 +113,11 @@ fn renews_a_list(rt: HostRuntime) -> Result<(), Fail> {
 fn leads_a_list(rt: HostRuntime) -> Result<(), Fail> {
     let alloc = rt.alloc();
     let led = EntryList::from_vec(entries(alloc, &[2, 1])?).led_by(alloc, entries(alloc, &[3])?)?;
-    assert!(rt; shows(&led, entries(alloc, &[3, 2, 1])?.as_slice()));
+    assert!(rt; shows_those(alloc, &led, &[3, 2, 1])?);
     // Another list can share them now.
     let shared = led.without(alloc, &[3])?;
-    assert!(rt; shows(&shared, entries(alloc, &[2, 1])?.as_slice()));
-    assert!(rt; owners(alloc, &led)?.as_slice() == [1, 1, 1].as_slice());
+    assert!(rt; shows_those(alloc, &shared, &[2, 1])?);
+    assert!(rt; have_owners(alloc, &led, &[1, 1, 1])?);
     Ok(())
 }
 
@@ -120,8 +131,8 @@ fn renews_in_few_batches(rt: HostRuntime) -> Result<(), Fail> {
     let mut copied = Vec::new(alloc);
     for number in 0..200u64 {
         let next = renewed(alloc, &list, &[number + 1], &[number])?;
-        assert!(rt; shows(&next, entries(alloc, &[number + 1, 1000])?.as_slice()));
-        if owners(alloc, &next)?.as_slice() != [1, 1].as_slice() {
+        assert!(rt; shows_those(alloc, &next, &[number + 1, 1000])?);
+        if !have_owners(alloc, &next, &[1, 1])? {
             copied.push(number)?;
         }
         list = next;
