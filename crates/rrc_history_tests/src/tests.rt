@@ -58,12 +58,13 @@ fn made(alloc: Global, offered: Offered<'_>) -> Result<Body, NameFault> {
 }
 
 /// The number of an offer's fault, if it has one, and the key and the body that came back.
-fn came_back(offer: &Result<Offer, OfferFault>) -> (Option<u8>, (&Key, &Body)) {
+fn came_back(offer: Result<Offer, OfferFault>) -> (Option<u8>, Key, Body) {
     match offer {
-        Ok(offer) => (None, (&offer.key, &offer.body)),
+        Ok(offer) => (None, offer.key, offer.body),
         Err(fault) => {
+            let number = fault.number();
             let OfferFault::WrongBody { key, body } = fault;
-            (Some(fault.number()), (key, body))
+            (Some(number), key, body)
         }
     }
 }
@@ -96,25 +97,26 @@ fn are_those(
     Ok(*key == self::key(alloc, slot)? && *body == made(alloc, offered)?)
 }
 
-/// The number of the fault of what became of an offer for `a.example.`, if it has one. Either way
-/// its key and its body come back as they were.
-fn fault_of(
+/// An error where a key and a body are not those of an offer for `a.example.`.
+fn want_those(
     alloc: Global,
     slot: Slot,
     offered: Offered<'_>,
-    offer: &Result<Offer, OfferFault>,
-) -> Result<Option<u8>, Fail> {
-    let (fault, those) = came_back(offer);
+    those: (&Key, &Body),
+) -> Result<(), Fail> {
     if are_those(alloc, slot, offered, those)? {
-        Ok(fault)
+        Ok(())
     } else {
         Err("something else came back")?
     }
 }
 
-/// The number of the fault of an offer for `a.example.`, if it has one.
+/// The number of the fault of an offer for `a.example.`, if it has one. Either way its key and its
+/// body come back as they were.
 fn fault(alloc: Global, slot: Slot, offered: Offered<'_>) -> Result<Option<u8>, Fail> {
-    fault_of(alloc, slot, offered, &offer(alloc, slot, offered)?)
+    let (fault, key, body) = came_back(offer(alloc, slot, offered)?);
+    want_those(alloc, slot, offered, (&key, &body))?;
+    Ok(fault)
 }
 
 /// The place of the first body that has another fault under its slot than it is to have.
@@ -222,18 +224,20 @@ fn is_copy(copy: &Offer, offer: &Offer) -> bool {
     copy.key == offer.key && copy.body == offer.body && copy.moment == 100
 }
 
-/// Whether an offer at moment 100 is taken, and its clone is like it.
-fn is_offer_cloned(offer: &Result<Offer, OfferFault>) -> Result<bool, AllocError> {
-    match offer {
-        Ok(offer) => Ok(is_copy(&offer.clone()?, offer)),
-        Err(_) => Ok(false),
-    }
+/// Whether the clone of an offer at moment 100 is like it.
+fn is_offer_cloned(offer: &Offer) -> Result<bool, Fail> {
+    Ok(is_copy(&offer.clone()?, offer))
+}
+
+/// Whether an offer at moment 100 for `a.example.` is taken, and its clone is like it.
+fn is_taken_and_cloned(alloc: Global, slot: Slot, offered: Offered<'_>) -> Result<bool, Fail> {
+    is_offer_cloned(&offer(alloc, slot, offered)??)
 }
 
 #[test]
 fn clones_an_offer(rt: HostRuntime) -> Result<(), Fail> {
     let set = Offered::Set("A.example.", true, 60);
-    assert!(rt; is_offer_cloned(&offer(rt.alloc(), Slot::Set(1), set)?)?);
+    assert!(rt; is_taken_and_cloned(rt.alloc(), Slot::Set(1), set)?);
     Ok(())
 }
 
@@ -248,12 +252,20 @@ fn ask(alloc: Global) -> Result<Ask, NameFault> {
     })
 }
 
+/// Whether a copy of that question is like it.
+fn is_same_ask(copy: &Ask, ask: &Ask) -> bool {
+    let is_same_name = copy.name == ask.name;
+    is_same_name
+        && copy.rtype == 28
+        && copy.moment == 159
+        && copy.purpose == Purpose::Any
+        && copy.mode == Mode::Failed
+}
+
 #[test]
 fn clones_an_ask(rt: HostRuntime) -> Result<(), Fail> {
     let ask = ask(rt.alloc())?;
-    let copy = ask.clone()?;
-    assert!(rt; copy.name == ask.name && copy.rtype == 28 && copy.moment == 159);
-    assert!(rt; copy.purpose == Purpose::Any && copy.mode == Mode::Failed);
+    assert!(rt; is_same_ask(&ask.clone()?, &ask));
     Ok(())
 }
 
@@ -308,9 +320,14 @@ fn is_clone_like(one: &Reply, other: &Reply) -> Result<bool, NameFault> {
     Ok(one.clone()? == *other)
 }
 
+/// Whether the clone of a reply is like the one that is made of another.
+fn is_clone_as(alloc: Global, one: &Reply, other: Replied) -> Result<bool, NameFault> {
+    is_clone_like(one, &reply(alloc, other)?)
+}
+
 /// Whether the clone of the reply that is made of one is like that of another.
 fn is_reply_cloned(alloc: Global, one: Replied, other: Replied) -> Result<bool, NameFault> {
-    is_clone_like(&reply(alloc, one)?, &reply(alloc, other)?)
+    is_clone_as(alloc, &reply(alloc, one)?, other)
 }
 
 #[test]
@@ -376,6 +393,14 @@ fn entry(alloc: Global, kept: Kept<'_>) -> Result<Entry, NameFault> {
     })
 }
 
+fn entries_of(alloc: Global, kept: &[Kept<'_>]) -> Result<Vec<Entry>, NameFault> {
+    let mut entries = Vec::new(alloc);
+    for each in kept {
+        entries.push(entry(alloc, *each)?)?;
+    }
+    Ok(entries)
+}
+
 /// A snapshot of these entries in front of event `first`, or its fault.
 fn snapshot(
     alloc: Global,
@@ -384,9 +409,10 @@ fn snapshot(
     kept: &[Kept<'_>],
 ) -> Result<Result<Snapshot, SnapshotFault>, Fail> {
     let rules = Rules::new(capacity, 4096, 86_400).ok_or("no rules")?;
-    let mut entries = Vec::new(alloc);
-    for each in kept {
-        entries.push(entry(alloc, *each)?)?;
-    }
-    Ok(Snapshot::new(rules, first, entries))
+    Ok(Snapshot::new(rules, first, entries_of(alloc, kept)?))
+}
+
+/// A snapshot of sound entries.
+fn sound(alloc: Global, capacity: u64, first: u64, kept: &[Kept<'_>]) -> Result<Snapshot, Fail> {
+    Ok(snapshot(alloc, capacity, first, kept)??)
 }

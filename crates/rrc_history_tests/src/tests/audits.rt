@@ -1,6 +1,6 @@
-use super::{addresses, key};
+use super::{addresses, key, sound};
 use rrc_history::name::{Name, NameFault, Slot};
-use rrc_history::{Body, Event, FirstBad, Offer, Outcome, Rules, Snapshot, Tag, Trust, audit};
+use rrc_history::{Body, Event, FirstBad, Offer, Outcome, Tag, Trust, audit};
 use std::alloc::Global;
 use std::test::Fail;
 
@@ -25,14 +25,18 @@ fn offered(alloc: Global, trust: Trust, moment: u64, outcome: Outcome) -> Result
     })
 }
 
-/// What an audit says of two offers of one key, where the one that is less trusted became this.
-fn said_of(alloc: Global, outcome: Outcome) -> Result<Result<(), FirstBad>, Fail> {
-    let rules = Rules::new(2, 4096, 86_400).ok_or("no rules")?;
+/// Two offers of one key, of which the second is less trusted and became this.
+fn two_offers(alloc: Global, outcome: Outcome) -> Result<Vec<Event>, Fail> {
     let mut events = Vec::new(alloc);
     events.push(offered(alloc, Trust::AuthoritativeAnswer, 100, Outcome::Kept)?)?;
     events.push(offered(alloc, Trust::Additional, 120, outcome)?)?;
-    let snapshot = Snapshot::new(rules, 0, Vec::new(alloc))?;
-    Ok(audit(&snapshot, events.as_slice()))
+    Ok(events)
+}
+
+/// What an audit says of two offers of one key, where the one that is less trusted became this.
+fn said_of(alloc: Global, outcome: Outcome) -> Result<Result<(), FirstBad>, Fail> {
+    let snapshot = sound(alloc, 2, 0, &[])?;
+    Ok(audit(&snapshot, two_offers(alloc, outcome)?.as_slice()))
 }
 
 #[test]

@@ -1,8 +1,8 @@
-ghost use Rattle.std.specs.Prelude.{◌≡◌, ◌&&◌};
-ghost use Rattle.rrc_history.specs.Chains.{follows};
+ghost use Rattle.std.specs.Prelude.{◌≡◌, ◌&&◌, None, IsTrue};
+ghost use Rattle.rrc_history.specs.Chains.{follows, chain_fault};
 ghost use Rattle.rrc_history.specs.Same.{snapshot_eq};
 
-use super::{Kept, snapshot};
+use super::{Kept, sound};
 use rrc_history::name::{Sequence, Shared};
 use rrc_history::{ChainFault, Chapter, Snapshot, Whole, chain, join_chained};
 use std::alloc::{AllocError, Global};
@@ -18,6 +18,9 @@ const NONE: &[Kept<'static>] = &[];
 const LOW: &[Kept<'static>] = &[("a.example.", 60, 10, 0)];
 
 const HIGH: &[Kept<'static>] = &[("A.example.", 60, 10, 0)];
+
+/// Three chapters, where each goes on from the one before it.
+const THREE: &[Quiet<'static>] = &[(7, 2, 3, LOW), (8, 2, 3, LOW), (9, 2, 3, LOW)];
 
 /// The chapter of no events that begins and ends with a snapshot.
 fn around(alloc: Global, number: u64, closing: Shared<Snapshot>) -> Result<Chapter, Fail> {
@@ -37,7 +40,7 @@ fn around(alloc: Global, number: u64, closing: Shared<Snapshot>) -> Result<Chapt
 
 fn quiet(alloc: Global, quiet: Quiet<'_>) -> Result<Chapter, Fail> {
     let (number, capacity, first, kept) = quiet;
-    let held = snapshot(alloc, capacity, first, kept)??;
+    let held = sound(alloc, capacity, first, kept)?;
     around(alloc, number, Shared::new(alloc, held)?)
 }
 
@@ -61,23 +64,28 @@ fn fault(alloc: Global, quiets: &[Quiet<'_>]) -> Result<Option<ChainFault>, Fail
     }
 }
 
+/// Whether a chapter is the seventh, and nothing happens in it behind event 3 where a set is held.
+fn is_seventh(chapter: &Chapter) -> bool {
+    chapter.number() == 7
+        && chapter.snapshot().first == 3
+        && chapter.events().is_empty()
+        && chapter.closing().entries.len() == 1
+}
+
+/// Whether nothing happens in a history behind event 3 where a set is held.
+fn is_quiet(whole: &Whole) -> bool {
+    whole.snapshot.first == 3 && whole.events.len() == 0 && whole.closing.entries.len() == 1
+}
+
 #[test]
 fn reads_a_chapter(rt: HostRuntime) -> Result<(), Fail> {
-    let chapter = quiet(rt.alloc(), (7, 2, 3, LOW))?;
-    assert!(rt; chapter.number() == 7 && chapter.snapshot().first == 3);
-    assert!(rt; chapter.events().is_empty() && chapter.closing().entries.len() == 1);
+    assert!(rt; is_seventh(&quiet(rt.alloc(), (7, 2, 3, LOW))?));
     Ok(())
 }
 
 #[test]
 fn chains_chapters(rt: HostRuntime) -> Result<(), Fail> {
-    let whole = chained(
-        rt.alloc(),
-        &[(7, 2, 3, LOW), (8, 2, 3, LOW), (9, 2, 3, LOW)],
-    )??;
-    assert!(rt;
-        whole.snapshot.first == 3 && whole.events.len() == 0 && whole.closing.entries.len() == 1
-    );
+    assert!(rt; is_quiet(&chained(rt.alloc(), THREE)??));
     Ok(())
 }
 
@@ -90,62 +98,78 @@ fn goes_on(before: &Chapter, chapter: &Chapter) -> bool
         && before.closing() == chapter.snapshot()
 }
 
-/// The history of chapters, where each goes on from the one before it.
-fn joined(
-    alloc: Global,
-    first: Chapter,
-    second: Chapter,
-    third: Chapter,
-) -> Result<Option<Whole>, AllocError> {
-    if !goes_on(&first, &second) || !goes_on(&second, &third) {
-        return Ok(None);
+/// Whether there are three chapters, where each goes on from the one before it.
+fn go_on(chapters: &[Chapter]) -> bool
+    ensures { IsTrue result → chain_fault chapters.now ≡ None }
+{
+    match chapters {
+        [first, second, third] => goes_on(first, second) && goes_on(second, third),
+        _ => false,
     }
-    let chapters = Vec::from_array(alloc, [first, second, third])?;
-    Ok(Some(join_chained(chapters)?))
+}
+
+/// The history of three chapters, where each goes on from the one before it.
+fn joined(chapters: Vec<Chapter>) -> Result<Option<Whole>, AllocError> {
+    if go_on(chapters.as_slice()) {
+        Ok(Some(join_chained(chapters)?))
+    } else {
+        Ok(None)
+    }
 }
 
 #[test]
 fn joins_chapters_that_chain(rt: HostRuntime) -> Result<(), Fail> {
-    let alloc = rt.alloc();
-    let whole = joined(
-        alloc,
-        quiet(alloc, (7, 2, 3, LOW))?,
-        quiet(alloc, (8, 2, 3, LOW))?,
-        quiet(alloc, (9, 2, 3, LOW))?,
-    )?;
-    let whole = whole.ok_or("the chapters do not chain")?;
-    assert!(rt;
-        whole.snapshot.first == 3 && whole.events.len() == 0 && whole.closing.entries.len() == 1
-    );
+    let whole = joined(listed(rt.alloc(), THREE)?)?;
+    assert!(rt; is_quiet(&whole.ok_or("the chapters do not chain")?));
     Ok(())
+}
+
+/// Chapters that are no history, each with its first fault.
+const FAULTS: [(ChainFault, &[Quiet<'static>]); 8] = [
+    (ChainFault::NumberGap(0), &[]),
+    (
+        ChainFault::NumberGap(1),
+        &[(1, 2, 3, NONE), (3, 2, 3, NONE)],
+    ),
+    (
+        ChainFault::NumberGap(1),
+        &[(1, 2, 3, NONE), (2, 2, 4, NONE)],
+    ),
+    (ChainFault::NumberGap(1), &[(1, 2, 3, NONE), (3, 4, 3, LOW)]),
+    (
+        ChainFault::NotTheSameContents(1),
+        &[(1, 2, 3, NONE), (2, 4, 3, NONE), (4, 2, 3, NONE)],
+    ),
+    (
+        ChainFault::NotTheSameContents(1),
+        &[(1, 2, 3, LOW), (2, 2, 3, HIGH)],
+    ),
+    (
+        ChainFault::NotTheSameContents(1),
+        &[(1, 2, 3, NONE), (2, 2, 3, LOW), (3, 2, 3, NONE)],
+    ),
+    (
+        ChainFault::NotTheSameContents(2),
+        &[(1, 2, 3, LOW), (2, 2, 3, LOW), (3, 2, 3, NONE)],
+    ),
+];
+
+/// The first of these faults that chapters are to have, and don't.
+fn astray(
+    alloc: Global,
+    faults: &[(ChainFault, &[Quiet<'_>])],
+) -> Result<Option<ChainFault>, Fail> {
+    for (wanted, quiets) in faults {
+        if fault(alloc, quiets)? != Some(*wanted) {
+            return Ok(Some(*wanted));
+        }
+    }
+    Ok(None)
 }
 
 #[test]
 fn answers_the_first_fault_of_a_chain(rt: HostRuntime) -> Result<(), Fail> {
-    let gap = ChainFault::NumberGap;
-    let unlike = ChainFault::NotTheSameContents;
-    let faults: [(ChainFault, &[Quiet]); 8] = [
-        (gap(0), &[]),
-        (gap(1), &[(1, 2, 3, NONE), (3, 2, 3, NONE)]),
-        (gap(1), &[(1, 2, 3, NONE), (2, 2, 4, NONE)]),
-        (gap(1), &[(1, 2, 3, NONE), (3, 4, 3, LOW)]),
-        (
-            unlike(1),
-            &[(1, 2, 3, NONE), (2, 4, 3, NONE), (4, 2, 3, NONE)],
-        ),
-        (unlike(1), &[(1, 2, 3, LOW), (2, 2, 3, HIGH)]),
-        (
-            unlike(1),
-            &[(1, 2, 3, NONE), (2, 2, 3, LOW), (3, 2, 3, NONE)],
-        ),
-        (
-            unlike(2),
-            &[(1, 2, 3, LOW), (2, 2, 3, LOW), (3, 2, 3, NONE)],
-        ),
-    ];
-    for (wanted, quiets) in faults {
-        assert!(rt; fault(rt.alloc(), quiets)? == Some(wanted), "at {wanted:?}");
-    }
+    assert_eq!(rt; astray(rt.alloc(), &FAULTS)?, None);
     Ok(())
 }
 

@@ -1,4 +1,4 @@
-use super::{Kept, snapshot};
+use super::{Kept, snapshot, sound};
 use rrc_history::Snapshot;
 use std::alloc::{AllocError, Global};
 use std::test::Fail;
@@ -20,13 +20,17 @@ fn met(alloc: Global, snapshot: &Snapshot) -> Result<Vec<(u64, u64)>, AllocError
     Ok(met)
 }
 
+/// Whether the entries have these moments and numbers.
+fn meets(alloc: Global, snapshot: &Snapshot, wanted: &[(u64, u64)]) -> Result<bool, AllocError> {
+    Ok(met(alloc, snapshot)?.as_slice() == wanted)
+}
+
 #[test]
 fn takes_a_snapshot(rt: HostRuntime) -> Result<(), Fail> {
     let kept = [("a.example.", 60, 10, 0), ("b.example.", 60, 11, 1)];
-    let taken = snapshot(rt.alloc(), 2, 3, &kept)??;
+    let taken = sound(rt.alloc(), 2, 3, &kept)?;
     assert!(rt; taken.rules().capacity == 2 && taken.first == 3 && taken.entries.len() == 2);
-    let met = met(rt.alloc(), &taken)?;
-    assert_eq!(rt; met.as_slice(), [(10, 0), (11, 1)].as_slice());
+    assert!(rt; meets(rt.alloc(), &taken, &[(10, 0), (11, 1)])?);
     Ok(())
 }
 
@@ -73,11 +77,19 @@ const FAULTS: [(u8, u64, [Kept<'static>; 2]); 9] = [
     (3, 2, [("a.example.", 60, 10, 3), ("a.example.", 60, 11, 1)]),
 ];
 
+/// The place of the first snapshot that has another fault than it is to have.
+fn astray(alloc: Global, faults: &[(u8, u64, [Kept<'static>; 2])]) -> Result<Option<usize>, Fail> {
+    for (place, (number, capacity, kept)) in faults.iter().enumerate() {
+        if fault(alloc, *capacity, kept)? != Some(*number) {
+            return Ok(Some(place));
+        }
+    }
+    Ok(None)
+}
+
 #[test]
 fn answers_the_first_fault_of_a_snapshot(rt: HostRuntime) -> Result<(), Fail> {
-    for (number, capacity, kept) in FAULTS {
-        assert_eq!(rt; fault(rt.alloc(), capacity, &kept)?, Some(number));
-    }
+    assert_eq!(rt; astray(rt.alloc(), &FAULTS)?, None);
     Ok(())
 }
 
@@ -87,7 +99,7 @@ fn takes_moments_up_to_the_last(rt: HostRuntime) -> Result<(), Fail> {
         fault(rt.alloc(), 1, &[("a.example.", 0, 1 << 40, 2)])?,
         None
     );
-    let none = snapshot(rt.alloc(), 1, 3, &[])??;
+    let none = sound(rt.alloc(), 1, 3, &[])?;
     assert!(rt; none.entries.is_empty());
     Ok(())
 }
