@@ -97,26 +97,39 @@ fn are_those(
     Ok(*key == self::key(alloc, slot)? && *body == made(alloc, offered)?)
 }
 
-/// An error where a key and a body are not those of an offer for `a.example.`.
-fn want_those(
+/// A fault's number, if there is one, where a key and a body are those of an offer for `a.example.`.
+fn where_those(
     alloc: Global,
     slot: Slot,
     offered: Offered<'_>,
-    those: (&Key, &Body),
-) -> Result<(), Fail> {
-    if are_those(alloc, slot, offered, those)? {
-        Ok(())
+    (fault, key, body): (Option<u8>, &Key, &Body),
+) -> Result<Option<u8>, Fail> {
+    if are_those(alloc, slot, offered, (key, body))? {
+        Ok(fault)
     } else {
         Err("something else came back")?
     }
 }
 
+/// The number of a fault, if there is one, where the key and the body came back as they were.
+fn number_of(
+    alloc: Global,
+    slot: Slot,
+    offered: Offered<'_>,
+    back: (Option<u8>, Key, Body),
+) -> Result<Option<u8>, Fail> {
+    where_those(alloc, slot, offered, (back.0, &back.1, &back.2))
+}
+
 /// The number of the fault of an offer for `a.example.`, if it has one. Either way its key and its
 /// body come back as they were.
 fn fault(alloc: Global, slot: Slot, offered: Offered<'_>) -> Result<Option<u8>, Fail> {
-    let (fault, key, body) = came_back(offer(alloc, slot, offered)?);
-    want_those(alloc, slot, offered, (&key, &body))?;
-    Ok(fault)
+    number_of(
+        alloc,
+        slot,
+        offered,
+        came_back(offer(alloc, slot, offered)?),
+    )
 }
 
 /// The place of the first body that has another fault under its slot than it is to have.
