@@ -1,4 +1,6 @@
 use rrc_trace::ReplayFault;
+use std::alloc::{AllocError, Global};
+use std::process::Abort;
 use std::test::Fail;
 
 /// Faults, each with its number and its text.
@@ -38,12 +40,22 @@ const FAULTS: [(ReplayFault, u8, &str); 9] = [
     ),
 ];
 
+fn test_text(
+    rt: &impl Abort,
+    alloc: Global,
+    fault: ReplayFault,
+    wanted: &str,
+) -> Result<(), AllocError> {
+    let text = fault.to_string(alloc)?;
+    assert_eq!(rt; text.as_str(), wanted);
+    Ok(())
+}
+
 #[test]
 fn numbers_and_texts_of_faults(rt: HostRuntime) -> Result<(), Fail> {
     for (fault, number, wanted) in FAULTS {
         assert_eq!(rt; fault.number(), number, "{fault:?}");
-        let text = format!(in rt.alloc(); "{fault}")?;
-        assert_eq!(rt; text.as_str(), wanted);
+        test_text(&rt, rt.alloc(), fault, wanted)?;
     }
     Ok(())
 }

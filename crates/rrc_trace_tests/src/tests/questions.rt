@@ -1,6 +1,19 @@
 use rrc_trace::{Line, Questions, ReplayFault, Trace, read_trace};
 use std::alloc::{AllocError, Global};
+use std::process::Abort;
 use std::test::Fail;
+
+/// Puts the number of a line's question, where that is a fetch, behind the numbers.
+fn push_number(
+    numbers: &mut Vec<Option<usize>>,
+    questions: &Questions,
+    line: &Line,
+) -> Result<(), AllocError> {
+    if let Line::Fetch(fetch) = line {
+        numbers.push(questions.number(fetch)?)?;
+    }
+    Ok(())
+}
 
 /// The number of each fetch's question.
 fn numbers_in(
@@ -10,12 +23,38 @@ fn numbers_in(
 ) -> Result<Vec<Option<usize>>, AllocError> {
     let mut numbers = Vec::new(alloc);
     for line in &trace.lines {
-        if let Line::Fetch(fetch) = line {
-            let number = questions.number(fetch)?;
-            numbers.push(number)?;
-        }
+        push_number(&mut numbers, questions, line)?;
     }
     Ok(numbers)
+}
+
+/// The fetches of a trace have these numbers.
+fn have_numbers(
+    rt: &impl Abort,
+    alloc: Global,
+    questions: &Questions,
+    trace: &Trace,
+    wanted: &[Option<usize>],
+) -> Result<(), AllocError> {
+    let numbers = numbers_in(alloc, questions, trace)?;
+    assert_eq!(rt; numbers.as_slice(), wanted);
+    Ok(())
+}
+
+/// The three questions of a trace number its four fetches, and no questions number none.
+fn are_numbered(rt: &impl Abort, alloc: Global, trace: &Trace) -> Result<(), Fail> {
+    let none = Questions::new(alloc);
+    have_numbers(rt, alloc, &none, trace, &[None; 4])?;
+    let questions = Questions::of(alloc, trace)?;
+    assert_eq!(rt; questions.len(), 3);
+    have_numbers(
+        rt,
+        alloc,
+        &questions,
+        trace,
+        &[Some(0), Some(1), Some(0), Some(2)],
+    )?;
+    Ok(())
 }
 
 #[test]
@@ -23,16 +62,7 @@ fn numbers_of_questions(rt: HostRuntime) -> Result<(), Fail> {
     let text =
         "fetch 1 B. 1 . -\nask 1 z. 1 any none\nfetch 2 b. 28 . -\nfetch 3 b. 1 b. 00\nfetch 4 a. 1 . -";
     let trace = read_trace(rt.alloc(), &mut text.as_bytes())?;
-    let questions = Questions::of(rt.alloc(), &trace)?;
-    assert_eq!(rt; questions.len(), 3);
-    let numbers = numbers_in(rt.alloc(), &questions, &trace)?;
-    assert_eq!(rt;
-        numbers.as_slice(),
-        [Some(0), Some(1), Some(0), Some(2)].as_slice()
-    );
-    let none = numbers_in(rt.alloc(), &Questions::new(rt.alloc()), &trace)?;
-    assert_eq!(rt; none.as_slice(), [None; 4].as_slice());
-    Ok(())
+    are_numbered(&rt, rt.alloc(), &trace)
 }
 
 /// The text of as many fetches as a trace has questions at most, each of another one.

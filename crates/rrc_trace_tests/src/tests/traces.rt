@@ -1,5 +1,5 @@
 use rrc_history::Ask;
-use rrc_name::Octets;
+use rrc_name::{Name, Octets};
 use rrc_trace::{Failed, Fetch, Line, Put, Response, Trace, read_trace};
 use std::alloc::{AllocError, Global};
 use std::test::Fail;
@@ -57,10 +57,17 @@ fn push_fetch(text: &mut String, fetch: &Fetch) -> Result<(), AllocError> {
     }
 }
 
+fn push_octet(text: &mut String, octet: u8) -> Result<(), AllocError> {
+    write!(text, "{octet:02x}")
+}
+
 /// Octets in hexadecimal between brackets.
 fn push_octets(text: &mut String, octets: &Octets) -> Result<(), AllocError> {
-    let digits = hex::encode(octets.alloc(), octets.as_slice())?;
-    write!(text, "[{digits}]")
+    text.push('[')?;
+    for octet in octets.as_slice() {
+        push_octet(text, *octet)?;
+    }
+    text.push(']')
 }
 
 /// The lines of a trace, with a bar behind each.
@@ -107,26 +114,43 @@ fn fields_of_lines(rt: HostRuntime) -> Result<(), Fail> {
     Ok(())
 }
 
+/// A response of so many octets.
+fn response_of(alloc: Global, count: usize) -> Result<String, AllocError> {
+    let mut line = String::new(alloc);
+    line.push_str("response 1 . ")?;
+    for _ in 0..count {
+        line.push_str("00")?;
+    }
+    Ok(line)
+}
+
+/// How many octets the message of a trace's only line has, where that is a response.
+fn octets_in(trace: &Trace) -> Option<usize> {
+    match trace.lines.as_slice() {
+        [Line::Response(response)] => Some(response.octets.len()),
+        _ => None,
+    }
+}
+
 /// An item has at most 65535 octets, a message any number that a line has room for.
 #[test]
 fn a_message_of_65536_octets(rt: HostRuntime) -> Result<(), Fail> {
-    let digits = "00".repeat(rt.alloc(), 65_536)?;
-    let line = format!(in rt.alloc(); "response 1 . {digits}")?;
+    let line = response_of(rt.alloc(), 65_536)?;
     let trace = read_trace(rt.alloc(), &mut line.as_bytes())?;
-    match trace.lines.as_slice() {
-        [Line::Response(response)] => assert_eq!(rt; response.octets.len(), 65_536),
-        _ => Err("the line is a response")?,
-    }
+    assert_eq!(rt; octets_in(&trace), Some(65_536));
     Ok(())
+}
+
+fn push_zone(text: &mut String, zone: &Name) -> Result<(), AllocError> {
+    let (spelled, owners) = (zone.to_text()?, zone.wire.owners());
+    write!(text, "{spelled} {owners}|")
 }
 
 /// Puts the zones of a trace's responses behind a text, each with how many lines share it.
 fn push_owners(text: &mut String, trace: &Trace) -> Result<(), AllocError> {
     for line in &trace.lines {
         if let Line::Response(response) = line {
-            let zone = response.zone.to_text()?;
-            let owners = response.zone.wire.owners();
-            write!(text, "{zone} {owners}|")?;
+            push_zone(text, &response.zone)?;
         }
     }
     Ok(())

@@ -4,23 +4,37 @@ use rrc_history::Reply;
 use rrc_name::Sequence;
 use rrc_trace::{Answer, ReplayFault, write_report};
 use std::alloc::{AllocError, Global};
+use std::process::Abort;
 use std::test::Fail;
 
-/// What comes of a report whose writer stumbles once behind so many calls, and the octets that it
-/// took.
-fn written(
+/// The report of answers whose writer stumbles once behind so many calls is told to have failed, and
+/// the writer took just these octets.
+fn test_stumble(
+    rt: &impl Abort,
     alloc: Global,
     answers: &[Answer],
     stumble: Stumble,
     calls: usize,
-) -> (Result<(), ReplayFault>, Vec<u8>) {
+    wanted: &[u8],
+) {
     let mut writer = Stumbling {
         taken: Vec::new(alloc),
         calls: Some(calls),
         stumble,
     };
     let ended = write_report(alloc, &mut writer, answers);
-    (ended, writer.taken)
+    assert_eq!(rt; ended, Err(ReplayFault::Write), "{stumble:?} at {calls}");
+    assert_eq!(rt; writer.taken.as_slice(), wanted);
+}
+
+/// So for each way to stumble, and behind any number of calls that a report takes.
+fn test_stumbles(rt: &impl Abort, alloc: Global, answers: &[Answer], text: &str) {
+    for calls in 0..=text.len() {
+        for stumble in [Stumble::Fails, Stumble::TakesNothing] {
+            let wanted = &text.as_bytes()[..calls];
+            test_stumble(rt, alloc, answers, stumble, calls, wanted);
+        }
+    }
 }
 
 /// The last call flushes, and the only one where there is nothing to write.
@@ -29,15 +43,8 @@ fn writers_that_stumble_once(rt: HostRuntime) -> Result<(), Fail> {
     let mut removed = Sequence::new(rt.alloc());
     removed.push(3)?;
     let answers = [Answer::Swept(removed)];
-    for (answers, text) in [(answers.as_slice(), "0 sweep 3\n"), (&answers[..0], "")] {
-        for calls in 0..=text.len() {
-            for stumble in [Stumble::Fails, Stumble::TakesNothing] {
-                let (ended, taken) = written(rt.alloc(), answers, stumble, calls);
-                assert_eq!(rt; ended, Err(ReplayFault::Write), "{stumble:?} at {calls}");
-                assert_eq!(rt; taken.as_slice(), &text.as_bytes()[..calls]);
-            }
-        }
-    }
+    test_stumbles(&rt, rt.alloc(), answers.as_slice(), "0 sweep 3\n");
+    test_stumbles(&rt, rt.alloc(), &[], "");
     Ok(())
 }
 
@@ -85,9 +92,8 @@ fn long_reports_that_break_off(rt: HostRuntime) -> Result<(), Fail> {
     let text = wanted.as_str().as_bytes();
     for calls in [0, 4_000, 4_096, 5_000, 8_192, 12_000, text.len()] {
         for stumble in [Stumble::Fails, Stumble::TakesNothing] {
-            let (ended, taken) = written(rt.alloc(), answers.as_slice(), stumble, calls);
-            assert_eq!(rt; ended, Err(ReplayFault::Write), "{stumble:?} at {calls}");
-            assert_eq!(rt; taken.as_slice(), &text[..calls.min(text.len())]);
+            let wanted = &text[..calls.min(text.len())];
+            test_stumble(&rt, rt.alloc(), answers.as_slice(), stumble, calls, wanted);
         }
     }
     Ok(())
