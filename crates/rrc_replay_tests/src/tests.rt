@@ -8,6 +8,7 @@ use rrc_replay::trace::ReplayFault;
 use rrc_replay::{Audit, Gate, OpenGate, run, usual_limits};
 use std::alloc::{AllocError, Global};
 use std::io::{Read, Write};
+use std::process::Abort;
 use std::sync::Wait;
 use std::test::Fail;
 use std::thread::Threads;
@@ -50,8 +51,9 @@ const FOUR_ASKS: &str =
 const FOUR_MISSES: &str = "0 ask miss\n1 ask miss\n2 ask miss\n3 ask miss\n";
 
 /// So many workers over one part, by the usual rules.
-fn by(workers: usize) -> Option<Config> {
-    Config::new(workers, 1, Rules::new(1024, 4096, 86_400)?, usual_limits())
+fn by(workers: usize) -> Result<Config, Fail> {
+    let rules = Rules::new(1024, 4096, 86_400).ok_or("the rules are in range")?;
+    Ok(Config::new(workers, 1, rules, usual_limits()).ok_or("the config is in range")?)
 }
 
 /// The report of a trace.
@@ -59,18 +61,17 @@ fn report_of<T: Threads + Wait + Sync, G: Gate + Sync>(
     threads: &T,
     alloc: Global,
     trace: &str,
-    workers: usize,
+    config: &Config,
     audit: Audit,
     gate: &G,
-) -> Result<Vec<u8>, Fail> {
-    let config = by(workers).ok_or("the config is in range")?;
+) -> Result<Vec<u8>, ReplayFault> {
     let mut written = Vec::new(alloc);
     run(
         threads,
         alloc,
         &mut trace.as_bytes(),
         &mut written,
-        &config,
+        config,
         [0; 16],
         audit,
         gate,
@@ -84,37 +85,59 @@ fn ended<T: Threads + Wait + Sync, R: Read, W: Write>(
     alloc: Global,
     reader: &mut R,
     writer: &mut W,
-) -> Result<Result<(), ReplayFault>, Fail> {
-    let config = by(1).ok_or("the config is in range")?;
-    Ok(run(
+    config: &Config,
+) -> Result<(), ReplayFault> {
+    run(
         threads,
         alloc,
         reader,
         writer,
-        &config,
+        config,
         [7; 16],
         Audit::Skipped,
         &OpenGate,
-    ))
+    )
+}
+
+/// A trace has this report by the workers of a config.
+fn test_report<T: Abort + Threads + Wait + Sync, G: Gate + Sync>(
+    rt: &T,
+    alloc: Global,
+    trace: &str,
+    config: &Config,
+    audit: Audit,
+    gate: &G,
+    wanted: &str,
+) -> Result<(), ReplayFault> {
+    let report = report_of(rt, alloc, trace, config, audit, gate)?;
+    assert_eq!(rt; report.as_slice(), wanted.as_bytes());
+    Ok(())
 }
 
 #[test]
 fn a_run_writes_the_report(rt: HostRuntime) -> Result<(), Fail> {
+    let alone = by(1)?;
     for (trace, wanted, audit) in [
         (SWEEPS, SWEEPS_REPORT, Audit::Made),
         (RESPONSES, RESPONSES_REPORT, Audit::Skipped),
     ] {
-        let report = report_of(&rt, rt.alloc(), trace, 1, audit, &OpenGate)?;
-        assert_eq!(rt; report.as_slice(), wanted.as_bytes());
+        test_report(&rt, rt.alloc(), trace, &alone, audit, &OpenGate, wanted)?;
     }
     Ok(())
 }
 
 #[test]
 fn a_fetch_joins_another_one(rt: HostRuntime) -> Result<(), Fail> {
-    let gate = Pair::new();
-    let report = report_of(&rt, rt.alloc(), FETCHES, 2, Audit::Made, &gate)?;
-    assert_eq!(rt; report.as_slice(), FETCHES_BY_TWO.as_bytes());
+    let (config, gate) = (by(2)?, Pair::new());
+    test_report(
+        &rt,
+        rt.alloc(),
+        FETCHES,
+        &config,
+        Audit::Made,
+        &gate,
+        FETCHES_BY_TWO,
+    )?;
     assert!(rt; !gate.ran_out());
     Ok(())
 }
@@ -122,44 +145,77 @@ fn a_fetch_joins_another_one(rt: HostRuntime) -> Result<(), Fail> {
 #[test]
 fn as_many_lines_at_once_as_workers(rt: HostRuntime) -> Result<(), Fail> {
     for (workers, trace, wanted) in [(2, TWO_ASKS, TWO_MISSES), (4, FOUR_ASKS, FOUR_MISSES)] {
-        let gate = Crowd::new(workers as u64);
-        let report = report_of(&rt, rt.alloc(), trace, workers, Audit::Skipped, &gate)?;
-        assert_eq!(rt; report.as_slice(), wanted.as_bytes());
+        let (config, gate) = (by(workers)?, Crowd::new(workers as u64));
+        test_report(
+            &rt,
+            rt.alloc(),
+            trace,
+            &config,
+            Audit::Skipped,
+            &gate,
+            wanted,
+        )?;
         assert!(rt; !gate.ran_out(), "by {workers}");
     }
     Ok(())
 }
 
+/// A run that reads from a reader which fails behind so many reads writes nothing.
+fn test_failing<T: Abort + Threads + Wait + Sync>(
+    rt: &T,
+    alloc: Global,
+    config: &Config,
+    reads: usize,
+) {
+    let mut reader = FailsOnce {
+        octets: SWEEPS.as_bytes(),
+        most: 1,
+        reads: Some(reads),
+    };
+    let mut written = Vec::new(alloc);
+    let ended = ended(rt, alloc, &mut reader, &mut written, config);
+    assert_eq!(rt; ended, Err(ReplayFault::Read), "at {reads}");
+    assert!(rt; written.is_empty());
+}
+
 #[test]
 fn readers_that_fail_once(rt: HostRuntime) -> Result<(), Fail> {
+    let alone = by(1)?;
     for reads in 0..=SWEEPS.len() {
-        let mut reader = FailsOnce {
-            octets: SWEEPS.as_bytes(),
-            most: 1,
-            reads: Some(reads),
-        };
-        let mut written = Vec::new(rt.alloc());
-        let ended = ended(&rt, rt.alloc(), &mut reader, &mut written)?;
-        assert_eq!(rt; ended, Err(ReplayFault::Read), "at {reads}");
-        assert!(rt; written.is_empty());
+        test_failing(&rt, rt.alloc(), &alone, reads);
     }
     Ok(())
 }
 
+/// A run whose writer stumbles writes so much of its report, an octet by each call, and no more.
+fn test_stumble<T: Abort + Threads + Wait + Sync>(
+    rt: &T,
+    alloc: Global,
+    config: &Config,
+    trace: &str,
+    stumble: Stumble,
+    wanted: &[u8],
+) {
+    let calls = wanted.len();
+    let mut writer = Stumbling {
+        taken: Vec::new(alloc),
+        calls: Some(calls),
+        stumble,
+    };
+    let ended = ended(rt, alloc, &mut trace.as_bytes(), &mut writer, config);
+    assert_eq!(rt; ended, Err(ReplayFault::Write), "{stumble:?} at {calls}");
+    assert_eq!(rt; writer.taken.as_slice(), wanted);
+}
+
 #[test]
 fn writers_that_stumble_once(rt: HostRuntime) -> Result<(), Fail> {
+    let alone = by(1)?;
     // The last call flushes; of an empty report it is the only one.
-    for (trace, wanted) in [(SWEEPS, SWEEPS_REPORT), ("", "")] {
+    for (trace, report) in [(SWEEPS, SWEEPS_REPORT), ("", "")] {
         for stumble in [Stumble::Fails, Stumble::TakesNothing] {
-            for calls in 0..=wanted.len() {
-                let mut writer = Stumbling {
-                    taken: Vec::new(rt.alloc()),
-                    calls: Some(calls),
-                    stumble,
-                };
-                let ended = ended(&rt, rt.alloc(), &mut trace.as_bytes(), &mut writer)?;
-                assert_eq!(rt; ended, Err(ReplayFault::Write), "{stumble:?} at {calls}");
-                assert_eq!(rt; writer.taken.as_slice(), &wanted.as_bytes()[..calls]);
+            for calls in 0..=report.len() {
+                let wanted = &report.as_bytes()[..calls];
+                test_stumble(&rt, rt.alloc(), &alone, trace, stumble, wanted);
             }
         }
     }
@@ -192,11 +248,12 @@ fn fetches_among_sets(alloc: Global, sets: usize, fetches: usize) -> Result<Stri
 #[test]
 fn a_mark_is_held_until_all_is_asked(rt: HostRuntime) -> Result<(), Fail> {
     let trace = fetches_among_sets(rt.alloc(), 100, 100)?;
+    let config = by(4)?;
     let report = report_of(
         &rt,
         rt.alloc(),
         trace.as_str(),
-        4,
+        &config,
         Audit::Skipped,
         &OpenGate,
     )?;
