@@ -51,23 +51,39 @@ fn offer(alloc: Global, number: u64, moment: u64, ttl: u32) -> Result<Offer> {
     Ok(Offer::new(key, body, moment)?)
 }
 
+/// Puts the address of a number.
+fn put(alloc: Global, part: &mut Part, number: u64, moment: u64, ttl: u32) -> Result<()> {
+    part.offer(TAG, offer(alloc, number, moment, ttl)?)?;
+    Ok(())
+}
+
 /// The part of a number, of so many.
 fn part_of(number: u64, parts: u32) -> Result<usize> {
     let part = number.checked_rem(u64::from(parts));
     Ok(part.context("there are no parts")? as usize)
 }
 
+/// A part that has room for so many keys and holds none.
+fn empty(alloc: Global, keys: u32) -> Result<Part> {
+    let rules = Rules::new(u64::from(keys), CHAPTER, 0).context("there are 1 to 65,536 keys")?;
+    Ok(Part::new(alloc, rules)?)
+}
+
+/// Puts so many numbers, one of each `parts` from `first` on.
+fn fill(alloc: Global, part: &mut Part, first: u32, parts: u32, keys: u32) -> Result<()> {
+    for turn in 0..keys {
+        let number = u64::from(turn) * u64::from(parts);
+        put(alloc, part, number.saturating_add(u64::from(first)), 0, TTL)?;
+    }
+    Ok(())
+}
+
 /// Parts that each hold so many keys, and have room for no other: the numbers by turns.
 pub fn filled(alloc: Global, parts: u32, keys: u32) -> Result<Vec<Part>> {
-    let rules = Rules::new(u64::from(keys), CHAPTER, 0).context("there are 1 to 65,536 keys")?;
     let mut filled = Vec::new(alloc);
     for place in 0..parts {
-        let mut part = Part::new(alloc, rules)?;
-        for turn in 0..keys {
-            let number = u64::from(turn) * u64::from(parts);
-            let offer = offer(alloc, number.saturating_add(u64::from(place)), 0, TTL)?;
-            part.offer(TAG, offer)?;
-        }
+        let mut part = empty(alloc, keys)?;
+        fill(alloc, &mut part, place, parts, keys)?;
         filled.push(part)?;
     }
     Ok(filled)
@@ -153,8 +169,29 @@ pub fn offers_of_absent(
 /// Puts a tenth of the numbers below `keys`, for one second.
 pub fn offer_a_tenth(alloc: Global, part: &mut Part, keys: u32, moment: u64) -> Result<()> {
     for tenth in 0..keys / 10 {
-        part.offer(TAG, offer(alloc, u64::from(tenth) * 10, moment, 1)?)?;
+        put(alloc, part, u64::from(tenth) * 10, moment, 1)?;
     }
+    Ok(())
+}
+
+/// A part with so many events, of as many keys as it may hold and half as many more: a put, then two asks, by turns.
+pub fn written(alloc: Global, keys: u32, events: u32) -> Result<Part> {
+    let mut part = empty(alloc, keys)?;
+    let mut numbers = Numbers::new();
+    let names = u64::from(keys) + u64::from(keys / 2);
+    for place in 0..events {
+        let number = numbers.below(names).context("no keys")?;
+        write(alloc, &mut part, number, place % 3 == 0)?;
+    }
+    Ok(part)
+}
+
+/// Puts the address of a number, or asks for it.
+fn write(alloc: Global, part: &mut Part, number: u64, is_put: bool) -> Result<()> {
+    if is_put {
+        return put(alloc, part, number, 0, TTL);
+    }
+    part.ask(TAG, &ask(alloc, number)?)?;
     Ok(())
 }
 

@@ -1,23 +1,26 @@
 //! Calls parts of the cache many times and prints what it counted, and on standard error the nanoseconds of processor time that
 //! the calls took, for a script that compares: `bench_cache TASK KEYS CALLS [PARTS]`, where TASK is `hit`, `shelf`, `miss`, `would`,
-//! `room`, `replace`, `evict`, `sweep` or `load`. KEYS is how many each part holds. A call of `shelf` is an ask of the first part on a
-//! shelf that lets a chapter go after each 4,096; of `sweep`, one of the first part, after a tenth of its keys died; of `load`, one
-//! load from a random place of 8 MiB. Without arguments it does a few of each.
+//! `room`, `replace`, `evict`, `sweep`, `load`, `audit` or `recheck`. KEYS is how many each part holds. A call of `shelf` is an ask of
+//! the first part on a shelf that lets a chapter go after each 4,096; of `sweep`, one of the first part, after a tenth of its keys died;
+//! of `load`, one load from a random place of 8 MiB. `audit` and `recheck` find each once that the history of CALLS puts and asks of a
+//! part that may hold KEYS keys is legal. Without arguments it does a few of each.
 #![tactic(auto)]
 
+mod audits;
 mod calls;
 mod made;
 mod numbers;
 
+use crate::audits::{Found, audited, rechecked};
 use crate::calls::{
     Counts, Done, ask_all, ask_shelf, has_room_all, load_all, offer_all, sweep_all,
     would_answer_all,
 };
-use crate::made::{asks, filled, offers_of_absent, offers_of_held, picked, places};
+use crate::made::{asks, filled, offers_of_absent, offers_of_held, picked, places, written};
 use anyhow::{Context, Result, bail};
 use rrc_share::Shelf;
 use std::alloc::Global;
-use std::env;
+use std::env::{self, Args};
 use std::rt::Env;
 use std::time::CpuClock;
 
@@ -85,59 +88,105 @@ fn done<R: CpuClock>(rt: &R, alloc: Global, task: &Task<'_>) -> Result<Done> {
         "sweep" => swept(rt, alloc, task),
         "shelf" => shelved(rt, alloc, task),
         "load" => load_all(rt, places(alloc)?.as_slice(), task.calls),
-        _ => bail!("it does hit, shelf, miss, would, room, replace, evict, sweep or load"),
+        _ => bail!(
+            "it does hit, shelf, miss, would, room, replace, evict, sweep, load, audit or recheck"
+        ),
     }
 }
 
-fn report<R: Print + Eprint + Alloc<A = Global> + CpuClock>(rt: &R, task: &Task<'_>) -> Result<()> {
-    let done = done(rt, rt.alloc(), task)?;
+/// The audit of a history that is written beforehand.
+fn history_audited<R: CpuClock>(rt: &R, alloc: Global, task: &Task<'_>) -> Result<Found> {
+    let part = written(alloc, task.keys, task.calls)?;
+    match task.name {
+        "audit" => audited(rt, &part),
+        _ => rechecked(rt, alloc, &part),
+    }
+}
+
+/// Does calls and prints what came of them. Answers the nanoseconds that they took.
+fn report_calls<R: Print + Alloc<A = Global> + CpuClock>(rt: &R, task: &Task<'_>) -> Result<u128> {
+    let Done { counts, time } = done(rt, rt.alloc(), task)?;
     let Counts {
         hits,
         misses,
         kept,
         evicted,
         swept,
-    } = done.counts;
+    } = counts;
     println!(rt;
         "{}: {hits} hits, {misses} misses, {kept} kept, {evicted} evicted, {swept} swept",
         task.name
     )?;
-    eprintln!(rt; "{}", done.time.as_nanos())?;
+    Ok(time.as_nanos())
+}
+
+/// Audits a history and prints how many events it has. Answers the nanoseconds that this took.
+fn report_audit<R: Print + Alloc<A = Global> + CpuClock>(rt: &R, task: &Task<'_>) -> Result<u128> {
+    let audited = history_audited(rt, rt.alloc(), task)?;
+    println!(rt; "{}: {} events, all right", task.name, audited.events)?;
+    Ok(audited.time.as_nanos())
+}
+
+fn report<R: Print + Eprint + Alloc<A = Global> + CpuClock>(rt: &R, task: &Task<'_>) -> Result<()> {
+    let nanoseconds = match task.name {
+        "audit" | "recheck" => report_audit(rt, task)?,
+        _ => report_calls(rt, task)?,
+    };
+    eprintln!(rt; "{nanoseconds}")?;
     Ok(())
 }
 
-/// A number that an argument tells.
-fn number(word: String) -> Result<u32> {
-    Ok(word.as_str().parse::<u32>()?)
+/// A few of each.
+fn report_each<R: Print + Eprint + Alloc<A = Global> + CpuClock>(rt: &R) -> Result<()> {
+    for (name, calls) in [
+        ("hit", 1000),
+        ("shelf", 1000),
+        ("miss", 1000),
+        ("would", 1000),
+        ("room", 1000),
+        ("replace", 1000),
+        ("evict", 1000),
+        ("sweep", 1000),
+        ("load", 1000),
+        ("audit", 64),
+        ("recheck", 1000),
+    ] {
+        let task = Task {
+            name,
+            keys: 16,
+            calls,
+            parts: 2,
+        };
+        report(rt, &task)?;
+    }
+    Ok(())
+}
+
+/// The number that the next argument tells, if there is one.
+fn number(args: &mut Args) -> Result<Option<u32>> {
+    let Some(word) = args.next() else {
+        return Ok(None);
+    };
+    Ok(Some(word.as_str().parse::<u32>()?))
+}
+
+/// What the arguments behind its name tell of a task.
+fn task_in<'a>(name: &'a str, args: &mut Args) -> Result<Task<'a>> {
+    Ok(Task {
+        name,
+        keys: number(args)?.context(USAGE)?,
+        calls: number(args)?.context(USAGE)?,
+        parts: number(args)?.unwrap_or(1),
+    })
 }
 
 fn run<R: Env + Print + Eprint + Alloc<A = Global> + CpuClock>(rt: &R) -> Result<()> {
     let mut args = env::args(rt)?;
     let _program = args.next();
-    let Some(name) = args.next() else {
-        for name in [
-            "hit", "shelf", "miss", "would", "room", "replace", "evict", "sweep", "load",
-        ] {
-            let task = Task {
-                name,
-                keys: 16,
-                calls: 1000,
-                parts: 2,
-            };
-            report(rt, &task)?;
-        }
-        return Ok(());
-    };
-    let task = Task {
-        name: name.as_str(),
-        keys: number(args.next().context(USAGE)?)?,
-        calls: number(args.next().context(USAGE)?)?,
-        parts: match args.next() {
-            Some(word) => number(word)?,
-            None => 1,
-        },
-    };
-    report(rt, &task)
+    match args.next() {
+        Some(name) => report(rt, &task_in(name.as_str(), &mut args)?),
+        None => report_each(rt),
+    }
 }
 
 fn main(rt: HostRuntime) -> Result<()> {
