@@ -131,7 +131,7 @@ def aliases(size):
 
 def nanoseconds(path, passes):
     """Runs the program once, and answers how long it took for one message."""
-    done = subprocess.run([PROGRAM, str(passes), path], capture_output=True, text=True, check=True)
+    done = subprocess.run([PROGRAM, "offer", str(passes), path], capture_output=True, text=True, check=True)
     return int(done.stderr) / passes
 
 

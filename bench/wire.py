@@ -2,7 +2,7 @@
 """Times the message reader on responses of 43 and of 512 octets, a message of many small records, a chain of pointers, a message whose
 names all go through a chain, and one whose names expand most; and tells how much longer the last but one takes than the last.
 
-Build the program first, by `rt run` in crates/bench_wire. Each line is the median of RUNS runs, less a run of no pass.
+Build the program first, by `rt run` in crates/bench_sets. Each line is the median of RUNS runs, less a run of no pass.
 """
 import argparse
 import pathlib
@@ -13,7 +13,7 @@ import sys
 import tempfile
 import time
 
-PROGRAM = pathlib.Path(__file__).resolve().parent.parent / "crates" / "bench_wire" / "out" / "bench_wire"
+PROGRAM = pathlib.Path(__file__).resolve().parent.parent / "crates" / "bench_sets" / "out" / "bench_sets"
 QUESTION = bytes.fromhex("0161076578616d706c650000010001")
 ADDRESS = bytes.fromhex("c00c000100010000003c0004c0000201")
 
@@ -73,7 +73,7 @@ def expanding():
 def seconds(path, passes):
     """Runs the program once, and answers how long it took and what it printed."""
     start = time.perf_counter()
-    done = subprocess.run([PROGRAM, str(passes), path], capture_output=True, text=True, check=True)
+    done = subprocess.run([PROGRAM, "read", str(passes), path], capture_output=True, text=True, check=True)
     return time.perf_counter() - start, done.stdout
 
 
@@ -83,7 +83,7 @@ def main():
     parser.add_argument("--runs", type=int, default=5, help="runs of each (default 5)")
     args = parser.parse_args()
     if not PROGRAM.exists():
-        sys.exit("build the program first: `rt run` in crates/bench_wire")
+        sys.exit("build the program first: `rt run` in crates/bench_sets")
     messages = (small, usual, crowded, chain, chains, expanding)
     each = {}
     with tempfile.TemporaryDirectory() as folder:

@@ -1,92 +1,92 @@
-//! Makes the offers of messages of the DNS many times and prints what it counted, and on standard error the nanoseconds of processor
-//! time that the offers took, for a script that compares: `bench_sets [PASSES [FILE]]`. The file, or standard input, has one message
-//! in hexadecimal on each line. The messages are read once, beforehand.
+//! Reads messages of the DNS many times, or makes their offers, and prints what it counted, for scripts that time it:
+//! `bench_sets TASK PASSES [FILE]`, where TASK is `read` or `offer`. The file, or standard input, has one message in hexadecimal on each
+//! line. For `offer` the messages are read once, beforehand, and the nanoseconds of processor time that the offers took are on standard
+//! error. Without arguments it reads the messages of standard input that stand before an empty line, and makes the offers of those behind it.
 #![tactic(auto)]
 
-use anyhow::{Context, Result};
-use rrc_history::{Body, Offer};
-use rrc_name::Name;
-use rrc_sets::{Limits, offers};
-use rrc_wire::{Message, read_message};
-use std::alloc::Global;
+mod offering;
+mod reading;
+
+use crate::offering::offer_all;
+use crate::reading::read_all;
+use anyhow::{Context, Result, bail};
+use std::env::Args;
 use std::rt::{Env, Files};
 use std::time::CpuClock;
 use std::{env, fs, io};
 
-/// What was offered, in all passes.
-#[derive(Clone, Copy)]
-struct Counts {
-    messages: u64,
-    offers: u64,
-    data: u64,
+const USAGE: &str = "TASK PASSES [FILE]";
+
+/// Reads the messages of a text so often.
+fn report_read<R: Print + AllocGlobal>(rt: &R, text: &str, passes: u32) -> Result<()> {
+    let counts = read_all(rt.alloc(), text, passes)?;
+    println!(rt;
+        "{} messages read, {} refused, of {} octets, with {} answers",
+        counts.read, counts.refused, counts.octets, counts.records
+    )?;
+    Ok(())
 }
 
-/// The messages of a text, one on each line.
-fn messages_in(alloc: Global, text: &str) -> Result<Vec<Message>> {
-    let mut messages = Vec::new(alloc);
-    for line in text.lines() {
-        let octets = hex::decode(alloc, line).context("a line is not in hexadecimal")?;
-        let message = read_message(alloc, octets.as_slice()).context("a line is no message")?;
-        messages.push(message).context("no memory for a message")?;
-    }
-    Ok(messages)
-}
-
-/// Adds to the counts what one message offered.
-fn count(offers: &[Offer], counts: &mut Counts) {
-    counts.messages = counts.messages.wrapping_add(1);
-    counts.offers = counts.offers.wrapping_add(offers.len() as u64);
-    for offer in offers {
-        if let Body::Positive { items, .. } = &offer.body {
-            counts.data = counts.data.wrapping_add(items.iter().count() as u64);
-        }
-    }
-}
-
-fn count_all(
-    alloc: Global,
-    messages: &[Message],
-    zone: &Name,
-    limits: &Limits,
+/// Makes the offers of the messages of a text so often.
+fn report_offers<R: Print + Eprint + AllocGlobal + CpuClock>(
+    rt: &R,
+    text: &str,
     passes: u32,
-) -> Result<Counts> {
-    let mut counts = Counts {
-        messages: 0,
-        offers: 0,
-        data: 0,
-    };
-    for _ in 0..passes {
-        for message in messages {
-            let made = offers(alloc, message, zone, 1000, limits)?;
-            count(made.as_slice(), &mut counts);
-        }
-    }
-    Ok(counts)
-}
-
-fn run<R: Env + Files + Input + Print + Eprint + AllocGlobal + CpuClock>(rt: &R) -> Result<()> {
-    let mut args = env::args(rt)?;
-    let _program = args.next();
-    let passes = match args.next() {
-        Some(passes) => passes.as_str().parse::<u32>().context("how many passes?")?,
-        None => 1,
-    };
-    let text = match args.next() {
-        Some(path) => fs::read_to_string(rt, path)?,
-        None => io::read_to_string(rt.alloc(), rt.reader())?,
-    };
-    let messages = messages_in(rt.alloc(), text.as_str())?;
-    let zone = Name::root(rt.alloc())?;
-    let limits = Limits::new(604_800, 10_800, 30).context("limits out of their ranges")?;
-    let before = rt.thread_cpu_time()?;
-    let counts = count_all(rt.alloc(), messages.as_slice(), &zone, &limits, passes)?;
-    let time = rt.thread_cpu_time()?.saturating_sub(before);
+) -> Result<()> {
+    let (counts, time) = offer_all(rt, rt.alloc(), text, passes)?;
     println!(rt;
         "{} messages offered {} times, with {} data",
         counts.messages, counts.offers, counts.data
     )?;
     eprintln!(rt; "{}", time.as_nanos())?;
     Ok(())
+}
+
+/// The number that the next argument tells.
+fn number(args: &mut Args) -> Result<u32> {
+    let word = args.next().context(USAGE)?;
+    Ok(word.as_str().parse::<u32>()?)
+}
+
+/// The text of the file that the next argument names, or that of standard input.
+fn text_in<R: Files + Input + AllocGlobal>(rt: &R, args: &mut Args) -> Result<String> {
+    match args.next() {
+        Some(path) => Ok(fs::read_to_string(rt, path)?),
+        None => Ok(io::read_to_string(rt.alloc(), rt.reader())?),
+    }
+}
+
+/// Does what the arguments tell.
+fn run_task<R: Files + Input + Print + Eprint + AllocGlobal + CpuClock>(
+    rt: &R,
+    task: &str,
+    args: &mut Args,
+) -> Result<()> {
+    let passes = number(args)?;
+    let text = text_in(rt, args)?;
+    match task {
+        "read" => report_read(rt, text.as_str(), passes),
+        "offer" => report_offers(rt, text.as_str(), passes),
+        _ => bail!("it does read or offer"),
+    }
+}
+
+/// Does both, once.
+fn run_both<R: Input + Print + Eprint + AllocGlobal + CpuClock>(rt: &R) -> Result<()> {
+    let text = io::read_to_string(rt.alloc(), rt.reader())?;
+    let parted = text.as_str().split_once("\n\n");
+    let (read, offered) = parted.context("there is no empty line")?;
+    report_read(rt, read, 1)?;
+    report_offers(rt, offered, 1)
+}
+
+fn run<R: Env + Files + Input + Print + Eprint + AllocGlobal + CpuClock>(rt: &R) -> Result<()> {
+    let mut args = env::args(rt)?;
+    let _program = args.next();
+    match args.next() {
+        Some(task) => run_task(rt, task.as_str(), &mut args),
+        None => run_both(rt),
+    }
 }
 
 fn main(rt: HostRuntime) -> Result<()> {
