@@ -8,31 +8,27 @@ use std::time::{CpuClock, Duration};
 
 /// How many events were all right, and the processor time that it took to find that.
 #[derive(Clone, Copy)]
-pub struct Found {
+pub struct Audited {
     pub events: usize,
     pub time: Duration,
 }
 
-/// Audits the part's history with no memory.
-pub fn audited<R: CpuClock>(rt: &R, part: &Part) -> Result<Found> {
-    let events = part.events();
-    let before = rt.thread_cpu_time()?;
-    audit(part.snapshot(), events)?;
-    let time = rt.thread_cpu_time()?.saturating_sub(before);
-    Ok(Found {
-        events: events.len(),
-        time,
-    })
+/// Finds that the part's history is legal, by an audit or by a recheck.
+fn find_legal(alloc: Global, task: &str, part: &Part) -> Result<()> {
+    match task {
+        "audit" => audit(part.snapshot(), part.events())?,
+        _ => recheck(alloc, part.snapshot(), part.events())?,
+    }
+    Ok(())
 }
 
-/// Makes each call of the part's history again.
-pub fn rechecked<R: CpuClock>(rt: &R, alloc: Global, part: &Part) -> Result<Found> {
-    let events = part.events();
+/// Finds that, and how long it takes.
+pub fn timed<R: CpuClock>(rt: &R, alloc: Global, task: &str, part: &Part) -> Result<Audited> {
     let before = rt.thread_cpu_time()?;
-    recheck(alloc, part.snapshot(), events)?;
+    find_legal(alloc, task, part)?;
     let time = rt.thread_cpu_time()?.saturating_sub(before);
-    Ok(Found {
-        events: events.len(),
+    Ok(Audited {
+        events: part.events().len(),
         time,
     })
 }

@@ -50,28 +50,57 @@ impl Counts {
     }
 }
 
+/// Asks the part, and answers whether that is a hit.
+fn ask(parts: &mut [Part], picked: &PickedAsk) -> Result<bool> {
+    let part = parts.get_mut(picked.part).context("no such part")?;
+    let reply = part.ask(TAG, &picked.ask)?;
+    Ok(!matches!(reply, Reply::Miss { .. }))
+}
+
 pub fn ask_all<R: CpuClock>(rt: &R, parts: &mut [Part], asks: &[PickedAsk]) -> Result<Done> {
     let mut counts = NONE;
     let before = rt.thread_cpu_time()?;
     for picked in asks {
-        let part = parts.get_mut(picked.part).context("no such part")?;
-        let reply = part.ask(TAG, &picked.ask)?;
-        counts.count(!matches!(reply, Reply::Miss { .. }));
+        counts.count(ask(parts, picked)?);
     }
     let time = rt.thread_cpu_time()?.saturating_sub(before);
     Ok(Done { counts, time })
+}
+
+/// Whether the part would answer by a hit.
+fn would_answer(parts: &[Part], picked: &PickedAsk) -> Result<bool> {
+    let part = parts.get(picked.part).context("no such part")?;
+    let reply = part.would_answer(&picked.ask);
+    Ok(!matches!(reply, ReplyRef::Miss { .. }))
 }
 
 pub fn would_answer_all<R: CpuClock>(rt: &R, parts: &[Part], asks: &[PickedAsk]) -> Result<Done> {
     let mut counts = NONE;
     let before = rt.thread_cpu_time()?;
     for picked in asks {
-        let part = parts.get(picked.part).context("no such part")?;
-        let reply = part.would_answer(&picked.ask);
-        counts.count(!matches!(reply, ReplyRef::Miss { .. }));
+        counts.count(would_answer(parts, picked)?);
     }
     let time = rt.thread_cpu_time()?.saturating_sub(before);
     Ok(Done { counts, time })
+}
+
+/// One of the questions, in no order that shows.
+fn drawn<'a>(numbers: &mut Numbers, asks: &'a [Ask]) -> Result<&'a Ask> {
+    let place = numbers.below(asks.len() as u64).context("no questions")?;
+    asks.get(place as usize).context("no such question")
+}
+
+/// Asks the shelf, and answers whether that is a hit.
+fn ask_of_shelf(shelf: &mut Shelf, ask: &Ask) -> Result<bool> {
+    let reply = on_shelf_ask(shelf, TAG, ask)?;
+    Ok(!matches!(reply, Reply::Miss { .. }))
+}
+
+/// Closes the shelf's chapter, and lets it go.
+fn let_go(shelf: &mut Shelf) -> Result<()> {
+    on_shelf_checkpoint(shelf)?;
+    drop(shelf.take_chapters());
+    Ok(())
 }
 
 /// Asks a shelf so often, in no order that shows, and lets each chapter go once it is closed.
@@ -80,13 +109,9 @@ pub fn ask_shelf<R: CpuClock>(rt: &R, shelf: &mut Shelf, asks: &[Ask], calls: u3
     let mut numbers = Numbers::new();
     let before = rt.thread_cpu_time()?;
     for call in 0..calls {
-        let place = numbers.below(asks.len() as u64).context("no questions")?;
-        let ask = asks.get(place as usize).context("no such question")?;
-        let reply = on_shelf_ask(shelf, TAG, ask)?;
-        counts.count(!matches!(reply, Reply::Miss { .. }));
+        counts.count(ask_of_shelf(shelf, drawn(&mut numbers, asks)?)?);
         if call % ASKS_OF_A_CHAPTER == ASKS_OF_A_CHAPTER - 1 {
-            on_shelf_checkpoint(shelf)?;
-            drop(shelf.take_chapters());
+            let_go(shelf)?;
         }
     }
     let time = rt.thread_cpu_time()?.saturating_sub(before);
@@ -106,6 +131,21 @@ pub fn has_room_all<R: CpuClock>(rt: &R, parts: &[Part], calls: u32) -> Result<D
     Ok(Done { counts, time })
 }
 
+/// Makes the offer, and answers whether it was kept.
+fn offer(parts: &mut [Part], picked: PickedOffer) -> Result<bool> {
+    let part = parts.get_mut(picked.part).context("no such part")?;
+    Ok(part.offer(TAG, picked.offer)? == Outcome::Kept)
+}
+
+/// Makes the offers, and answers how many were kept.
+fn kept_of(parts: &mut [Part], offers: Vec<PickedOffer>) -> Result<u64> {
+    let mut kept = 0_u64;
+    for picked in offers {
+        kept = kept.wrapping_add(u64::from(offer(parts, picked)?));
+    }
+    Ok(kept)
+}
+
 pub fn offer_all<R: CpuClock>(
     rt: &R,
     parts: &mut [Part],
@@ -113,12 +153,7 @@ pub fn offer_all<R: CpuClock>(
 ) -> Result<Done> {
     let mut counts = NONE;
     let before = rt.thread_cpu_time()?;
-    for picked in offers {
-        let part = parts.get_mut(picked.part).context("no such part")?;
-        if part.offer(TAG, picked.offer)? == Outcome::Kept {
-            counts.kept = counts.kept.wrapping_add(1);
-        }
-    }
+    counts.kept = kept_of(parts, offers)?;
     let time = rt.thread_cpu_time()?.saturating_sub(before);
     for part in parts.iter() {
         counts.evicted = counts.evicted.wrapping_add(evicted_in(part.events()));

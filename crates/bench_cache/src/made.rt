@@ -37,17 +37,26 @@ fn key(alloc: Global, number: u64) -> Result<Key> {
     Ok(Key::of(&name, Slot::Set(1))?)
 }
 
+/// The data of a set of one address.
+fn address(alloc: Global) -> Result<Shared<Sequence<Octets>>> {
+    let mut items = Sequence::new(alloc);
+    items.push(Octets::from_slice(alloc, &[192, 0, 2, 1])?)?;
+    Ok(Shared::new(alloc, items)?)
+}
+
+fn body(alloc: Global, key: &Key, ttl: u32) -> Result<Body> {
+    Ok(Body::Positive {
+        owner: key.name().clone()?,
+        items: address(alloc)?,
+        trust: Trust::AuthoritativeAnswer,
+        ttl,
+    })
+}
+
 /// An offer of one address.
 fn offer(alloc: Global, number: u64, moment: u64, ttl: u32) -> Result<Offer> {
     let key = key(alloc, number)?;
-    let mut items = Sequence::new(alloc);
-    items.push(Octets::from_slice(alloc, &[192, 0, 2, 1])?)?;
-    let body = Body::Positive {
-        owner: key.name().clone()?,
-        items: Shared::new(alloc, items)?,
-        trust: Trust::AuthoritativeAnswer,
-        ttl,
-    };
+    let body = body(alloc, &key, ttl)?;
     Ok(Offer::new(key, body, moment)?)
 }
 
@@ -69,22 +78,22 @@ fn empty(alloc: Global, keys: u32) -> Result<Part> {
     Ok(Part::new(alloc, rules)?)
 }
 
-/// Puts so many numbers, one of each `parts` from `first` on.
-fn fill(alloc: Global, part: &mut Part, first: u32, parts: u32, keys: u32) -> Result<()> {
+/// A part that holds so many keys, and has room for no other: each of `parts` numbers from the first on.
+pub fn full(alloc: Global, first: u32, parts: u32, keys: u32) -> Result<Part> {
+    let mut part = empty(alloc, keys)?;
     for turn in 0..keys {
         let number = u64::from(turn) * u64::from(parts);
-        put(alloc, part, number.saturating_add(u64::from(first)), 0, TTL)?;
+        let number = number.saturating_add(u64::from(first));
+        put(alloc, &mut part, number, 0, TTL)?;
     }
-    Ok(())
+    Ok(part)
 }
 
-/// Parts that each hold so many keys, and have room for no other: the numbers by turns.
+/// Such parts: they hold the numbers by turns.
 pub fn filled(alloc: Global, parts: u32, keys: u32) -> Result<Vec<Part>> {
     let mut filled = Vec::new(alloc);
     for place in 0..parts {
-        let mut part = empty(alloc, keys)?;
-        fill(alloc, &mut part, place, parts, keys)?;
-        filled.push(part)?;
+        filled.push(full(alloc, place, parts, keys)?)?;
     }
     Ok(filled)
 }

@@ -11,12 +11,12 @@ mod calls;
 mod made;
 mod numbers;
 
-use crate::audits::{Found, audited, rechecked};
+use crate::audits::{Audited, timed};
 use crate::calls::{
     Counts, Done, ask_all, ask_shelf, has_room_all, load_all, offer_all, sweep_all,
     would_answer_all,
 };
-use crate::made::{asks, filled, offers_of_absent, offers_of_held, picked, places, written};
+use crate::made::{asks, filled, full, offers_of_absent, offers_of_held, picked, places, written};
 use anyhow::{Context, Result, bail};
 use rrc_share::Shelf;
 use std::alloc::Global;
@@ -63,44 +63,45 @@ fn offered<R: CpuClock>(rt: &R, alloc: Global, task: &Task<'_>) -> Result<Done> 
 }
 
 fn swept<R: CpuClock>(rt: &R, alloc: Global, task: &Task<'_>) -> Result<Done> {
-    let mut parts = filled(alloc, 1, task.keys)?;
-    let part = parts.as_mut_slice().get_mut(0).context("no part")?;
-    sweep_all(rt, alloc, part, task.keys, task.calls)
+    let mut part = full(alloc, 0, 1, task.keys)?;
+    sweep_all(rt, alloc, &mut part, task.keys, task.calls)
 }
 
 fn shelved<R: CpuClock>(rt: &R, alloc: Global, task: &Task<'_>) -> Result<Done> {
-    let part = filled(alloc, 1, task.keys)?.pop().context("no part")?;
     let asks = asks(alloc, u64::from(task.keys))?;
-    let mut shelf = Shelf::new(alloc, part);
+    let mut shelf = Shelf::new(alloc, full(alloc, 0, 1, task.keys)?);
     ask_shelf(rt, &mut shelf, asks.as_slice(), task.calls)
+}
+
+fn roomy<R: CpuClock>(rt: &R, alloc: Global, task: &Task<'_>) -> Result<Done> {
+    let parts = filled(alloc, task.parts, task.keys)?;
+    has_room_all(rt, parts.as_slice(), task.calls)
+}
+
+fn loaded<R: CpuClock>(rt: &R, alloc: Global, task: &Task<'_>) -> Result<Done> {
+    let places = places(alloc)?;
+    load_all(rt, places.as_slice(), task.calls)
 }
 
 fn done<R: CpuClock>(rt: &R, alloc: Global, task: &Task<'_>) -> Result<Done> {
     match task.name {
         "hit" | "would" => asked(rt, alloc, task, 0),
         "miss" => asked(rt, alloc, task, task.held()),
-        "room" => has_room_all(
-            rt,
-            filled(alloc, task.parts, task.keys)?.as_slice(),
-            task.calls,
-        ),
+        "room" => roomy(rt, alloc, task),
         "replace" | "evict" => offered(rt, alloc, task),
         "sweep" => swept(rt, alloc, task),
         "shelf" => shelved(rt, alloc, task),
-        "load" => load_all(rt, places(alloc)?.as_slice(), task.calls),
+        "load" => loaded(rt, alloc, task),
         _ => bail!(
             "it does hit, shelf, miss, would, room, replace, evict, sweep, load, audit or recheck"
         ),
     }
 }
 
-/// The audit of a history that is written beforehand.
-fn history_audited<R: CpuClock>(rt: &R, alloc: Global, task: &Task<'_>) -> Result<Found> {
+/// Finds that a history is legal, which is written beforehand.
+fn history_audited<R: CpuClock>(rt: &R, alloc: Global, task: &Task<'_>) -> Result<Audited> {
     let part = written(alloc, task.keys, task.calls)?;
-    match task.name {
-        "audit" => audited(rt, &part),
-        _ => rechecked(rt, alloc, &part),
-    }
+    timed(rt, alloc, task.name, &part)
 }
 
 /// Does calls and prints what came of them. Answers the nanoseconds that they took.
@@ -136,21 +137,24 @@ fn report<R: Print + Eprint + Alloc<A = Global> + CpuClock>(rt: &R, task: &Task<
     Ok(())
 }
 
+/// What is done without arguments, and how often.
+const FEW: &[(&str, u32)] = &[
+    ("hit", 1000),
+    ("shelf", 1000),
+    ("miss", 1000),
+    ("would", 1000),
+    ("room", 1000),
+    ("replace", 1000),
+    ("evict", 1000),
+    ("sweep", 1000),
+    ("load", 1000),
+    ("audit", 64),
+    ("recheck", 1000),
+];
+
 /// A few of each.
 fn report_each<R: Print + Eprint + Alloc<A = Global> + CpuClock>(rt: &R) -> Result<()> {
-    for (name, calls) in [
-        ("hit", 1000),
-        ("shelf", 1000),
-        ("miss", 1000),
-        ("would", 1000),
-        ("room", 1000),
-        ("replace", 1000),
-        ("evict", 1000),
-        ("sweep", 1000),
-        ("load", 1000),
-        ("audit", 64),
-        ("recheck", 1000),
-    ] {
+    for &(name, calls) in FEW {
         let task = Task {
             name,
             keys: 16,
@@ -180,11 +184,21 @@ fn task_in<'a>(name: &'a str, args: &mut Args) -> Result<Task<'a>> {
     })
 }
 
+/// Does the task that the arguments tell.
+fn report_told<R: Print + Eprint + Alloc<A = Global> + CpuClock>(
+    rt: &R,
+    name: &str,
+    args: &mut Args,
+) -> Result<()> {
+    let task = task_in(name, args)?;
+    report(rt, &task)
+}
+
 fn run<R: Env + Print + Eprint + Alloc<A = Global> + CpuClock>(rt: &R) -> Result<()> {
     let mut args = env::args(rt)?;
     let _program = args.next();
     match args.next() {
-        Some(name) => report(rt, &task_in(name.as_str(), &mut args)?),
+        Some(name) => report_told(rt, name.as_str(), &mut args),
         None => report_each(rt),
     }
 }

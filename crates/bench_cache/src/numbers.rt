@@ -1,7 +1,7 @@
 // Numbers in no order that shows, the same in each run.
 
 /// What makes the numbers: a linear congruential generator.
-#[derive(Drop)]
+#[derive(Clone, Copy)]
 pub struct Numbers {
     state: u64,
 }
