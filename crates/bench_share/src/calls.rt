@@ -1,6 +1,6 @@
 // The calls whose time is taken.
 
-use rrc_cache::Part;
+use rrc_cache::{Part, Refusal};
 use rrc_history::{Ask, Offer, Outcome, Reply, Tag};
 use rrc_sets::part_of;
 use rrc_share::SharedCache;
@@ -16,38 +16,46 @@ pub enum Turn<'a> {
     Offer(Offer),
 }
 
-fn is_hit(reply: &Reply) -> bool {
-    !matches!(reply, Reply::Miss { .. })
+fn is_hit(reply: &Result<Reply, Refusal>) -> bool {
+    !matches!(reply, Ok(Reply::Miss { .. }) | Err(_))
+}
+
+/// Makes the call on a shared cache, and answers whether it got an answer or was kept.
+fn is_served<R: Wait>(rt: &R, cache: &SharedCache, turn: Turn<'_>) -> bool {
+    match turn {
+        Turn::Ask(ask) => is_hit(&cache.ask(rt, TAG, ask)),
+        Turn::Offer(offer) => matches!(cache.offer(rt, TAG, offer), Ok(Outcome::Kept)),
+    }
 }
 
 /// Makes the calls on a shared cache, and answers how many got an answer or were kept.
 pub fn call_all<R: Wait>(rt: &R, cache: &SharedCache, turns: Vec<Turn<'_>>) -> u64 {
     let mut served = 0_u64;
     for turn in turns {
-        let is_served = match turn {
-            Turn::Ask(ask) => matches!(cache.ask(rt, TAG, ask), Ok(reply) if is_hit(&reply)),
-            Turn::Offer(offer) => matches!(cache.offer(rt, TAG, offer), Ok(Outcome::Kept)),
-        };
-        served = served.wrapping_add(u64::from(is_served));
+        served = served.wrapping_add(u64::from(is_served(rt, cache, turn)));
     }
     served
 }
 
-/// Makes the calls on parts that no lock guards, each on the one that its name lies in.
-pub fn call_lent(parts: &mut [Part], turns: Vec<Turn<'_>>) -> u64 {
+/// Asks the part that the name lies in, which no lock guards, and answers whether that is a hit.
+fn is_hit_at_home(parts: &mut [Part], ask: &Ask) -> bool {
     let count = parts.len();
-    let mut served = 0_u64;
     if !(1..=64).contains(&count) {
-        return served;
+        return false;
     }
+    match parts.get_mut(part_of(&ask.name, count)) {
+        Some(part) => is_hit(&part.ask(TAG, ask)),
+        None => false,
+    }
+}
+
+/// Makes the asks on parts that no lock guards.
+pub fn call_lent(parts: &mut [Part], turns: &[Turn<'_>]) -> u64 {
+    let mut served = 0_u64;
     for turn in turns {
-        let Turn::Ask(ask) = turn else { continue };
-        let home = part_of(&ask.name, count);
-        let Some(part) = parts.get_mut(home) else {
-            continue
-        };
-        let is_served = matches!(part.ask(TAG, ask), Ok(reply) if is_hit(&reply));
-        served = served.wrapping_add(u64::from(is_served));
+        if let Turn::Ask(ask) = turn {
+            served = served.wrapping_add(u64::from(is_hit_at_home(parts, ask)));
+        }
     }
     served
 }

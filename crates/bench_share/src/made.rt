@@ -26,17 +26,26 @@ fn name(alloc: Global, number: u64) -> Result<Name> {
     Ok(Name::from_text(alloc, text.as_str())?)
 }
 
+/// The data of a set of one address.
+fn address(alloc: Global) -> Result<Shared<Sequence<Octets>>> {
+    let mut items = Sequence::new(alloc);
+    items.push(Octets::from_slice(alloc, &[192, 0, 2, 1])?)?;
+    Ok(Shared::new(alloc, items)?)
+}
+
+fn body(alloc: Global, name: &Name) -> Result<Body> {
+    Ok(Body::Positive {
+        owner: name.clone()?,
+        items: address(alloc)?,
+        trust: Trust::AuthoritativeAnswer,
+        ttl: TTL,
+    })
+}
+
 /// An offer of one address.
 fn offer(alloc: Global, name: &Name, moment: u64) -> Result<Offer> {
     let key = Key::of(name, Slot::Set(1))?;
-    let mut items = Sequence::new(alloc);
-    items.push(Octets::from_slice(alloc, &[192, 0, 2, 1])?)?;
-    let body = Body::Positive {
-        owner: name.clone()?,
-        items: Shared::new(alloc, items)?,
-        trust: Trust::AuthoritativeAnswer,
-        ttl: TTL,
-    };
+    let body = body(alloc, name)?;
     Ok(Offer::new(key, body, moment)?)
 }
 
@@ -52,36 +61,58 @@ pub fn filled<R: Wait>(rt: &R, alloc: Global, parts: usize) -> Result<SharedCach
     Ok(cache)
 }
 
+/// Puts the address of a number into the part that its name lies in.
+fn put(alloc: Global, parts: &mut [Part], number: u64) -> Result<()> {
+    let count = parts.len();
+    if !(1..=64).contains(&count) {
+        bail!("there are 1 to 64 parts");
+    }
+    let name = name(alloc, number)?;
+    let part = parts.get_mut(part_of(&name, count));
+    part.context("no such part")?
+        .offer(TAG, offer(alloc, &name, 0)?)?;
+    Ok(())
+}
+
+/// So many parts under no lock that hold nothing.
+fn empty(alloc: Global, parts: usize) -> Result<Vec<Part>> {
+    let rules = rules()?;
+    let mut empty = Vec::new(alloc);
+    for _ in 0..parts {
+        empty.push(Part::new(alloc, rules)?)?;
+    }
+    Ok(empty)
+}
+
 /// So many parts under no lock that hold all names.
 pub fn lent(alloc: Global, parts: usize) -> Result<Vec<Part>> {
     if !(1..=64).contains(&parts) {
         bail!("there are 1 to 64 parts");
     }
-    let mut filled = Vec::new(alloc);
-    for _ in 0..parts {
-        filled.push(Part::new(alloc, rules()?)?)?;
-    }
+    let mut filled = empty(alloc, parts)?;
     for number in 0..NAMES {
-        let name = name(alloc, number)?;
-        let part = filled.as_mut_slice().get_mut(part_of(&name, parts));
-        part.context("no such part")?
-            .offer(TAG, offer(alloc, &name, 0)?)?;
+        put(alloc, filled.as_mut_slice(), number)?;
     }
     Ok(filled)
+}
+
+/// A question for the address of a number.
+fn ask(alloc: Global, number: u64) -> Result<Ask> {
+    let key = Key::of(&name(alloc, number)?, Slot::Set(1))?;
+    Ok(Ask {
+        name: key.name().clone()?,
+        rtype: 1,
+        moment: 1,
+        purpose: Purpose::Answer,
+        mode: Mode::NoStale,
+    })
 }
 
 /// A question for each name.
 pub fn asks(alloc: Global) -> Result<Vec<Ask>> {
     let mut asks = Vec::new(alloc);
     for number in 0..NAMES {
-        let key = Key::of(&name(alloc, number)?, Slot::Set(1))?;
-        asks.push(Ask {
-            name: key.name().clone()?,
-            rtype: 1,
-            moment: 1,
-            purpose: Purpose::Answer,
-            mode: Mode::NoStale,
-        })?;
+        asks.push(ask(alloc, number)?)?;
     }
     Ok(asks)
 }

@@ -10,14 +10,19 @@ mod made;
 use crate::calls::{Turn, call_all, call_lent};
 use crate::made::{NAMES, asks, filled, lent, turns};
 use anyhow::{Context, Result, bail};
+use rrc_cache::Part;
+use rrc_history::Ask;
+use rrc_share::SharedCache;
 use std::alloc::Global;
-use std::env;
+use std::env::{self, Args};
 use std::rt::Env;
 use std::sync::Wait;
 use std::thread::{Threads, map_vec};
 use std::time::{Clock, Duration, Instant};
 
 const USAGE: &str = "TASK THREADS PARTS CALLS";
+
+const TASKS: &[&str] = &["hit", "put", "mix", "hot", "lent"];
 
 /// What is called, by how many threads, on how many parts, and how often by each.
 #[derive(Clone, Copy)]
@@ -47,17 +52,39 @@ fn kinds(name: &str) -> Result<(u32, u64)> {
 }
 
 /// The calls of each thread.
-fn jobs<'a>(
-    alloc: Global,
-    task: &Task<'_>,
-    asks: &'a [rrc_history::Ask],
-) -> Result<Vec<Vec<Turn<'a>>>> {
+fn jobs<'a>(alloc: Global, task: &Task<'_>, asks: &'a [Ask]) -> Result<Vec<Vec<Turn<'a>>>> {
     let (puts, names) = kinds(task.name)?;
     let mut jobs = Vec::new(alloc);
     for thread in 0..task.threads {
         jobs.push(turns(alloc, thread, asks, puts, names, task.calls)?)?;
     }
     Ok(jobs)
+}
+
+/// Makes the calls, those of each thread by a thread, and answers how many were served.
+fn served_by_all<R: Threads + Wait + Sync>(
+    rt: &R,
+    cache: &SharedCache,
+    jobs: Vec<Vec<Turn<'_>>>,
+) -> Result<u64> {
+    let served = map_vec(rt, jobs, &|turns| call_all(rt, cache, turns))?;
+    let mut all = 0_u64;
+    for one in served {
+        all = all.wrapping_add(one);
+    }
+    Ok(all)
+}
+
+/// How many of the calls were served, and the time that passed.
+fn timed<R: Threads + Wait + Sync + Clock>(
+    rt: &R,
+    cache: &SharedCache,
+    jobs: Vec<Vec<Turn<'_>>>,
+) -> Result<Done> {
+    let before = Instant::now(rt)?;
+    let served = served_by_all(rt, cache, jobs)?;
+    let time = before.elapsed(rt)?;
+    Ok(Done { served, time })
 }
 
 /// The calls by threads on a shared cache.
@@ -69,15 +96,15 @@ fn shared<R: Threads + Wait + Sync + Clock>(
     let asks = asks(alloc)?;
     let jobs = jobs(alloc, task, asks.as_slice())?;
     let cache = filled(rt, alloc, task.parts)?;
-    let cache = &cache;
+    timed(rt, &cache, jobs)
+}
+
+/// How many of the calls were served on parts that no lock guards, and the time that passed.
+fn timed_lent<R: Clock>(rt: &R, parts: &mut [Part], turns: &[Turn<'_>]) -> Result<Done> {
     let before = Instant::now(rt)?;
-    let served = map_vec(rt, jobs, &|turns| call_all(rt, cache, turns))?;
+    let served = call_lent(parts, turns);
     let time = before.elapsed(rt)?;
-    let mut all = 0_u64;
-    for one in served {
-        all = all.wrapping_add(one);
-    }
-    Ok(Done { served: all, time })
+    Ok(Done { served, time })
 }
 
 /// The calls by one thread on parts that no lock guards.
@@ -85,10 +112,7 @@ fn lone<R: Clock>(rt: &R, alloc: Global, task: &Task<'_>) -> Result<Done> {
     let asks = asks(alloc)?;
     let turns = turns(alloc, 0, asks.as_slice(), 0, NAMES, task.calls)?;
     let mut parts = lent(alloc, task.parts)?;
-    let before = Instant::now(rt)?;
-    let served = call_lent(parts.as_mut_slice(), turns);
-    let time = before.elapsed(rt)?;
-    Ok(Done { served, time })
+    timed_lent(rt, parts.as_mut_slice(), turns.as_slice())
 }
 
 fn report<R: Print + Eprint + Alloc<A = Global> + Threads + Wait + Sync + Clock>(
@@ -107,33 +131,52 @@ fn report<R: Print + Eprint + Alloc<A = Global> + Threads + Wait + Sync + Clock>
     Ok(())
 }
 
+/// A few of each.
+fn report_each<R: Print + Eprint + Alloc<A = Global> + Threads + Wait + Sync + Clock>(
+    rt: &R,
+) -> Result<()> {
+    for &name in TASKS {
+        let task = Task {
+            name,
+            threads: 2,
+            parts: 4,
+            calls: 100,
+        };
+        report(rt, &task)?;
+    }
+    Ok(())
+}
+
+/// The number that the next argument tells.
+fn number(args: &mut Args) -> Result<u32> {
+    let word = args.next().context(USAGE)?;
+    Ok(word.as_str().parse::<u32>()?)
+}
+
+/// Does the task that the arguments tell.
+fn report_told<R: Print + Eprint + Alloc<A = Global> + Threads + Wait + Sync + Clock>(
+    rt: &R,
+    name: &str,
+    args: &mut Args,
+) -> Result<()> {
+    let task = Task {
+        name,
+        threads: number(args)?,
+        parts: number(args)? as usize,
+        calls: number(args)?,
+    };
+    report(rt, &task)
+}
+
 fn run<R: Env + Print + Eprint + Alloc<A = Global> + Threads + Wait + Sync + Clock>(
     rt: &R,
 ) -> Result<()> {
     let mut args = env::args(rt)?;
     let _program = args.next();
-    let Some(name) = args.next() else {
-        for name in ["hit", "put", "mix", "hot", "lent"] {
-            let task = Task {
-                name,
-                threads: 2,
-                parts: 4,
-                calls: 100,
-            };
-            report(rt, &task)?;
-        }
-        return Ok(());
-    };
-    let threads = args.next().context(USAGE)?;
-    let parts = args.next().context(USAGE)?;
-    let calls = args.next().context(USAGE)?;
-    let task = Task {
-        name: name.as_str(),
-        threads: threads.as_str().parse::<u32>()?,
-        parts: parts.as_str().parse::<usize>()?,
-        calls: calls.as_str().parse::<u32>()?,
-    };
-    report(rt, &task)
+    match args.next() {
+        Some(name) => report_told(rt, name.as_str(), &mut args),
+        None => report_each(rt),
+    }
 }
 
 fn main(rt: HostRuntime) -> Result<()> {
