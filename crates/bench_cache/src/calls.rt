@@ -51,10 +51,15 @@ impl Counts {
 }
 
 /// Asks the part, and answers whether that is a hit.
+pub fn ask_part(part: &mut Part, ask: &Ask) -> Result<bool> {
+    let reply = part.ask(TAG, ask)?;
+    Ok(!matches!(reply, Reply::Miss { .. }))
+}
+
+/// Asks the part of the question.
 fn ask(parts: &mut [Part], picked: &PickedAsk) -> Result<bool> {
     let part = parts.get_mut(picked.part).context("no such part")?;
-    let reply = part.ask(TAG, &picked.ask)?;
-    Ok(!matches!(reply, Reply::Miss { .. }))
+    ask_part(part, &picked.ask)
 }
 
 pub fn ask_all<R: CpuClock>(rt: &R, parts: &mut [Part], asks: &[PickedAsk]) -> Result<Done> {

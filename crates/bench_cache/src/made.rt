@@ -1,6 +1,6 @@
 // What is asked and offered, each made before the time is taken: the addresses of `www{n % 7}.zone{n}.example.` for numbers n.
 
-use crate::calls::TAG;
+use crate::calls::{TAG, ask_part};
 use crate::numbers::Numbers;
 use anyhow::{Context, Result};
 use rrc_cache::Part;
@@ -200,7 +200,8 @@ fn write(alloc: Global, part: &mut Part, number: u64, is_put: bool) -> Result<()
     if is_put {
         return put(alloc, part, number, 0, TTL);
     }
-    part.ask(TAG, &ask(alloc, number)?)?;
+    let ask = ask(alloc, number)?;
+    ask_part(part, &ask)?;
     Ok(())
 }
 
