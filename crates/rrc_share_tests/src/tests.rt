@@ -3,9 +3,9 @@ mod shelf;
 
 use rrc_cache::Part;
 use rrc_history::{Ask, Body, Mode, Offer, Purpose, Reply, Rules, Tag};
-use rrc_name::{Key, Name, Slot};
+use rrc_name::{Key, Name, NameFault, Slot};
 use rrc_share::{Shelf, on_shelf_offer};
-use std::alloc::Global;
+use std::alloc::{AllocError, Global};
 use std::test::Fail;
 
 const TAG: Tag = Tag { line: 0, place: 0 };
@@ -15,24 +15,39 @@ fn rules(chapter: u64) -> Result<Rules, Fail> {
     Ok(Rules::new(1024, chapter, 86_400).ok_or("no rules")?)
 }
 
+fn key(alloc: Global, name: &str, slot: Slot) -> Result<Key, NameFault> {
+    let name = Name::from_text(alloc, name)?;
+    Ok(Key::of(&name, slot)?)
+}
+
 /// That asking for the addresses of a name failed, at a moment, for 30 seconds.
 fn failure(alloc: Global, name: &str, moment: u64) -> Result<Offer, Fail> {
-    let key = Key::of(&Name::from_text(alloc, name)?, Slot::Failed(1))?;
+    let key = key(alloc, name, Slot::Failed(1))?;
     Ok(Offer::new(key, Body::Failure { ttl: 30 }, moment)?)
 }
 
-/// A shelf in chapters of one event, which was told at moment 10 that asking for the addresses of
-/// `a.example.` failed.
+/// Tells a shelf at moment 10 that asking for the addresses of `a.example.` failed.
+fn tell(alloc: Global, shelf: &mut Shelf) -> Result<(), Fail> {
+    let offer = failure(alloc, "a.example.", 10)?;
+    on_shelf_offer(shelf, TAG, offer)?;
+    Ok(())
+}
+
+/// A shelf in chapters of one event, which was told that.
 fn told(alloc: Global) -> Result<Shelf, Fail> {
     let mut shelf = Shelf::new(alloc, Part::new(alloc, rules(1)?)?);
-    let offer = failure(alloc, "a.example.", 10)?;
-    on_shelf_offer(&mut shelf, TAG, offer)?;
+    tell(alloc, &mut shelf)?;
     Ok(shelf)
 }
 
 /// A question for the addresses of a name.
-fn question(alloc: Global, name: &str, moment: u64) -> Result<Ask, Fail> {
-    let key = Key::of(&Name::from_text(alloc, name)?, Slot::Nx)?;
+fn question(alloc: Global, name: &str, moment: u64) -> Result<Ask, NameFault> {
+    let key = key(alloc, name, Slot::Nx)?;
+    Ok(question_of(&key, moment)?)
+}
+
+/// A question for the addresses of the name of a key.
+fn question_of(key: &Key, moment: u64) -> Result<Ask, AllocError> {
     Ok(Ask {
         name: key.name().clone()?,
         rtype: 1,

@@ -1,6 +1,8 @@
+ghost use Rattle.std.specs.Prelude.{◌<◌};
+
 use super::{TAG, failure, is_retried_from, opens_with_event_0, question, rules, stand};
 use rrc_cache::Refusal;
-use rrc_history::{Outcome, chain};
+use rrc_history::{Ask, ChainFault, Outcome, chain};
 use rrc_share::{SharedCache, Shelf};
 use std::alloc::Global;
 use std::sync::Wait;
@@ -21,13 +23,23 @@ fn is_for_threads<T: Send + Sync>(_shared: &T) -> bool {
     true
 }
 
+/// Tells a cache at a moment that asking for the addresses of a name failed.
+fn tell<R: Wait>(
+    rt: &R,
+    alloc: Global,
+    cache: &SharedCache,
+    (moment, name): (u64, &str),
+) -> Result<Outcome, Fail> {
+    let offer = failure(alloc, name, moment)?;
+    Ok(cache.offer(rt, TAG, offer)?)
+}
+
 #[test]
 fn a_full_chapter_is_closed_under_the_lock(rt: HostRuntime) -> Result<(), Fail> {
     let alloc = rt.alloc();
     let cache = SharedCache::new(alloc, 1, rules(1)?)?;
-    for (moment, name) in [(10, "a.example."), (11, "b.example.")] {
-        let offer = failure(alloc, name, moment)?;
-        assert_eq!(rt; cache.offer(&rt, TAG, offer)?, Outcome::Kept);
+    for told in [(10, "a.example."), (11, "b.example.")] {
+        assert_eq!(rt; tell(&rt, alloc, &cache, told)?, Outcome::Kept);
     }
     let shelves = cache.into_parts();
     assert!(rt; stands(shelves.as_slice(), &[(1, 2, 1)]));
@@ -35,13 +47,24 @@ fn a_full_chapter_is_closed_under_the_lock(rt: HostRuntime) -> Result<(), Fail> 
     Ok(())
 }
 
-/// Whether what `would_answer` and then `ask` answer is none, and asking may be tried again from 40
-/// on.
+/// Whether what `would_answer` answers is none, and asking may be tried again from 40 on.
+fn would_be_told<R: Wait>(rt: &R, cache: &SharedCache, ask: &Ask) -> Result<bool, Refusal> {
+    let reply = cache.would_answer(rt, ask)?;
+    Ok(is_retried_from(&reply, 40))
+}
+
+/// The same of `ask`.
+fn is_asked<R: Wait>(rt: &R, cache: &SharedCache, ask: &Ask) -> Result<bool, Refusal> {
+    let reply = cache.ask(rt, TAG, ask)?;
+    Ok(is_retried_from(&reply, 40))
+}
+
+/// The same of `would_answer` and then `ask`, of the addresses of a name.
 fn is_told<R: Wait>(rt: &R, alloc: Global, cache: &SharedCache, name: &str) -> Result<bool, Fail> {
     let ask = question(alloc, name, 12)?;
-    let would = cache.would_answer(rt, &ask)?;
-    let reply = cache.ask(rt, TAG, &ask)?;
-    Ok(is_retried_from(&would, 40) && is_retried_from(&reply, 40))
+    let would = would_be_told(rt, cache, &ask)?;
+    let is = is_asked(rt, cache, &ask)?;
+    Ok(would && is)
 }
 
 #[test]
@@ -49,7 +72,7 @@ fn a_name_has_one_part(rt: HostRuntime) -> Result<(), Fail> {
     let alloc = rt.alloc();
     let cache = SharedCache::seeded(alloc, 4, rules(8)?, [7; 16])?;
     assert!(rt; cache.parts() == 4 && is_for_threads(&cache));
-    cache.offer(&rt, TAG, failure(alloc, "a.example.", 10)?)?;
+    tell(&rt, alloc, &cache, (10, "a.example."))?;
     assert!(rt; is_told(&rt, alloc, &cache, "A.eXample.")?);
     assert!(rt; !is_told(&rt, alloc, &cache, "b.example.")?);
     let wanted = [(0, 1, 1), (0, 1, 2), (0, 1, 0), (0, 1, 0)];
@@ -57,20 +80,35 @@ fn a_name_has_one_part(rt: HostRuntime) -> Result<(), Fail> {
     Ok(())
 }
 
+/// How many keys a part lost as it was swept at moment 40, before its chapter was closed.
+fn swept<R: Wait>(rt: &R, cache: &SharedCache, part: usize) -> Result<usize, Refusal>
+    requires { part < cache.now }
+{
+    let removed = cache.sweep_part(rt, part, TAG, 40)?;
+    cache.checkpoint_part(rt, part)?;
+    Ok(removed)
+}
+
+/// How many events the chapters have that a part closed, as one history. The part has them no more.
+fn taken<R: Wait>(rt: &R, cache: &SharedCache, part: usize) -> Result<usize, ChainFault>
+    requires { part < cache.now }
+{
+    let whole = chain(cache.take_chapters(rt, part))?;
+    Ok(whole.events.len())
+}
+
 #[test]
 fn parts_are_swept_and_closed_one_by_one(rt: HostRuntime) -> Result<(), Fail> {
     let alloc = rt.alloc();
     let cache = SharedCache::new(alloc, 4, rules(8)?)?;
-    cache.offer(&rt, TAG, failure(alloc, "a.example.", 10)?)?;
+    tell(&rt, alloc, &cache, (10, "a.example."))?;
     // The name lies in part 1, so from part 0 none is removed, and from part 1 one.
     for part in 0..2 {
-        assert_eq!(rt; cache.sweep_part(&rt, part, TAG, 40)?, part);
-        cache.checkpoint_part(&rt, part)?;
+        assert_eq!(rt; swept(&rt, &cache, part)?, part);
     }
     let late = cache.sweep_part(&rt, 2, TAG, (1 << 40) + 1);
     assert_eq!(rt; late, Err(Refusal::MomentTooLarge));
-    let whole = chain(cache.take_chapters(&rt, 1))?;
-    assert_eq!(rt; whole.events.len(), 2);
+    assert_eq!(rt; taken(&rt, &cache, 1)?, 2);
     let wanted = [(1, 2, 0), (0, 2, 0), (0, 1, 0), (0, 1, 0)];
     assert!(rt; stands(cache.into_parts().as_slice(), &wanted));
     Ok(())

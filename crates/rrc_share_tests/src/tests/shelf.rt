@@ -1,7 +1,8 @@
 use super::{TAG, is_retried_from, question, stand, told};
 use rrc_cache::Refusal;
-use rrc_history::chain;
+use rrc_history::{ChainFault, chain};
 use rrc_share::{Shelf, on_shelf_ask, on_shelf_checkpoint, on_shelf_sweep};
+use std::alloc::Global;
 use std::test::Fail;
 
 #[test]
@@ -13,13 +14,18 @@ fn a_late_moment_closes_no_chapter(rt: HostRuntime) -> Result<(), Fail> {
     Ok(())
 }
 
+/// Whether a shelf has no addresses of `a.example.`, and asking may be tried again from 40 on.
+fn is_told(alloc: Global, shelf: &mut Shelf) -> Result<bool, Fail> {
+    let ask = question(alloc, "a.example.", 12)?;
+    let reply = on_shelf_ask(shelf, TAG, &ask)?;
+    Ok(is_retried_from(&reply, 40))
+}
+
 #[test]
 fn an_ask_and_a_sweep_close_a_full_chapter(rt: HostRuntime) -> Result<(), Fail> {
-    let alloc = rt.alloc();
-    let mut shelf = told(alloc)?;
-    let ask = question(alloc, "a.example.", 12)?;
-    let reply = on_shelf_ask(&mut shelf, TAG, &ask)?;
-    assert!(rt; is_retried_from(&reply, 40) && stand(&shelf) == (1, 2, 1));
+    let mut shelf = told(rt.alloc())?;
+    let is_told = is_told(rt.alloc(), &mut shelf)?;
+    assert!(rt; is_told && stand(&shelf) == (1, 2, 1));
     let removed = on_shelf_sweep(&mut shelf, TAG, 40)?;
     assert!(rt; removed == 1 && stand(&shelf) == (2, 3, 1));
     Ok(())
@@ -27,7 +33,7 @@ fn an_ask_and_a_sweep_close_a_full_chapter(rt: HostRuntime) -> Result<(), Fail> 
 
 /// How many events the chapters have that a shelf closed, as one history. The shelf has them no
 /// more.
-fn taken(shelf: &mut Shelf) -> Result<usize, Fail> {
+fn taken(shelf: &mut Shelf) -> Result<usize, ChainFault> {
     let whole = chain(shelf.take_chapters())?;
     Ok(whole.events.len())
 }
