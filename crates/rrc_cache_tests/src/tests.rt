@@ -8,22 +8,31 @@ mod replies;
 mod seeds;
 mod sweeps;
 
+use beside::deny_many;
+use chapters::chain_to;
+use owners::has_owners;
 use rrc_cache::{Part, Refusal};
 use rrc_history::{
-    Ask, Body, Event, Mode, Offer, Outcome, Purpose, Reply, RrSet, Rules, Soa, Tag, Trust,
+    Ask, Body, Chapter, Entry, Event, Mode, Offer, Outcome, Purpose, Reply, RrSet, Rules, Soa, Tag,
+    Trust,
 };
 use rrc_name::{Key, Name, NameFault, Octets, Sequence, Shared, Slot};
 use std::alloc::{AllocError, Global};
 use std::test::Fail;
+use sweeps::{Often, put_often};
 
 const AA: Trust = Trust::AuthoritativeAnswer;
 
 const KEPT: Result<Outcome, Refusal> = Ok(Outcome::Kept);
 
-/// A part for as many keys, in a chapter for as many events.
+/// Rules for as many keys, in chapters for as many events.
+fn rules(capacity: u64, chapter: u64) -> Result<Rules, Fail> {
+    Ok(Rules::new(capacity, chapter, 86_400).ok_or("no rules")?)
+}
+
+/// A part by such rules.
 fn part(alloc: Global, capacity: u64, chapter: u64) -> Result<Part, Fail> {
-    let rules = Rules::new(capacity, chapter, 86_400).ok_or("no rules")?;
-    Ok(Part::new(alloc, rules)?)
+    Ok(Part::new(alloc, rules(capacity, chapter)?)?)
 }
 
 fn key(alloc: Global, name: &str, slot: Slot) -> Result<Key, NameFault> {
@@ -118,9 +127,14 @@ fn offer(alloc: Global, offered: Offered<'_>) -> Result<Offer, Fail> {
 /// A question: the moment, the name, the type, the purpose and the mode.
 type Question<'a> = (u64, &'a str, u16, Purpose, Mode);
 
-fn question(alloc: Global, question: Question<'_>) -> Result<Ask, NameFault> {
-    let (moment, name, rtype, purpose, mode) = question;
-    let key = key(alloc, name, Slot::Nx)?;
+fn question(alloc: Global, asked: Question<'_>) -> Result<Ask, NameFault> {
+    let key = key(alloc, asked.1, Slot::Nx)?;
+    Ok(question_of(&key, asked)?)
+}
+
+/// A question for the name of a key.
+fn question_of(key: &Key, asked: Question<'_>) -> Result<Ask, AllocError> {
+    let (moment, _, rtype, purpose, mode) = asked;
     Ok(Ask {
         name: key.name().clone()?,
         rtype,
@@ -173,6 +187,75 @@ fn keys(alloc: Global, names: &[&str]) -> Result<Sequence<Key>, NameFault> {
     Ok(keys)
 }
 
+/// What a part answers to an offer, as line `line` of a trace.
+fn put(
+    alloc: Global,
+    part: &mut Part,
+    line: u64,
+    offered: Offered<'_>,
+) -> Result<Result<Outcome, Refusal>, Fail> {
+    let offer = offer(alloc, offered)?;
+    Ok(part.offer(Tag { line, place: 0 }, offer))
+}
+
+/// Whether an offer that is made as line `line` of a trace gets this.
+fn takes(
+    alloc: Global,
+    part: &mut Part,
+    line: u64,
+    offered: Offered<'_>,
+    wanted: Result<Outcome, Refusal>,
+) -> Result<bool, Fail> {
+    Ok(put(alloc, part, line, offered)? == wanted)
+}
+
+/// Makes an offer, as line 0 of a trace, which is not refused.
+fn give(alloc: Global, part: &mut Part, offered: Offered<'_>) -> Result<(), Fail> {
+    put(alloc, part, 0, offered)??;
+    Ok(())
+}
+
+/// Offers at moment 100 that the name of a number does not exist.
+fn deny(alloc: Global, part: &mut Part, number: u64) -> Result<(), Fail> {
+    let name = format!(in alloc; "{number}.example.")?;
+    give(alloc, part, (100, name.as_str(), Held::Denial(Slot::Nx)))
+}
+
+/// What a part answers to a question, as line `line` of a trace.
+fn ask(
+    alloc: Global,
+    part: &mut Part,
+    line: u64,
+    asked: Question<'_>,
+) -> Result<Result<Reply, Refusal>, NameFault> {
+    let asked = question(alloc, asked)?;
+    Ok(part.ask(Tag { line, place: 0 }, &asked))
+}
+
+/// What a part would answer to a question.
+fn would(alloc: Global, part: &Part, asked: Question<'_>) -> Result<Reply, NameFault> {
+    let asked = question(alloc, asked)?;
+    Ok(part.would_answer(&asked).to_owned()?)
+}
+
+/// Whether a reply is this.
+fn is(alloc: Global, got: &Reply, wanted: Replied<'_>) -> Result<bool, Fail> {
+    Ok(*got == reply(alloc, wanted)?)
+}
+
+/// Whether a reply or a refusal is this.
+fn is_answer(
+    alloc: Global,
+    got: &Result<Reply, Refusal>,
+    wanted: Result<Replied<'_>, Refusal>,
+) -> Result<bool, Fail> {
+    match (got, wanted) {
+        (Ok(got), Ok(wanted)) => is(alloc, got, wanted),
+        (Err(got), Err(wanted)) => Ok(*got == wanted),
+        _ => Ok(false),
+    }
+}
+
 /// Whether a question that is asked as line `line` of a trace gets this.
 fn gets(
     alloc: Global,
@@ -181,12 +264,8 @@ fn gets(
     asked: Question<'_>,
     wanted: Result<Replied<'_>, Refusal>,
 ) -> Result<bool, Fail> {
-    let asked = question(alloc, asked)?;
-    match (part.ask(Tag { line, place: 0 }, &asked), wanted) {
-        (Ok(got), Ok(wanted)) => Ok(got == reply(alloc, wanted)?),
-        (Err(got), Err(wanted)) => Ok(got == wanted),
-        _ => Ok(false),
-    }
+    let got = ask(alloc, part, line, asked)?;
+    is_answer(alloc, &got, wanted)
 }
 
 /// Whether a question would get this.
@@ -196,9 +275,8 @@ fn would_get(
     asked: Question<'_>,
     wanted: Replied<'_>,
 ) -> Result<bool, Fail> {
-    let asked = question(alloc, asked)?;
-    let lent = part.would_answer(&asked).to_owned()?;
-    Ok(lent == reply(alloc, wanted)?)
+    let got = would(alloc, part, asked)?;
+    is(alloc, &got, wanted)
 }
 
 /// Whether the last event is a kept offer that evicted the addresses of the name.
@@ -229,32 +307,36 @@ fn has_swept(alloc: Global, part: &Part, names: &[&str]) -> Result<bool, Fail> {
 /// and how many keys it left held.
 type Closed = (u64, u64, usize, usize);
 
-/// Closes a chapter, with whose closing the part goes on.
-fn close(part: &mut Part) -> Result<Closed, Fail> {
-    let chapter = part.checkpoint()?;
-    if chapter.closing() != part.snapshot() {
-        return Err("the part goes on from something else")?;
-    }
-    Ok((
+fn closed(chapter: &Chapter) -> Closed {
+    (
         chapter.number(),
         chapter.snapshot().first,
         chapter.events().len(),
         chapter.closing().entries.len(),
-    ))
+    )
 }
 
-/// Whether nothing was taken in a chapter of this number, which began with the addresses of these
-/// names, each with the moment and the number of its offer, in this order.
-fn opens(
-    alloc: Global,
-    part: &Part,
-    number: u64,
-    wanted: &[(&str, u64, u64)],
-) -> Result<bool, Fail> {
+/// Whether the chapter that a part closes is this, and the part goes on with its closing.
+fn closes(part: &mut Part, wanted: Closed) -> Result<bool, Fail> {
+    let chapter = part.checkpoint()?;
+    Ok(closed(&chapter) == wanted && chapter.closing() == part.snapshot())
+}
+
+/// The addresses of a name that a chapter began with, in short: the name, and the moment and the
+/// number of their offer.
+type Opened<'a> = (&'a str, u64, u64);
+
+fn is_opened(alloc: Global, entry: &Entry, wanted: Opened<'_>) -> Result<bool, NameFault> {
+    let (name, moment, number) = wanted;
+    let key = key(alloc, name, Slot::Set(1))?;
+    Ok(entry.key == key && entry.moment == moment && entry.number == number)
+}
+
+/// Whether nothing was taken in a chapter of this number, which began with these, in this order.
+fn opens(alloc: Global, part: &Part, number: u64, wanted: &[Opened<'_>]) -> Result<bool, Fail> {
     let entries = &part.snapshot().entries;
-    for (entry, (name, moment, number)) in entries.iter().zip(wanted) {
-        let key = key(alloc, name, Slot::Set(1))?;
-        if entry.key != key || entry.moment != *moment || entry.number != *number {
+    for (entry, wanted) in entries.iter().zip(wanted) {
+        if !is_opened(alloc, entry, *wanted)? {
             return Ok(false);
         }
     }
@@ -278,14 +360,24 @@ fn has_only(part: &Part, line: u64) -> bool {
 #[derive(Clone, Copy)]
 enum Step<'a> {
     Offer(Offered<'a>, Result<Outcome, Refusal>),
+    /// Offers at moment 100 that so many names do not exist, none of which is refused.
+    Deny(u64),
+    /// Offers one key often, and is not refused.
+    Often(Often),
     Ask(Question<'a>, Result<Replied<'a>, Refusal>),
+    /// A question that gets a fresh answer, whose name and data have so many owners.
+    Owners(Question<'a>, (usize, usize)),
     Would(Question<'a>, Replied<'a>),
     Sweep(u64, Result<usize, Refusal>),
     Close(Closed),
-    /// A chapter of this number began with these names, moments and numbers.
-    Opens(u64, &'a [(&'a str, u64, u64)]),
+    /// The chapter and the next one are closed, and chain to a history of so many events.
+    Chain(usize),
+    /// A chapter of this number began with these.
+    Opens(u64, &'a [Opened<'a>]),
     /// Whether the chapter has room.
     Room(bool),
+    /// How many keys the part holds.
+    Holds(usize),
     /// Nothing was taken but the offer of that line.
     Only(u64),
     /// The last offer evicted the addresses of a name.
@@ -297,16 +389,18 @@ enum Step<'a> {
 /// Whether a step goes as it is to, as line `line` of a trace.
 fn goes(alloc: Global, part: &mut Part, line: u64, step: Step<'_>) -> Result<bool, Fail> {
     match step {
-        Step::Offer(offered, wanted) => {
-            let offer = offer(alloc, offered)?;
-            Ok(part.offer(Tag { line, place: 0 }, offer) == wanted)
-        }
+        Step::Offer(offered, wanted) => takes(alloc, part, line, offered, wanted),
+        Step::Deny(names) => deny_many(alloc, part, names),
+        Step::Often(often) => put_often(alloc, part, often),
         Step::Ask(asked, wanted) => gets(alloc, part, line, asked, wanted),
+        Step::Owners(asked, wanted) => has_owners(alloc, part, line, asked, wanted),
         Step::Would(asked, wanted) => would_get(alloc, part, asked, wanted),
         Step::Sweep(moment, wanted) => Ok(part.sweep(Tag { line, place: 0 }, moment) == wanted),
-        Step::Close(wanted) => Ok(close(part)? == wanted),
+        Step::Close(wanted) => closes(part, wanted),
+        Step::Chain(events) => chain_to(alloc, part, events),
         Step::Opens(number, wanted) => opens(alloc, part, number, wanted),
         Step::Room(wanted) => Ok(part.has_room() == wanted),
+        Step::Holds(wanted) => Ok(part.len() == wanted),
         Step::Only(line) => Ok(has_only(part, line)),
         Step::Evicted(name) => has_evicted(alloc, part, name),
         Step::Swept(names) => has_swept(alloc, part, names),
@@ -324,6 +418,11 @@ fn astray_in(alloc: Global, part: &mut Part, steps: &[Step<'_>]) -> Result<Optio
     Ok(None)
 }
 
+/// The same in a part that is let go then.
+fn astray_of(alloc: Global, mut part: Part, steps: &[Step<'_>]) -> Result<Option<usize>, Fail> {
+    astray_in(alloc, &mut part, steps)
+}
+
 /// The same in a new part for as many keys, in a chapter for as many events.
 fn astray(
     alloc: Global,
@@ -331,6 +430,5 @@ fn astray(
     chapter: u64,
     steps: &[Step<'_>],
 ) -> Result<Option<usize>, Fail> {
-    let mut part = part(alloc, capacity, chapter)?;
-    astray_in(alloc, &mut part, steps)
+    astray_of(alloc, part(alloc, capacity, chapter)?, steps)
 }

@@ -1,18 +1,16 @@
-use super::{AA, Held, KEPT, Replied, Step, astray_in, offer, part};
+use super::{AA, Held, KEPT, Replied, Step, astray, deny};
 use rrc_cache::Part;
-use rrc_history::{Mode, Purpose, Tag};
+use rrc_history::{Mode, Purpose};
 use rrc_name::Slot;
 use std::alloc::Global;
 use std::test::Fail;
 
 /// Offers at moment 100 that so many names do not exist.
-fn deny_many(alloc: Global, part: &mut Part, names: u64) -> Result<(), Fail> {
+pub(super) fn deny_many(alloc: Global, part: &mut Part, names: u64) -> Result<bool, Fail> {
     for number in 0..names {
-        let name = format!(in alloc; "{number}.example.")?;
-        let offer = offer(alloc, (100, name.as_str(), Held::Denial(Slot::Nx)))?;
-        part.offer(Tag { line: 0, place: 0 }, offer)?;
+        deny(alloc, part, number)?;
     }
-    Ok(())
+    Ok(true)
 }
 
 // Under 65 keys there are 130 marks, so that after more than 32 they are made anew.
@@ -23,13 +21,12 @@ fn finds_what_is_beside_sets_behind_many_others(rt: HostRuntime) -> Result<(), F
     let held = (120, "c.example.", 1, Purpose::Answer, Mode::NoStale);
     let last = (120, "59.example.", 1, Purpose::Answer, Mode::NoStale);
     let other = (120, "d.example.", 1, Purpose::Answer, Mode::NoStale);
-    let offers = [
+    let steps = [
         Step::Offer((100, "a.example.", Held::Set(AA, 60, 1)), KEPT),
         Step::Offer((100, "b.example.", Held::Set(AA, 300, 2)), KEPT),
         Step::Offer((100, "c.example.", Held::Set(AA, 300, 3)), KEPT),
         Step::Offer((390, "a.example.", Held::Failure(30)), KEPT),
-    ];
-    let asks = [
+        Step::Deny(60),
         Step::Would(failed, Replied::Miss(Some(420))),
         Step::Would(held, Replied::Fresh("c.example.", 3, 280)),
         Step::Would(last, Replied::NxDomain("example.", 44, 280)),
@@ -38,9 +35,6 @@ fn finds_what_is_beside_sets_behind_many_others(rt: HostRuntime) -> Result<(), F
         Step::Would(denied, Replied::NxDomain("example.", 44, 290)),
         Step::Would(held, Replied::Fresh("c.example.", 3, 280)),
     ];
-    let mut part = part(rt.alloc(), 65, 4096)?;
-    assert_eq!(rt; astray_in(rt.alloc(), &mut part, &offers)?, None);
-    deny_many(rt.alloc(), &mut part, 60)?;
-    assert_eq!(rt; astray_in(rt.alloc(), &mut part, &asks)?, None);
+    assert_eq!(rt; astray(rt.alloc(), 65, 4096, &steps)?, None);
     Ok(())
 }

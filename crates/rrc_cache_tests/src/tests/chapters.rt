@@ -1,35 +1,38 @@
-use super::{AA, Held, KEPT, Replied, Step, astray, offer, part};
-use rrc_cache::Refusal;
-use rrc_history::{Chapter, Mode, Purpose, Tag, chain};
+use super::{AA, Held, KEPT, Opened, Question, Replied, Step, astray};
+use rrc_cache::{Part, Refusal};
+use rrc_history::{Chapter, Mode, Purpose, chain};
 use std::alloc::Global;
 use std::test::Fail;
 
 const SET: Held = Held::Set(AA, 60, 1);
 
+const ASKED: Question<'static> = (14, "a.example.", 1, Purpose::Answer, Mode::NoStale);
+
+const A: Opened<'static> = ("a.example.", 10, 0);
+
+const B: Opened<'static> = ("b.example.", 13, 3);
+
+const C: Opened<'static> = ("c.example.", 12, 2);
+
+const RENEWING: [Step<'static>; 13] = [
+    Step::Offer((10, "a.example.", SET), KEPT),
+    Step::Offer((11, "b.example.", Held::Set(AA, 60, 2)), KEPT),
+    Step::Offer((12, "c.example.", Held::Set(AA, 60, 3)), KEPT),
+    Step::Close((1, 0, 3, 3)),
+    Step::Offer((13, "b.example.", Held::Set(AA, 60, 4)), KEPT),
+    Step::Close((2, 3, 1, 3)),
+    Step::Opens(3, &[B, C, A]),
+    Step::Ask(ASKED, Ok(Replied::Fresh("a.example.", 1, 56))),
+    Step::Close((3, 4, 1, 3)),
+    Step::Opens(4, &[A, B, C]),
+    Step::Offer((15, "d.example.", Held::Set(AA, 60, 5)), KEPT),
+    Step::Close((4, 5, 1, 3)),
+    Step::Opens(5, &[("d.example.", 15, 5), A, B]),
+];
+
 #[test]
 fn a_closing_has_what_stayed_beside_what_is_new(rt: HostRuntime) -> Result<(), Fail> {
-    let asked = (14, "a.example.", 1, Purpose::Answer, Mode::NoStale);
-    let (a, b, c) = (
-        ("a.example.", 10, 0),
-        ("b.example.", 13, 3),
-        ("c.example.", 12, 2),
-    );
-    let steps = [
-        Step::Offer((10, "a.example.", SET), KEPT),
-        Step::Offer((11, "b.example.", Held::Set(AA, 60, 2)), KEPT),
-        Step::Offer((12, "c.example.", Held::Set(AA, 60, 3)), KEPT),
-        Step::Close((1, 0, 3, 3)),
-        Step::Offer((13, "b.example.", Held::Set(AA, 60, 4)), KEPT),
-        Step::Close((2, 3, 1, 3)),
-        Step::Opens(3, &[b, c, a]),
-        Step::Ask(asked, Ok(Replied::Fresh("a.example.", 1, 56))),
-        Step::Close((3, 4, 1, 3)),
-        Step::Opens(4, &[a, b, c]),
-        Step::Offer((15, "d.example.", Held::Set(AA, 60, 5)), KEPT),
-        Step::Close((4, 5, 1, 3)),
-        Step::Opens(5, &[("d.example.", 15, 5), a, b]),
-    ];
-    assert_eq!(rt; astray(rt.alloc(), 3, 4096, &steps)?, None);
+    assert_eq!(rt; astray(rt.alloc(), 3, 4096, &RENEWING)?, None);
     Ok(())
 }
 
@@ -52,28 +55,24 @@ fn the_next_chapter_has_room(rt: HostRuntime) -> Result<(), Fail> {
     Ok(())
 }
 
-/// The first two chapters of a part that was offered an address at moment 10.
-fn two_chapters(alloc: Global) -> Result<(Chapter, Chapter), Fail> {
-    let mut part = part(alloc, 1024, 4096)?;
-    let offer = offer(alloc, (10, "a.example.", SET))?;
-    part.offer(Tag { line: 0, place: 0 }, offer)?;
-    let first = part.checkpoint()?;
-    let second = part.checkpoint()?;
-    Ok((first, second))
+/// The next two chapters of a part.
+fn two_chapters(alloc: Global, part: &mut Part) -> Result<Vec<Chapter>, Fail> {
+    let mut chapters = Vec::with_capacity(alloc, 2)?;
+    for _ in 0..2 {
+        chapters.push(part.checkpoint()?)?;
+    }
+    Ok(chapters)
 }
 
-/// How many events two chapters have as one history.
-fn events_of_both(alloc: Global, first: Chapter, second: Chapter) -> Result<usize, Fail> {
-    let mut chapters = Vec::with_capacity(alloc, 2)?;
-    chapters.push(first)?;
-    chapters.push(second)?;
-    let whole = chain(chapters)?;
-    Ok(whole.events.len())
+/// Whether the next two chapters of a part have so many events as one history.
+pub(super) fn chain_to(alloc: Global, part: &mut Part, events: usize) -> Result<bool, Fail> {
+    let whole = chain(two_chapters(alloc, part)?)?;
+    Ok(whole.events.len() == events)
 }
 
 #[test]
 fn chapters_of_one_part_chain(rt: HostRuntime) -> Result<(), Fail> {
-    let (first, second) = two_chapters(rt.alloc())?;
-    assert_eq!(rt; events_of_both(rt.alloc(), first, second)?, 1);
+    let steps = [Step::Offer((10, "a.example.", SET), KEPT), Step::Chain(1)];
+    assert_eq!(rt; astray(rt.alloc(), 1024, 4096, &steps)?, None);
     Ok(())
 }

@@ -1,6 +1,7 @@
-use super::{AA, Held, KEPT, Replied, Step, astray, astray_in};
+use super::{AA, Held, KEPT, Replied, Step, astray, astray_of, rules};
 use rrc_cache::Part;
-use rrc_history::{Mode, Purpose, Rules};
+use rrc_history::{Mode, Purpose};
+use std::alloc::Global;
 use std::test::Fail;
 
 const SET: Held = Held::Set(AA, 60, 1);
@@ -19,6 +20,12 @@ fn would_answer_touches_nothing(rt: HostRuntime) -> Result<(), Fail> {
     Ok(())
 }
 
+/// The place of the first step that goes astray in a new part for two keys, under a seed.
+fn astray_seeded(alloc: Global, steps: &[Step<'_>]) -> Result<Option<usize>, Fail> {
+    let part = Part::seeded(alloc, rules(2, 4096)?, [7; 16])?;
+    astray_of(alloc, part, steps)
+}
+
 #[test]
 fn a_seed_changes_no_reply(rt: HostRuntime) -> Result<(), Fail> {
     let asked = (12, "b.example.", 1, Purpose::Answer, Mode::NoStale);
@@ -29,8 +36,6 @@ fn a_seed_changes_no_reply(rt: HostRuntime) -> Result<(), Fail> {
         Step::Evicted("a.example."),
         Step::Would(asked, Replied::Fresh("b.example.", 1, 58)),
     ];
-    let rules = Rules::new(2, 4096, 86_400).ok_or("no rules")?;
-    let mut part = Part::seeded(rt.alloc(), rules, [7; 16])?;
-    assert_eq!(rt; astray_in(rt.alloc(), &mut part, &steps)?, None);
+    assert_eq!(rt; astray_seeded(rt.alloc(), &steps)?, None);
     Ok(())
 }

@@ -2,9 +2,9 @@ mod denials;
 mod numbers;
 mod sets;
 
-use super::{Held, Offered, Question, Replied, body, key, keys, offer, question, reply};
+use super::{Held, Offered, Question, Replied, body, key, keys, offer, question, reply, rules};
 use rrc_cache::{RecheckFault, recheck_seeded};
-use rrc_history::{Entry, Event, FirstBad, Outcome, Rules, Snapshot, Tag, Trust, audit};
+use rrc_history::{Entry, Event, FirstBad, Outcome, Snapshot, Tag, Trust, audit};
 use rrc_name::{Key, NameFault, Slot};
 use std::alloc::{AllocError, Global};
 use std::test::Fail;
@@ -90,10 +90,11 @@ fn entry(alloc: Global, name: &str, number: u64) -> Result<Entry, NameFault> {
 /// A snapshot for so many keys in a chapter for one event: `b.example.` and `a.example.`, the first
 /// of them touched last.
 fn snapshot(alloc: Global, capacity: u64) -> Result<Snapshot, Fail> {
-    let rules = Rules::new(capacity, 1, 86_400).ok_or("no rules")?;
+    let rules = rules(capacity, 1)?;
     let mut entries = Vec::with_capacity(alloc, 2)?;
-    entries.push(entry(alloc, "b.example.", 4)?)?;
-    entries.push(entry(alloc, "a.example.", 7)?)?;
+    for (name, number) in [("b.example.", 4), ("a.example.", 7)] {
+        entries.push(entry(alloc, name, number)?)?;
+    }
     Ok(Snapshot::new(rules, 8, entries)?)
 }
 

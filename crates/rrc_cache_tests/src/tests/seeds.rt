@@ -1,25 +1,35 @@
-use super::{Held, offer};
+use super::{deny, rules};
 use rrc_cache::Part;
-use rrc_history::{Rules, Tag};
-use rrc_name::Slot;
-use std::alloc::Global;
+use std::alloc::{AllocError, Global};
 use std::test::Fail;
 
-/// Where the text of a part, of which nothing was asked yet, shows the one mark that it makes for a
-/// name of a number, which does not exist. Names whose marks stand at the same place have hashes
-/// alike.
-fn marked(alloc: Global, mut part: Part, number: u64) -> Result<Option<usize>, Fail> {
-    let name = format!(in alloc; "{number}.example.")?;
-    let denial = offer(alloc, (100, name.as_str(), Held::Denial(Slot::Nx)))?;
-    part.offer(Tag { line: 0, place: 0 }, denial)?;
+/// Where the text of a part shows its first mark.
+fn first_mark(text: &str) -> Option<usize> {
+    let (_, marks) = text.split_once("marks: [")?;
+    marks.find("true")
+}
+
+fn first_mark_of(alloc: Global, part: &Part) -> Result<Option<usize>, AllocError> {
     let text = format!(in alloc; "{part:?}")?;
-    let (_, marks) = text.as_str().split_once("marks: [").ok_or("no marks")?;
-    Ok(marks.find("true"))
+    Ok(first_mark(text.as_str()))
+}
+
+/// Where the text of a part, once it was offered that a name of a number does not exist, shows its
+/// first mark.
+fn marked_in(alloc: Global, part: &mut Part, number: u64) -> Result<usize, Fail> {
+    deny(alloc, part, number)?;
+    Ok(first_mark_of(alloc, part)?.ok_or("no mark")?)
+}
+
+/// Where a part, of which nothing was asked yet, has the one mark that it makes for that name.
+/// Names whose marks stand at the same place have hashes alike.
+fn marked(alloc: Global, mut part: Part, number: u64) -> Result<usize, Fail> {
+    marked_in(alloc, &mut part, number)
 }
 
 /// Where parts under the known seed, and under another one, mark a name. They have 64 marks.
-fn both_marked(alloc: Global, number: u64) -> Result<(Option<usize>, Option<usize>), Fail> {
-    let rules = Rules::new(32, 1, 86_400).ok_or("no rules")?;
+fn both_marked(alloc: Global, number: u64) -> Result<(usize, usize), Fail> {
+    let rules = rules(32, 1)?;
     let known = marked(alloc, Part::new(alloc, rules)?, number)?;
     let secret = marked(alloc, Part::seeded(alloc, rules, [7; 16])?, number)?;
     Ok((known, secret))
@@ -28,7 +38,6 @@ fn both_marked(alloc: Global, number: u64) -> Result<(Option<usize>, Option<usiz
 #[test]
 fn another_seed_parts_keys_that_were_picked(rt: HostRuntime) -> Result<(), Fail> {
     let first = both_marked(rt.alloc(), 0)?;
-    assert!(rt; first.0.is_some() && first.1.is_some());
     // The names that the known seed marks where it marks the first, and those of them that the
     // other seed does too.
     let mut picked = 0usize;

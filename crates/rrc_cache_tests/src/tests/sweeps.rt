@@ -1,60 +1,71 @@
-use super::{AA, Held, KEPT, Step, astray, offer, part};
+use super::{AA, Held, KEPT, Offered, Step, astray, give};
 use rrc_cache::Part;
-use rrc_history::Tag;
 use std::alloc::Global;
 use std::test::Fail;
 
-const TAG: Tag = Tag { line: 1, place: 0 };
-
-/// Offers an address of a name at a moment, for some seconds.
-fn put(alloc: Global, part: &mut Part, moment: u64, name: &str, ttl: u32) -> Result<(), Fail> {
-    let offer = offer(alloc, (moment, name, Held::Set(AA, ttl, 1)))?;
-    part.offer(TAG, offer)?;
-    Ok(())
+/// An offer of an address of a name at a moment, for some seconds.
+fn address(moment: u64, name: &str, ttl: u32) -> Offered<'_> {
+    (moment, name, Held::Set(AA, ttl, 1))
 }
 
-/// A part with one other key, and one that was put so often: each time so many seconds later, and
-/// for so many fewer.
-fn put_often(alloc: Global, times: u32, later: u32, fewer: u32) -> Result<Part, Fail> {
-    let mut part = part(alloc, 4, 2000)?;
-    put(alloc, &mut part, 10, "b.example.", 1_000_000)?;
+/// What is put often: how many times, each time so many seconds later, and for so many fewer.
+pub(super) type Often = (u32, u32, u32);
+
+/// Offers a key often.
+pub(super) fn put_often(alloc: Global, part: &mut Part, often: Often) -> Result<bool, Fail> {
+    let (times, later, fewer) = often;
     for time in 0..times {
         let ttl = 5000_u32.saturating_sub(time.saturating_mul(fewer));
         let moment = u64::from(time.saturating_mul(later).saturating_add(10));
-        put(alloc, &mut part, moment, "a.example.", ttl)?;
+        give(alloc, part, address(moment, "a.example.", ttl))?;
     }
-    Ok(part)
+    Ok(true)
 }
+
+/// An offer of another key, which outlives the one that is put often.
+const OTHER: Step<'static> = Step::Offer((10, "b.example.", Held::Set(AA, 1_000_000, 1)), KEPT);
 
 #[test]
 fn a_set_that_is_often_renewed_dies_by_the_last_time(rt: HostRuntime) -> Result<(), Fail> {
-    let mut part = put_often(rt.alloc(), 1000, 1, 0)?;
-    assert_eq!(rt; part.sweep(TAG, 10 + 5000 + 86_400), Ok(0));
-    assert_eq!(rt; part.sweep(TAG, 1009 + 5000 + 86_399), Ok(0));
-    assert_eq!(rt; part.sweep(TAG, 1009 + 5000 + 86_400), Ok(1));
-    assert_eq!(rt; part.sweep(TAG, 10 + 1_000_000 + 86_400), Ok(1));
+    let steps = [
+        OTHER,
+        Step::Often((1000, 1, 0)),
+        Step::Sweep(10 + 5000 + 86_400, Ok(0)),
+        Step::Sweep(1009 + 5000 + 86_399, Ok(0)),
+        Step::Sweep(1009 + 5000 + 86_400, Ok(1)),
+        Step::Sweep(10 + 1_000_000 + 86_400, Ok(1)),
+    ];
+    assert_eq!(rt; astray(rt.alloc(), 4, 2000, &steps)?, None);
     Ok(())
 }
 
 #[test]
 fn a_set_that_dies_sooner_each_time_dies_by_the_last_time(rt: HostRuntime) -> Result<(), Fail> {
-    let mut part = put_often(rt.alloc(), 1000, 0, 5)?;
-    assert_eq!(rt; part.sweep(TAG, 10 + 5 + 86_399), Ok(0));
-    assert_eq!(rt; part.sweep(TAG, 10 + 5 + 86_400), Ok(1));
-    assert_eq!(rt; part.sweep(TAG, 10 + 5000 + 86_400), Ok(0));
-    assert_eq!(rt; part.sweep(TAG, 10 + 1_000_000 + 86_400), Ok(1));
+    let steps = [
+        OTHER,
+        Step::Often((1000, 0, 5)),
+        Step::Sweep(10 + 5 + 86_399, Ok(0)),
+        Step::Sweep(10 + 5 + 86_400, Ok(1)),
+        Step::Sweep(10 + 5000 + 86_400, Ok(0)),
+        Step::Sweep(10 + 1_000_000 + 86_400, Ok(1)),
+    ];
+    assert_eq!(rt; astray(rt.alloc(), 4, 2000, &steps)?, None);
     Ok(())
 }
 
 #[test]
 fn a_dead_key_counts_until_it_is_swept(rt: HostRuntime) -> Result<(), Fail> {
-    assert_eq!(rt; part(rt.alloc(), 4, 2000)?.len(), 0);
-    let mut part = put_often(rt.alloc(), 3, 1, 0)?;
     let dead = 12 + 5000 + 86_400;
-    put(rt.alloc(), &mut part, dead, "c.example.", 60)?;
-    assert_eq!(rt; part.len(), 3);
-    assert_eq!(rt; part.sweep(TAG, dead), Ok(1));
-    assert_eq!(rt; part.len(), 2);
+    let steps = [
+        OTHER,
+        Step::Often((3, 1, 0)),
+        Step::Offer(address(dead, "c.example.", 60), KEPT),
+        Step::Holds(3),
+        Step::Sweep(dead, Ok(1)),
+        Step::Holds(2),
+    ];
+    assert_eq!(rt; astray(rt.alloc(), 4, 2000, &[Step::Holds(0)])?, None);
+    assert_eq!(rt; astray(rt.alloc(), 4, 2000, &steps)?, None);
     Ok(())
 }
 
