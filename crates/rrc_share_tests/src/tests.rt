@@ -2,7 +2,7 @@ mod shared;
 mod shelf;
 
 use rrc_cache::Part;
-use rrc_history::{Ask, Body, Mode, Offer, Purpose, Reply, Rules, Tag};
+use rrc_history::{Ask, Body, ChainFault, Chapter, Mode, Offer, Purpose, Reply, Rules, Tag, chain};
 use rrc_name::{Key, Name, NameFault, Slot};
 use rrc_share::{Shelf, on_shelf_offer};
 use std::alloc::{AllocError, Global};
@@ -26,17 +26,17 @@ fn failure(alloc: Global, name: &str, moment: u64) -> Result<Offer, Fail> {
     Ok(Offer::new(key, Body::Failure { ttl: 30 }, moment)?)
 }
 
-/// Tells a shelf at moment 10 that asking for the addresses of `a.example.` failed.
-fn tell(alloc: Global, shelf: &mut Shelf) -> Result<(), Fail> {
-    let offer = failure(alloc, "a.example.", 10)?;
-    on_shelf_offer(shelf, TAG, offer)?;
-    Ok(())
+/// A part in chapters of one event, on a shelf.
+fn new_shelf(alloc: Global) -> Result<Shelf, Fail> {
+    let part = Part::new(alloc, rules(1)?)?;
+    Ok(Shelf::new(alloc, part))
 }
 
-/// A shelf in chapters of one event, which was told that.
+/// Such a shelf, which was told at moment 10 that asking for the addresses of `a.example.` failed.
 fn told(alloc: Global) -> Result<Shelf, Fail> {
-    let mut shelf = Shelf::new(alloc, Part::new(alloc, rules(1)?)?);
-    tell(alloc, &mut shelf)?;
+    let offer = failure(alloc, "a.example.", 10)?;
+    let mut shelf = new_shelf(alloc)?;
+    on_shelf_offer(&mut shelf, TAG, offer)?;
     Ok(shelf)
 }
 
@@ -63,6 +63,12 @@ fn is_retried_from(reply: &Reply, moment: u64) -> bool {
         Reply::Miss { retry_from } => *retry_from == Some(moment),
         _ => false,
     }
+}
+
+/// How many events chapters have as one history.
+fn events_of(chapters: Vec<Chapter>) -> Result<usize, ChainFault> {
+    let whole = chain(chapters)?;
+    Ok(whole.events.len())
 }
 
 /// How many chapters are closed, the number of the one that is open, and how many events that has.

@@ -1,8 +1,8 @@
 ghost use Rattle.std.specs.Prelude.{◌<◌};
 
-use super::{TAG, failure, is_retried_from, opens_with_event_0, question, rules, stand};
+use super::{TAG, events_of, failure, is_retried_from, opens_with_event_0, question, rules, stand};
 use rrc_cache::Refusal;
-use rrc_history::{Ask, ChainFault, Outcome, chain};
+use rrc_history::{Ask, Outcome};
 use rrc_share::{SharedCache, Shelf};
 use std::alloc::Global;
 use std::sync::Wait;
@@ -80,21 +80,14 @@ fn a_name_has_one_part(rt: HostRuntime) -> Result<(), Fail> {
     Ok(())
 }
 
-/// How many keys a part lost as it was swept at moment 40, before its chapter was closed.
-fn swept<R: Wait>(rt: &R, cache: &SharedCache, part: usize) -> Result<usize, Refusal>
-    requires { part < cache.now }
-{
-    let removed = cache.sweep_part(rt, part, TAG, 40)?;
-    cache.checkpoint_part(rt, part)?;
-    Ok(removed)
-}
+/// How many keys a part loses as it is swept at moment 40, and whether its chapter is then closed.
+type Swept = (Result<usize, Refusal>, Result<(), Refusal>);
 
-/// How many events the chapters have that a part closed, as one history. The part has them no more.
-fn taken<R: Wait>(rt: &R, cache: &SharedCache, part: usize) -> Result<usize, ChainFault>
+fn swept<R: Wait>(rt: &R, cache: &SharedCache, part: usize) -> Swept
     requires { part < cache.now }
 {
-    let whole = chain(cache.take_chapters(rt, part))?;
-    Ok(whole.events.len())
+    let removed = cache.sweep_part(rt, part, TAG, 40);
+    (removed, cache.checkpoint_part(rt, part))
 }
 
 #[test]
@@ -104,11 +97,11 @@ fn parts_are_swept_and_closed_one_by_one(rt: HostRuntime) -> Result<(), Fail> {
     tell(&rt, alloc, &cache, (10, "a.example."))?;
     // The name lies in part 1, so from part 0 none is removed, and from part 1 one.
     for part in 0..2 {
-        assert_eq!(rt; swept(&rt, &cache, part)?, part);
+        assert_eq!(rt; swept(&rt, &cache, part), (Ok(part), Ok(())));
     }
     let late = cache.sweep_part(&rt, 2, TAG, (1 << 40) + 1);
     assert_eq!(rt; late, Err(Refusal::MomentTooLarge));
-    assert_eq!(rt; taken(&rt, &cache, 1)?, 2);
+    assert_eq!(rt; events_of(cache.take_chapters(&rt, 1))?, 2);
     let wanted = [(1, 2, 0), (0, 2, 0), (0, 1, 0), (0, 1, 0)];
     assert!(rt; stands(cache.into_parts().as_slice(), &wanted));
     Ok(())

@@ -1,6 +1,6 @@
-use super::{TAG, is_retried_from, question, stand, told};
+use super::{TAG, events_of, is_retried_from, question, stand, told};
 use rrc_cache::Refusal;
-use rrc_history::{ChainFault, chain};
+use rrc_history::Ask;
 use rrc_share::{Shelf, on_shelf_ask, on_shelf_checkpoint, on_shelf_sweep};
 use std::alloc::Global;
 use std::test::Fail;
@@ -14,11 +14,16 @@ fn a_late_moment_closes_no_chapter(rt: HostRuntime) -> Result<(), Fail> {
     Ok(())
 }
 
-/// Whether a shelf has no addresses of `a.example.`, and asking may be tried again from 40 on.
+/// Whether a shelf answers none, and asking may be tried again from 40 on.
+fn is_asked(shelf: &mut Shelf, ask: &Ask) -> Result<bool, Refusal> {
+    let reply = on_shelf_ask(shelf, TAG, ask)?;
+    Ok(is_retried_from(&reply, 40))
+}
+
+/// The same of the addresses of `a.example.`.
 fn is_told(alloc: Global, shelf: &mut Shelf) -> Result<bool, Fail> {
     let ask = question(alloc, "a.example.", 12)?;
-    let reply = on_shelf_ask(shelf, TAG, &ask)?;
-    Ok(is_retried_from(&reply, 40))
+    Ok(is_asked(shelf, &ask)?)
 }
 
 #[test]
@@ -31,20 +36,13 @@ fn an_ask_and_a_sweep_close_a_full_chapter(rt: HostRuntime) -> Result<(), Fail> 
     Ok(())
 }
 
-/// How many events the chapters have that a shelf closed, as one history. The shelf has them no
-/// more.
-fn taken(shelf: &mut Shelf) -> Result<usize, ChainFault> {
-    let whole = chain(shelf.take_chapters())?;
-    Ok(whole.events.len())
-}
-
 #[test]
 fn chapters_that_are_taken_chain(rt: HostRuntime) -> Result<(), Fail> {
     let mut shelf = told(rt.alloc())?;
     on_shelf_checkpoint(&mut shelf)?;
     on_shelf_checkpoint(&mut shelf)?;
     assert_eq!(rt; stand(&shelf), (2, 3, 0));
-    assert_eq!(rt; taken(&mut shelf)?, 1);
+    assert_eq!(rt; events_of(shelf.take_chapters())?, 1);
     assert_eq!(rt; stand(&shelf), (0, 3, 0));
     Ok(())
 }
