@@ -1,6 +1,6 @@
 use super::{TAG, events_of, is_retried_from, question, stand, told};
 use rrc_cache::Refusal;
-use rrc_history::Ask;
+use rrc_history::{Ask, ChainFault};
 use rrc_share::{Shelf, on_shelf_ask, on_shelf_checkpoint, on_shelf_sweep};
 use std::alloc::Global;
 use std::test::Fail;
@@ -36,13 +36,19 @@ fn an_ask_and_a_sweep_close_a_full_chapter(rt: HostRuntime) -> Result<(), Fail> 
     Ok(())
 }
 
+/// How many events the chapters have that a shelf closed, as one history. The shelf has them no
+/// more.
+fn taken(shelf: &mut Shelf) -> Result<usize, ChainFault> {
+    events_of(shelf.take_chapters())
+}
+
 #[test]
 fn chapters_that_are_taken_chain(rt: HostRuntime) -> Result<(), Fail> {
     let mut shelf = told(rt.alloc())?;
     on_shelf_checkpoint(&mut shelf)?;
     on_shelf_checkpoint(&mut shelf)?;
     assert_eq!(rt; stand(&shelf), (2, 3, 0));
-    assert_eq!(rt; events_of(shelf.take_chapters())?, 1);
+    assert_eq!(rt; taken(&mut shelf)?, 1);
     assert_eq!(rt; stand(&shelf), (0, 3, 0));
     Ok(())
 }
