@@ -1,7 +1,9 @@
 -- What a line says is lawful.
-use Rattle.std.proofs.Common.{◌≡◌, ℕ, ◌≤◌, ◌^◌, ◌-◌, List, Option, Some, None, Bool, true, false, subst, arith, nat_le, refl}
+use Rattle.std.proofs.Common.{◌≡◌, ℕ, ◌≤◌, ◌^◌, ◌-◌, List, Option, Some, None, Bool, true, false, ap, subst, arith, nat_le, refl}
 use Rattle.std.proofs.lemmas.Bool.Decides.{nat_tests}
 use Rattle.rrc_history.specs.Lives.{LAST_MOMENT}
+use Rattle.rrc_history.specs.Fits.{has_items}
+use Rattle.rrc_history.specs.declared.body.Trust.{Trust}
 use Rattle.rrc_wire.specs.Layout.{is_kept}
 use Rattle.rrc_trace.specs.declared.line.Line.{Line}
 use Rattle.rrc_trace.specs.declared.line.Line.TheVariants.{Checkpoint}
@@ -11,13 +13,13 @@ use Rattle.rrc_trace.specs.Gives.{◌>>=◌}
 use Rattle.rrc_trace.specs.Fields.{said_at, has_field}
 use Rattle.rrc_trace.specs.Names.{name_of}
 use Rattle.rrc_trace.specs.Numbers.{number_of, at_most, moment_of, ttl_of, trust_of, kept_type, rtype_of}
-use Rattle.rrc_trace.specs.Words.{form_of, purpose_of, mode_of}
+use Rattle.rrc_trace.specs.Words.{form_of}
 use Rattle.rrc_trace.specs.Items.{items_of}
-use Rattle.rrc_trace.specs.Octets.{message_of, fetched_of}
-use Rattle.rrc_trace.specs.Lines.{ended, put_of, ask_of, fail_of, response_of, fetch_of, sweep_of, line_of, before_last, without_cr, bounded, line_of_piece}
-use Rattle.rrc_trace.specs.Lawful.{IsLawful}
+use Rattle.rrc_trace.specs.Octets.{message_of}
+use Rattle.rrc_trace.specs.Lines.{ended, question_at, kept_of, put_of, manner_of, ask_of, fail_of, response_of, sent_of, fetch_of, sweep_of, line_of, before_last, without_cr, bounded, line_of_piece}
+use Rattle.rrc_trace.specs.Lawful.{IsLawful, IsTimelyQuestion}
 use Rattle.rrc_trace.proofs.SaidLemmas.{said_first, said_last, says_field}
-use Rattle.rrc_trace.proofs.LawfulItems.{items-say}
+use Rattle.rrc_trace.proofs.LawfulItems.{AreUnlike, items-say}
 
 at_most-says : (most : ℕ) (number : Option ℕ) (value : ℕ) → at_most most number ≡ Some value → value ≤ most
 at_most-says most None value is = absurd cc
@@ -47,26 +49,45 @@ rtype-says octets rtype rest is =
     let number = said_first (at_most (2 ^ 16 - 1) (number_of field.0)) kept_type rtype field.1 in
     kept_type-says number.0 rtype number.1.1
 
--- a line that nothing follows
-ended-says : (octets : List ℕ) (said line : Line) → ended octets said ≡ Some line → said ≡ line
-ended-says octets said line is = by (has_field octets) refl
+-- what nothing follows
+ended-says : {X : Type 0} (octets : List ℕ) (said value : X) → ended octets said ≡ Some value → said ≡ value
+ended-says octets said value is = by (has_field octets) refl
   where
-    by : (more : Bool) → has_field octets ≡ more → said ≡ line
-    by true more = let no : None ≡ Some line = rw more at is in absurd cc
-    by false more = let same : Some said ≡ Some line = rw more at is in said_last same
+    by : (more : Bool) → has_field octets ≡ more → said ≡ value
+    by true more = let no : None ≡ Some value = rw more at is in absurd cc
+    by false more = let same : Some said ≡ Some value = rw more at is in said_last same
+
+-- a question is about a type that is kept, at a moment that a part takes
+question-timely : (octets : List ℕ) (moment : ℕ) (name : List ℕ) (rtype : ℕ) (rest : List ℕ) → question_at octets ≡ Some (moment, name, rtype, rest) → IsTimelyQuestion moment rtype
+unfolding question_at
+question-timely octets moment name rtype rest is =
+    let dated = said_first (said_at moment_of octets) _ (moment, name, rtype, rest) is in
+    let named = said_first (said_at name_of dated.0.1) _ (moment, name, rtype, rest) dated.1.1 in
+    let typed = said_first (said_at rtype_of named.0.1) _ (moment, name, rtype, rest) named.1.1 in
+    let same : (dated.0.0, named.0.0, typed.0.0, typed.0.1) ≡ (moment, name, rtype, rest) = said_last typed.1.1 in
+    record {
+      timely = subst (λ n. n ≤ LAST_MOMENT) (ap (λ q. q.0) same) (moment-says octets dated.0.0 dated.0.1 dated.1.0);
+      kept = subst (λ n. is_kept n ≡ true) (ap (λ q. q.2) same) (rtype-says named.0.1 typed.0.0 typed.0.1 typed.1.0);
+    }
+
+-- the data of a put are lawful
+items-kept : (rtype : ℕ) (octets : List ℕ) (trust : Trust) (ttl : ℕ) (items : List (List ℕ)) → kept_of rtype octets ≡ Some (trust, ttl, items) → (has_items items ≡ true) × AreUnlike rtype items 256
+unfolding kept_of
+items-kept rtype octets trust ttl items is =
+    let trusted = said_first (said_at trust_of octets) _ (trust, ttl, items) is in
+    let living = said_first (said_at ttl_of trusted.0.1) _ (trust, ttl, items) trusted.1.1 in
+    let found = said_first (said_at (items_of rtype) living.0.1) _ (trust, ttl, items) living.1.1 in
+    let same : (trusted.0.0, living.0.0, found.0.0) ≡ (trust, ttl, items) = ended-says found.0.1 _ (trust, ttl, items) found.1.1 in
+    subst (λ all. (has_items all ≡ true) × AreUnlike rtype all 256) (ap (λ k. k.2) same) (items-say rtype living.0.1 found.0.0 found.0.1 found.1.0)
 
 put-lawful : (octets : List ℕ) (line : Line) → put_of octets ≡ Some line → IsLawful line
 unfolding put_of
 put-lawful octets line is =
-    let moment = said_first (said_at moment_of octets) _ line is in
-    let name = said_first (said_at name_of moment.0.1) _ line moment.1.1 in
-    let rtype = said_first (said_at rtype_of name.0.1) _ line name.1.1 in
-    let trust = said_first (said_at trust_of rtype.0.1) _ line rtype.1.1 in
-    let ttl = said_first (said_at ttl_of trust.0.1) _ line trust.1.1 in
-    let items = said_first (said_at (items_of rtype.0.0) ttl.0.1) _ line ttl.1.1 in
-    let are = items-say rtype.0.0 ttl.0.1 items.0.0 items.0.1 items.1.0 in
-    subst IsLawful (ended-says items.0.1 _ line items.1.1) (record {
-      question = record { timely = moment-says octets moment.0.0 moment.0.1 moment.1.0; kept = rtype-says name.0.1 rtype.0.0 rtype.0.1 rtype.1.0 };
+    let question = said_first (question_at octets) _ line is in
+    let kept = said_first (kept_of question.0.2 question.0.3) _ line question.1.1 in
+    let are = items-kept question.0.2 question.0.3 kept.0.0 kept.0.1 kept.0.2 kept.1.0 in
+    subst IsLawful (said_last kept.1.1) (record {
+      question = question-timely octets question.0.0 question.0.1 question.0.2 question.0.3 question.1.0;
       some = are.0;
       few = are.1.few;
       plain = are.1.plain;
@@ -76,22 +97,15 @@ put-lawful octets line is =
 ask-lawful : (octets : List ℕ) (line : Line) → ask_of octets ≡ Some line → IsLawful line
 unfolding ask_of
 ask-lawful octets line is =
-    let moment = said_first (said_at moment_of octets) _ line is in
-    let name = said_first (said_at name_of moment.0.1) _ line moment.1.1 in
-    let rtype = said_first (said_at rtype_of name.0.1) _ line name.1.1 in
-    let purpose = said_first (said_at purpose_of rtype.0.1) _ line rtype.1.1 in
-    let mode = said_first (said_at mode_of purpose.0.1) _ line purpose.1.1 in
-    subst IsLawful (ended-says mode.0.1 _ line mode.1.1)
-    (record { timely = moment-says octets moment.0.0 moment.0.1 moment.1.0; kept = rtype-says name.0.1 rtype.0.0 rtype.0.1 rtype.1.0 })
+    let question = said_first (question_at octets) _ line is in
+    let manner = said_first (manner_of question.0.3) _ line question.1.1 in
+    subst IsLawful (said_last manner.1.1) (question-timely octets question.0.0 question.0.1 question.0.2 question.0.3 question.1.0)
 
 fail-lawful : (octets : List ℕ) (line : Line) → fail_of octets ≡ Some line → IsLawful line
 unfolding fail_of
 fail-lawful octets line is =
-    let moment = said_first (said_at moment_of octets) _ line is in
-    let name = said_first (said_at name_of moment.0.1) _ line moment.1.1 in
-    let rtype = said_first (said_at rtype_of name.0.1) _ line name.1.1 in
-    subst IsLawful (ended-says rtype.0.1 _ line rtype.1.1)
-    (record { timely = moment-says octets moment.0.0 moment.0.1 moment.1.0; kept = rtype-says name.0.1 rtype.0.0 rtype.0.1 rtype.1.0 })
+    let question = said_first (question_at octets) _ line is in
+    subst IsLawful (ended-says question.0.3 _ line question.1.1) (question-timely octets question.0.0 question.0.1 question.0.2 question.0.3 question.1.0)
 
 response-lawful : (octets : List ℕ) (line : Line) → response_of octets ≡ Some line → IsLawful line
 unfolding response_of
@@ -104,13 +118,9 @@ response-lawful octets line is =
 fetch-lawful : (octets : List ℕ) (line : Line) → fetch_of octets ≡ Some line → IsLawful line
 unfolding fetch_of
 fetch-lawful octets line is =
-    let moment = said_first (said_at moment_of octets) _ line is in
-    let name = said_first (said_at name_of moment.0.1) _ line moment.1.1 in
-    let rtype = said_first (said_at rtype_of name.0.1) _ line name.1.1 in
-    let zone = said_first (said_at name_of rtype.0.1) _ line rtype.1.1 in
-    let message = said_first (said_at fetched_of zone.0.1) _ line zone.1.1 in
-    subst IsLawful (ended-says message.0.1 _ line message.1.1)
-    (record { timely = moment-says octets moment.0.0 moment.0.1 moment.1.0; kept = rtype-says name.0.1 rtype.0.0 rtype.0.1 rtype.1.0 })
+    let question = said_first (question_at octets) _ line is in
+    let sent = said_first (sent_of question.0.3) _ line question.1.1 in
+    subst IsLawful (said_last sent.1.1) (question-timely octets question.0.0 question.0.1 question.0.2 question.0.3 question.1.0)
 
 sweep-lawful : (octets : List ℕ) (line : Line) → sweep_of octets ≡ Some line → IsLawful line
 unfolding sweep_of

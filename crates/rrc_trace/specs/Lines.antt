@@ -1,6 +1,9 @@
 -- The lines of a trace.
 use Rattle.std.specs.Prelude.{ℕ, ◌-◌, List, length, take, slice_index, Option, Some, None, unwrap_or, ◌==◌, nat_le, if◌then◌else◌}
 use Rattle.rrc_name.specs.Wire.{folded}
+use Rattle.rrc_history.specs.declared.ask.Mode.{Mode}
+use Rattle.rrc_history.specs.declared.ask.Purpose.{Purpose}
+use Rattle.rrc_history.specs.declared.body.Trust.{Trust}
 use Rattle.rrc_trace.specs.declared.line.Line.{Line}
 use Rattle.rrc_trace.specs.declared.line.Line.TheVariants as lines
 use Rattle.rrc_trace.specs.declared.word.Form.TheVariants as forms
@@ -12,38 +15,52 @@ use Rattle.rrc_trace.specs.Items.{items_of}
 use Rattle.rrc_trace.specs.Octets.{message_of, fetched_of}
 use Rattle.rrc_trace.specs.Words.{form_of, purpose_of, mode_of}
 
--- a line behind whose last field no other stands
-abbrev pub ended : List ℕ → Line → Option Line
-ended octets line = if has_field octets then None else Some line
+-- what is said by fields behind the last of which no other stands
+abbrev pub ended : {X : Type 0} → List ℕ → X → Option X
+ended octets said = if has_field octets then None else Some said
+
+-- the moment, the name and the type of a question, and the octets behind them
+unfoldable pub question_at : List ℕ → Option (ℕ × List ℕ × ℕ × List ℕ)
+question_at octets = do
+  moment ← said_at moment_of octets
+  name ← said_at name_of moment.1
+  rtype ← said_at rtype_of name.1
+  Some (moment.0, name.0, rtype.0, rtype.1)
+
+-- the fields of a put behind its type: its trust, time to live and data
+unfoldable pub kept_of : ℕ → List ℕ → Option (Trust × ℕ × List (List ℕ))
+kept_of rtype octets = do
+  trust ← said_at trust_of octets
+  ttl ← said_at ttl_of trust.1
+  items ← said_at (items_of rtype) ttl.1
+  ended items.1 (trust.0, ttl.0, items.0)
 
 -- the fields of a put: its moment, name, type, trust, time to live and data
 unfoldable pub put_of : List ℕ → Option Line
 put_of octets = do
-  moment ← said_at moment_of octets
-  name ← said_at name_of moment.1
-  rtype ← said_at rtype_of name.1
-  trust ← said_at trust_of rtype.1
-  ttl ← said_at ttl_of trust.1
-  items ← said_at (items_of rtype.0) ttl.1
-  ended items.1 (lines.Put (record { moment = moment.0; name = name.0; rtype = rtype.0; trust = trust.0; ttl = ttl.0; items = items.0 }))
+  question ← question_at octets
+  kept ← kept_of question.2 question.3
+  Some (lines.Put (record { moment = question.0; name = question.1; rtype = question.2; trust = kept.0; ttl = kept.1; items = kept.2 }))
+
+-- the fields of an ask behind its type: its purpose and mode
+unfoldable pub manner_of : List ℕ → Option (Purpose × Mode)
+manner_of octets = do
+  purpose ← said_at purpose_of octets
+  mode ← said_at mode_of purpose.1
+  ended mode.1 (purpose.0, mode.0)
 
 -- the fields of an ask: its moment, name, type, purpose and mode
 unfoldable pub ask_of : List ℕ → Option Line
 ask_of octets = do
-  moment ← said_at moment_of octets
-  name ← said_at name_of moment.1
-  rtype ← said_at rtype_of name.1
-  purpose ← said_at purpose_of rtype.1
-  mode ← said_at mode_of purpose.1
-  ended mode.1 (lines.Ask (record { name = folded name.0; rtype = rtype.0; moment = moment.0; purpose = purpose.0; mode = mode.0 }))
+  question ← question_at octets
+  manner ← manner_of question.3
+  Some (lines.Ask (record { name = folded question.1; rtype = question.2; moment = question.0; purpose = manner.0; mode = manner.1 }))
 
 -- the fields of a failure: its moment, name and type
 unfoldable pub fail_of : List ℕ → Option Line
 fail_of octets = do
-  moment ← said_at moment_of octets
-  name ← said_at name_of moment.1
-  rtype ← said_at rtype_of name.1
-  ended rtype.1 (lines.Fail (record { moment = moment.0; name = name.0; rtype = rtype.0 }))
+  question ← question_at octets
+  ended question.3 (lines.Fail (record { moment = question.0; name = question.1; rtype = question.2 }))
 
 -- the fields of a response: its moment, zone and message
 unfoldable pub response_of : List ℕ → Option Line
@@ -53,15 +70,19 @@ response_of octets = do
   message ← said_at message_of zone.1
   ended message.1 (lines.Response (record { moment = moment.0; zone = zone.0; octets = message.0 }))
 
+-- the fields of a fetch behind its type: its zone and message
+unfoldable pub sent_of : List ℕ → Option (List ℕ × Option (List ℕ))
+sent_of octets = do
+  zone ← said_at name_of octets
+  message ← said_at fetched_of zone.1
+  ended message.1 (zone.0, message.0)
+
 -- the fields of a fetch: its moment, name, type, zone and message
 unfoldable pub fetch_of : List ℕ → Option Line
 fetch_of octets = do
-  moment ← said_at moment_of octets
-  name ← said_at name_of moment.1
-  rtype ← said_at rtype_of name.1
-  zone ← said_at name_of rtype.1
-  message ← said_at fetched_of zone.1
-  ended message.1 (lines.Fetch (record { moment = moment.0; name = name.0; rtype = rtype.0; zone = zone.0; octets = message.0 }))
+  question ← question_at octets
+  sent ← sent_of question.3
+  Some (lines.Fetch (record { moment = question.0; name = question.1; rtype = question.2; zone = sent.0; octets = sent.1 }))
 
 -- the field of a sweep: its moment
 unfoldable pub sweep_of : List ℕ → Option Line

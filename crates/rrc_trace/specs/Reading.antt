@@ -88,3 +88,7 @@ GivesLine number before after (Err Strayed) said = ⊥
 GivesLine number before after (Err (TooManyQuestions bad)) said =
     (bad ≡ number) × ((line : Line) × (said ≡ Some line) × (MOST_QUESTIONS < length (with_question before (fetched_by line))))
 GivesLine number before after (Err NotLegal) said = ⊥
+
+-- the line of a piece came behind those before it, and its question among theirs, which stay few
+abbrev pub AddsLine : ℕ → List KeyOf → List KeyOf → List Line → List Line → Option Line → Type 0
+AddsLine number before after lines longer said = (line : Line) × (longer ≡ lines ++ line ∷ []) × GivesLine number before after (Ok line) said

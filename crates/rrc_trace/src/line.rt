@@ -1,6 +1,6 @@
 ghost use Rattle.std.specs.Prelude.{◌≡◌, option_map};
 ghost use Rattle.rrc_trace.specs.Gives.{Gives};
-ghost use Rattle.rrc_trace.specs.Lines.{put_of, ask_of, fail_of, response_of, fetch_of, sweep_of, ended, line_of, before_last, without_cr, bounded, line_of_piece};
+ghost use Rattle.rrc_trace.specs.Lines.{question_at, kept_of, put_of, manner_of, ask_of, fail_of, response_of, sent_of, fetch_of, sweep_of, ended, line_of, before_last, without_cr, bounded, line_of_piece};
 
 use crate::field::has_field;
 use crate::item::items_at;
@@ -9,7 +9,7 @@ use crate::names::{Names, name_at};
 use crate::number::{moment_at, rtype_at, trust_at, ttl_at};
 use crate::octets::{fetched_at, message_at};
 use crate::word::{Form, form_at, mode_at, purpose_at};
-use rrc_history::{Ask, Trust};
+use rrc_history::{Ask, Mode, Purpose, Trust};
 use rrc_name::{Name, Octets, Sequence, Shared};
 use std::alloc::Global;
 
@@ -76,28 +76,67 @@ pub enum Line {
     Checkpoint,
 }
 
-/// The line whose first word was `put`.
-#[tactic(auto, unfolding(crate::specs::Lines::put_of))]
-fn put_in(alloc: Global, names: &mut Names, octets: &[u8]) -> Result<Line, LineFault>
-    ensures { Gives (λ line. line) result (put_of octets.now) }
+/// The moment, the name and the type of a question, and the octets behind them.
+#[tactic(auto, unfolding(crate::specs::Lines::question_at))]
+fn question_at<'a>(
+    alloc: Global,
+    names: &mut Names,
+    octets: &'a [u8],
+) -> Result<(u64, Name, u16, &'a [u8]), LineFault>
+    ensures { Gives (λ found. (found.0, found.1, found.2, found.3.now)) result (question_at octets.now) }
 {
     let (moment, rest) = moment_at(octets)?;
     let (name, rest) = name_at(alloc, names, rest)?;
     let (rtype, rest) = rtype_at(rest)?;
-    let (trust, rest) = trust_at(rest)?;
+    Ok((moment, name, rtype, rest))
+}
+
+/// What a put says behind its type, to its end: its trust, its time to live and its data.
+#[tactic(auto, unfolding(crate::specs::Lines::kept_of))]
+fn kept_in(
+    alloc: Global,
+    rtype: u16,
+    octets: &[u8],
+) -> Result<(Trust, u32, Shared<Sequence<Octets>>), LineFault>
+    ensures { Gives (λ kept. (kept.0, kept.1, kept.2)) result (kept_of rtype octets.now) }
+{
+    let (trust, rest) = trust_at(octets)?;
     let (ttl, rest) = ttl_at(rest)?;
     let (items, rest) = items_at(alloc, rtype, rest)?;
     if has_field(rest) {
         return Err(LineFault::NotOne);
     }
+    Ok((trust, ttl, Shared::new(alloc, items)?))
+}
+
+/// The line whose first word was `put`.
+#[tactic(auto, unfolding(crate::specs::Lines::put_of))]
+fn put_in(alloc: Global, names: &mut Names, octets: &[u8]) -> Result<Line, LineFault>
+    ensures { Gives (λ line. line) result (put_of octets.now) }
+{
+    let (moment, name, rtype, rest) = question_at(alloc, names, octets)?;
+    let (trust, ttl, items) = kept_in(alloc, rtype, rest)?;
     Ok(Line::Put(Put {
         moment,
         name,
         rtype,
         trust,
         ttl,
-        items: Shared::new(alloc, items)?,
+        items,
     }))
+}
+
+/// What an ask says behind its type, to its end: its purpose and its mode.
+#[tactic(auto, unfolding(crate::specs::Lines::manner_of))]
+fn manner_in(octets: &[u8]) -> Result<(Purpose, Mode), LineFault>
+    ensures { Gives (λ manner. (manner.0, manner.1)) result (manner_of octets.now) }
+{
+    let (purpose, rest) = purpose_at(octets)?;
+    let (mode, rest) = mode_at(rest)?;
+    if has_field(rest) {
+        return Err(LineFault::NotOne);
+    }
+    Ok((purpose, mode))
 }
 
 /// The line whose first word was `ask`.
@@ -105,14 +144,8 @@ fn put_in(alloc: Global, names: &mut Names, octets: &[u8]) -> Result<Line, LineF
 fn ask_in(alloc: Global, names: &mut Names, octets: &[u8]) -> Result<Line, LineFault>
     ensures { Gives (λ line. line) result (ask_of octets.now) }
 {
-    let (moment, rest) = moment_at(octets)?;
-    let (name, rest) = name_at(alloc, names, rest)?;
-    let (rtype, rest) = rtype_at(rest)?;
-    let (purpose, rest) = purpose_at(rest)?;
-    let (mode, rest) = mode_at(rest)?;
-    if has_field(rest) {
-        return Err(LineFault::NotOne);
-    }
+    let (moment, name, rtype, rest) = question_at(alloc, names, octets)?;
+    let (purpose, mode) = manner_in(rest)?;
     Ok(Line::Ask(Ask {
         name: name.folded()?,
         rtype,
@@ -127,9 +160,7 @@ fn ask_in(alloc: Global, names: &mut Names, octets: &[u8]) -> Result<Line, LineF
 fn fail_in(alloc: Global, names: &mut Names, octets: &[u8]) -> Result<Line, LineFault>
     ensures { Gives (λ line. line) result (fail_of octets.now) }
 {
-    let (moment, rest) = moment_at(octets)?;
-    let (name, rest) = name_at(alloc, names, rest)?;
-    let (rtype, rest) = rtype_at(rest)?;
+    let (moment, name, rtype, rest) = question_at(alloc, names, octets)?;
     if has_field(rest) {
         return Err(LineFault::NotOne);
     }
@@ -158,19 +189,30 @@ fn response_in(alloc: Global, names: &mut Names, octets: &[u8]) -> Result<Line, 
     }))
 }
 
+/// What a fetch says behind its type, to its end: the zone, and the message that its servers send.
+#[tactic(auto, unfolding(crate::specs::Lines::sent_of))]
+fn sent_in(
+    alloc: Global,
+    names: &mut Names,
+    octets: &[u8],
+) -> Result<(Name, Option<Octets>), LineFault>
+    ensures { Gives (λ sent. (sent.0, sent.1)) result (sent_of octets.now) }
+{
+    let (zone, rest) = name_at(alloc, names, octets)?;
+    let (octets, rest) = fetched_at(alloc, rest)?;
+    if has_field(rest) {
+        return Err(LineFault::NotOne);
+    }
+    Ok((zone, octets))
+}
+
 /// The line whose first word was `fetch`.
 #[tactic(auto, unfolding(crate::specs::Lines::fetch_of))]
 fn fetch_in(alloc: Global, names: &mut Names, octets: &[u8]) -> Result<Line, LineFault>
     ensures { Gives (λ line. line) result (fetch_of octets.now) }
 {
-    let (moment, rest) = moment_at(octets)?;
-    let (name, rest) = name_at(alloc, names, rest)?;
-    let (rtype, rest) = rtype_at(rest)?;
-    let (zone, rest) = name_at(alloc, names, rest)?;
-    let (octets, rest) = fetched_at(alloc, rest)?;
-    if has_field(rest) {
-        return Err(LineFault::NotOne);
-    }
+    let (moment, name, rtype, rest) = question_at(alloc, names, octets)?;
+    let (zone, octets) = sent_in(alloc, names, rest)?;
     Ok(Line::Fetch(Fetch {
         moment,
         name,

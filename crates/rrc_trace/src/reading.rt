@@ -1,8 +1,9 @@
-ghost use Rattle.std.specs.Prelude.{◌≡◌, ◌==◌, ◌<◌, ◌≤◌, length, position, take, vec_len, IfOk, IfErr, IfSome, OnOk};
+ghost use Rattle.std.specs.Prelude.{◌≡◌, ◌==◌, ◌<◌, ◌≤◌, [], Some, Ok, Err, length, position, take, vec_len, IfOk, IfErr, IfSome, OnOk};
 ghost use Rattle.std.specs.Io.KnownBytes.{IsAtEnd, prepend_known};
 ghost use Rattle.rrc_trace.specs.Lines.{line_of_piece};
 ghost use Rattle.rrc_trace.specs.Trace.{OneTraceOrFault};
-ghost use Rattle.rrc_trace.specs.Reading.{IsCut, MovesPart, ReadsPiece, LeavesNothing, IsOfReading, GivesLine, IsTraceFrom, IsFaultOfTrace};
+ghost use Rattle.rrc_trace.specs.Reading.{IsCut, MovesPart, ReadsPiece, LeavesNothing, IsOfReading, GivesLine, AddsLine, IsTraceFrom, IsFaultOfTrace};
+ghost use Rattle.rrc_trace.specs.Lawful.{AreLawful};
 
 use crate::ahead::Ahead;
 use crate::fault::ReplayFault;
@@ -91,6 +92,19 @@ fn piece_from<R: Read>(
     Ok(Ending::Endless)
 }
 
+/// Puts the question that a line fetches to those before it. The line has this number.
+fn count(questions: &mut Questions, line: &Line, number: u64) -> Result<(), ReplayFault>
+    ensures ok { OnOk result (GivesLine number questions.old questions.new (Ok line.now) (Some line.now)) }
+    ensures err { IfErr result (λ fault. GivesLine number questions.old questions.new (Err fault) (Some line.now)) }
+{
+    questions.add(line)?;
+    if questions.len() <= MOST_QUESTIONS {
+        Ok(())
+    } else {
+        Err(ReplayFault::TooManyQuestions(number))
+    }
+}
+
 /// The line of a piece, which has this number. The question that it fetches is put to those before it.
 fn line_at(
     alloc: Global,
@@ -106,11 +120,77 @@ fn line_at(
         Err(LineFault::NotOne) => return Err(ReplayFault::BadLine(number)),
         Err(LineFault::Memory) => return Err(ReplayFault::Memory),
     };
-    questions.add(&line)?;
-    if questions.len() <= MOST_QUESTIONS {
-        Ok(line)
-    } else {
-        Err(ReplayFault::TooManyQuestions(number))
+    count(questions, &line, number)?;
+    Ok(line)
+}
+
+/// A trace as far as it is read: its lines, with their names and the questions that they fetch.
+#[derive(Drop)]
+struct Reading {
+    ahead: Ahead,
+    /// The piece that was read last.
+    piece: Vec<u8>,
+    names: Names,
+    questions: Questions,
+    lines: Sequence<Line>,
+}
+
+impl Reading {
+    /// Nothing is read.
+    fn new(alloc: Global) -> Result<Reading, AllocError>
+        ensures ahead { IfOk result (λ reading. reading.ahead ≡ []) }
+        ensures questions { IfOk result (λ reading. reading.questions ≡ []) }
+        ensures lines { IfOk result (λ reading. reading.lines ≡ []) }
+    {
+        Ok(Reading {
+            ahead: Ahead::new(alloc)?,
+            piece: Vec::new(alloc),
+            names: Names::new(alloc)?,
+            questions: Questions::new(alloc),
+            lines: Sequence::new(alloc),
+        })
+    }
+
+    /// Puts the line of the piece, which has this number, behind those before it.
+    fn add_line(&mut self, alloc: Global, number: u64) -> Result<(), ReplayFault>
+        ensures ahead { self.new.ahead ≡ self.old.ahead }
+        ensures ok { OnOk result (AddsLine number self.old.questions self.new.questions self.old.lines self.new.lines (line_of_piece self.old.piece.items)) }
+        ensures err { IfErr result (λ fault. GivesLine number self.old.questions self.new.questions (Err fault) (line_of_piece self.old.piece.items)) }
+    {
+        let piece = self.piece.as_slice();
+        let line = line_at(alloc, &mut self.names, &mut self.questions, number, piece)?;
+        self.lines.push(line)?;
+        Ok(())
+    }
+
+    /// Reads line after line, to the end.
+    fn read_lines<R: Read>(&mut self, alloc: Global, reader: &mut R) -> Result<(), ReplayFault>
+        requires ahead { self.old.ahead ≡ [] }
+        requires questions { self.old.questions ≡ [] }
+        requires lines { self.old.lines ≡ [] }
+        ensures ok { OnOk result (IsTraceFrom (R.remaining reader.old) self.new.lines) }
+        ensures lawful { OnOk result (AreLawful self.new.lines) }
+        ensures whole { OnOk result (IsAtEnd (R.remaining reader.new)) }
+        ensures err { IfErr result (IsFaultOfTrace (R.remaining reader.old)) }
+    {
+        for number in 0..MOST_LINES {
+            match piece_from(reader, &mut self.ahead, &mut self.piece)? {
+                Ending::Lf => self.add_line(alloc, number)?,
+                Ending::Last => {
+                    if self.piece.as_slice().is_empty() {
+                        return Ok(());
+                    }
+                    self.add_line(alloc, number)?;
+                    return Ok(());
+                }
+                Ending::Endless => return Err(ReplayFault::BadLine(number)),
+            }
+        }
+        if self.ahead.has_more(reader)? {
+            Err(ReplayFault::TooManyLines)
+        } else {
+            Ok(())
+        }
     }
 }
 
@@ -125,33 +205,11 @@ pub fn read_trace<R: Read>(alloc: Global, reader: &mut R) -> Result<Trace, Repla
     ensures whole { OnOk result (IsAtEnd (R.remaining reader.new)) }
     ensures err { IfErr result (IsFaultOfTrace (R.remaining reader.old)) }
 {
-    let mut lines = Sequence::new(alloc);
-    let mut ahead = Ahead::new(alloc)?;
-    let mut piece = Vec::new(alloc);
-    let mut names = Names::new(alloc)?;
-    let mut questions = Questions::new(alloc);
-    for number in 0..MOST_LINES {
-        match piece_from(reader, &mut ahead, &mut piece)? {
-            Ending::Lf => {
-                let octets = piece.as_slice();
-                lines.push(line_at(alloc, &mut names, &mut questions, number, octets)?)?;
-            }
-            Ending::Last => {
-                let octets = piece.as_slice();
-                if octets.is_empty() {
-                    return Ok(Trace { lines });
-                }
-                lines.push(line_at(alloc, &mut names, &mut questions, number, octets)?)?;
-                return Ok(Trace { lines });
-            }
-            Ending::Endless => return Err(ReplayFault::BadLine(number)),
-        }
-    }
-    if ahead.has_more(reader)? {
-        Err(ReplayFault::TooManyLines)
-    } else {
-        Ok(Trace { lines })
-    }
+    let mut reading = Reading::new(alloc)?;
+    reading.read_lines(alloc, reader)?;
+    Ok(Trace {
+        lines: reading.lines,
+    })
 }
 
 /// Every text is the text of one list of lines, or it has one first fault, and never both. The function does nothing; its
