@@ -1,6 +1,7 @@
 ghost use Rattle.std.specs.Prelude.{◌≡◌, ◌≤◌, IfOk, IfSome};
 ghost use Rattle.std.specs.List.{AllByRecursion};
 ghost use Rattle.std.specs.Option.{option_copied, option_map};
+ghost use Rattle.rrc_history.specs.declared.event.Event.TheVariants.{Asked};
 ghost use Rattle.rrc_history.specs.Entries.{answered_from};
 ghost use Rattle.rrc_history.specs.Past.{key_at};
 ghost use Rattle.rrc_history.specs.Lives.{IsTimely};
@@ -8,7 +9,7 @@ ghost use Rattle.rrc_cache.specs.Taken.{IsAnswered, IsCompared, HasName, slot_of
 
 use crate::store::Store;
 use crate::{found, judge};
-use rrc_history::{Ask, Entry, Reply};
+use rrc_history::{Ask, Entry, Event, Reply, Tag};
 use rrc_name::Slot;
 use std::alloc::AllocError;
 
@@ -55,6 +56,17 @@ pub(crate) fn answer(
         kept_ask(ask, answering)?,
         slot_of(answering),
     ))
+}
+
+/// The event that tells an ask, as it is to be kept, and its reply.
+pub(crate) fn event_of(tag: Tag, ask: Ask, reply: &Reply) -> Result<Event, AllocError>
+    ensures { IfOk result (λ event. event ≡ Asked tag ask reply.now) }
+{
+    Ok(Event::Asked {
+        tag,
+        ask,
+        reply: reply.clone()?,
+    })
 }
 
 /// Whether an ask is answered just this reply, and the slot of the entry that answers. It takes no memory.

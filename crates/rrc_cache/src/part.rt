@@ -153,14 +153,10 @@ impl Part {
         ensures due { IsDue self.old ask.now.moment result }
     {
         self.admit(ask.moment)?;
+        self.events.reserve(1)?;
         let stale = self.snapshot.rules().stale;
         let (reply, asked, slot) = answer::answer(&self.store, ask, stale)?;
-        let event = Event::Asked {
-            tag,
-            ask: asked,
-            reply: reply.clone()?,
-        };
-        self.events.reserve(1)?;
+        let event = answer::event_of(tag, asked, &reply)?;
         answer::touch(&mut self.store, ask, slot);
         self.events.push_reserved(event);
         Ok(reply)

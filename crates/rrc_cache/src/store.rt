@@ -364,6 +364,31 @@ fn promote(cache: &mut LruCache<Key, Entry, Seeded>, key: KeyRef<'_>) -> Option<
     }
 }
 
+/// Two keys like that of an entry.
+fn keys_of(entry: &Entry) -> Result<(Key, Key), AllocError>
+    ensures first { IfOk result (λ keys. keys.0 ≡ entry.now.key) }
+    ensures second { IfOk result (λ keys. keys.1 ≡ entry.now.key) }
+{
+    Ok((entry.key.clone()?, entry.key.clone()?))
+}
+
+/// Puts an entry in front under a key, and answers what that had. An `Err` leaves all as it was.
+fn push(
+    cache: &mut LruCache<Key, Entry, Seeded>,
+    key: Key,
+    entry: Entry,
+) -> Result<Option<Entry>, AllocError>
+    requires room { length cache.old.entries < cache.old.cap }
+    ensures old { IfOk result (λ old. old ≡ lookup (key_eq key) cache.old.entries) }
+    ensures entries { OnOk result (cache.new ≡ lru_cache (put_entries key_eq cache.old key entry) cache.old.cap) }
+    ensures err { OnErr result (cache.new ≡ cache.old) }
+{
+    match cache.push(key, entry)? {
+        Some((_, old)) => Ok(Some(old)),
+        None => Ok(None),
+    }
+}
+
 /// Puts an entry in front under its key, and answers one like that, and what it had. An `Err` leaves all as it was.
 fn put_over(
     cache: &mut LruCache<Key, Entry, Seeded>,
@@ -375,12 +400,9 @@ fn put_over(
     ensures entries { OnOk result (cache.new ≡ lru_cache (put_entries key_eq cache.old entry.key entry) cache.old.cap) }
     ensures err { OnErr result (cache.new ≡ cache.old) }
 {
-    let key = entry.key.clone()?;
-    let spare = entry.key.clone()?;
-    match cache.push(key, entry)? {
-        Some((_, old)) => Ok((spare, Some(old))),
-        None => Ok((spare, None)),
-    }
+    let (key, spare) = keys_of(&entry)?;
+    let old = push(cache, key, entry)?;
+    Ok((spare, old))
 }
 
 /// The death that is to wait for a key's new entry, which dies at a time: none where the entry that leaves has one that comes no later.

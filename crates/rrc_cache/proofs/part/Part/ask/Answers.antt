@@ -25,7 +25,7 @@ done c =
     let A : Rules → Type 0 = λ rules. IsAnswered rules.stale c.args.ask.now c.self.inside.store.entries c.in_ok-reply.reply c.in_ok-reply.slot in
     let answered : A c.self.inside.snapshot.rules = subst A (c.rules-stale.ensures.value ∙ ap (λ (snapshot : Snapshot). snapshot.rules) c.deref.ensures) (c.in_ok-reply.ensures.answered) in
     let written : c.push_reserved.new.self.items ≡ c.self.inside.events.items ++ event c ∷ [] =
-    c.push_reserved.ensures.items ∙ rw (c.reserve.ensures.items, c.in_ok-clone.ensures.cases, c.in_ok-reply.ensures.asked) refl in
+    c.push_reserved.ensures.items ∙ rw (c.reserve.ensures.items, c.in_ok-event.ensures, c.in_ok-reply.ensures.asked) refl in
     let P : List Event → Type 0 = λ events. IsDone (before c) (record { number = c.self.inside.number; snapshot = c.self.inside.snapshot; events = events }) (event c) c.touch.new.store.entries in
     subst P (sym written)
     (call_done (before c) c.self.inside.store.entries (event c) c.touch.new.store.entries c.self.invariant.keeps open'
