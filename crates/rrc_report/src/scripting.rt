@@ -89,6 +89,23 @@ fn response_script(
     Ok(Some(plain(Operations::from_vec(operations))))
 }
 
+/// The first fault of octets, or `None` where they are a message.
+fn first_fault(alloc: Global, octets: &[u8]) -> Result<Option<WireFault>, ReplayFault>
+    ensures some { IfOk result (λ found. IfSome found (FirstFault octets.now)) }
+    ensures none { IfOk result (λ found. IfNone found ((fault : WireFault) → FirstFault octets.now fault → ⊥)) }
+    ensures err { IfErr result (λ fault. fault ≡ faults.Memory) }
+{
+    let fault = match read_message(alloc, octets) {
+        Ok(_) => {
+            one_message_or_fault();
+            return Ok(None);
+        }
+        Err(WireFault::Memory) => return Err(ReplayFault::Memory),
+        Err(fault) => fault,
+    };
+    Ok(Some(fault))
+}
+
 /// The script of a response whose octets have this first fault, or `None` where they have not.
 fn refused_script(
     alloc: Global,
@@ -99,14 +116,9 @@ fn refused_script(
     ensures none { IfOk result (λ found. IfNone found (FirstFault response.now.octets fault → ⊥)) }
     ensures err { IfErr result (λ fault. fault ≡ faults.Memory) }
 {
-    match read_message(alloc, response.octets.as_slice()) {
-        Ok(_) => {
-            one_message_or_fault();
-            Ok(None)
-        }
-        Err(WireFault::Memory) => Err(ReplayFault::Memory),
-        Err(found) if found == fault => Ok(Some(plain(Operations::none(alloc)))),
-        Err(_) => Ok(None),
+    match first_fault(alloc, response.octets.as_slice())? {
+        Some(found) if found == fault => Ok(Some(plain(Operations::none(alloc)))),
+        _ => Ok(None),
     }
 }
 

@@ -3,6 +3,8 @@ ghost use Rattle.rrc_history.specs.Auditing.{outcome_eq, set_eq, soa_eq, moment_
 ghost use Rattle.rrc_trace.specs.declared.answer.Answer.{Answer};
 ghost use Rattle.rrc_report.specs.Answers.{Completes, OneCompletion};
 ghost use Rattle.rrc_report.specs.Completing.{told_by, replies, counts, is_hit, all_told_by, all_count, is_empty, replies_alone, one_told_by, told_before, fetched_by, only_where, complete};
+ghost use Rattle.rrc_history.specs.declared.event.Reply.TheVariants.{Miss};
+ghost use Rattle.rrc_trace.specs.declared.answer.Answer.TheVariants as answers;
 
 use rrc_history::{Event, Outcome, Reply, RrSet, Soa};
 use rrc_name::Sequence;
@@ -222,6 +224,28 @@ fn only_where(told: bool, answer: Answer) -> Option<Answer>
     if told { Some(answer) } else { None }
 }
 
+/// Whether the events are one, and it tells that nothing was found.
+fn misses_alone(retry_from: Option<u64>, events: &[&Event]) -> bool
+    ensures { result ≡ replies_alone (Miss retry_from) (map (λ event. event.now) events.now) }
+{
+    replies_alone(&Reply::Miss { retry_from }, events)
+}
+
+/// The answer of a fetch that was made, where events complete it.
+fn complete_fetch(
+    alloc: Global,
+    told: Sequence<Told>,
+    reply: Reply,
+    events: &[&Event],
+) -> Result<Option<Answer>, AllocError>
+    ensures { IfOk result (λ found. found ≡ complete (answers.Fetched told reply) (map (λ event. event.now) events.now)) }
+{
+    match fetched_by(alloc, told.as_slice(), &reply, events)? {
+        None => Ok(None),
+        Some(told) => Ok(Some(Answer::Fetched { told, reply })),
+    }
+}
+
 /// The answer that events complete.
 fn complete(alloc: Global, given: Answer, events: &[&Event]) -> Result<Option<Answer>, AllocError>
     ensures { IfOk result (λ found. found ≡ complete given (map (λ event. event.now) events.now)) }
@@ -232,12 +256,7 @@ fn complete(alloc: Global, given: Answer, events: &[&Event]) -> Result<Option<An
         Answer::Response(told) => {
             Ok(all_told_by(alloc, told.as_slice(), events)?.map(Answer::Response))
         }
-        Answer::Fetched { told, reply } => {
-            match fetched_by(alloc, told.as_slice(), &reply, events)? {
-                None => Ok(None),
-                Some(told) => Ok(Some(Answer::Fetched { told, reply })),
-            }
-        }
+        Answer::Fetched { told, reply } => complete_fetch(alloc, told, reply, events),
         Answer::Ask(reply) => {
             let told = replies_alone(&reply, events);
             Ok(only_where(told, Answer::Ask(reply)))
@@ -246,16 +265,8 @@ fn complete(alloc: Global, given: Answer, events: &[&Event]) -> Result<Option<An
             let told = is_hit(&reply) && replies_alone(&reply, events);
             Ok(only_where(told, Answer::Hit(reply)))
         }
-        Answer::Held(moment) => {
-            let missed = Reply::Miss {
-                retry_from: Some(moment),
-            };
-            Ok(only_where(replies_alone(&missed, events), given))
-        }
-        Answer::Joined => {
-            let missed = Reply::Miss { retry_from: None };
-            Ok(only_where(replies_alone(&missed, events), Answer::Joined))
-        }
+        Answer::Held(moment) => Ok(only_where(misses_alone(Some(moment), events), given)),
+        Answer::Joined => Ok(only_where(misses_alone(None, events), Answer::Joined)),
         Answer::Swept(counts) => {
             let told = all_count(counts.as_slice(), events);
             Ok(only_where(told, Answer::Swept(counts)))

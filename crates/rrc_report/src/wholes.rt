@@ -1,6 +1,7 @@
-ghost use Rattle.std.specs.Prelude.{◌≡◌, List, [], ◌∷◌, IfOk, IfErr, IfSome, IfNone};
+ghost use Rattle.std.specs.Prelude.{◌≡◌, List, [], ◌∷◌, IfOk, IfErr, IfSome, IfNone, OnOk};
 ghost use Rattle.rrc_history.specs.Chains.{WholeOf};
 ghost use Rattle.rrc_history.specs.Same.{snapshot_eq};
+ghost use Rattle.rrc_share.specs.Shelf.{Shuts};
 ghost use Rattle.rrc_report.specs.Reports.{empty_under};
 ghost use Rattle.rrc_report.specs.Steps.{AreParts, CanNotClose};
 ghost use Rattle.rrc_report.specs.Wholes.{IsKeptBy};
@@ -12,17 +13,25 @@ use rrc_share::{Shelf, on_shelf_checkpoint};
 use rrc_trace::ReplayFault;
 use std::alloc::Global;
 
+/// Closes the last chapter of a shelf. `Spent` of the number of lines where it can't be closed.
+fn shut(lines: u64, shelf: &mut Shelf) -> Result<(), ReplayFault>
+    ensures ok { OnOk result (Shuts shelf.old shelf.new) }
+    ensures err { IfErr result (CanNotClose lines (shelf.old ∷ [])) }
+{
+    match on_shelf_checkpoint(shelf) {
+        Ok(()) => Ok(()),
+        Err(Refusal::HistoryFull) => Err(ReplayFault::Spent(lines)),
+        Err(Refusal::MomentTooLarge | Refusal::Memory) => Err(ReplayFault::Memory),
+    }
+}
+
 /// The whole history of a shelf, over all its chapters. `Spent` of the number of lines where the chapter that is open can't be closed.
 fn whole_of(lines: u64, shelf: Shelf) -> Result<Whole, ReplayFault>
     ensures whole { IfOk result (IsKeptBy shelf) }
     ensures err { IfErr result (CanNotClose lines (shelf ∷ [])) }
 {
     let mut shelf = shelf;
-    match on_shelf_checkpoint(&mut shelf) {
-        Ok(()) => {}
-        Err(Refusal::HistoryFull) => return Err(ReplayFault::Spent(lines)),
-        Err(Refusal::MomentTooLarge | Refusal::Memory) => return Err(ReplayFault::Memory),
-    }
+    shut(lines, &mut shelf)?;
     Ok(join_chained(shelf.take_chapters())?)
 }
 

@@ -1,5 +1,5 @@
 -- `collate` from what its steps found
-use Rattle.std.proofs.Common.{◌≡◌, ◌<◌, List, Vec, Global, Bor, length, map, sym, ap, subst, ◌∙◌, arith}
+use Rattle.std.proofs.Common.{◌≡◌, ◌<◌, List, Vec, Global, length, map, sym, ap, subst, ◌∙◌, arith}
 use Rattle.std.specs.List.{All}
 use Rattle.std.proofs.lemmas.List.{length-map}
 use Rattle.std.proofs.lemmas.Slice.Zip.{AllZip-long}
