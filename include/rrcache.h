@@ -27,6 +27,7 @@
    - A refusal leaves the shelf's history and its replies as they were; a chapter that was full may have been closed.
      `rrcache_offer_message` and `rrcache_offer_part` alone may leave a part of their work: the offers of one message are made one
      after another, and where one is refused, those before it stay. `counts` tells how many they are.
+     RRCACHE_NULL and RRCACHE_NO_SHELF alone leave `counts` as it was.
    - What a call was to write for the caller is as it was after a refusal, but for `counts`, and for `told` after RRCACHE_SMALL.
 
    A message that has more than one name
@@ -38,17 +39,77 @@
    - An alias is then followed from shelf to shelf: one `rrcache_ask` for each name, under the lock of that name's shelf.
    - `rrcache_offer_message` keeps all in the one shelf that it is given. That will do where there is one shelf alone.
 
-   Names are in wire form (RFC 1035 section 3.1), whole, with no pointer, at most 255 octets with the zero octet at the end, in any
-   case. Moments are seconds, at most 2^40, on one clock that the caller reads. `line` is a number of the caller's own that the event of
+   What may be offered
+   - A message is read by itself. Whether it is the response to a query that the resolver sent, by
+     the addresses and ports, the identifier and the question, the caller finds out before it offers
+     it: the library compares none of these with anything.
+   - A message that was truncated, with TC set (0x02 of the third octet), offers nothing (RFC 2181
+     section 9). Where it can be read RRCACHE_DONE is answered, `counts` is all 0 and no event is
+     written. Where it ends within a record it is RRCACHE_BAD_MESSAGE, as it is without TC. So
+     the caller looks at TC first, and where it is set asks again over TCP. The two octets of the
+     length that stand before a message there are no part of what is offered.
+   - In the same way a message offers nothing whose opcode is not that of a standard query, or whose
+     question is of a class other than IN, or not at or below the zone.
+   - All that is kept is of class IN. Records of other classes are read over, and no call takes a
+     class: a question of another class is not to be asked here, since it would get what IN has.
+
+   Moments
+   - Moments are seconds, at most 2^40. The caller keeps them: no clock is read, and no call asks
+     that its moment be no lower than that of an earlier call.
+   - Where a call's moment is lower than that of the data that it meets, their age is 0, and `left`
+     is their whole time to live. It is never more.
+   - So a clock that is set back lengthens the life of all that is kept by as much. What had
+     expired, and was not yet replaced, cleared, evicted or swept, may answer again, and keeps out
+     what is trusted less. A clock that is set forward lets data expire early, and a sweep then
+     removes for good what is dead by it. Take a clock that nobody sets, as CLOCK_MONOTONIC of
+     POSIX.
+   - Which of two events came later goes by the order of the calls, and never by their moments.
+
+   The history and its chapters
+   - The history of a shelf grows by one event with each ask, each sweep and each offer of a set, a
+     negative answer or a failure that answers RRCACHE_DONE, and with a message by one for each of
+     its offers that was made. An event takes 96 octets, beside the names and the data that it tells
+     of.
+   - A call that is to write an event and finds the open chapter full closes it and opens the next,
+     and then does what it is to do: all within the call, and so under the lock. With a message that
+     may come before any one of its offers. No reply depends on where chapters end.
+   - To close a chapter takes a time that goes with the keys that the shelf holds, or held when the
+     chapter began. A place of 16 octets is written for each that it holds, and an entry of 56 octets
+     is copied for each that was touched since, or for all, as at the end of the first chapter and of
+     one with more touches and removals than keys at its beginning. No name and no data are copied,
+     and no event. A chapter should have about as many events as the shelf has keys.
+   - Whoever needs no history drops the closed chapters from time to time. That frees each of their
+     events, one by one, and each of the copied entries that nothing else holds. So its time goes
+     with the events that were written since the last time, and it is spent under the lock as well:
+     it is short where chapters are dropped often.
+   - Numbers are spent where the next event would have the number 2^62, or where the open chapter is
+     full and has that number. From then on each call that is to write an event is refused with
+     RRCACHE_HISTORY_FULL, whatever is dropped; `rrcache_peek` still tells replies. The resolver
+     then frees the shelf and makes a new one, which is empty. At 10^9 events a second that is after
+     146 years.
+
+   Which refusal is told
+   - Where more than one is due, the first of these, of which each call has some: RRCACHE_NULL;
+     RRCACHE_NO_SHELF or RRCACHE_HAS_SHELF; RRCACHE_BAD_RULES; RRCACHE_BAD_SEED; RRCACHE_BAD_LIMITS;
+     RRCACHE_BAD_CHOICE; RRCACHE_BAD_TYPE; RRCACHE_BAD_NAME; RRCACHE_BAD_MESSAGE or
+     RRCACHE_BAD_DATA; RRCACHE_WRONG_BODY; RRCACHE_WIDE; RRCACHE_SMALL; RRCACHE_HISTORY_FULL;
+     RRCACHE_MOMENT_TOO_LARGE.
+   - RRCACHE_MEMORY is told where malloc refuses on this way: behind what was found before, and in
+     place of what would have been found later.
+   - A message meets the last two with its first offer. One that offers nothing is RRCACHE_DONE,
+     also where numbers are spent, and whatever its moment is.
+
+   Names are in wire form (RFC 1035 section 3.1), whole, with no pointer, at most 255 octets with
+   the zero octet at the end, in any case. `line` is a number of the caller's own that the event of
    the call is kept with. A pointer may be null only where its size is 0.
 
-   The history of a shelf grows by one event with each call that answers RRCACHE_DONE, but for `rrcache_peek`, `rrcache_sizes` and
-   `rrcache_drop_chapters`; a message is one event for each of its offers. A chapter of it is closed when it is full. Whoever
-   needs no history drops the closed chapters from time to time.
-
-   The functions of the library proper begin with `rrc_`, and need pointers that are not null and buffers that do not overlap. The inline
-   functions below test what can be tested, answer RRCACHE_NULL where a pointer is null that may not be, and call them. That
-   a handle was made by zeros, that no two threads are in it, and that buffers lie where they are said to, no test finds out. */
+   The functions of the library proper begin with `rrc_`, and need pointers that are not null and
+   buffers that do not overlap. The inline functions below answer RRCACHE_NULL where a pointer is
+   null that may not be, where the buffer for a reply overlaps the name, the handle or `told`, and
+   where two of the numbers of `rrcache_sizes` are one, and else call them. That a handle was made
+   by zeros, that no two threads are in it, that buffers lie where they are said to, and that
+   `told`, `counts` and the numbers that calls tell lie apart from the handle and from the octets
+   handed in, no test finds out. */
 #ifndef RRCACHE_H
 #define RRCACHE_H
 
@@ -198,7 +259,8 @@ static inline uint32_t rrcache_make(struct rrcache_shelf *shelf, uint64_t capaci
     return shelf == NULL || seed == NULL ? RRCACHE_NULL : rrc_make(shelf, capacity, chapter, stale, seed, 16);
 }
 
-/* Frees the shelf of a handle, which then holds none. Where it held none RRCACHE_NO_SHELF is answered and nothing done. */
+/* Frees the shelf of a handle, which then holds none, with all its keys and the events of all its
+   chapters, one by one. Where it held none RRCACHE_NO_SHELF is answered and nothing done. */
 static inline uint32_t rrcache_free(struct rrcache_shelf *shelf)
 {
     return shelf == NULL ? RRCACHE_NULL : rrc_free(shelf);
@@ -206,7 +268,8 @@ static inline uint32_t rrcache_free(struct rrcache_shelf *shelf)
 
 /* Offers all that a response from a server of this zone says: its RRsets at or below the zone, and its negative answer or that asking
    failed. Keys of other names than this shelf's are offered as well; where there are other shelves `rrcache_offer_part` gives each
-   its share. */
+   its share. It compares the response with no query, and one with TC set offers nothing: "What may
+   be offered" above tells more. */
 static inline uint32_t rrcache_offer_message(struct rrcache_shelf *shelf, const uint8_t *octets, size_t size, const uint8_t *zone,
                                              size_t zone_size, uint64_t moment, const struct rrcache_limits *limits, uint64_t line,
                                              struct rrcache_counts *counts)
@@ -263,7 +326,9 @@ static inline uint32_t rrcache_offer_failure(struct rrcache_shelf *shelf, const 
 }
 
 /* Asks, which is one event: the reply is told and written to the buffer. Where the buffer is too small RRCACHE_SMALL is answered,
-   `told` tells the reply and its sizes, and no event is written. A reply never takes more than 255 octets and those of its data. */
+   `told` tells the reply and its sizes, and no event is written. A reply never takes more than 255 octets and those of its data.
+   RRCACHE_SMALL comes before RRCACHE_HISTORY_FULL and RRCACHE_MOMENT_TOO_LARGE, so that the call
+   with room enough may still be refused. */
 static inline uint32_t rrcache_ask(struct rrcache_shelf *shelf, const uint8_t *name, size_t name_size, uint16_t rtype, uint64_t moment,
                                    uint32_t purpose, uint32_t mode, uint64_t line, struct rrcache_told *told, uint8_t *buffer,
                                    size_t buffer_size)
@@ -277,7 +342,8 @@ static inline uint32_t rrcache_ask(struct rrcache_shelf *shelf, const uint8_t *n
                    buffer_size == 0 ? &none : buffer, buffer_size);
 }
 
-/* What `rrcache_ask` would answer. No event is written and no key touched. */
+/* What `rrcache_ask` would answer. No event is written and no key touched. It is not refused for
+   its moment, which may be above 2^40, nor where numbers are spent. */
 static inline uint32_t rrcache_peek(struct rrcache_shelf *shelf, const uint8_t *name, size_t name_size, uint16_t rtype, uint64_t moment,
                                     uint32_t purpose, uint32_t mode, struct rrcache_told *told, uint8_t *buffer, size_t buffer_size)
 {
@@ -296,7 +362,8 @@ static inline uint32_t rrcache_sweep(struct rrcache_shelf *shelf, uint64_t momen
     return shelf == NULL || removed == NULL ? RRCACHE_NULL : rrc_sweep(shelf, moment, line, removed);
 }
 
-/* Takes the closed chapters and drops them, and tells how many they were. No reply changes. */
+/* Takes the closed chapters and drops them, and tells how many they were. No reply changes. Each
+   event of these chapters is freed before the call returns. */
 static inline uint32_t rrcache_drop_chapters(struct rrcache_shelf *shelf, uint64_t *dropped)
 {
     return shelf == NULL || dropped == NULL ? RRCACHE_NULL : rrc_drop_chapters(shelf, dropped);
