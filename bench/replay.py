@@ -12,22 +12,12 @@ import subprocess
 import sys
 import tempfile
 
+sys.path.insert(0, str(pathlib.Path(__file__).resolve().parent.parent / "bin"))
+from dns import A, opt, pointer, question, record, response
+
 PROGRAM = pathlib.Path(__file__).resolve().parent.parent / "crates" / "rrcache" / "out" / "rrcache"
 NAMES = 4
 TTL = 300
-
-
-def wire(labels):
-    return b"".join(bytes([len(label)]) + label.encode() for label in labels) + b"\0"
-
-
-def message(name, addresses):
-    """An authoritative response with some addresses."""
-    header = bytes.fromhex("123484000001") + len(addresses).to_bytes(2, "big") + bytes.fromhex("00000001")
-    question = wire(name) + bytes.fromhex("00010001")
-    owner = bytes.fromhex("c00c00010001") + TTL.to_bytes(4, "big") + bytes([0, 4])
-    answer = b"".join(owner + address for address in addresses)
-    return header + question + answer + bytes.fromhex("0000291000000000000000")
 
 
 def addresses_of(line, counts):
@@ -43,7 +33,9 @@ def put_lines(lines, counts):
 
 def response_lines(lines, counts):
     for line in range(lines):
-        octets = message([f"www{line % NAMES}", "example"], addresses_of(line, counts))
+        asked = question(f"www{line % NAMES}.example.", A)
+        answer = [record(pointer(12), A, TTL, it) for it in addresses_of(line, counts)]
+        octets = response(asked, answer, additional=[opt(4096)])
         yield f"response {line} example. {octets.hex()}\n"
 
 

@@ -7,97 +7,81 @@ many times that of half its size it is, and last how many times on the mean; the
 """
 import argparse
 import pathlib
-import struct
 import subprocess
 import sys
 import tempfile
 
+sys.path.insert(0, str(pathlib.Path(__file__).resolve().parent.parent / "bin"))
+from dns import A, CNAME, MINFO, NS, PTR, SOA, pointer, question, record, response, soa_data, wire
+
 PROGRAM = pathlib.Path(__file__).resolve().parent.parent / "crates" / "bench_sets" / "out" / "bench_sets"
-QUESTION = bytes.fromhex("0161076578616d706c650000010001")
+QUESTION = question("a.example.", A)
 # The names of the question, a.example., and of its zone, as pointers to them.
-ASKED, ZONE = bytes.fromhex("c00c"), bytes.fromhex("c00e")
-A, NS, CNAME, SOA, PTR, MINFO = 1, 2, 5, 6, 12, 14
-# A name of 251 octets, so that one more label of three letters before it makes one of 255, and the question for it.
-LONG = b"".join(bytes([size]) + size * b"x" for size in (63, 63, 63, 57)) + bytes(1)
-LONG_QUESTION = LONG + bytes.fromhex("00010001")
+ASKED, ZONE = pointer(12), pointer(14)
+# The question for a name of 251 octets, so that one more label of three letters makes one of 255.
+LONG = question(".".join("x" * size for size in (63, 63, 63, 57)), A)
 LETTERS = "abcdefghijklmnopqrstuvwxyz0123456789"
 
 
-def record(owner, rtype, rdata):
-    """A record of class IN that lives for a minute."""
-    return owner + struct.pack(">HHIH", rtype, 1, 60, len(rdata)) + rdata
-
-
-def label(text):
-    return bytes([len(text)]) + text.encode()
-
-
-def numbered(number):
-    """A label of three letters and digits for each number."""
-    return label(LETTERS[number // 1296 % 36] + LETTERS[number // 36 % 36] + LETTERS[number % 36])
+def numbered(number, end):
+    """A name for each number, of a label of three letters and digits before a pointer."""
+    return wire("".join(LETTERS[number // place % 36] for place in (1296, 36, 1)), end)
 
 
 def address(number):
-    return struct.pack(">I", 0x0A000000 + number)
-
-
-def message(answer, authority=(), additional=(), rcode=0, question=QUESTION):
-    counts = [len(section) for section in (answer, authority, additional)]
-    records = b"".join([*answer, *authority, *additional])
-    return struct.pack(">6H", 0x1234, 0x8400 + rcode, 1, *counts) + question + records
+    return (0x0A000000 + number).to_bytes(4, "big")
 
 
 def one():
     """One address."""
-    return message([record(ASKED, A, address(1))])
+    return response(QUESTION, [record(ASKED, A, 60, address(1))])
 
 
 def ten():
     """Ten addresses of one name."""
-    return message([record(ASKED, A, address(number)) for number in range(10)])
+    return response(QUESTION, [record(ASKED, A, 60, address(number)) for number in range(10)])
 
 
 def referral():
     """Two name servers, with two addresses each."""
-    servers = [label(f"ns{number}") + ZONE for number in (1, 2)]
-    glue = [record(server, A, address(number)) for server in servers for number in (1, 2)]
-    return message([], [record(ZONE, NS, server) for server in servers], glue)
+    servers = [wire(f"ns{number}", ZONE) for number in (1, 2)]
+    glue = [record(server, A, 60, address(number)) for server in servers for number in (1, 2)]
+    return response(QUESTION, [], [record(ZONE, NS, 60, server) for server in servers], glue)
 
 
 def nxdomain():
     """That there is no such name, with the SOA record."""
-    numbers = struct.pack(">5I", 1, 3600, 600, 604800, 300)
-    return message([], [record(ZONE, SOA, ZONE + ZONE + numbers)], rcode=3)
+    data = soa_data(ZONE, ZONE, 1, 3600, 600, 604800, 300)
+    return response(QUESTION, [], [record(ZONE, SOA, 60, data)], rcode=3)
 
 
-def filled(size, make, question=QUESTION):
+def filled(size, make, asked=QUESTION):
     """A message of no more than `size` octets with as many records as it holds, each made of its number."""
-    records = []
-    left = size - 12 - len(question)
+    records, left = [], size - 12 - len(asked)
     while left >= len(made := make(len(records))):
         records.append(made)
         left -= len(made)
-    return message(records, question=question)
+    return response(asked, records)
 
 
 def addresses(size):
     """Addresses of one name: one set of many data."""
-    return filled(size, lambda number: record(ASKED, A, address(number)))
+    return filled(size, lambda number: record(ASKED, A, 60, address(number)))
 
 
 def owners(size):
     """A set of one address for each of many names."""
-    return filled(size, lambda number: record(numbered(number) + ZONE, A, address(1)))
+    return filled(size, lambda number: record(numbered(number, ZONE), A, 60, address(1)))
 
 
 def long_owners(size):
     """The same, with names of 255 octets that differ in their first label alone."""
-    return filled(size, lambda number: record(numbered(number) + ASKED, A, address(1)), LONG_QUESTION)
+    return filled(size, lambda n: record(numbered(n, ASKED), A, 60, address(1)), LONG)
 
 
 def types(size):
     """A set of no octets for each of many types of one name."""
-    return filled(size, lambda number: record(ASKED, 256 + number, b""))
+    return filled(size, lambda number: record(ASKED, 256 + number, 60, b""))
 
 
 def spellings(size):
@@ -106,27 +90,27 @@ def spellings(size):
     def spelled(number):
         return "".join(letter.upper() if number >> place & 1 else letter for place, letter in enumerate("abcdefghijklmnop"))
 
-    return filled(size, lambda number: record(ASKED, NS, label(spelled(number)) + ZONE))
+    return filled(size, lambda number: record(ASKED, NS, 60, wire(spelled(number), ZONE)))
 
 
 def pointers(size):
     """Names that one name points to: one set of many data of a name each."""
-    return filled(size, lambda number: record(ASKED, PTR, numbered(number) + ZONE))
+    return filled(size, lambda number: record(ASKED, PTR, 60, numbered(number, ZONE)))
 
 
 def mailboxes(size):
     """The same of two names each, with 506 octets or so: the first name is one for all of them."""
-    return filled(size, lambda number: record(ASKED, MINFO, ASKED + numbered(number) + ASKED), LONG_QUESTION)
+    return filled(size, lambda n: record(ASKED, MINFO, 60, ASKED + numbered(n, ASKED)), LONG)
 
 
 def chain(size):
     """A chain of aliases, each to the next one."""
-    return filled(size, lambda number: record(numbered(number) + ZONE, CNAME, numbered(number + 1) + ZONE))
+    return filled(size, lambda n: record(numbered(n, ZONE), CNAME, 60, numbered(n + 1, ZONE)))
 
 
 def aliases(size):
     """Aliases of one name, each to another one."""
-    return filled(size, lambda number: record(ASKED, CNAME, numbered(number) + ZONE))
+    return filled(size, lambda number: record(ASKED, CNAME, 60, numbered(number, ZONE)))
 
 
 def nanoseconds(path, passes):

@@ -7,67 +7,67 @@ Build the program first, by `rt run` in crates/bench_sets. Each line is the medi
 import argparse
 import pathlib
 import statistics
-import struct
 import subprocess
 import sys
 import tempfile
 import time
 
+sys.path.insert(0, str(pathlib.Path(__file__).resolve().parent.parent / "bin"))
+from dns import A, CNAME, MINFO, NS, TXT, pointer, question, record, response, wire
+
 PROGRAM = pathlib.Path(__file__).resolve().parent.parent / "crates" / "bench_sets" / "out" / "bench_sets"
-QUESTION = bytes.fromhex("0161076578616d706c650000010001")
-ADDRESS = bytes.fromhex("c00c000100010000003c0004c0000201")
-
-
-def header(answers):
-    return struct.pack(">6H", 0x1234, 0x8400, 1, answers, 0, 0)
+QUESTION = question("a.example.", A)
+# The names of the question, a.example., and of its zone, as pointers to them.
+ASKED, ZONE = pointer(12), pointer(14)
+ADDRESS = record(ASKED, A, 60, bytes([192, 0, 2, 1]))
 
 
 def small():
     """One address of a.example., 43 octets."""
-    return header(1) + QUESTION + ADDRESS
+    return response(QUESTION, [ADDRESS])
 
 
 def usual():
     """An alias, addresses and name servers of 512 octets in all."""
-    alias = bytes.fromhex("c00c000500010000003c000603777777c00e")
-    server = bytes.fromhex("c00e0002000100000e100006036e7331c00e")
-    records = [alias] + [server] * 9 + [ADDRESS] * 19
-    message = header(len(records)) + QUESTION + b"".join(records)
+    alias = record(ASKED, CNAME, 60, wire("www", ZONE))
+    server = record(ZONE, NS, 3600, wire("ns1", ZONE))
+    message = response(QUESTION, [alias] + [server] * 9 + [ADDRESS] * 19)
     return message + bytes(512 - len(message))
 
 
 def crowded():
     """As many small records as 65,535 octets hold."""
-    count = (65535 - 27) // len(ADDRESS)
-    return header(count) + QUESTION + ADDRESS * count
+    return response(QUESTION, [ADDRESS] * ((65535 - 27) // len(ADDRESS)))
+
+
+def chained(count):
+    """A record of so many pointers, each to the one before it, and a pointer to the last."""
+    # Its data begin with a root at octet 28, to which the first points.
+    pointers = b"".join(pointer(26 + 2 * i) for i in range(1, count + 1))
+    return record(".", TXT, 60, bytes(2) + pointers), pointer(28 + 2 * count)
 
 
 def chain():
     """An owner behind 7,999 pointers, each to the one before it."""
-    pointers = b"".join(struct.pack(">H", 0xC000 + 26 + 2 * i) for i in range(1, 8000))
-    first = bytes.fromhex("0000010001") + bytes.fromhex("00001000010000003c3e80") + bytes(2)
-    return header(2) + first + pointers + bytes.fromhex("fe9a000100010000003c0004c0000201")
+    first, last = chained(7999)
+    return response(question(".", A), [first, last + ADDRESS[2:]])
 
 
 def minfo(name):
     """A record of 16 octets with three names, each of them this pointer (RFC 1035 section 3.3.7)."""
-    return name + bytes.fromhex("000e00010000003c0004") + name + name
+    return record(name, MINFO, 60, name + name)
 
 
 def chains():
     """A chain of 8,178 pointers, and as many records as 65,535 octets hold, whose names all go through it."""
-    pointers = b"".join(struct.pack(">H", 0xC000 + 26 + 2 * i) for i in range(1, 8178))
-    first = bytes.fromhex("0000010001") + bytes.fromhex("00001000010000003c3fe4") + bytes(2)
-    count = (65535 - 16384) // 16
-    return header(1 + count) + first + pointers + minfo(bytes.fromhex("fffe")) * count
+    first, last = chained(8177)
+    return response(question(".", A), [first] + [minfo(last)] * ((65535 - 16384) // 16))
 
 
 def expanding():
     """As many records as 65,535 octets hold, with three names of 255 octets each."""
-    name = b"".join(bytes([size]) + size * b"x" for size in (63, 63, 63, 61)) + bytes(1)
-    question = name + bytes.fromhex("00010001")
-    count = (65535 - 12 - len(question)) // 16
-    return header(count) + question + minfo(bytes.fromhex("c00c")) * count
+    asked = question(".".join("x" * size for size in (63, 63, 63, 61)), A)
+    return response(asked, [minfo(ASKED)] * ((65535 - 12 - len(asked)) // 16))
 
 
 def seconds(path, passes):

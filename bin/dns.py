@@ -1,0 +1,77 @@
+"""DNS messages as octets (RFC 1035 section 4), for the scripts beside this file and in bench/.
+
+A name is given as a text (docs/FORMATS.md), of which the last dot may be left out, or as octets,
+which stay as they are: so a pointer is given.
+"""
+import re
+import struct
+
+A, NS, CNAME, SOA, PTR, MINFO, TXT, OPT, RRSIG = 1, 2, 5, 6, 12, 14, 16, 41, 46
+IN = 1
+LABEL = re.compile(rb"(?:\\\d{3}|\\.|[^.\\])+", re.DOTALL)
+ESCAPE = re.compile(rb"\\(\d{3}|.)", re.DOTALL)
+
+
+def wire(name, end=b"\0"):
+    """A name in wire form: its labels, and behind them the root or a pointer (section 3.1)."""
+    if isinstance(name, bytes):
+        return name
+    labels = [ESCAPE.sub(lambda it: bytes([int(it[1])]) if it[1][1:] else it[1], label)
+              for label in LABEL.findall(name.encode("latin-1"))]
+    return b"".join(bytes([len(label)]) + label for label in labels) + end
+
+
+def pointer(place):
+    """A pointer to the name at a place of the message (section 4.1.4)."""
+    return struct.pack(">H", 0xC000 + place)
+
+
+def name_at(octets, at):
+    """The text of the name at a place, without the last dot, and the place behind it."""
+    labels, behind = [], None
+    while size := octets[at]:
+        if size >= 192:
+            behind, at = behind or at + 2, (size & 63) << 8 | octets[at + 1]
+        else:
+            labels.append("".join(
+                "\\" * (it in b".\\") + chr(it) if 33 <= it <= 126 else f"\\{it:03}"
+                for it in octets[at + 1:at + 1 + size]))
+            at += 1 + size
+    return ".".join(labels), behind or at + 1
+
+
+def question(name, rtype, rclass=IN):
+    """A question (section 4.1.2)."""
+    return wire(name) + struct.pack(">HH", rtype, rclass)
+
+
+def record(owner, rtype, ttl, data, rclass=IN):
+    """A resource record (section 4.1.3)."""
+    return wire(owner) + struct.pack(">HHIH", rtype, rclass, ttl, len(data)) + data
+
+
+def opt(size):
+    """An OPT record of one who takes datagrams of so many octets (RFC 6891 section 6.1.2)."""
+    return record(".", OPT, 0, b"", size)
+
+
+def soa_data(server, mailbox, *numbers):
+    """The data of a SOA record: serial, refresh, retry, expire, minimum (section 3.3.13)."""
+    return wire(server) + wire(mailbox) + struct.pack(">5I", *numbers)
+
+
+def header(number, flags, questions=0, answers=0, authorities=0, additionals=0):
+    """A header; its flags are all of its second 16 bits (section 4.1.1)."""
+    return struct.pack(">6H", number, flags, questions, answers, authorities, additionals)
+
+
+def message(number, flags, question, answer=(), authority=(), additional=()):
+    """A message with a question, or with none where that is empty, and the records of sections."""
+    counts = [len(section) for section in (answer, authority, additional)]
+    records = b"".join([*answer, *authority, *additional])
+    return header(number, flags, 1 if question else 0, *counts) + question + records
+
+
+def response(question, answer=(), authority=(), additional=(), rcode=0):
+    """A response of an authority to a query of number 0x1234."""
+    return message(0x1234, 0x8400 + rcode, question, answer, authority, additional)
