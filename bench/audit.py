@@ -1,5 +1,5 @@
 #!/usr/bin/env python3
-"""Times how long it takes to find that a history is legal: audits, which take no memory, and rechecks, which make each call again.
+"""Times how long it takes to find that a history is legal: audits, which look up what was written, and rechecks, which make each call again.
 
 Build the program first, by `rt run` in crates/bench_cache. Each number is the median of RUNS runs, in nanoseconds of processor time an
 event. A third of the events are puts and the others asks, of a part that may hold KEYS keys, for names that are half as many again.
