@@ -1,4 +1,5 @@
 pub mod Paired
+pub mod Plain
 pub mod Turned
 pub mod Due
 pub mod Timed

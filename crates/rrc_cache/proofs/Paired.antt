@@ -13,17 +13,19 @@ use Rattle.rrc_history.specs.declared.snapshot.Entry.{Entry}
 use Rattle.rrc_history.specs.Past.{entry_at, last_key}
 use Rattle.rrc_history.specs.Entries.{LacksKey, AreApart, goes, in_front, promoted, staying}
 use Rattle.rrc_history.specs.lemmas.Apart.{entry_at-middle, staying-lacks, staying-middle}
+use Rattle.rrc_cache.specs.declared.seeded.Seeded.{Seeded}
 use Rattle.rrc_cache.specs.Pairs.{entries_in, AreOwn, StoreOf}
 
 -- ---- the view
 
-abbrev pub seen : ℕ → List Entry → StoreOf
-seen stale entries = record { stale = stale; entries = entries }
+abbrev pub seen : Seeded → ℕ → List Entry → StoreOf
+seen seeded stale entries = record { seeded = seeded; stale = stale; entries = entries }
 
 -- an edit of the entries, as callers see it
-pub edited : (edit : List Entry → List Entry) (stale : ℕ) (before after : List Entry) (now : StoreOf) → after ≡ edit before → seen stale before ≡ now
-    → seen stale after ≡ seen now.stale (edit now.entries)
-edited edit stale before after now is view = ap (seen stale) is ∙ ap (λ (store : StoreOf). seen store.stale (edit store.entries)) view
+pub edited : (edit : List Entry → List Entry) (seeded still : Seeded) (stale : ℕ) (before after : List Entry) (now : StoreOf) → still ≡ seeded → after ≡ edit before
+    → seen seeded stale before ≡ now → seen still stale after ≡ seen now.seeded now.stale (edit now.entries)
+edited edit seeded still stale before after now same is view =
+    ap (λ s. seen s stale after) same ∙ (ap (seen seeded stale) is ∙ ap (λ (store : StoreOf). seen store.seeded store.stale (edit store.entries)) view)
 
 -- ---- look-ups
 
@@ -190,7 +192,7 @@ remove_entry-written test entry (pair ∷ pairs) = by (test pair.0) refl (remove
     by false is rest = ap cut is ∙ (ap (λ b. cond b written (pair ∷ remove_entry test written)) is ∙ (ap (λ ps. pair ∷ ps) rest ∙ sym (ap left is)))
 
 -- what is there may be written there
-pub written_same : (test : KeyOf → Bool) (entry : Entry) (pairs : List (KeyOf × Entry)) → lookup test pairs ≡ Some entry → set_value test pairs entry ≡ pairs
+pub written_same : {K : Type 0} (test : K → Bool) (entry : Entry) (pairs : List (K × Entry)) → lookup test pairs ≡ Some entry → set_value test pairs entry ≡ pairs
 written_same test entry [] is = refl
 written_same test entry (pair ∷ pairs) is = by (test pair.0) refl (written_same test entry pairs)
   where

@@ -7,6 +7,7 @@ use Rattle.rrc_history.specs.declared.snapshot.Snapshot.{Snapshot}
 use Rattle.rrc_history.specs.Audits.{IsFirstBad}
 use Rattle.rrc_history.specs.Right.{IsRight}
 use Rattle.rrc_history.specs.Sound.{AreSound}
+use Rattle.rrc_cache.specs.declared.seeded.Seeded.{Seeded}
 use Rattle.rrc_cache.specs.Calls.{Leaves}
 use Rattle.rrc_cache.specs.Pairs.{StoreOf}
 use Rattle.rrc_cache.proofs.Leaving.{snapshot_leaves}
@@ -17,9 +18,9 @@ pub record IsRechecked (snapshot : Snapshot) (past : List Event) (store : StoreO
   pub leaves : Leaves snapshot past store.entries
   pub stale : store.stale ≡ snapshot.rules.stale
 
-pub rechecked_first : (snapshot : Snapshot) (store : StoreOf) → AreSound snapshot.rules.capacity snapshot.first snapshot.entries
-    → store ≡ record { stale = snapshot.rules.stale; entries = snapshot.entries } → IsRechecked snapshot [] store
-rechecked_first snapshot store sound is = subst (IsRechecked snapshot []) (sym is) (record { leaves = snapshot_leaves snapshot sound; stale = refl })
+pub rechecked_first : (snapshot : Snapshot) (seeded : Seeded) (store : StoreOf) → AreSound snapshot.rules.capacity snapshot.first snapshot.entries
+    → store ≡ record { seeded = seeded; stale = snapshot.rules.stale; entries = snapshot.entries } → IsRechecked snapshot [] store
+rechecked_first snapshot seeded store sound is = subst (IsRechecked snapshot []) (sym is) (record { leaves = snapshot_leaves snapshot sound; stale = refl })
 
 pub rechecked_more : (snapshot : Snapshot) (events : List Event) (i : ℕ) (event : Event) (before after : StoreOf) → i < length events → event ≡ get_or events i event
     → IsRechecked snapshot (reverse (take i events)) before → Leaves snapshot (event ∷ reverse (take i events)) after.entries → after.stale ≡ before.stale

@@ -1,12 +1,13 @@
 -- What the calls of a store keep of its invariant.
-use Rattle.std.proofs.Common.{◌≡◌, ℕ, List, Bool, Some, None, true, false, ◌||◌, refl, sym, ap, ◌∙◌}
+use Rattle.std.proofs.Common.{◌≡◌, ℕ, List, Bool, Some, None, true, false, ◌||◌, refl, sym, ap, subst, ◌∙◌}
 use Rattle.lru.specs.LruCache.{LruCache}
 use Rattle.rrc_name.specs.Key.{KeyOf, key_eq}
 use Rattle.rrc_history.specs.declared.snapshot.Entry.{Entry}
 use Rattle.rrc_history.specs.Past.{entry_at}
 use Rattle.rrc_history.specs.lemmas.EntryLaws.{entry_at-key}
 use Rattle.rrc_cache.specs.declared.deaths.Death.{Death}
-use Rattle.rrc_cache.specs.Beside.{BesideOf, may_hold}
+use Rattle.rrc_cache.specs.declared.seeded.Seeded.{Seeded}
+use Rattle.rrc_cache.specs.Beside.{BesideOf, beside_of, may_hold}
 use Rattle.rrc_cache.specs.Deaths.{AreForeseen, AreSameDeaths, DeathsOf, dies_by, is_by}
 use Rattle.rrc_cache.specs.Dying.{time_of_death}
 use Rattle.rrc_cache.specs.Pairs.{entries_in, IsStore}
@@ -23,6 +24,11 @@ foreseen_store stale cache beside old new store are = record {
   foreseen = are;
   marked = store.marked;
 }
+
+-- with the same seed
+pub seeded_store : (seeded still : Seeded) (stale : ℕ) (cache : LruCache KeyOf Entry) (deaths : DeathsOf) (marks : List Bool) → still ≡ seeded
+    → IsStore stale cache deaths (beside_of seeded marks) → IsStore stale cache deaths (beside_of still marks)
+seeded_store seeded still stale cache deaths marks same store = subst (λ s. IsStore stale cache deaths (beside_of s marks)) (sym same) store
 
 -- with marks of which none went
 pub noted_store : (stale : ℕ) (cache : LruCache KeyOf Entry) (old new : BesideOf) (deaths : DeathsOf)

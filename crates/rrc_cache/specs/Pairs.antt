@@ -4,6 +4,7 @@ use Rattle.std.specs.List.{AllByRecursion}
 use Rattle.lru.specs.LruCache.{LruCache}
 use Rattle.rrc_name.specs.Key.{KeyOf}
 use Rattle.rrc_history.specs.declared.snapshot.Entry.{Entry}
+use Rattle.rrc_cache.specs.declared.seeded.Seeded.{Seeded}
 use Rattle.rrc_cache.specs.Beside.{AreMarked, BesideOf}
 use Rattle.rrc_cache.specs.Deaths.{AreForeseen, DeathsOf}
 
@@ -15,8 +16,9 @@ entries_in pairs = map (λ pair. pair.1) pairs
 abbrev pub AreOwn : List (KeyOf × Entry) → Type 0
 AreOwn pairs = AllByRecursion (λ pair. pair.1.key ≡ pair.0) pairs
 
--- for how many seconds a set may be stale, and the entries, the key touched last first
+-- the seed that names are hashed behind, for how many seconds a set may be stale, and the entries, the key touched last first
 pub record StoreOf : Type 0 where
+  pub seeded : Seeded
   pub stale : ℕ
   pub entries : List Entry
 

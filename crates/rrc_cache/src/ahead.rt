@@ -1,7 +1,7 @@
 //! What a call counts the owners of comes from memory, as a rule: it was not touched for long. A count waits for every load before it,
 //! and no load behind it begins before it is made. So what is counted late is loaded early, beside what the call loads anyway.
 
-use rrc_history::{Body, Entry};
+use rrc_history::Body;
 
 /// Begins to load the data of a body.
 pub(crate) fn load_data(body: &Body) {
@@ -13,12 +13,5 @@ pub(crate) fn load_data(body: &Body) {
             let _ = soa.owners();
         }
         Body::Failure { .. } => {}
-    }
-}
-
-/// Begins to load the data of what a key holds, if anything.
-pub(crate) fn load_held(held: Option<&Entry>) {
-    if let Some(entry) = held {
-        load_data(&entry.body);
     }
 }

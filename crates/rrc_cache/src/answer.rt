@@ -1,56 +1,66 @@
 ghost use Rattle.std.specs.Prelude.{◌≡◌, ◌≤◌, IfOk, IfSome};
 ghost use Rattle.std.specs.List.{AllByRecursion};
-ghost use Rattle.std.specs.Option.{option_copied, option_map};
+ghost use Rattle.std.specs.Option.{option_map};
 ghost use Rattle.rrc_history.specs.declared.event.Event.TheVariants.{Asked};
 ghost use Rattle.rrc_history.specs.Entries.{answered_from};
 ghost use Rattle.rrc_history.specs.Past.{key_at};
 ghost use Rattle.rrc_history.specs.Lives.{IsTimely};
+ghost use Rattle.rrc_history.specs.Views.{held_in};
+ghost use Rattle.rrc_cache.specs.Keyed.{name_hash};
 ghost use Rattle.rrc_cache.specs.Taken.{IsAnswered, IsCompared, HasName, slot_of};
 
+use crate::judge;
 use crate::store::Store;
-use crate::{found, judge};
-use rrc_history::{Ask, Entry, Event, Reply, Tag};
+use rrc_history::{Ask, Event, Held, Reply, Tag};
 use rrc_name::Slot;
 use std::alloc::AllocError;
 
 /// The ask, as its event is to keep it: with the name of the entry that answers, so that the caller's is not kept as well.
-fn kept_ask(ask: &Ask, answering: Option<&Entry>) -> Result<Ask, AllocError>
-    requires { IfSome (option_copied answering) (HasName ask.now.name) }
+fn kept_ask(ask: &Ask, answering: Option<Held<'_>>) -> Result<Ask, AllocError>
+    requires { IfSome (option_map held_in answering) (HasName ask.now.name) }
     ensures { IfOk result (λ kept. kept ≡ ask.now) }
 {
     match answering {
-        Some(entry) => Ok(Ask {
-            name: entry.key.name.clone()?,
-            rtype: ask.rtype,
-            moment: ask.moment,
-            purpose: ask.purpose,
-            mode: ask.mode,
-        }),
+        Some(held) => {
+            let key = held.key;
+            Ok(Ask {
+                name: key.name.clone()?,
+                rtype: ask.rtype,
+                moment: ask.moment,
+                purpose: ask.purpose,
+                mode: ask.mode,
+            })
+        }
         None => ask.clone(),
     }
 }
 
-fn slot_of(answering: Option<&Entry>) -> Option<Slot>
-    ensures { result ≡ slot_of (option_copied answering.entry) }
+fn slot_of(answering: Option<Held<'_>>) -> Option<Slot>
+    ensures { result ≡ slot_of (option_map held_in answering.entry) }
 {
     match answering {
-        Some(entry) => Some(entry.key.slot),
+        Some(held) => {
+            let key = held.key;
+            Some(key.slot)
+        }
         None => None,
     }
 }
 
-/// What an ask is answered, the ask as its event is to keep it, and the slot of the entry that answers.
+/// What an ask, whose name has the hash, is answered, the ask as its event is to keep it, and the slot of the entry that answers.
 pub(crate) fn answer(
     store: &Store,
+    hash: u64,
     ask: &Ask,
     stale: u64,
 ) -> Result<(Reply, Ask, Option<Slot>), AllocError>
+    requires hash { hash ≡ name_hash store.now.seeded ask.now.name }
     requires stale { stale ≤ 604800 }
     requires timely { AllByRecursion IsTimely store.now.entries }
     ensures answered { IfOk result (λ told. IsAnswered stale ask.now store.now.entries told.0 told.2) }
     ensures asked { IfOk result (λ told. told.1 ≡ ask.now) }
 {
-    let (reply, answering) = judge::judge(store, ask, stale);
+    let (reply, answering) = judge::judge(store, hash, ask, stale);
     Ok((
         reply.to_owned()?,
         kept_ask(ask, answering)?,
@@ -69,21 +79,29 @@ pub(crate) fn event_of(tag: Tag, ask: Ask, reply: &Reply) -> Result<Event, Alloc
     })
 }
 
-/// Whether an ask is answered just this reply, and the slot of the entry that answers. It takes no memory.
-pub(crate) fn compare(store: &Store, ask: &Ask, stale: u64, reply: &Reply) -> (bool, Option<Slot>)
+/// Whether an ask, whose name has the hash, is answered just this reply, and the slot of the entry that answers. It takes no memory.
+pub(crate) fn compare(
+    store: &Store,
+    hash: u64,
+    ask: &Ask,
+    stale: u64,
+    reply: &Reply,
+) -> (bool, Option<Slot>)
+    requires hash { hash ≡ name_hash store.now.seeded ask.now.name }
     requires stale { stale ≤ 604800 }
     requires timely { AllByRecursion IsTimely store.now.entries }
     ensures { IsCompared stale ask.now store.now.entries reply.now result.0 result.1 }
 {
-    let (answered, answering) = judge::judge(store, ask, stale);
+    let (answered, answering) = judge::judge(store, hash, ask, stale);
     (answered.is(reply), slot_of(answering))
 }
 
 /// Moves the entry that gave an answer to the front. It takes no memory.
-pub(crate) fn touch(store: &mut Store, ask: &Ask, slot: Option<Slot>)
+pub(crate) fn touch(store: &mut Store, hash: u64, ask: &Ask, slot: Option<Slot>)
+    requires { hash ≡ name_hash store.old.seeded ask.now.name }
     ensures { store.new ≡ record store.old { entries = answered_from (option_map (key_at ask.now) slot) store.old.entries } }
 {
     if let Some(slot) = slot {
-        store.promote(found::key_at(ask, slot));
+        store.promote(hash, ask.key_at(slot));
     }
 }

@@ -5,9 +5,9 @@ ghost use Rattle.std.specs.Cmp.Rules.{comparing};
 ghost use Rattle.std.specs.Ordering.{as_partial_cmp};
 ghost use Rattle.rrc_name.specs.Key.{KeyOf};
 ghost use Rattle.rrc_cache.specs.Deaths.{is_by};
+ghost use Rattle.rrc_cache.specs.Dying.{dies_at, time_of_death};
 
-use crate::judge;
-use rrc_history::Entry;
+use rrc_history::{Body, Entry, span};
 use rrc_name::Key;
 use std::alloc::{AllocError, Global};
 use std::cmp::Ordering;
@@ -27,6 +27,26 @@ pub(crate) struct Death {
     pub(crate) key: Key,
 }
 
+/// The moment from which on a body of a moment can answer no more. One that may not answer for a second is dead at every moment, also
+/// before its own.
+pub(crate) fn dies_at(body: &Body, moment: u64, stale: u64) -> u64
+    requires { stale ≤ 604800 }
+    ensures { result ≡ dies_at stale body.now moment }
+{
+    match span(body, stale) {
+        0 => 0,
+        span => moment.saturating_add(span),
+    }
+}
+
+/// The moment from which on an entry can answer no more.
+pub(crate) fn time_of_death(entry: &Entry, stale: u64) -> u64
+    requires { stale ≤ 604800 }
+    ensures { result ≡ time_of_death stale entry.now }
+{
+    dies_at(&entry.body, entry.moment, stale)
+}
+
 impl Death {
     ghost use Rattle.rrc_cache.specs.Deaths.{death_of};
 
@@ -36,7 +56,7 @@ impl Death {
         ensures { IfOk result (λ death. death ≡ death_of stale entry.now) }
     {
         Ok(Death {
-            time: judge::time_of_death(entry, stale),
+            time: time_of_death(entry, stale),
             key: entry.key.clone()?,
         })
     }

@@ -1,11 +1,11 @@
 ghost use Rattle.std.specs.Prelude.{◌≡◌, ◌≤◌, length, true, IfOk, OnErr};
 ghost use Rattle.rrc_history.specs.Fits.{fits};
 ghost use Rattle.rrc_history.specs.Past.{entry_of};
+ghost use Rattle.rrc_cache.specs.Keyed.{name_hash};
 ghost use Rattle.rrc_cache.specs.Taken.{IsPlaced, IsTaken};
 
-use crate::judge;
 use crate::store::{Leaving, Store};
-use rrc_history::{Entry, Offer, Outcome};
+use rrc_history::{Entry, Offer, Outcome, verdict};
 use rrc_name::{Key, KeyRef};
 use std::alloc::AllocError;
 
@@ -23,7 +23,13 @@ fn entry_of(offer: &Offer, number: u64) -> Result<Entry, AllocError>
 
 /// Puts an entry in front, and removes the key touched least recently where there are then more than there may be. An `Err`
 /// leaves the entries as they were.
-fn place(store: &mut Store, entry: Entry, capacity: u64) -> Result<Option<Key>, AllocError>
+fn place(
+    store: &mut Store,
+    hash: u64,
+    entry: Entry,
+    capacity: u64,
+) -> Result<Option<Key>, AllocError>
+    requires hash { hash ≡ name_hash store.old.seeded entry.key.name }
     requires some { 1 ≤ capacity }
     requires room { length store.old.entries ≤ capacity }
     ensures ok { IfOk result (λ evicted. IsPlaced capacity entry store.old.entries evicted store.new.entries) }
@@ -32,7 +38,7 @@ fn place(store: &mut Store, entry: Entry, capacity: u64) -> Result<Option<Key>, 
 {
     // The length is read for what it tells: no two entries have the same key.
     let _ = store.len();
-    store.put(entry)?;
+    store.put(hash, entry)?;
     if store.len() as u64 > capacity {
         Ok(store.remove_last())
     } else {
@@ -40,7 +46,7 @@ fn place(store: &mut Store, entry: Entry, capacity: u64) -> Result<Option<Key>, 
     }
 }
 
-/// Judges an offer, and changes the entries as its outcome says. An `Err` leaves them as they were.
+/// Judges an offer, and changes the entries as its outcome says. Its name is hashed once. An `Err` leaves them as they were.
 pub(crate) fn take(
     store: &mut Store,
     offer: &Offer,
@@ -55,17 +61,18 @@ pub(crate) fn take(
     ensures err { OnErr result (store.new ≡ store.old) }
 {
     let key = KeyRef::of(&offer.key);
-    let held = store.get(key);
-    let outcome = judge::verdict(held, offer);
+    let hash = store.hash_of(key.name);
+    let held = store.get(hash, key);
+    let outcome = verdict(held, offer);
     let evicted = match (outcome, held) {
-        (Outcome::Kept, Some(entry)) => {
-            let leaving = Leaving::of(entry, store.stale());
-            store.replace(offer, number, leaving)?;
+        (Outcome::Kept, Some(held)) => {
+            let leaving = Leaving::of(held, store.stale());
+            store.replace(hash, offer, number, leaving)?;
             None
         }
-        (Outcome::Kept, None) => place(store, entry_of(offer, number)?, capacity)?,
+        (Outcome::Kept, None) => place(store, hash, entry_of(offer, number)?, capacity)?,
         (Outcome::Cleared, _) => {
-            store.remove(key);
+            store.remove(hash, key);
             None
         }
         (Outcome::LessTrusted, _) => None,

@@ -1,29 +1,27 @@
-ghost use Rattle.std.specs.Prelude.{◌≡◌, IsSome, OnOk, OnErr};
-ghost use Rattle.std.specs.Map.{lookup};
-ghost use Rattle.lru.specs.LruCache.{lru_cache, put_entries};
-ghost use Rattle.rrc_name.specs.Key.{key_eq};
+ghost use Rattle.std.specs.Prelude.{◌≡◌, IfSome, IsSome, OnOk, OnErr};
+ghost use Rattle.std.specs.Map.{lookup, set_value};
+ghost use Rattle.lru.specs.LruCache.{lru_cache, promoted};
 ghost use Rattle.rrc_history.specs.Past.{entry_of};
-ghost use Rattle.rrc_cache.specs.Pairs.{AreOwn};
+ghost use Rattle.rrc_cache.specs.Keyed.{hashed_eq, hashed_of};
 
-use crate::seeded::Seeded;
+use crate::hashed::{HashedKey, HashedRef};
 use lru::LruCache;
 use rrc_history::{Body, Entry, Offer};
-use rrc_name::{Key, KeyRef};
 use std::alloc::AllocError;
 
 /// Writes what an offer stores over the entry of its key, and moves that to the front. It is written where it stands, so that where memory
 /// is refused nothing has moved: an `Err` leaves all as it was.
 pub(crate) fn overwrite(
-    cache: &mut LruCache<Key, Entry, Seeded>,
+    cache: &mut LruCache<HashedKey, Entry>,
+    key: HashedRef<'_>,
     offer: &Offer,
     number: u64,
 ) -> Result<(), AllocError>
-    requires own { AreOwn cache.old.entries }
-    requires held { IsSome (lookup (key_eq offer.now.key) cache.old.entries) }
-    ensures ok { OnOk result (cache.new ≡ lru_cache (put_entries key_eq cache.old offer.now.key (entry_of offer.now number)) cache.old.cap) }
+    requires own { IfSome (lookup (hashed_eq (hashed_of key)) cache.old.entries) (λ entry. entry.key ≡ offer.now.key) }
+    requires held { IsSome (lookup (hashed_eq (hashed_of key)) cache.old.entries) }
+    ensures ok { OnOk result (cache.new ≡ lru_cache (promoted (hashed_eq (hashed_of key.entry)) (set_value (hashed_eq (hashed_of key.entry)) cache.old.entries (entry_of offer.now number))) cache.old.cap) }
     ensures err { OnErr result (cache.new ≡ cache.old) }
 {
-    let key = KeyRef::of(&offer.key);
     if let Some(entry) = cache.peek_mut(key) {
         write_entry(entry, offer, number)?;
     }

@@ -1,10 +1,12 @@
 ghost use Rattle.std.specs.Prelude.{◌≡◌, ◌<◌, ◌≤◌, ◌↔◌, ◌++◌, ◌∷◌, [], None, length, IsTrue, IfOk, IfErr, OnOk, OnErr, Err};
 
 use crate::refusal::Refusal;
-use crate::reply::ReplyRef;
+use crate::seeded::Seeded;
 use crate::store::Store;
 use crate::{ahead, answer, closing, entries, judge, sweep};
-use rrc_history::{Ask, Chapter, Event, LAST_MOMENT, Offer, Outcome, Reply, Rules, Snapshot, Tag};
+use rrc_history::{
+    Ask, Chapter, Event, LAST_MOMENT, Offer, Outcome, Reply, ReplyRef, Rules, Snapshot, Tag,
+};
 use rrc_name::{Sequence, Shared};
 use std::alloc::Global;
 use std::marker::Model;
@@ -40,9 +42,9 @@ impl Model for Part {
 
 impl Part {
     ghost use Rattle.rrc_cache.specs.Part.{past_of, next_number, Closes, HasRoom, IsCloseDue, IsDue, IsOfMoments, IsSound, WritesOffer, WritesAsk, WritesSweep};
-    ghost use Rattle.rrc_cache.specs.Reply.{reply_in};
     ghost use Rattle.rrc_cache.specs.Sizes.{HoldsKeys};
     ghost use Rattle.rrc_history.specs.Past.{reply_to};
+    ghost use Rattle.rrc_history.specs.Views.{reply_in};
 
     /// An empty part in the first chapter of its history. Its seed is `KNOWN_SEED`: for names that anyone may send, `seeded`
     /// takes one that nobody knows.
@@ -55,8 +57,8 @@ impl Part {
         Part::seeded(alloc, rules, KNOWN_SEED)
     }
 
-    /// An empty part in the first chapter of its history, whose keys are hashed behind a seed. Under a seed that nobody can
-    /// foresee nobody can pick names that make it slow. No reply depends on the seed.
+    /// An empty part in the first chapter of its history, whose names are hashed by SipHash-1-3 with the seed as its key. Under a
+    /// seed that nobody can foresee nobody can pick names that make it slow. No reply depends on the seed.
     pub fn seeded(alloc: Global, rules: Rules, seed: [u8; 16]) -> Result<Part, Refusal>
         ensures number { IfOk result (λ part. part.number ≡ 1) }
         ensures empty { IfOk result (λ part. part.events ≡ []) }
@@ -67,7 +69,7 @@ impl Part {
             number: 1,
             snapshot: closing::nothing(alloc, rules)?,
             events: Vec::new(alloc),
-            store: Store::new(alloc, seed, rules)?,
+            store: Store::new(alloc, Seeded::new(seed), rules)?,
         })
     }
 
@@ -116,7 +118,8 @@ impl Part {
     pub fn would_answer(&self, ask: &Ask) -> ReplyRef<'_>
         ensures { reply_in result ≡ reply_to self.now.snapshot (past_of self.now) ask.now }
     {
-        judge::judge(&self.store, ask, self.snapshot.rules().stale).0
+        let hash = self.store.hash_of(&ask.name);
+        judge::judge(&self.store, hash, ask, self.snapshot.rules().stale).0
     }
 
     /// Keeps the body of an offer under its key, or says why not, and appends one event that tells it.
@@ -155,9 +158,10 @@ impl Part {
         self.admit(ask.moment)?;
         self.events.reserve(1)?;
         let stale = self.snapshot.rules().stale;
-        let (reply, asked, slot) = answer::answer(&self.store, ask, stale)?;
+        let hash = self.store.hash_of(&ask.name);
+        let (reply, asked, slot) = answer::answer(&self.store, hash, ask, stale)?;
         let event = answer::event_of(tag, asked, &reply)?;
-        answer::touch(&mut self.store, ask, slot);
+        answer::touch(&mut self.store, hash, ask, slot);
         self.events.push_reserved(event);
         Ok(reply)
     }

@@ -7,6 +7,7 @@ ghost use Rattle.rrc_cache.specs.Calls.{Leaves, IsMadeAgain, evicted_eq, moment_
 ghost use Rattle.rrc_cache.specs.Rechecks.{IsFault};
 
 use crate::part::KNOWN_SEED;
+use crate::seeded::Seeded;
 use crate::store::Store;
 use crate::{answer, entries, sweep};
 use rrc_history::{Event, FirstBad, LAST_MOMENT, Outcome, Rules, Snapshot};
@@ -57,7 +58,7 @@ pub fn recheck_seeded(
     ensures ok { OnOk result (IsLegal snapshot.now (reverse events.now)) }
     ensures err { IfErr result (IsFault snapshot.now events.now) }
 {
-    let mut store = Store::of(alloc, seed, snapshot)?;
+    let mut store = Store::of(alloc, Seeded::new(seed), snapshot)?;
     for (place, event) in events.iter().enumerate() {
         if !is_right(alloc, &mut store, snapshot, &events[..place], event)? {
             return Err(RecheckFault::FirstBad(FirstBad(place)));
@@ -126,8 +127,9 @@ fn is_made_again(
             Ok(is_told(became, &went, *outcome, evicted))
         }
         Event::Asked { ask, reply, .. } => {
-            let (same, slot) = answer::compare(store, ask, rules.stale, reply);
-            answer::touch(store, ask, slot);
+            let hash = store.hash_of(&ask.name);
+            let (same, slot) = answer::compare(store, hash, ask, rules.stale, reply);
+            answer::touch(store, hash, ask, slot);
             Ok(same)
         }
         Event::Swept { moment, gone, .. } => {
@@ -142,18 +144,7 @@ fn is_made_again(
 fn is_told(became: Outcome, went: &Option<Key>, outcome: Outcome, evicted: &Option<Key>) -> bool
     ensures { result ≡ (outcome_eq became outcome && evicted_eq went.now evicted.now) }
 {
-    is_same_outcome(became, outcome) && is_same_key(went, evicted)
-}
-
-fn is_same_outcome(outcome: Outcome, other: Outcome) -> bool
-    ensures { result ≡ outcome_eq outcome other }
-{
-    match (outcome, other) {
-        (Outcome::Kept, Outcome::Kept) => true,
-        (Outcome::Cleared, Outcome::Cleared) => true,
-        (Outcome::LessTrusted, Outcome::LessTrusted) => true,
-        _ => false,
-    }
+    became == outcome && is_same_key(went, evicted)
 }
 
 fn is_same_key(key: &Option<Key>, other: &Option<Key>) -> bool

@@ -1,8 +1,7 @@
-ghost use Rattle.std.specs.Prelude.{◌≡◌, ◌-◌, ◌<◌, ◌≤◌, [], ◌∷◌, Some, None, length, take, nat_le, true, false, if◌then◌else◌, IfOk, OnOk, OnErr};
+ghost use Rattle.std.specs.Prelude.{◌≡◌, ℕ, ◌-◌, ◌<◌, ◌≤◌, [], ◌∷◌, Some, None, length, take, nat_le, true, false, if◌then◌else◌, IfOk, OnOk, OnErr};
 ghost use Rattle.std.specs.Map.{lookup};
-ghost use Rattle.std.specs.Option.{option_copied, option_map};
+ghost use Rattle.std.specs.Option.{option_map};
 ghost use Rattle.lru.specs.LruCache.{lru_cache, put_entries, promoted as lru_promoted};
-ghost use Rattle.rrc_name.specs.declared.slot.Slot.{Slot};
 ghost use Rattle.rrc_name.specs.Key.{KeyOf, key_eq};
 ghost use Rattle.rrc_name.specs.KeyRef.{key_of};
 ghost use Rattle.rrc_history.specs.Lives.{LAST_MOMENT};
@@ -10,18 +9,21 @@ ghost use Rattle.rrc_history.specs.Past.{entry_at, entry_of, is_among, last_key}
 ghost use Rattle.rrc_history.specs.Right.{is_swept};
 ghost use Rattle.rrc_history.specs.Sound.{AreSound};
 ghost use Rattle.rrc_history.specs.Entries.{AreApart, goes, keys_of_dead, promoted, staying};
-ghost use Rattle.rrc_cache.specs.Beside.{AreMarked, is_beside};
+ghost use Rattle.rrc_history.specs.Views.{held_in};
+ghost use Rattle.rrc_cache.specs.Beside.{AreMarked, IsMarked, beside_of, is_beside, is_marked};
 ghost use Rattle.rrc_cache.specs.Deaths.{dead_among, deaths_of, is_gone_by, leaving_of};
+ghost use Rattle.rrc_cache.specs.Keyed.{hashed_entries, name_hash};
 ghost use Rattle.rrc_cache.specs.Pairs.{entries_in, AreOwn};
 
-use crate::beside::Beside;
-use crate::deaths::{Death, Deaths};
+use crate::ahead;
+use crate::beside::{Beside, is_beside};
+use crate::deaths::{self, Death, Deaths};
 use crate::followed::{self, Followed};
-use crate::overwriting::overwrite;
+use crate::hashed::HashedKey;
+use crate::keyed::Keyed;
 use crate::seeded::Seeded;
-use crate::{ahead, judge};
 use lru::LruCache;
-use rrc_history::{Entry, EntryList, Offer, Rules, Snapshot};
+use rrc_history::{Entry, EntryList, Held, Offer, Rules, Snapshot};
 use rrc_name::{Key, KeyRef, Name, Shared};
 use std::alloc::{AllocError, Global};
 use std::marker::Model;
@@ -34,23 +36,24 @@ pub(crate) struct Leaving {
 }
 
 impl Leaving {
-    pub(crate) fn of(entry: &Entry, stale: u64) -> Leaving
+    pub(crate) fn of(held: Held<'_>, stale: u64) -> Leaving
         requires { stale ≤ 604800 }
-        ensures { result ≡ leaving_of stale entry.now }
+        ensures { result ≡ leaving_of stale (held_in held.entry) }
     {
         Leaving {
-            number: entry.number,
-            dies: judge::time_of_death(entry, stale),
+            number: held.number,
+            dies: deaths::dies_at(held.body, held.moment, stale),
         }
     }
 }
 
-/// Entries by key, and deaths by time. Contracts see for how many seconds a set may be stale, and the list of the entries,
-/// the key touched last first. A look-up takes no memory, and a call takes about as long in a large store as in a small one, on
+/// Entries by key, and deaths by time. Contracts see the seed that names are hashed behind, for how many seconds a set may be stale,
+/// and the list of the entries, the key touched last first. Who looks up tells the hash of the name too (`hash_of`), so that a call
+/// hashes its name once. A look-up takes no memory, and a call takes about as long in a large store as in a small one, on
 /// the average over many puts: after twice as many as there are entries the deaths may be made anew.
 #[derive(Debug, Drop)]
 pub struct Store {
-    cache: LruCache<Key, Entry, Seeded>,
+    cache: Keyed,
     /// When entries may die.
     deaths: Deaths,
     /// Of which names something may be kept beside their sets.
@@ -63,50 +66,47 @@ pub struct Store {
 
 impl Model for Store {
     ghost use Rattle.rrc_cache.specs.Followed.{IsFollowed};
+    ghost use Rattle.rrc_cache.specs.Beside.{beside_of};
     ghost use Rattle.rrc_cache.specs.Pairs.{entries_in, IsStore, StoreOf};
 
     ghost Value = { StoreOf };
 
-    ghost view = { λ s. record { stale = s.stale; entries = entries_in s.cache.entries } };
+    ghost view = { λ s. record { seeded = s.cache.seeded; stale = s.stale; entries = entries_in s.cache.map.entries } };
 
-    ghost invariant = { λ s. IsStore s.stale s.cache s.deaths s.beside × IsFollowed s.followed (entries_in s.cache.entries) };
+    ghost invariant = { λ s. IsStore s.stale s.cache.map s.deaths (beside_of s.cache.seeded s.beside) × IsFollowed s.followed (entries_in s.cache.map.entries) };
 }
 
 impl Store {
-    /// No entries. Keys are hashed behind the seed, and sets may be stale for as many seconds as the rules say. There are two to
+    /// No entries. Names are hashed behind the seed, and sets may be stale for as many seconds as the rules say. There are two to
     /// four marks for each key that may be kept.
-    pub(crate) fn new(alloc: Global, seed: [u8; 16], rules: Rules) -> Result<Store, AllocError>
-        ensures { IfOk result (λ store. store ≡ record { stale = rules.stale; entries = [] }) }
+    pub(crate) fn new(alloc: Global, seeded: Seeded, rules: Rules) -> Result<Store, AllocError>
+        ensures { IfOk result (λ store. store ≡ record { seeded = seeded; stale = rules.stale; entries = [] }) }
     {
-        let seeded = Seeded::new(seed);
         Ok(Store {
-            cache: LruCache::unbounded_with_hasher(alloc, seeded)?,
+            cache: Keyed::new(alloc, seeded)?,
             deaths: Deaths::new(alloc),
-            beside: Beside::new(
-                alloc,
-                seeded,
-                (2 * rules.capacity as usize).next_power_of_two(),
-            )?,
+            beside: Beside::new(alloc, (2 * rules.capacity as usize).next_power_of_two())?,
             stale: rules.stale,
             followed: None,
         })
     }
 
-    /// The entries of a snapshot, in their order, with keys hashed behind the seed.
+    /// The entries of a snapshot, in their order, with names hashed behind the seed.
     pub(crate) fn of(
         alloc: Global,
-        seed: [u8; 16],
+        seeded: Seeded,
         snapshot: &Snapshot,
     ) -> Result<Store, AllocError>
-        ensures ok { IfOk result (λ store. store ≡ record { stale = snapshot.now.rules.stale; entries = snapshot.now.entries }) }
+        ensures ok { IfOk result (λ store. store ≡ record { seeded = seeded; stale = snapshot.now.rules.stale; entries = snapshot.now.entries }) }
         ensures sound { AreSound snapshot.now.rules.capacity snapshot.now.first snapshot.now.entries }
     {
         let rules = snapshot.rules();
         let entries = &snapshot.entries;
-        let mut store = Store::new(alloc, seed, rules)?;
+        let mut store = Store::new(alloc, seeded, rules)?;
         // The last one first, since each is put in front.
         for place in (0..entries.len()).rev() {
-            store.put(entries.entry(place).clone()?)?;
+            let entry = entries.entry(place).clone()?;
+            store.put(seeded.hash_of(&entry.key.name), entry)?;
         }
         Ok(store)
     }
@@ -119,20 +119,32 @@ impl Store {
         self.cache.len()
     }
 
-    /// The entry of a key. It moves nothing.
-    pub(crate) fn get(&self, key: KeyRef<'_>) -> Option<&Entry>
-        ensures { option_copied result ≡ entry_at (key_of key.entry) self.now.entries }
+    /// The hash of a name, by which its keys are looked up.
+    pub(crate) fn hash_of(&self, name: &Name) -> u64
+        ensures { result ≡ name_hash self.now.seeded name.now }
     {
-        let held = self.cache.peek(key);
-        ahead::load_held(held);
-        held
+        self.cache.hash_of(name)
     }
 
-    /// Whether something may be kept of a name beside its sets. Where not, no look-up finds any of that.
-    pub(crate) fn may_hold_beside(&self, name: &Name) -> bool
-        ensures { result ≡ false → (slot : Slot) → is_beside slot ≡ true → entry_at (record { name = name.now; slot = slot }) self.now.entries ≡ None }
+    /// What a key holds, whose name has the hash. It moves nothing.
+    pub(crate) fn get(&self, hash: u64, key: KeyRef<'_>) -> Option<Held<'_>>
+        requires { hash ≡ name_hash self.now.seeded (key_of key).name }
+        ensures { option_map held_in result ≡ entry_at (key_of key.entry) self.now.entries }
     {
-        self.beside.may_hold(name)
+        match self.cache.peek(hash, key) {
+            Some(entry) => {
+                ahead::load_data(&entry.body);
+                Some(Held::of(entry))
+            }
+            None => None,
+        }
+    }
+
+    /// Whether something may be kept of a name that has the hash beside its sets. Where not, no look-up finds any of that.
+    pub(crate) fn may_hold_beside(&self, hash: u64) -> bool
+        ensures { result ≡ false → (key : KeyOf) → hash ≡ name_hash self.now.seeded key.name → is_beside key.slot ≡ true → entry_at key self.now.entries ≡ None }
+    {
+        self.beside.may_hold(hash)
     }
 
     /// The keys of the dead entries, some perhaps more than once. It looks at the deaths that came since the last time, however many
@@ -161,9 +173,10 @@ impl Store {
             if self.deaths.is_repeated(&death) {
                 return;
             }
-            match self.cache.peek(KeyRef::of(&death.key)) {
+            let key = KeyRef::of(&death.key);
+            match self.cache.peek(self.cache.hash_of(key.name), key) {
                 Some(entry) => {
-                    let time = judge::time_of_death(entry, self.stale);
+                    let time = deaths::time_of_death(entry, self.stale);
                     let key = death.key;
                     self.deaths.add(Death { time, key });
                 }
@@ -189,7 +202,7 @@ impl Store {
         ensures { IfOk result (λ entries. entries ≡ self.now.entries) }
     {
         let left = followed::left(alloc, &self.followed)?;
-        let front = first_entries(alloc, &self.cache, self.cache.len() - left.len())?;
+        let front = first_entries(alloc, self.cache.held(), self.cache.len() - left.len())?;
         left.led_by(alloc, front)
     }
 
@@ -223,11 +236,12 @@ impl Store {
     }
 
     /// Puts an entry in front, in the place of the one that its key had. An `Err` leaves all as it was.
-    pub(crate) fn put(&mut self, entry: Entry) -> Result<(), AllocError>
+    pub(crate) fn put(&mut self, hash: u64, entry: Entry) -> Result<(), AllocError>
+        requires { hash ≡ name_hash self.old.seeded entry.key.name }
         ensures ok { OnOk result (self.new ≡ record self.old { entries = entry ∷ staying (goes entry.key None) self.old.entries }) }
         ensures err { OnErr result (self.new ≡ self.old) }
     {
-        self.put_foreseen(entry)?;
+        self.put_foreseen(hash, entry)?;
         self.tidy();
         Ok(())
     }
@@ -237,15 +251,17 @@ impl Store {
     /// anew. An `Err` leaves all as it was.
     pub(crate) fn replace(
         &mut self,
+        hash: u64,
         offer: &Offer,
         number: u64,
         leaving: Leaving,
     ) -> Result<(), AllocError>
+        requires hash { hash ≡ name_hash self.old.seeded offer.now.key.name }
         requires held { option_map (leaving_of self.old.stale) (entry_at offer.now.key self.old.entries) ≡ Some leaving }
         ensures ok { OnOk result (self.new ≡ record self.old { entries = entry_of offer.now number ∷ staying (goes offer.now.key None) self.old.entries }) }
         ensures err { OnErr result (self.new ≡ self.old) }
     {
-        self.replace_foreseen(offer, number, leaving)?;
+        self.replace_foreseen(hash, offer, number, leaving)?;
         self.tidy();
         Ok(())
     }
@@ -258,23 +274,24 @@ impl Store {
             self.renew();
         }
         if self.beside.is_worn() {
-            mark_anew(&mut self.beside, &self.cache);
+            mark_anew(&mut self.beside, self.cache.held(), self.cache.seeded());
         }
     }
 
     /// Puts an entry in front, and sees to it that a death comes no later than it dies, and that its name is marked where it stands
     /// beside the sets.
-    fn put_foreseen(&mut self, entry: Entry) -> Result<(), AllocError>
+    fn put_foreseen(&mut self, hash: u64, entry: Entry) -> Result<(), AllocError>
+        requires { hash ≡ name_hash self.old.seeded entry.key.name }
         ensures ok { OnOk result (self.new ≡ record self.old { entries = entry ∷ staying (goes entry.key None) self.old.entries }) }
         ensures err { OnErr result (self.new ≡ self.old) }
     {
-        let time = judge::time_of_death(&entry, self.stale);
+        let time = deaths::time_of_death(&entry, self.stale);
         // The length is read for what it tells: there is room, and no two entries have the same key.
         let _ = self.cache.len();
         self.deaths.reserve()?;
-        self.beside.note(&entry.key);
+        self.beside.note(hash, &entry.key);
         let number = entry.number;
-        let (key, old) = put_over(&mut self.cache, entry)?;
+        let (key, old) = put_over(&mut self.cache, hash, entry)?;
         followed::note_put(&mut self.followed, followed::number_of(&old), number);
         if !is_gone_by(old, self.stale, time) {
             let death = Death { time, key };
@@ -286,20 +303,22 @@ impl Store {
     /// Puts what an offer stores in front, where its key has an entry, and sees to it that a death comes no later than it dies.
     fn replace_foreseen(
         &mut self,
+        hash: u64,
         offer: &Offer,
         number: u64,
         leaving: Leaving,
     ) -> Result<(), AllocError>
+        requires hash { hash ≡ name_hash self.old.seeded offer.now.key.name }
         requires held { option_map (leaving_of self.old.stale) (entry_at offer.now.key self.old.entries) ≡ Some leaving }
         ensures ok { OnOk result (self.new ≡ record self.old { entries = entry_of offer.now number ∷ staying (goes offer.now.key None) self.old.entries }) }
         ensures err { OnErr result (self.new ≡ self.old) }
     {
-        let time = judge::dies_at(&offer.body, offer.moment, self.stale);
+        let time = deaths::dies_at(&offer.body, offer.moment, self.stale);
         // The length is read for what it tells: there is room, and no two entries have the same key.
         let _ = self.cache.len();
         self.deaths.reserve()?;
         let death = death_before(leaving, &offer.key, time)?;
-        overwrite(&mut self.cache, offer, number)?;
+        self.cache.overwrite(hash, offer, number)?;
         followed::note_put(&mut self.followed, Some(leaving.number), number);
         if let Some(death) = death {
             self.deaths.add(death);
@@ -311,29 +330,31 @@ impl Store {
     fn renew(&mut self)
         ensures { self.new ≡ self.old }
     {
-        let alloc = *self.cache.allocator();
-        if let Ok(deaths) = deaths_of(alloc, &self.cache, self.stale) {
+        let alloc = self.cache.allocator();
+        if let Ok(deaths) = deaths_of(alloc, self.cache.held(), self.stale) {
             self.deaths = Deaths::of(alloc, deaths);
         }
     }
 
     /// Moves the entry of a key to the front.
-    pub(crate) fn promote(&mut self, key: KeyRef<'_>)
+    pub(crate) fn promote(&mut self, hash: u64, key: KeyRef<'_>)
+        requires { hash ≡ name_hash self.old.seeded (key_of key).name }
         ensures { self.new ≡ record self.old { entries = promoted (key_of key.entry) self.old.entries } }
     {
         // The length is read for what it tells: no two entries have the same key.
         let _ = self.cache.len();
-        let moved = promote(&mut self.cache, key);
+        let moved = promote(&mut self.cache, hash, key);
         followed::note_gone(&mut self.followed, moved);
     }
 
     /// Removes the entry of a key.
-    pub(crate) fn remove(&mut self, key: KeyRef<'_>)
+    pub(crate) fn remove(&mut self, hash: u64, key: KeyRef<'_>)
+        requires { hash ≡ name_hash self.old.seeded (key_of key).name }
         ensures { self.new ≡ record self.old { entries = staying (goes (key_of key.entry) None) self.old.entries } }
     {
         // The length is read for what it tells: no two entries have the same key.
         let _ = self.cache.len();
-        let gone = followed::number_of(&self.cache.pop(key));
+        let gone = followed::number_of(&self.cache.pop(hash, key));
         followed::note_gone(&mut self.followed, gone);
     }
 
@@ -351,11 +372,13 @@ impl Store {
 }
 
 /// Moves the entry of a key to the front, and answers its number, if there is one.
-fn promote(cache: &mut LruCache<Key, Entry, Seeded>, key: KeyRef<'_>) -> Option<u64>
-    ensures cache { cache.new ≡ lru_cache (lru_promoted (key_eq (key_of key.entry)) cache.old.entries) cache.old.cap }
-    ensures number { result ≡ option_map (λ entry. entry.number) (lookup (key_eq (key_of key.entry)) cache.old.entries) }
+fn promote(cache: &mut Keyed, hash: u64, key: KeyRef<'_>) -> Option<u64>
+    requires { hash ≡ name_hash cache.old.seeded (key_of key).name }
+    ensures cache { cache.new.map ≡ lru_cache (lru_promoted (key_eq (key_of key.entry)) cache.old.map.entries) cache.old.map.cap }
+    ensures seeded { cache.new.seeded ≡ cache.old.seeded }
+    ensures number { result ≡ option_map (λ entry. entry.number) (lookup (key_eq (key_of key.entry)) cache.old.map.entries) }
 {
-    if !cache.promote(key) {
+    if !cache.promote(hash, key) {
         return None;
     }
     match cache.peek_mru() {
@@ -372,36 +395,18 @@ fn keys_of(entry: &Entry) -> Result<(Key, Key), AllocError>
     Ok((entry.key.clone()?, entry.key.clone()?))
 }
 
-/// Puts an entry in front under a key, and answers what that had. An `Err` leaves all as it was.
-fn push(
-    cache: &mut LruCache<Key, Entry, Seeded>,
-    key: Key,
-    entry: Entry,
-) -> Result<Option<Entry>, AllocError>
-    requires room { length cache.old.entries < cache.old.cap }
-    ensures old { IfOk result (λ old. old ≡ lookup (key_eq key) cache.old.entries) }
-    ensures entries { OnOk result (cache.new ≡ lru_cache (put_entries key_eq cache.old key entry) cache.old.cap) }
-    ensures err { OnErr result (cache.new ≡ cache.old) }
-{
-    match cache.push(key, entry)? {
-        Some((_, old)) => Ok(Some(old)),
-        None => Ok(None),
-    }
-}
-
 /// Puts an entry in front under its key, and answers one like that, and what it had. An `Err` leaves all as it was.
-fn put_over(
-    cache: &mut LruCache<Key, Entry, Seeded>,
-    entry: Entry,
-) -> Result<(Key, Option<Entry>), AllocError>
-    requires room { length cache.old.entries < cache.old.cap }
+fn put_over(cache: &mut Keyed, hash: u64, entry: Entry) -> Result<(Key, Option<Entry>), AllocError>
+    requires hash { hash ≡ name_hash cache.old.seeded entry.key.name }
+    requires room { length cache.old.map.entries < cache.old.map.cap }
     ensures key { IfOk result (λ told. told.0 ≡ entry.key) }
-    ensures old { IfOk result (λ told. told.1 ≡ lookup (key_eq entry.key) cache.old.entries) }
-    ensures entries { OnOk result (cache.new ≡ lru_cache (put_entries key_eq cache.old entry.key entry) cache.old.cap) }
+    ensures old { IfOk result (λ told. told.1 ≡ lookup (key_eq entry.key) cache.old.map.entries) }
+    ensures entries { OnOk result (cache.new.map ≡ lru_cache (put_entries key_eq cache.old.map entry.key entry) cache.old.map.cap) }
+    ensures seeded { cache.new.seeded ≡ cache.old.seeded }
     ensures err { OnErr result (cache.new ≡ cache.old) }
 {
     let (key, spare) = keys_of(&entry)?;
-    let old = push(cache, key, entry)?;
+    let old = cache.push(hash, key, entry)?;
     Ok((spare, old))
 }
 
@@ -424,20 +429,20 @@ fn is_gone_by(held: Option<Entry>, stale: u64, time: u64) -> bool
     ensures { result ≡ is_gone_by stale time held }
 {
     match held {
-        Some(entry) => judge::time_of_death(&entry, stale) <= time,
+        Some(entry) => deaths::time_of_death(&entry, stale) <= time,
         None => false,
     }
 }
 
 /// Whether what is kept under a key, if anything, is dead.
-fn is_dead(cache: &LruCache<Key, Entry, Seeded>, key: KeyRef<'_>, stale: u64, moment: u64) -> bool
-    requires own { AreOwn cache.now.entries }
+fn is_dead(cache: &Keyed, key: KeyRef<'_>, stale: u64, moment: u64) -> bool
+    requires own { AreOwn cache.now.map.entries }
     requires limit { stale ≤ 604800 }
     requires moment { moment ≤ LAST_MOMENT }
-    ensures { result ≡ is_swept stale (entry_at (key_of key.entry) (entries_in cache.now.entries)) moment }
+    ensures { result ≡ is_swept stale (entry_at (key_of key.entry) (entries_in cache.now.map.entries)) moment }
 {
-    match cache.peek(key) {
-        Some(entry) => judge::time_of_death(entry, stale) <= moment,
+    match cache.peek(cache.hash_of(key.name), key) {
+        Some(entry) => deaths::time_of_death(entry, stale) <= moment,
         None => false,
     }
 }
@@ -445,15 +450,15 @@ fn is_dead(cache: &LruCache<Key, Entry, Seeded>, key: KeyRef<'_>, stale: u64, mo
 /// The keys of deaths under which something dead is kept.
 fn dead_among(
     alloc: Global,
-    cache: &LruCache<Key, Entry, Seeded>,
+    cache: &Keyed,
     deaths: &[Death],
     stale: u64,
     moment: u64,
 ) -> Result<Vec<Key>, AllocError>
-    requires own { AreOwn cache.now.entries }
+    requires own { AreOwn cache.now.map.entries }
     requires limit { stale ≤ 604800 }
     requires moment { moment ≤ LAST_MOMENT }
-    ensures { IfOk result (λ keys. keys.items ≡ dead_among stale moment (entries_in cache.now.entries) deaths.now) }
+    ensures { IfOk result (λ keys. keys.items ≡ dead_among stale moment (entries_in cache.now.map.entries) deaths.now) }
 {
     let mut keys = Vec::new(alloc);
     for death in deaths {
@@ -465,23 +470,33 @@ fn dead_among(
 }
 
 /// Marks the names of which something is kept beside their sets, and no others.
-fn mark_anew(beside: &mut Beside, cache: &LruCache<Key, Entry, Seeded>)
-    ensures { AreMarked beside.new (entries_in cache.now.entries) }
+fn mark_anew(beside: &mut Beside, cache: &LruCache<HashedKey, Entry>, seeded: Seeded)
+    ensures { AreMarked (beside_of seeded beside.new) (hashed_entries cache.now.entries) }
 {
     beside.clear();
     for (_, entry) in cache.iter() {
-        beside.note(&entry.key);
+        note_entry(beside, seeded, entry);
     }
     beside.count_anew();
+}
+
+/// Marks the name of an entry that stands beside the sets.
+fn note_entry(beside: &mut Beside, seeded: Seeded, entry: &Entry)
+    ensures own { IsMarked (beside_of seeded beside.new) entry.now }
+    ensures others { (hash : ℕ) → is_marked beside.old hash ≡ true → is_marked beside.new hash ≡ true }
+{
+    if is_beside(entry.key.slot) {
+        beside.note(seeded.hash_of(&entry.key.name), &entry.key);
+    }
 }
 
 /// The first so many entries.
 fn first_entries(
     alloc: Global,
-    cache: &LruCache<Key, Entry, Seeded>,
+    cache: &LruCache<HashedKey, Entry>,
     count: usize,
 ) -> Result<Vec<Entry>, AllocError>
-    ensures { IfOk result (λ first. first.items ≡ take count (entries_in cache.now.entries)) }
+    ensures { IfOk result (λ first. first.items ≡ take count (hashed_entries cache.now.entries)) }
 {
     let mut first = Vec::with_capacity(alloc, count)?;
     for (_, entry) in cache.iter() {
@@ -496,11 +511,11 @@ fn first_entries(
 /// The deaths of the entries.
 fn deaths_of(
     alloc: Global,
-    cache: &LruCache<Key, Entry, Seeded>,
+    cache: &LruCache<HashedKey, Entry>,
     stale: u64,
 ) -> Result<Vec<Death>, AllocError>
     requires { stale ≤ 604800 }
-    ensures { IfOk result (λ deaths. deaths.items ≡ deaths_of stale (entries_in cache.now.entries)) }
+    ensures { IfOk result (λ deaths. deaths.items ≡ deaths_of stale (hashed_entries cache.now.entries)) }
 {
     let mut deaths = Vec::with_capacity(alloc, cache.len())?;
     for (_, entry) in cache.iter() {

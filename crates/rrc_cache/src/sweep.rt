@@ -39,7 +39,8 @@ pub(crate) fn remove(store: &mut Store, keys: &[Key])
     ensures { store.new ≡ record store.old { entries = staying (λ key. is_among key keys.now) store.old.entries } }
 {
     for key in keys {
-        store.remove(KeyRef::of(key));
+        let key = KeyRef::of(key);
+        store.remove(store.hash_of(key.name), key);
     }
     settle(store, keys.len());
 }

@@ -1,6 +1,7 @@
 -- How an audit looks at what was written: walks over the events, and tests of one event.
 use Rattle.std.specs.Prelude.{◌≡◌, ℕ, ◌+◌, ◌-◌, ◌^◌, ◌≤◌, List, [], ◌∷◌, length, Bool, true, false, not, ◌&&◌, ◌||◌, ◌==◌, nat_eq, nat_lt, nat_le, if◌then◌else◌, Option, Some, None}
 use Rattle.std.specs.List.{list_any, list_all}
+use Rattle.std.specs.Option.{option_eq}
 use Rattle.std.specs.Cmp.Lexicographic.{pointwise}
 use Rattle.std.specs.declared.cmp.Ordering.{Ordering}
 use Rattle.std.specs.declared.cmp.Ordering.TheVariants.{Less, Equal, Greater}
@@ -41,9 +42,7 @@ abbrev pub soa_eq : Soa → Soa → Bool
 soa_eq soa other = pointwise nat_eq soa.owner other.owner && pointwise nat_eq soa.octets other.octets
 
 abbrev pub moment_eq : Option ℕ → Option ℕ → Bool
-moment_eq None None = true
-moment_eq (Some moment) (Some other) = moment == other
-moment_eq moment other = false
+moment_eq moment other = option_eq nat_eq moment other
 
 abbrev pub reply_eq : Reply → Reply → Bool
 reply_eq (Fresh set left) (Fresh other other_left) = set_eq set other && left == other_left

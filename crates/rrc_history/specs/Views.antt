@@ -1,12 +1,12 @@
--- What is borrowed from a history, as the definitions speak of it.
+-- What is borrowed where it is kept, as the definitions speak of it.
 use Rattle.std.specs.Option.{option_map}
 use Rattle.rrc_history.specs.declared.event.Reply.{Reply}
-use Rattle.rrc_history.specs.declared.event.Reply.TheVariants.{Fresh, Stale, NoData, NxDomain}
+use Rattle.rrc_history.specs.declared.event.Reply.TheVariants.{Fresh, Stale, NoData, NxDomain, Miss}
 use Rattle.rrc_history.specs.declared.snapshot.Entry.{Entry}
 use Rattle.rrc_history.specs.declared.judge.Held.{Held}
 use Rattle.rrc_history.specs.declared.judge.Found.{Found}
-use Rattle.rrc_history.specs.declared.judge.ReplyRef.{ReplyRef}
-use Rattle.rrc_history.specs.declared.judge.ReplyRef.TheVariants.{Fresh as FreshRef, Stale as StaleRef, NoData as NoDataRef, NxDomain as NxDomainRef}
+use Rattle.rrc_history.specs.declared.reply.ReplyRef.{ReplyRef}
+use Rattle.rrc_history.specs.declared.reply.ReplyRef.TheVariants.{Fresh as FreshRef, Stale as StaleRef, NoData as NoDataRef, NxDomain as NxDomainRef, Miss as MissRef}
 use Rattle.rrc_history.specs.Judged as judged
 
 -- what a key holds, as the entry that it is
@@ -23,3 +23,4 @@ reply_in (FreshRef set left) = Fresh (record { owner = set.owner.now; items = se
 reply_in (StaleRef set left) = Stale (record { owner = set.owner.now; items = set.items.now }) left
 reply_in (NoDataRef soa left) = NoData (record { owner = soa.owner.now; octets = soa.octets.now }) left
 reply_in (NxDomainRef soa left) = NxDomain (record { owner = soa.owner.now; octets = soa.octets.now }) left
+reply_in (MissRef retry) = Miss retry

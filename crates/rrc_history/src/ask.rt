@@ -1,4 +1,4 @@
-use rrc_name::Name;
+use rrc_name::{KeyRef, Name, Slot};
 use std::alloc::AllocError;
 use std::marker::Model;
 
@@ -43,6 +43,22 @@ impl Model for Ask {
     ghost invariant = { λ a. IsFolded a.name };
 
     ghost inverse = { λ a. record { name = a.name; rtype = a.rtype; moment = a.moment; purpose = a.purpose; mode = a.mode } };
+}
+
+impl Ask {
+    ghost use Rattle.std.specs.Prelude.{◌≡◌};
+    ghost use Rattle.rrc_name.specs.KeyRef.{key_of};
+    ghost use Rattle.rrc_history.specs.Past.{key_at};
+
+    /// The key of a slot of the name, to look up with.
+    pub fn key_at(&self, slot: Slot) -> KeyRef<'_>
+        ensures { key_of result ≡ key_at self.now slot }
+    {
+        KeyRef {
+            name: &self.name,
+            slot,
+        }
+    }
 }
 
 impl Clone for Ask {

@@ -23,7 +23,7 @@ pub struct FirstBad(pub usize);
 /// Whether events, the oldest first, are a legal history from a snapshot: each has a number below 2^62, a moment of at most 2^40,
 /// and became, evicted, answered or removed just what it had to after those before it. Else the first that is not right is answered.
 ///
-/// It takes no memory. What a key held and when it was touched is looked up in what was written, so the time goes with the square of
+/// It is given no allocator. What a key held and when it was touched is looked up in what was written, so the time goes with the square of
 /// the number of events, and each eviction and each sweep looks up every key that was ever offered.
 pub fn audit(snapshot: &Snapshot, events: &[Event]) -> Result<(), FirstBad>
     ensures ok { OnOk result (IsLegal snapshot.now (reverse events.now)) }
@@ -75,7 +75,7 @@ fn is_right_offer(
         return false;
     }
     let held = past::held(snapshot, past, KeyRef::of(&offer.key));
-    is_same_outcome(outcome, judge::verdict(held, offer))
+    outcome == judge::verdict(held, offer)
         && is_rightly_evicted(snapshot, past, present, outcome, held.is_some(), evicted)
 }
 
@@ -95,17 +95,6 @@ fn is_right_sweep(snapshot: &Snapshot, past: &[Event], moment: u64, gone: &[Key]
     ensures { result ≡ is_right_sweep snapshot.now (reverse past.now) past.now moment gone.now }
 {
     moment <= LAST_MOMENT && are_in_order(gone) && are_dead(snapshot, past, moment, gone)
-}
-
-fn is_same_outcome(outcome: Outcome, other: Outcome) -> bool
-    ensures { result ≡ outcome_eq outcome other }
-{
-    match (outcome, other) {
-        (Outcome::Kept, Outcome::Kept) => true,
-        (Outcome::Cleared, Outcome::Cleared) => true,
-        (Outcome::LessTrusted, Outcome::LessTrusted) => true,
-        _ => false,
-    }
 }
 
 /// Whether an offer evicted what it had to: where it is kept under a new key and as many keys are held as may be, the one that was

@@ -1,56 +1,50 @@
-ghost use Rattle.std.specs.Prelude.{◌≡◌, ◌≤◌};
+ghost use Rattle.std.specs.Prelude.{◌≡◌, ◌≤◌, IfSome};
 ghost use Rattle.std.specs.Option.{option_map};
-ghost use Rattle.rrc_history.specs.Lives.{ttl_of, rank, rank_of, is_unexpired, is_dead, span};
+ghost use Rattle.rrc_history.specs.Lives.{ttl_of, rank, rank_of, is_unexpired, is_dead, span, IsTimely};
 ghost use Rattle.rrc_history.specs.Judged.{outranks, verdict, later_governs, governing, is_before, recent_failure, may_be_stale, may_serve, reply_of_living_set, reply_of_living_soa, reply_of_entry, reply_of, reply_by, retry_from, key_in, answering};
 ghost use Rattle.rrc_history.specs.declared.event.Reply.TheVariants.{Miss};
 ghost use Rattle.rrc_history.specs.Past.{is_evicted};
-ghost use Rattle.rrc_history.specs.Auditing.{set_eq, soa_eq, moment_eq, reply_eq};
+ghost use Rattle.rrc_history.specs.Auditing.{moment_eq, reply_eq};
 ghost use Rattle.rrc_history.specs.Views.{held_in, found_in, reply_in};
 
 use crate::ask::{Ask, Mode, Purpose};
 use crate::body::{Body, Trust};
-use crate::event::{Outcome, Reply, RrSet, Soa};
+use crate::event::{Outcome, Reply};
 use crate::offer::Offer;
-use rrc_name::{Key, Name, Octets, Sequence, Shared, Slot};
+use crate::reply::{ReplyRef, SetRef, SoaRef};
+use crate::snapshot::Entry;
+use rrc_name::{Key, Slot};
 
-/// What a key holds, where it stands: an entry of a snapshot, or the offer that stored it.
-#[derive(Clone, Copy)]
-pub(crate) struct Held<'a> {
+/// What a key holds, where that is kept: in an entry, or in the offer of a history that stored it. The moment is that of the offer, in
+/// seconds, the number that of its event.
+#[derive(Clone, Copy, Debug)]
+pub struct Held<'a> {
     pub key: &'a Key,
     pub body: &'a Body,
     pub moment: u64,
     pub number: u64,
 }
 
-/// What the three keys of an ask hold: the set of its type, that the name does not exist, that asking failed.
-#[derive(Clone, Copy)]
-pub(crate) struct Found<'a> {
+/// What the three keys of an ask hold: of its name the set of its type, that the name does not exist, that asking for the type failed.
+#[derive(Clone, Copy, Debug)]
+pub struct Found<'a> {
     pub set: Option<Held<'a>>,
     pub nx: Option<Held<'a>>,
     pub failed: Option<Held<'a>>,
 }
 
-/// The data of an RRset where they stand.
-#[derive(Clone, Copy)]
-pub(crate) struct SetRef<'a> {
-    pub owner: &'a Name,
-    pub items: &'a Shared<Sequence<Octets>>,
-}
-
-/// The SOA record of a negative answer where it stands.
-#[derive(Clone, Copy)]
-pub(crate) struct SoaRef<'a> {
-    pub owner: &'a Name,
-    pub octets: &'a Shared<Octets>,
-}
-
-/// A reply that borrows what a key holds.
-#[derive(Clone, Copy)]
-pub(crate) enum ReplyRef<'a> {
-    Fresh { set: SetRef<'a>, left: u32 },
-    Stale { set: SetRef<'a>, left: u32 },
-    NoData { soa: SoaRef<'a>, left: u32 },
-    NxDomain { soa: SoaRef<'a>, left: u32 },
+impl<'a> Held<'a> {
+    /// What an entry says that its key holds.
+    pub fn of(entry: &'a Entry) -> Held<'a>
+        ensures { held_in result ≡ entry.now }
+    {
+        Held {
+            key: &entry.key,
+            body: &entry.body,
+            moment: entry.moment,
+            number: entry.number,
+        }
+    }
 }
 
 /// The seconds that a stale answer is given (RFC 8767 section 4).
@@ -84,8 +78,9 @@ fn ttl_of(body: &Body) -> u32
     }
 }
 
-/// For how many seconds a body may answer: a set past its ttl as well, up to the stale limit (RFC 8767 section 4).
-fn span(body: &Body, stale: u64) -> u64
+/// For how many seconds from its moment on a body may answer: a set past its ttl as well, up to the stale limit in seconds (RFC 8767
+/// section 4).
+pub fn span(body: &Body, stale: u64) -> u64
     requires { stale ≤ 604800 }
     ensures { result ≡ span stale body.now }
 {
@@ -115,9 +110,9 @@ fn outranks(entry: Held<'_>, moment: u64, body: &Body) -> bool
     is_unexpired(entry, moment) && rank_of(body) < rank_of(entry.body)
 }
 
-/// What becomes of an offer where its key holds this: unexpired data of higher rank stay (RFC 2181 section 5.4.1), a ttl of 0
+/// What becomes of an offer where its key holds this, or nothing: unexpired data of higher rank stay (RFC 2181 section 5.4.1), a ttl of 0
 /// clears, and that asking failed is always kept.
-pub(crate) fn verdict(held: Option<Held<'_>>, offer: &Offer) -> Outcome
+pub fn verdict(held: Option<Held<'_>>, offer: &Offer) -> Outcome
     ensures { result ≡ verdict (option_map held_in held.entry) offer.now }
 {
     if let Body::Failure { .. } = offer.body {
@@ -140,9 +135,9 @@ fn later_governs<'a>(later: Held<'a>, earlier: Held<'a>, moment: u64) -> Held<'a
     }
 }
 
-/// Of two entries for a name and a type the later one, unless the earlier is unexpired and trusted more (RFC 2181 section
-/// 5.4.1, RFC 2308 section 5).
-fn governing<'a>(set: Option<Held<'a>>, nx: Option<Held<'a>>, moment: u64) -> Option<Held<'a>>
+/// Of what is held for a name and a type, a set or its denial and the denial of the name, the later one, unless the earlier is
+/// unexpired at the moment and trusted more (RFC 2181 section 5.4.1, RFC 2308 section 5).
+pub fn governing<'a>(set: Option<Held<'a>>, nx: Option<Held<'a>>, moment: u64) -> Option<Held<'a>>
     ensures { option_map held_in result ≡ governing (option_map held_in set.entry) (option_map held_in nx.entry) moment }
 {
     match (set, nx) {
@@ -165,8 +160,8 @@ fn is_before(other: Option<Held<'_>>, entry: Held<'_>) -> bool
     }
 }
 
-/// A failure that still lives, where nothing was learnt since (RFC 8767 section 5).
-fn recent_failure<'a>(found: Found<'a>, moment: u64) -> Option<Held<'a>>
+/// The failure, where it still lives at the moment and nothing was learnt since (RFC 8767 section 5).
+pub fn recent_failure<'a>(found: Found<'a>, moment: u64) -> Option<Held<'a>>
     ensures { option_map held_in result ≡ recent_failure (found_in found.entry) moment }
 {
     let failure = found.failed?;
@@ -192,6 +187,17 @@ fn may_serve(purpose: Purpose, body: &Body) -> bool
     match purpose {
         Purpose::Any => true,
         Purpose::Answer => rank_of(body) > 1,
+    }
+}
+
+/// From which moment on asking may be tried again, in seconds: once a recent failure's time is over. `None` where there is none.
+pub fn retry_from(failure: Option<Held<'_>>) -> Option<u64>
+    requires { IfSome (option_map held_in failure) IsTimely }
+    ensures { result ≡ retry_from (option_map held_in failure.entry) }
+{
+    match failure {
+        None => None,
+        Some(failure) => Some(failure.moment + u64::from(ttl_of(failure.body))),
     }
 }
 
@@ -279,8 +285,9 @@ fn reply_of_entry<'a>(
     }
 }
 
-/// The answer of the entry that governs, if there is one that may serve.
-fn reply_of<'a>(
+/// What an ask is answered from what governs, where there is something that may serve: glue answers no question (RFC 2181 section
+/// 5.4.1). A stale answer waits for a recent failure where the ask's mode says so (RFC 8767 section 5). `None` is a miss.
+pub fn reply_of<'a>(
     governing: Option<Held<'a>>,
     ask: &Ask,
     stale: u64,
@@ -294,60 +301,6 @@ fn reply_of<'a>(
         reply_of_entry(entry, ask, stale, failure)
     } else {
         None
-    }
-}
-
-impl SetRef<'_> {
-    fn is(self, set: &RrSet) -> bool
-        ensures { result ≡ set_eq (record { owner = self.entry.owner.now; items = self.entry.items.now }) set.now }
-    {
-        *self.owner == set.owner && *self.items == set.items
-    }
-}
-
-impl SoaRef<'_> {
-    fn is(self, soa: &Soa) -> bool
-        ensures { result ≡ soa_eq (record { owner = self.entry.owner.now; octets = self.entry.octets.now }) soa.now }
-    {
-        *self.owner == soa.owner && *self.octets == soa.octets
-    }
-}
-
-impl ReplyRef<'_> {
-    fn is(self, reply: &Reply) -> bool
-        ensures { result ≡ reply_eq (reply_in self.entry) reply.now }
-    {
-        match (self, reply) {
-            (
-                ReplyRef::Fresh { set, left },
-                Reply::Fresh {
-                    set: other,
-                    left: other_left,
-                },
-            ) => { set.is(other) && left == *other_left }
-            (
-                ReplyRef::Stale { set, left },
-                Reply::Stale {
-                    set: other,
-                    left: other_left,
-                },
-            ) => { set.is(other) && left == *other_left }
-            (
-                ReplyRef::NoData { soa, left },
-                Reply::NoData {
-                    soa: other,
-                    left: other_left,
-                },
-            ) => { soa.is(other) && left == *other_left }
-            (
-                ReplyRef::NxDomain { soa, left },
-                Reply::NxDomain {
-                    soa: other,
-                    left: other_left,
-                },
-            ) => { soa.is(other) && left == *other_left }
-            _ => false,
-        }
     }
 }
 

@@ -13,6 +13,7 @@ mod laws;
 mod offer;
 mod past;
 mod renewing;
+mod reply;
 mod rules;
 mod snapshot;
 
@@ -23,11 +24,13 @@ pub use chains::{ChainFault, Whole, chain, join_chained};
 pub use chapter::Chapter;
 pub use entry_list::{Entries, EntryList};
 pub use event::{Event, Outcome, Reply, RrSet, Soa, Tag};
+pub use judge::{Found, Held, governing, recent_failure, reply_of, retry_from, span, verdict};
 pub use laws::{
     calls_determine_the_history, legal_histories_keep_the_laws, same_snapshots_are_one,
     snapshots_lead_to_themselves, sound_entries_have_no_fault,
 };
 pub use offer::{Offer, OfferFault};
+pub use reply::{ReplyRef, SetRef, SoaRef};
 pub use rrc_name as name;
 pub use rules::{LAST_MOMENT, Rules};
 pub use snapshot::{Entry, Snapshot, SnapshotFault};

@@ -1,7 +1,7 @@
 ghost use Rattle.std.specs.Prelude.{◌≡◌, ◌+◌, ◌≤◌, ◌^◌, length, reverse};
 ghost use Rattle.std.specs.Option.{option_map};
 ghost use Rattle.rrc_name.specs.KeyRef.{key_of};
-ghost use Rattle.rrc_history.specs.Past.{held, touch, touched, entry_at, entry_of, place_of, is_among, is_evicted, key_at, found};
+ghost use Rattle.rrc_history.specs.Past.{held, touch, touched, entry_at, entry_of, place_of, is_among, is_evicted, found};
 ghost use Rattle.rrc_history.specs.Auditing.{held_after_event};
 ghost use Rattle.rrc_history.specs.Views.{held_in, found_in};
 
@@ -18,12 +18,7 @@ fn entry_at<'a>(key: KeyRef<'_>, entries: &'a EntryList) -> Option<Held<'a>>
 {
     for entry in entries {
         if key == KeyRef::of(&entry.key) {
-            return Some(Held {
-                key: &entry.key,
-                body: &entry.body,
-                moment: entry.moment,
-                number: entry.number,
-            });
+            return Some(Held::of(entry));
         }
     }
     None
@@ -108,25 +103,15 @@ pub(crate) fn held<'a>(
     held
 }
 
-/// A key of the name that an ask is about.
-fn key_at(ask: &Ask, slot: Slot) -> KeyRef<'_>
-    ensures { key_of result ≡ key_at ask.now slot }
-{
-    KeyRef {
-        name: &ask.name,
-        slot,
-    }
-}
-
 /// What the keys of an ask hold.
 pub(crate) fn found<'a>(snapshot: &'a Snapshot, past: &'a [Event], ask: &Ask) -> Found<'a>
     requires { snapshot.now.first + length past.now ≤ 2 ^ 62 }
     ensures { found_in result ≡ found snapshot.now (reverse past.now) ask.now }
 {
     Found {
-        set: held(snapshot, past, key_at(ask, Slot::Set(ask.rtype))),
-        nx: held(snapshot, past, key_at(ask, Slot::Nx)),
-        failed: held(snapshot, past, key_at(ask, Slot::Failed(ask.rtype))),
+        set: held(snapshot, past, ask.key_at(Slot::Set(ask.rtype))),
+        nx: held(snapshot, past, ask.key_at(Slot::Nx)),
+        failed: held(snapshot, past, ask.key_at(Slot::Failed(ask.rtype))),
     }
 }
 

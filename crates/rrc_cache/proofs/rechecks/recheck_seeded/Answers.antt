@@ -2,7 +2,7 @@ use Rattle.rrc_cache.proofs.Rechecked.{rechecked_first, rechecked_more, first_ba
 use Rattle.rrc_cache.proofs.rechecks.recheck_seeded.Goals as goal
 
 pub loop-place-init : goal.loop-place-init
-loop-place-init c = rechecked_first c.args.snapshot.now c.in_ok-store.store c.of.ensures.sound c.in_ok-store.ensures.ok
+loop-place-init c = rechecked_first c.args.snapshot.now c.new.result c.in_ok-store.store c.of.ensures.sound c.in_ok-store.ensures.ok
 
 pub returns-then-not-branch-clause-err : goal.returns-then-not-branch-clause-err
 returns-then-not-branch-clause-err c =

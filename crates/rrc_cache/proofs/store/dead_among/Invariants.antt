@@ -5,4 +5,4 @@ use Rattle.rrc_cache.specs.Pairs.{entries_in}
 use Rattle.rrc_cache.proofs.store.dead_among.Given as goal
 
 abbrev pub invariant-loop-death : goal.invariant-loop-death
-invariant-loop-death l = l.keys.items ≡ dead_among l.stale l.moment (entries_in l.cache.entries) (take l.death-index l.deaths)
+invariant-loop-death l = l.keys.items ≡ dead_among l.stale l.moment (entries_in l.cache.map.entries) (take l.death-index l.deaths)

@@ -1,9 +1,9 @@
 use Rattle.std.proofs.Common.{◌≡◌, ℕ, ◌+◌, ◌≤◌, List, [], ◌∷◌, ◌++◌, length, take, ap, sym, ◌∙◌, append_assoc, arith}
 use Rattle.std.proofs.Math.Seq.{take-append_seam}
 use Rattle.std.proofs.lemmas.List.{append-nil, length-append}
-use Rattle.rrc_name.specs.Key.{KeyOf}
 use Rattle.rrc_history.specs.declared.snapshot.Entry.{Entry}
-use Rattle.rrc_cache.specs.Pairs.{entries_in}
+use Rattle.rrc_cache.specs.declared.hashed.HashedKey.{HashedKey}
+use Rattle.rrc_cache.specs.Keyed.{hashed_entries}
 use Rattle.rrc_cache.proofs.Paired.{all_taken}
 use Rattle.rrc_cache.proofs.store.first_entries.Goals as goal
 
@@ -19,24 +19,24 @@ every all first count is few =
 
 pub returns-then-len-count : goal.returns-then-len-count
 returns-then-len-count c =
-    enough (entries_in c.args.cache.now.entries) c.loop-entry.first.items (entries_in c.loop-entry.entry-iterator) c.args.count c.loop-entry.invariant.0
+    enough (hashed_entries c.args.cache.now.entries) c.loop-entry.first.items (hashed_entries c.loop-entry.entry-iterator) c.args.count c.loop-entry.invariant.0
     (omega (arith, c.loop-entry.invariant.1, c.if-len-count.true, c.len.ensures))
 
 pub loop-entry-preserved : goal.loop-entry-preserved
 loop-entry-preserved c =
     let entry : Entry = c.in-Some.entry.now in
-    let rest : List (KeyOf × Entry) = c.next.new.self in
+    let rest : List (HashedKey × Entry) = c.next.new.self in
     let new : c.push.new.self.items ≡ c.loop-entry.first.items ++ entry ∷ [] =
     c.in_ok-push.ensures.items ∙ ap (λ (e : Entry). c.loop-entry.first.items ++ e ∷ []) c.in_ok-clone.ensures.cases in
     let longer : length c.push.new.self.items ≡ length c.loop-entry.first.items + 1 = ap length new ∙ length-append c.loop-entry.first.items (entry ∷ []) in (
       c.loop-entry.invariant.0
-          ∙ (ap (λ (ps : List (KeyOf × Entry)). c.loop-entry.first.items ++ entries_in ps) c.in-Some.ensures.steps
-          ∙ (sym (append_assoc c.loop-entry.first.items (entry ∷ []) (entries_in rest)) ∙ ap (λ es. es ++ entries_in rest) (sym new))),
+          ∙ (ap (λ (ps : List (HashedKey × Entry)). c.loop-entry.first.items ++ hashed_entries ps) c.in-Some.ensures.steps
+          ∙ (sym (append_assoc c.loop-entry.first.items (entry ∷ []) (hashed_entries rest)) ∙ ap (λ es. es ++ hashed_entries rest) (sym new))),
       omega (arith, longer, c.if-len-count.false, c.len.ensures),
     )
 
 pub returns : goal.returns
 returns c =
-    every (entries_in c.args.cache.now.entries) c.loop-entry.first.items c.args.count
+    every (hashed_entries c.args.cache.now.entries) c.loop-entry.first.items c.args.count
     (c.loop-entry.invariant.0
-    ∙ (ap (λ (ps : List (KeyOf × Entry)). c.loop-entry.first.items ++ entries_in ps) c.in-None.ensures.steps.0 ∙ append-nil c.loop-entry.first.items)) c.loop-entry.invariant.1
+    ∙ (ap (λ (ps : List (HashedKey × Entry)). c.loop-entry.first.items ++ hashed_entries ps) c.in-None.ensures.steps.0 ∙ append-nil c.loop-entry.first.items)) c.loop-entry.invariant.1

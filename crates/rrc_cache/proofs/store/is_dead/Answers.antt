@@ -13,14 +13,14 @@ use Rattle.rrc_cache.proofs.store.is_dead.Goals as goal
 pub returns-in-Some : goal.returns-in-Some
 returns-in-Some c =
     let key : KeyOf = key_of c.args.key in
-    let found : entry_at key (entries_in c.args.cache.now.entries) ≡ Some c.in-Some.entry.now =
-    sym (found_in_pairs key c.args.cache.now.entries c.requires.own) ∙ (sym c.peek.ensures ∙ ap option_copied c.in-Some.is) in
+    let found : entry_at key (entries_in c.args.cache.now.map.entries) ≡ Some c.in-Some.entry.now =
+    sym (found_in_pairs key c.args.cache.now.map.entries c.requires.own) ∙ (sym c.peek.ensures ∙ ap option_copied c.in-Some.is) in
     ap (λ time. nat_le time c.args.moment) c.time_of_death.ensures
     ∙ (dead_from c.args.stale c.args.moment c.in-Some.entry.now c.requires.moment ∙ ap (λ held. is_swept c.args.stale held c.args.moment) (sym found))
 
 pub returns-in-None : goal.returns-in-None
 returns-in-None c =
     let key : KeyOf = key_of c.args.key in
-    let none : entry_at key (entries_in c.args.cache.now.entries) ≡ None =
-    sym (found_in_pairs key c.args.cache.now.entries c.requires.own) ∙ (sym c.peek.ensures ∙ ap option_copied c.in-None.is) in
+    let none : entry_at key (entries_in c.args.cache.now.map.entries) ≡ None =
+    sym (found_in_pairs key c.args.cache.now.map.entries c.requires.own) ∙ (sym c.peek.ensures ∙ ap option_copied c.in-None.is) in
     ap (λ held. is_swept c.args.stale held c.args.moment) (sym none)

@@ -24,11 +24,11 @@ first_number key cache new promoted first is some found front =
 pub returns-in-Some-clause-number : goal.returns-in-Some-clause-number
 returns-in-Some-clause-number c =
     sym (ap (λ first. number_of (option_map deref_pair first)) c.in-Some.is)
-    ∙ first_number (key_of c.args.key) c.args.cache.now c.promote.new.self c.promote.result (option_map deref_pair c.peek_mru.result) c.promote.ensures.entries c.promote.ensures.value
+    ∙ first_number (key_of c.args.key) c.args.cache.now.map c.promote.new.self.map c.promote.result (option_map deref_pair c.peek_mru.result) c.promote.ensures.entries c.promote.ensures.value
     c.if-not-promote.false c.peek_mru.ensures
 
 pub returns-in-None-clause-number : goal.returns-in-None-clause-number
 returns-in-None-clause-number c =
     sym (ap (λ first. number_of (option_map deref_pair first)) c.in-None.is)
-    ∙ first_number (key_of c.args.key) c.args.cache.now c.promote.new.self c.promote.result (option_map deref_pair c.peek_mru.result) c.promote.ensures.entries c.promote.ensures.value
+    ∙ first_number (key_of c.args.key) c.args.cache.now.map c.promote.new.self.map c.promote.result (option_map deref_pair c.peek_mru.result) c.promote.ensures.entries c.promote.ensures.value
     c.if-not-promote.false c.peek_mru.ensures

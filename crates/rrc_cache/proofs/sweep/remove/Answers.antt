@@ -11,7 +11,7 @@ use Rattle.rrc_cache.proofs.Sweeping.{staying_more}
 use Rattle.rrc_cache.proofs.sweep.remove.Goals as goal
 
 pub loop-key-init : goal.loop-key-init
-loop-key-init c = ap (seen c.args.store.now.stale) (sym (staying-all c.args.store.now.entries))
+loop-key-init c = ap (seen c.args.store.now.seeded c.args.store.now.stale) (sym (staying-all c.args.store.now.entries))
 
 pub loop-key-preserved : goal.loop-key-preserved
 loop-key-preserved c =
@@ -20,6 +20,6 @@ loop-key-preserved c =
     search (rules, take_more) in
     let gone : List KeyOf → List Entry = λ ks. staying (λ key. is_among key ks) c.args.store.now.entries in
     c.remove.ensures
-    ∙ (ap (λ key. seen c.loop-key.store.stale (staying (goes key None) c.loop-key.store.entries)) c.of.ensures.value
-    ∙ (ap (λ (store : StoreOf). seen store.stale (staying (goes c.key-item.result None) store.entries)) c.loop-key.invariant
-    ∙ ap (seen c.args.store.now.stale) (staying_more (take c.loop-key.key-index keys) c.key-item.result c.args.store.now.entries ∙ ap gone (sym more))))
+    ∙ (ap (λ key. seen c.loop-key.store.seeded c.loop-key.store.stale (staying (goes key None) c.loop-key.store.entries)) c.of-key.ensures.value
+    ∙ (ap (λ (store : StoreOf). seen store.seeded store.stale (staying (goes c.key-item.result None) store.entries)) c.loop-key.invariant
+    ∙ ap (seen c.args.store.now.seeded c.args.store.now.stale) (staying_more (take c.loop-key.key-index keys) c.key-item.result c.args.store.now.entries ∙ ap gone (sym more))))

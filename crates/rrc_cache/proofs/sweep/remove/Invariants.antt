@@ -6,4 +6,4 @@ use Rattle.rrc_cache.proofs.Paired.{seen}
 use Rattle.rrc_cache.proofs.sweep.remove.Given as goal
 
 abbrev pub invariant-loop-key : goal.invariant-loop-key
-invariant-loop-key l = l.store ≡ seen l.initial.store.stale (staying (λ key. is_among key (take l.key-index l.keys)) l.initial.store.entries)
+invariant-loop-key l = l.store ≡ seen l.initial.store.seeded l.initial.store.stale (staying (λ key. is_among key (take l.key-index l.keys)) l.initial.store.entries)

@@ -12,10 +12,10 @@ invariant_of-snapshot c = rw c.in_ok-entries.ensures ((sound_exactly c.args.rule
 pub invariant_of-self : goal.invariant_of-self
 invariant_of-self c =
     let snapshot : Snapshot = record { rules = c.args.rules; first = c.args.first; entries = c.in_ok-entries.field-0 } in
-    let all : c.args.self.now.entries ≡ entries_in c.self.inside.cache.entries = sym (ap (λ (store : StoreOf). store.entries) c.self.view_is) in
+    let all : c.args.self.now.entries ≡ entries_in c.self.inside.cache.map.entries = sym (ap (λ (store : StoreOf). store.entries) c.self.view_is) in
     let opening : c.new-2.result.opening ≡ snapshot = c.new-2.ensures.opening ∙ (c.in_ok-clone.ensures.cases ∙ c.in_ok-snapshot.ensures.ok) in (
       c.self.invariant.0,
-      opened_follows c.args.rules.capacity c.new-2.result snapshot (entries_in c.self.inside.cache.entries)
+      opened_follows c.args.rules.capacity c.new-2.result snapshot (entries_in c.self.inside.cache.map.entries)
           (subst (AreSound c.args.rules.capacity c.args.first) all c.requires) (c.in_ok-entries.ensures ∙ all) opening c.new-2.ensures.moved
           (c.new-2.ensures.next ∙ ap (λ (s : Snapshot). s.first) (c.in_ok-clone.ensures.cases ∙ c.in_ok-snapshot.ensures.ok)),
     )

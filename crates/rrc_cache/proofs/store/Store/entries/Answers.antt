@@ -21,7 +21,7 @@ first_of all front left count is long =
 
 pub overflow_sub-len : goal.overflow_sub-len
 overflow_sub-len c =
-    let pairs : List (KeyOf × Entry) = c.self.inside.cache.entries in
+    let pairs : List (KeyOf × Entry) = c.self.inside.cache.map.entries in
     let front = front_of c.self.inside.followed (entries_in pairs) c.self.invariant.1 in
     let lengths : length (entries_in pairs) ≡ length front.0 + length (left_of c.self.inside.followed) = front_length (entries_in pairs) front.0 (left_of c.self.inside.followed) front.1 in
     let mapped : length (entries_in pairs) ≡ length pairs = length-map pairs (λ pair. pair.1) in
@@ -30,13 +30,13 @@ overflow_sub-len c =
 
 pub returns : goal.returns
 returns c =
-    let pairs : List (KeyOf × Entry) = c.self.inside.cache.entries in
+    let pairs : List (KeyOf × Entry) = c.self.inside.cache.map.entries in
     let left : List Entry = left_of c.self.inside.followed in
     let front = front_of c.self.inside.followed (entries_in pairs) c.self.invariant.1 in
     let mapped : length (entries_in pairs) ≡ length pairs = length-map pairs (λ pair. pair.1) in
     let length_left : c.len-2.result ≡ length left = c.len-2.ensures ∙ ap length c.in_ok-left.ensures in
     let first : c.in_ok-front.front.items ≡ front.0 =
-    c.in_ok-front.ensures ∙ first_of (entries_in pairs) front.0 left (c.len.result - c.len-2.result) front.1 (omega (arith, mapped, length_left, c.len.ensures.len)) in
+    c.in_ok-front.ensures ∙ (ap (take (c.len.result - c.len-2.result)) c.held.ensures ∙ first_of (entries_in pairs) front.0 left (c.len.result - c.len-2.result) front.1 (omega (arith, mapped, length_left, c.len.ensures.len))) in
     IfOk-weaker c.led_by.result (λ list. list ≡ c.in_ok-front.front.items ++ c.in_ok-left.left) (λ list. list ≡ c.args.self.now.entries)
     (λ list is. is
     ∙ (ap (λ es. es ++ c.in_ok-left.left) first

@@ -5,6 +5,7 @@ use Rattle.rrc_history.specs.declared.snapshot.Entry.{Entry}
 use Rattle.rrc_history.specs.Past.{is_among}
 use Rattle.rrc_history.specs.Entries.{AreApart, keys_of_dead}
 use Rattle.rrc_history.specs.lemmas.SweepLaws.{keys_of_dead-found}
+use Rattle.rrc_cache.specs.Beside.{beside_of}
 use Rattle.rrc_cache.specs.declared.deaths.Death.{Death}
 use Rattle.rrc_cache.specs.Deaths.{AreForeseen, DeathsOf, dead_among}
 use Rattle.rrc_cache.specs.Pairs.{entries_in, StoreOf}
@@ -15,15 +16,15 @@ use Rattle.rrc_cache.proofs.store.Store.keys_of_dead.Goals as goal
 
 pub invariant_of-self : goal.invariant_of-self
 invariant_of-self c =
-    (same_store c.self.inside.stale c.self.inside.cache c.self.inside.beside c.self.inside.deaths c.find_due.new.self c.find_due.ensures.same c.self.invariant.0, c.self.invariant.1)
+    (same_store c.self.inside.stale c.self.inside.cache.map (beside_of c.self.inside.cache.seeded c.self.inside.beside) c.self.inside.deaths c.find_due.new.self c.find_due.ensures.same c.self.invariant.0, c.self.invariant.1)
 
 pub returns-clause-dead : goal.returns-clause-dead
 returns-clause-dead c =
     let stale : ℕ = c.self.inside.stale in
     let deaths : DeathsOf = c.find_due.new.self in
-    let entries : List Entry = entries_in c.self.inside.cache.entries in
+    let entries : List Entry = entries_in c.self.inside.cache.map.entries in
     let are : AreForeseen stale entries deaths = same_foreseen stale entries c.self.inside.deaths deaths c.find_due.ensures.same c.self.invariant.0.foreseen in
-    let apart : AreApart entries = apart_in c.self.inside.cache.entries c.self.invariant.0.own c.len.ensures.valid.0 in
+    let apart : AreApart entries = apart_in c.self.inside.cache.map.entries c.self.invariant.0.own c.len.ensures.valid.0 in
     let listed : (key : KeyOf) → is_among key (dead_among stale c.args.moment entries c.due.result.now) ≡ is_among key (keys_of_dead c.args.self.now.stale c.args.moment c.args.self.now.entries) = λ key.
     ap (λ (ds : List Death). is_among key (dead_among stale c.args.moment entries ds)) c.due.ensures
     ∙ (due_swept stale c.args.moment entries deaths are c.requires c.in_ok-find_due.ensures.ok key

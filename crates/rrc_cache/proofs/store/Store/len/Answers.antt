@@ -7,4 +7,4 @@ use Rattle.rrc_cache.proofs.store.Store.len.Goals as goal
 pub returns-clause-apart : goal.returns-clause-apart
 returns-clause-apart c =
     let P : StoreOf → Type 0 = λ store. AreApart store.entries in
-    subst P c.self.view_is (apart_in c.self.inside.cache.entries c.self.invariant.0.own c.len.ensures.valid.0)
+    subst P c.self.view_is (apart_in c.self.inside.cache.map.entries c.self.invariant.0.own c.len.ensures.valid.0)

@@ -23,13 +23,13 @@ loop-place-preserved c =
     let entries : List Entry = c.snapshot.inside.entries in
     let entry : Entry = c.entry.result.now in
     let place : ℕ = c.loop-place.place in
-    let one : c.in_ok-clone.field-0 ≡ entry = c.in_ok-clone.ensures.cases in
+    let one : c.in_ok-entry.entry ≡ entry = c.in_ok-entry.ensures.cases in
     let before : (place - 1) + 1 ≡ place = omega (arith, c.loop-place-test.true) in
     let all : c.args.snapshot.now.entries ≡ entries = sym (ap (λ (s : Snapshot). s.entries) c.snapshot.view_is) in
     let apart : AreApart entries = subst AreApart all c.rules-rules.ensures.sound.apart in
     c.in_ok-put.ensures.ok
-    ∙ (ap (λ (e : Entry). seen c.loop-place.store.stale (e ∷ staying (goes e.key None) c.loop-place.store.entries)) one
-    ∙ (ap (λ (s : StoreOf). seen s.stale (entry ∷ staying (goes entry.key None) s.entries)) c.loop-place.invariant
-    ∙ (ap (λ (n : ℕ). seen c.args.snapshot.now.rules.stale (entry ∷ staying (goes entry.key None) (drop n entries))) (sym before)
-    ∙ ap (seen c.args.snapshot.now.rules.stale)
+    ∙ (ap (λ (e : Entry). seen c.loop-place.store.seeded c.loop-place.store.stale (e ∷ staying (goes e.key None) c.loop-place.store.entries)) one
+    ∙ (ap (λ (s : StoreOf). seen s.seeded s.stale (entry ∷ staying (goes entry.key None) s.entries)) c.loop-place.invariant
+    ∙ (ap (λ (n : ℕ). seen c.args.seeded c.args.snapshot.now.rules.stale (entry ∷ staying (goes entry.key None) (drop n entries))) (sym before)
+    ∙ ap (seen c.args.seeded c.args.snapshot.now.rules.stale)
     (put_next entries (place - 1) entry (omega (arith, c.loop-place-test.true, c.loop-place.auto.place)) c.entry.ensures apart))))

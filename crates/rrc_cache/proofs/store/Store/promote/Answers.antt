@@ -7,13 +7,15 @@ use Rattle.rrc_name.specs.Key.{KeyOf, key_eq}
 use Rattle.rrc_name.specs.KeyRef.{key_of}
 use Rattle.rrc_history.specs.declared.snapshot.Entry.{Entry}
 use Rattle.rrc_history.specs.Entries.{AreApart, promoted}
-use Rattle.rrc_cache.specs.Beside.{AreMarked}
+use Rattle.rrc_cache.specs.Beside.{AreMarked, beside_of}
 use Rattle.rrc_cache.specs.Deaths.{AreForeseen}
 use Rattle.rrc_cache.specs.Followed.{HasGivenWay, IsFollowed}
-use Rattle.rrc_cache.specs.Pairs.{entries_in, AreOwn}
+use Rattle.rrc_cache.specs.Keyed.{name_hash}
+use Rattle.rrc_cache.specs.Pairs.{entries_in, AreOwn, StoreOf}
 use Rattle.rrc_cache.proofs.Following.{promoted_way}
 use Rattle.rrc_cache.proofs.Marked.{promoted_marked}
 use Rattle.rrc_cache.proofs.Paired.{apart_in, edited, found_in_pairs, promoted_in, own_promoted}
+use Rattle.rrc_cache.proofs.Stored.{seeded_store}
 use Rattle.rrc_cache.proofs.Timed.{promoted_foreseen}
 use Rattle.rrc_cache.proofs.store.Store.promote.Goals as goal
 
@@ -22,21 +24,25 @@ after : (key : KeyOf) (cache new : LruCache KeyOf Entry) → AreOwn cache.entrie
 after key cache new own distinct is =
     sym (ap (λ (now : LruCache KeyOf Entry). entries_in now.entries) is ∙ promoted_in key cache.entries own (apart_in cache.entries own distinct))
 
+pub promote-moved-requires : goal.promote-moved-requires
+promote-moved-requires c = c.requires ∙ ap (λ (store : StoreOf). name_hash store.seeded (key_of c.args.key).name) (sym c.self.view_is)
+
 pub invariant_of-self : goal.invariant_of-self
 invariant_of-self c =
-    let pairs : List (KeyOf × Entry) = c.self.inside.cache.entries in
+    let pairs : List (KeyOf × Entry) = c.self.inside.cache.map.entries in
     let key : KeyOf = key_of c.args.key in
-    let is : promoted key (entries_in pairs) ≡ entries_in c.promote-moved.new.cache.entries =
-    after key c.self.inside.cache c.promote-moved.new.cache c.self.invariant.0.own c.len.ensures.valid.0 c.promote-moved.ensures.cache in
+    let is : promoted key (entries_in pairs) ≡ entries_in c.promote-moved.new.cache.map.entries =
+    after key c.self.inside.cache.map c.promote-moved.new.cache.map c.self.invariant.0.own c.len.ensures.valid.0 c.promote-moved.ensures.cache in
     let apart : AreApart (entries_in pairs) = apart_in pairs c.self.invariant.0.own c.len.ensures.valid.0 in (
-      record {
-        own = rw c.promote-moved.ensures.cache (own_promoted (key_eq key) pairs c.self.invariant.0.own);
-        wide = rw c.promote-moved.ensures.cache c.self.invariant.0.wide;
-        limit = c.self.invariant.0.limit;
-        foreseen = subst (λ entries. AreForeseen c.self.inside.stale entries c.self.inside.deaths) is
-            (promoted_foreseen c.self.inside.stale (entries_in pairs) c.self.inside.deaths c.self.invariant.0.foreseen key);
-        marked = subst (AreMarked c.self.inside.beside) is (promoted_marked c.self.inside.beside key (entries_in pairs) c.self.invariant.0.marked);
-      },
+      seeded_store c.self.inside.cache.seeded c.promote-moved.new.cache.seeded c.self.inside.stale c.promote-moved.new.cache.map c.self.inside.deaths c.self.inside.beside
+          c.promote-moved.ensures.seeded (record {
+            own = rw c.promote-moved.ensures.cache (own_promoted (key_eq key) pairs c.self.invariant.0.own);
+            wide = rw c.promote-moved.ensures.cache c.self.invariant.0.wide;
+            limit = c.self.invariant.0.limit;
+            foreseen = subst (λ entries. AreForeseen c.self.inside.stale entries c.self.inside.deaths) is
+                (promoted_foreseen c.self.inside.stale (entries_in pairs) c.self.inside.deaths c.self.invariant.0.foreseen key);
+            marked = subst (AreMarked (beside_of c.self.inside.cache.seeded c.self.inside.beside)) is (promoted_marked (beside_of c.self.inside.cache.seeded c.self.inside.beside) key (entries_in pairs) c.self.invariant.0.marked);
+          }),
       subst (IsFollowed c.note_gone.new.followed) is
           (promoted_way key (entries_in pairs) (lookup (key_eq key) pairs) c.self.inside.followed c.note_gone.new.followed apart
           (sym (found_in_pairs key pairs c.self.invariant.0.own))
@@ -46,5 +52,5 @@ invariant_of-self c =
 
 pub returns : goal.returns
 returns c =
-    edited (promoted (key_of c.args.key)) c.self.inside.stale (entries_in c.self.inside.cache.entries) (entries_in c.promote-moved.new.cache.entries) c.args.self.now
-    (sym (after (key_of c.args.key) c.self.inside.cache c.promote-moved.new.cache c.self.invariant.0.own c.len.ensures.valid.0 c.promote-moved.ensures.cache)) c.self.view_is
+    edited (promoted (key_of c.args.key)) c.self.inside.cache.seeded c.promote-moved.new.cache.seeded c.self.inside.stale (entries_in c.self.inside.cache.map.entries) (entries_in c.promote-moved.new.cache.map.entries) c.args.self.now
+    c.promote-moved.ensures.seeded (sym (after (key_of c.args.key) c.self.inside.cache.map c.promote-moved.new.cache.map c.self.invariant.0.own c.len.ensures.valid.0 c.promote-moved.ensures.cache)) c.self.view_is

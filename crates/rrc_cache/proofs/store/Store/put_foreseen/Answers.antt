@@ -1,46 +1,54 @@
 use Rattle.std.proofs.Common.{◌≡◌, ℕ, true, refl, ap, sym, subst, ◌∙◌, arith}
 use Rattle.std.specs.Option.{option_map}
-use Rattle.lru.specs.LruCache.{LruCache}
-use Rattle.rrc_name.specs.Key.{KeyOf}
-use Rattle.rrc_history.specs.declared.snapshot.Entry.{Entry}
 use Rattle.rrc_history.specs.Past.{entry_at}
+use Rattle.rrc_cache.specs.Beside.{beside_of, is_marked}
 use Rattle.rrc_cache.specs.declared.deaths.Death.{Death}
+use Rattle.rrc_cache.specs.declared.seeded.Seeded.{Seeded}
 use Rattle.rrc_cache.specs.Deaths.{is_gone_by}
 use Rattle.rrc_cache.specs.Dying.{time_of_death}
 use Rattle.rrc_cache.specs.Followed.{IsFollowed, IsPut}
-use Rattle.rrc_cache.specs.Pairs.{entries_in, IsStore}
+use Rattle.rrc_cache.specs.Keyed.{KeyedOf, name_hash}
+use Rattle.rrc_cache.specs.Pairs.{entries_in, IsStore, StoreOf}
 use Rattle.rrc_cache.proofs.Paired.{edited}
-use Rattle.rrc_cache.proofs.Stored.{noted_store, same_store}
+use Rattle.rrc_cache.proofs.Stored.{noted_store, same_store, seeded_store}
 use Rattle.rrc_cache.proofs.Timed.{foreseen_before, put_foreseen}
 use Rattle.rrc_cache.proofs.Put.{added_foreseen, after, followed, held, kept, with_entry}
 use Rattle.rrc_cache.proofs.store.Store.put_foreseen.Goals as goal
 
+pub put_over-requires-clause-hash : goal.put_over-requires-clause-hash
+put_over-requires-clause-hash c = c.requires ∙ ap (λ (store : StoreOf). name_hash store.seeded c.args.entry.key.name) (sym c.self.view_is)
+
 pub invariant_of-self-then-not-is_gone_by : goal.invariant_of-self-then-not-is_gone_by
 invariant_of-self-then-not-is_gone_by c =
     let stale = c.self.inside.stale in
-    let cache = c.self.inside.cache in
+    let cache = c.self.inside.cache.map in
     let entry = c.args.entry in
-    let beside = c.self.inside.beside in
+    let seeded : Seeded = c.self.inside.cache.seeded in
+    let its : c.args.hash ≡ name_hash seeded c.args.entry.key.name = c.requires ∙ ap (λ (store : StoreOf). name_hash store.seeded c.args.entry.key.name) (sym c.self.view_is) in
+    let beside = beside_of seeded c.self.inside.beside in
     let store : IsStore stale cache c.reserve.new.self beside = same_store stale cache beside c.self.inside.deaths c.reserve.new.self c.reserve.ensures.same c.self.invariant.0 in
     let was : entry_at entry.key (entries_in cache.entries) ≡ c.in_ok-key.old =
     held entry.key entry.key cache.entries c.in_ok-key.old c.self.invariant.0.own refl c.in_ok-key.ensures.old in
     let death : Death = record { time = c.time_of_death-time.result; key = c.in_ok-key.key } in
     let put : IsPut (option_map (λ e. e.number) c.in_ok-key.old) entry.number c.self.inside.followed c.note_put.new.followed =
     subst (λ number. IsPut number entry.number c.self.inside.followed c.note_put.new.followed) c.number_of.ensures c.note_put.ensures in (
-      kept stale cache c.put_over.new.cache c.reserve.new.self beside entry.key entry store c.len.ensures.valid.0 (omega (arith, c.len.ensures.len, c.len.ensures.fits))
-          refl c.in_ok-key.ensures.entries c.add.new.self c.note.new.self
+      seeded_store seeded c.put_over.new.cache.seeded stale c.put_over.new.cache.map c.add.new.self c.note.new.self c.put_over.ensures.seeded (
+          kept stale cache c.put_over.new.cache.map c.reserve.new.self beside entry.key entry store c.len.ensures.valid.0 (omega (arith, c.len.ensures.len, c.len.ensures.fits))
+          refl c.in_ok-key.ensures.entries c.add.new.self (beside_of seeded c.note.new.self)
           (added_foreseen stale cache c.reserve.new.self c.add.new.self beside entry store death c.add.ensures c.time_of_death-time.ensures c.in_ok-key.ensures.key)
-          c.note.ensures.own c.note.ensures.others,
-      followed stale cache c.put_over.new.cache c.reserve.new.self beside entry.key entry store c.len.ensures.valid.0 (omega (arith, c.len.ensures.len, c.len.ensures.fits))
+          (λ at. subst (λ hash. is_marked c.note.new.self hash ≡ true) its (c.note.ensures.own at)) (λ name. c.note.ensures.others (name_hash seeded name))),
+      followed stale cache c.put_over.new.cache.map c.reserve.new.self beside entry.key entry store c.len.ensures.valid.0 (omega (arith, c.len.ensures.len, c.len.ensures.fits))
           refl c.in_ok-key.ensures.entries c.in_ok-key.old c.self.inside.followed c.note_put.new.followed was put c.self.invariant.1,
     )
 
 pub invariant_of-self-else-not-is_gone_by : goal.invariant_of-self-else-not-is_gone_by
 invariant_of-self-else-not-is_gone_by c =
     let stale = c.self.inside.stale in
-    let cache = c.self.inside.cache in
+    let cache = c.self.inside.cache.map in
     let entry = c.args.entry in
-    let beside = c.self.inside.beside in
+    let seeded : Seeded = c.self.inside.cache.seeded in
+    let its : c.args.hash ≡ name_hash seeded c.args.entry.key.name = c.requires ∙ ap (λ (store : StoreOf). name_hash store.seeded c.args.entry.key.name) (sym c.self.view_is) in
+    let beside = beside_of seeded c.self.inside.beside in
     let store : IsStore stale cache c.reserve.new.self beside = same_store stale cache beside c.self.inside.deaths c.reserve.new.self c.reserve.ensures.same c.self.invariant.0 in
     let gone : is_gone_by stale (time_of_death stale entry) c.in_ok-key.old ≡ true =
     sym (ap (λ (time : ℕ). is_gone_by stale time c.in_ok-key.old) c.time_of_death-time.ensures) ∙ (sym c.is_gone_by.ensures ∙ c.if-not-is_gone_by.false) in
@@ -48,34 +56,38 @@ invariant_of-self-else-not-is_gone_by c =
     held entry.key entry.key cache.entries c.in_ok-key.old c.self.invariant.0.own refl c.in_ok-key.ensures.old in
     let put : IsPut (option_map (λ e. e.number) c.in_ok-key.old) entry.number c.self.inside.followed c.note_put.new.followed =
     subst (λ number. IsPut number entry.number c.self.inside.followed c.note_put.new.followed) c.number_of.ensures c.note_put.ensures in (
-      kept stale cache c.put_over.new.cache c.reserve.new.self beside entry.key entry store c.len.ensures.valid.0 (omega (arith, c.len.ensures.len, c.len.ensures.fits))
-          refl c.in_ok-key.ensures.entries c.reserve.new.self c.note.new.self
+      seeded_store seeded c.put_over.new.cache.seeded stale c.put_over.new.cache.map c.reserve.new.self c.note.new.self c.put_over.ensures.seeded (
+          kept stale cache c.put_over.new.cache.map c.reserve.new.self beside entry.key entry store c.len.ensures.valid.0 (omega (arith, c.len.ensures.len, c.len.ensures.fits))
+          refl c.in_ok-key.ensures.entries c.reserve.new.self (beside_of seeded c.note.new.self)
           (put_foreseen stale (entries_in cache.entries) c.reserve.new.self store.foreseen entry c.reserve.new.self (λ key time is. is)
           (foreseen_before stale (entries_in cache.entries) c.reserve.new.self store.foreseen entry c.in_ok-key.old was gone))
-          c.note.ensures.own c.note.ensures.others,
-      followed stale cache c.put_over.new.cache c.reserve.new.self beside entry.key entry store c.len.ensures.valid.0 (omega (arith, c.len.ensures.len, c.len.ensures.fits))
+          (λ at. subst (λ hash. is_marked c.note.new.self hash ≡ true) its (c.note.ensures.own at)) (λ name. c.note.ensures.others (name_hash seeded name))),
+      followed stale cache c.put_over.new.cache.map c.reserve.new.self beside entry.key entry store c.len.ensures.valid.0 (omega (arith, c.len.ensures.len, c.len.ensures.fits))
           refl c.in_ok-key.ensures.entries c.in_ok-key.old c.self.inside.followed c.note_put.new.followed was put c.self.invariant.1,
     )
 
 pub invariant_of-self-in_err-key : goal.invariant_of-self-in_err-key
 invariant_of-self-in_err-key c =
     let stale = c.self.inside.stale in
-    let cache = c.self.inside.cache in
-    let beside = c.self.inside.beside in
+    let cache = c.self.inside.cache.map in
+    let seeded : Seeded = c.self.inside.cache.seeded in
+    let its : c.args.hash ≡ name_hash seeded c.args.entry.key.name = c.requires ∙ ap (λ (store : StoreOf). name_hash store.seeded c.args.entry.key.name) (sym c.self.view_is) in
+    let beside = beside_of seeded c.self.inside.beside in
     let store : IsStore stale cache c.reserve.new.self beside = same_store stale cache beside c.self.inside.deaths c.reserve.new.self c.reserve.ensures.same c.self.invariant.0 in
-    subst (λ (now : LruCache KeyOf Entry). IsStore stale now c.reserve.new.self c.note.new.self × IsFollowed c.self.inside.followed (entries_in now.entries)) (sym c.in_err-key.ensures.err)
-    (noted_store stale cache beside c.note.new.self c.reserve.new.self c.note.ensures.others store, c.self.invariant.1)
+    subst (λ (now : KeyedOf). IsStore stale now.map c.reserve.new.self (beside_of now.seeded c.note.new.self) × IsFollowed c.self.inside.followed (entries_in now.map.entries))
+    (sym c.in_err-key.ensures.err)
+    (noted_store stale cache beside (beside_of seeded c.note.new.self) c.reserve.new.self (λ name. c.note.ensures.others (name_hash seeded name)) store, c.self.invariant.1)
 
 pub returns-then-not-is_gone_by-clause-ok : goal.returns-then-not-is_gone_by-clause-ok
 returns-then-not-is_gone_by-clause-ok c =
-    let cache = c.self.inside.cache in
-    edited (with_entry c.args.entry) c.self.inside.stale (entries_in cache.entries) (entries_in c.put_over.new.cache.entries) c.args.self.now
-    (after c.self.inside.stale cache c.put_over.new.cache c.self.inside.deaths c.self.inside.beside c.args.entry.key c.args.entry c.self.invariant.0 c.len.ensures.valid.0
+    let cache = c.self.inside.cache.map in
+    edited (with_entry c.args.entry) c.self.inside.cache.seeded c.put_over.new.cache.seeded c.self.inside.stale (entries_in cache.entries) (entries_in c.put_over.new.cache.map.entries) c.args.self.now
+    c.put_over.ensures.seeded (after c.self.inside.stale cache c.put_over.new.cache.map c.self.inside.deaths (beside_of c.self.inside.cache.seeded c.self.inside.beside) c.args.entry.key c.args.entry c.self.invariant.0 c.len.ensures.valid.0
     (omega (arith, c.len.ensures.len, c.len.ensures.fits)) refl c.in_ok-key.ensures.entries) c.self.view_is
 
 pub returns-else-not-is_gone_by-clause-ok : goal.returns-else-not-is_gone_by-clause-ok
 returns-else-not-is_gone_by-clause-ok c =
-    let cache = c.self.inside.cache in
-    edited (with_entry c.args.entry) c.self.inside.stale (entries_in cache.entries) (entries_in c.put_over.new.cache.entries) c.args.self.now
-    (after c.self.inside.stale cache c.put_over.new.cache c.self.inside.deaths c.self.inside.beside c.args.entry.key c.args.entry c.self.invariant.0 c.len.ensures.valid.0
+    let cache = c.self.inside.cache.map in
+    edited (with_entry c.args.entry) c.self.inside.cache.seeded c.put_over.new.cache.seeded c.self.inside.stale (entries_in cache.entries) (entries_in c.put_over.new.cache.map.entries) c.args.self.now
+    c.put_over.ensures.seeded (after c.self.inside.stale cache c.put_over.new.cache.map c.self.inside.deaths (beside_of c.self.inside.cache.seeded c.self.inside.beside) c.args.entry.key c.args.entry c.self.invariant.0 c.len.ensures.valid.0
     (omega (arith, c.len.ensures.len, c.len.ensures.fits)) refl c.in_ok-key.ensures.entries) c.self.view_is

@@ -5,13 +5,14 @@ use Rattle.rrc_name.specs.Key.{KeyOf}
 use Rattle.rrc_history.specs.declared.snapshot.Entry.{Entry}
 use Rattle.rrc_history.specs.Past.{last_key}
 use Rattle.rrc_history.specs.Entries.{AreApart, goes, staying}
-use Rattle.rrc_cache.specs.Beside.{AreMarked}
+use Rattle.rrc_cache.specs.Beside.{AreMarked, beside_of}
 use Rattle.rrc_cache.specs.Deaths.{AreForeseen}
 use Rattle.rrc_cache.specs.Followed.{IsFollowed}
 use Rattle.rrc_cache.specs.Pairs.{entries_in, StoreOf}
 use Rattle.rrc_cache.proofs.Following.{removed_followed}
 use Rattle.rrc_cache.proofs.Marked.{removed_marked}
 use Rattle.rrc_cache.proofs.Paired.{apart_in, edited, last_found, last_gone, last_in, none_taken, own_taken, taken_in}
+use Rattle.rrc_cache.proofs.Stored.{seeded_store}
 use Rattle.rrc_cache.proofs.Timed.{removed_foreseen}
 use Rattle.rrc_cache.proofs.store.Store.remove_last.Goals as goal
 
@@ -27,20 +28,21 @@ after cache new is = ap (λ (now : LruCache KeyOf Entry). entries_in now.entries
 
 pub invariant_of-self-2 : goal.invariant_of-self-2
 invariant_of-self-2 c =
-    let pairs : List (KeyOf × Entry) = c.self.inside.cache.entries in
+    let pairs : List (KeyOf × Entry) = c.self.inside.cache.map.entries in
     let pair : KeyOf × Entry = (c.in_ok-key.key, c.in_ok-key.entry) in
     let is : last_entry pairs ≡ Some pair = sym c.pop_lru.ensures.value ∙ c.in_ok-key.was in
     let apart : AreApart (entries_in pairs) = apart_in pairs c.self.invariant.0.own c.len.ensures.valid.0 in
-    let left : staying (goes pair.1.key None) (entries_in pairs) ≡ entries_in c.pop_lru.new.self.entries =
+    let left : staying (goes pair.1.key None) (entries_in pairs) ≡ entries_in c.pop_lru.new.self.map.entries =
     last_gone pairs pair apart is ∙ ap (λ (cache : LruCache KeyOf Entry). entries_in cache.entries) (sym c.pop_lru.ensures.entries) in (
-      record {
-        own = rw c.pop_lru.ensures.entries (own_taken (length pairs - 1) pairs c.self.invariant.0.own);
-        wide = rw c.pop_lru.ensures.entries c.self.invariant.0.wide;
-        limit = c.self.invariant.0.limit;
-        foreseen = subst (λ entries. AreForeseen c.self.inside.stale entries c.self.inside.deaths) left
-            (removed_foreseen c.self.inside.stale (entries_in pairs) c.self.inside.deaths c.self.invariant.0.foreseen pair.1.key);
-        marked = subst (AreMarked c.self.inside.beside) left (removed_marked c.self.inside.beside pair.1.key (entries_in pairs) c.self.invariant.0.marked);
-      },
+      seeded_store c.self.inside.cache.seeded c.pop_lru.new.self.seeded c.self.inside.stale c.pop_lru.new.self.map c.self.inside.deaths c.self.inside.beside
+          c.pop_lru.ensures.seeded (record {
+            own = rw c.pop_lru.ensures.entries (own_taken (length pairs - 1) pairs c.self.invariant.0.own);
+            wide = rw c.pop_lru.ensures.entries c.self.invariant.0.wide;
+            limit = c.self.invariant.0.limit;
+            foreseen = subst (λ entries. AreForeseen c.self.inside.stale entries c.self.inside.deaths) left
+                (removed_foreseen c.self.inside.stale (entries_in pairs) c.self.inside.deaths c.self.invariant.0.foreseen pair.1.key);
+            marked = subst (AreMarked (beside_of c.self.inside.cache.seeded c.self.inside.beside)) left (removed_marked (beside_of c.self.inside.cache.seeded c.self.inside.beside) pair.1.key (entries_in pairs) c.self.invariant.0.marked);
+          }),
       subst (IsFollowed c.note_move.new.followed) left
           (removed_followed pair.1.key pair.1 (entries_in pairs) c.self.inside.followed c.note_move.new.followed apart (last_found pairs pair apart is)
           c.note_move.ensures c.self.invariant.1),
@@ -48,36 +50,37 @@ invariant_of-self-2 c =
 
 pub invariant_of-self : goal.invariant_of-self
 invariant_of-self c =
-    let pairs : List (KeyOf × Entry) = c.self.inside.cache.entries in
-    let left : entries_in pairs ≡ entries_in c.pop_lru.new.self.entries =
+    let pairs : List (KeyOf × Entry) = c.self.inside.cache.map.entries in
+    let left : entries_in pairs ≡ entries_in c.pop_lru.new.self.map.entries =
     ap entries_in (none_taken pairs (sym c.pop_lru.ensures.value ∙ c.in_err-key.was)) ∙ ap (λ (cache : LruCache KeyOf Entry). entries_in cache.entries) (sym c.pop_lru.ensures.entries) in (
-      record {
-        own = rw c.pop_lru.ensures.entries (own_taken (length pairs - 1) pairs c.self.invariant.0.own);
-        wide = rw c.pop_lru.ensures.entries c.self.invariant.0.wide;
-        limit = c.self.invariant.0.limit;
-        foreseen = subst (λ entries. AreForeseen c.self.inside.stale entries c.self.inside.deaths) left c.self.invariant.0.foreseen;
-        marked = subst (AreMarked c.self.inside.beside) left c.self.invariant.0.marked;
-      },
+      seeded_store c.self.inside.cache.seeded c.pop_lru.new.self.seeded c.self.inside.stale c.pop_lru.new.self.map c.self.inside.deaths c.self.inside.beside
+          c.pop_lru.ensures.seeded (record {
+            own = rw c.pop_lru.ensures.entries (own_taken (length pairs - 1) pairs c.self.invariant.0.own);
+            wide = rw c.pop_lru.ensures.entries c.self.invariant.0.wide;
+            limit = c.self.invariant.0.limit;
+            foreseen = subst (λ entries. AreForeseen c.self.inside.stale entries c.self.inside.deaths) left c.self.invariant.0.foreseen;
+            marked = subst (AreMarked (beside_of c.self.inside.cache.seeded c.self.inside.beside)) left c.self.invariant.0.marked;
+          }),
       subst (IsFollowed c.self.inside.followed) left c.self.invariant.1,
     )
 
 pub returns-clause-value : goal.returns-clause-value
 returns-clause-value c =
     sym (ap key_of_pair (c.in_ok-key.was))
-    ∙ (ap key_of_pair c.pop_lru.ensures.value ∙ (last_in c.self.inside.cache.entries c.self.invariant.0.own ∙ ap (λ (store : StoreOf). last_key store.entries) c.self.view_is))
+    ∙ (ap key_of_pair c.pop_lru.ensures.value ∙ (last_in c.self.inside.cache.map.entries c.self.invariant.0.own ∙ ap (λ (store : StoreOf). last_key store.entries) c.self.view_is))
 
 pub returns-in_err-key-clause-value : goal.returns-in_err-key-clause-value
 returns-in_err-key-clause-value c =
     c.from_residual.ensures
     ∙ (sym (ap key_of_pair (c.in_err-key.was))
-    ∙ (ap key_of_pair c.pop_lru.ensures.value ∙ (last_in c.self.inside.cache.entries c.self.invariant.0.own ∙ ap (λ (store : StoreOf). last_key store.entries) c.self.view_is)))
+    ∙ (ap key_of_pair c.pop_lru.ensures.value ∙ (last_in c.self.inside.cache.map.entries c.self.invariant.0.own ∙ ap (λ (store : StoreOf). last_key store.entries) c.self.view_is)))
 
 pub returns-clause-entries : goal.returns-clause-entries
 returns-clause-entries c =
-    edited front c.self.inside.stale (entries_in c.self.inside.cache.entries) (entries_in c.pop_lru.new.self.entries) c.args.self.now
-    (after c.self.inside.cache c.pop_lru.new.self c.pop_lru.ensures.entries) c.self.view_is
+    edited front c.self.inside.cache.seeded c.pop_lru.new.self.seeded c.self.inside.stale (entries_in c.self.inside.cache.map.entries) (entries_in c.pop_lru.new.self.map.entries) c.args.self.now
+    c.pop_lru.ensures.seeded (after c.self.inside.cache.map c.pop_lru.new.self.map c.pop_lru.ensures.entries) c.self.view_is
 
 pub returns-in_err-key-clause-entries : goal.returns-in_err-key-clause-entries
 returns-in_err-key-clause-entries c =
-    edited front c.self.inside.stale (entries_in c.self.inside.cache.entries) (entries_in c.pop_lru.new.self.entries) c.args.self.now
-    (after c.self.inside.cache c.pop_lru.new.self c.pop_lru.ensures.entries) c.self.view_is
+    edited front c.self.inside.cache.seeded c.pop_lru.new.self.seeded c.self.inside.stale (entries_in c.self.inside.cache.map.entries) (entries_in c.pop_lru.new.self.map.entries) c.args.self.now
+    c.pop_lru.ensures.seeded (after c.self.inside.cache.map c.pop_lru.new.self.map c.pop_lru.ensures.entries) c.self.view_is

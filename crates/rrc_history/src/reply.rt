@@ -1,26 +1,26 @@
 ghost use Rattle.std.specs.Prelude.{◌≡◌, IfOk};
-ghost use Rattle.rrc_history.specs.Auditing.{set_eq, soa_eq, moment_eq, reply_eq};
-ghost use Rattle.rrc_cache.specs.Reply.{reply_in};
+ghost use Rattle.rrc_history.specs.Auditing.{set_eq, soa_eq, reply_eq};
+ghost use Rattle.rrc_history.specs.Views.{reply_in};
 
-use rrc_history::{Reply, RrSet, Soa};
+use crate::event::{Reply, RrSet, Soa};
 use rrc_name::{Name, Octets, Sequence, Shared};
 use std::alloc::AllocError;
 
-/// The data of an RRset where the cache keeps them.
+/// The data of an RRset where they are kept.
 #[derive(Clone, Copy, Debug)]
 pub struct SetRef<'a> {
     pub owner: &'a Name,
     pub items: &'a Shared<Sequence<Octets>>,
 }
 
-/// The SOA record of a negative answer where the cache keeps it.
+/// The SOA record of a negative answer where it is kept.
 #[derive(Clone, Copy, Debug)]
 pub struct SoaRef<'a> {
     pub owner: &'a Name,
     pub octets: &'a Shared<Octets>,
 }
 
-/// A reply that borrows what the cache keeps.
+/// A reply that borrows what is kept.
 #[derive(Clone, Copy, Debug)]
 pub enum ReplyRef<'a> {
     Fresh { set: SetRef<'a>, left: u32 },
@@ -39,6 +39,12 @@ impl SetRef<'_> {
             items: self.items.clone()?,
         })
     }
+
+    fn is(self, set: &RrSet) -> bool
+        ensures { result ≡ set_eq (record { owner = self.entry.owner.now; items = self.entry.items.now }) set.now }
+    {
+        *self.owner == set.owner && *self.items == set.items
+    }
 }
 
 impl SoaRef<'_> {
@@ -50,27 +56,7 @@ impl SoaRef<'_> {
             octets: self.octets.clone()?,
         })
     }
-}
 
-fn is_same_moment(moment: Option<u64>, other: Option<u64>) -> bool
-    ensures { result ≡ moment_eq moment other }
-{
-    match (moment, other) {
-        (None, None) => true,
-        (Some(moment), Some(other)) => moment == other,
-        _ => false,
-    }
-}
-
-impl SetRef<'_> {
-    fn is(self, set: &RrSet) -> bool
-        ensures { result ≡ set_eq (record { owner = self.entry.owner.now; items = self.entry.items.now }) set.now }
-    {
-        *self.owner == set.owner && *self.items == set.items
-    }
-}
-
-impl SoaRef<'_> {
     fn is(self, soa: &Soa) -> bool
         ensures { result ≡ soa_eq (record { owner = self.entry.owner.now; octets = self.entry.octets.now }) soa.now }
     {
@@ -80,7 +66,7 @@ impl SoaRef<'_> {
 
 impl ReplyRef<'_> {
     /// Whether it is just this reply, octet for octet.
-    pub(crate) fn is(self, reply: &Reply) -> bool
+    pub fn is(self, reply: &Reply) -> bool
         ensures { result ≡ reply_eq (reply_in self.entry) reply.now }
     {
         match (self, reply) {
@@ -113,13 +99,13 @@ impl ReplyRef<'_> {
                 },
             ) => soa.is(other) && left == *other_left,
             (ReplyRef::Miss { retry_from }, Reply::Miss { retry_from: other }) => {
-                is_same_moment(retry_from, *other)
+                retry_from == *other
             }
             _ => false,
         }
     }
 
-    /// The reply with data of its own.
+    /// The reply as an owner of its data. No octets are copied: a name and data are shared. An `Err` says that memory was refused.
     pub fn to_owned(self) -> Result<Reply, AllocError>
         ensures { IfOk result (λ reply. reply ≡ reply_in self.entry) }
     {
