@@ -383,6 +383,68 @@ static void test_making_refused(void)
     EXPECT(make(&shelf) == RRCACHE_HAS_SHELF && rrcache_free(&shelf) == RRCACHE_DONE);
 }
 
+/* Where the handle holds a shelf, that is told before any other refusal, and the shelf is as it was. */
+static void test_has_shelf(void)
+{
+    struct rrcache_shelf shelf = {0}, before;
+    struct rrcache_counts counts;
+    struct rrcache_told told = {0};
+    uint8_t buffer[64];
+    EXPECT(make(&shelf) == RRCACHE_DONE && offer_answer(&shelf, FIRST, &counts) == RRCACHE_DONE);
+    before = shelf;
+    EXPECT(make(&shelf) == RRCACHE_HAS_SHELF && rrcache_make(&shelf, 0, 0, 604801, SEED) == RRCACHE_HAS_SHELF);
+    EXPECT(rrc_make(&shelf, 1, 1, 0, SEED, 15) == RRCACHE_HAS_SHELF);
+    EXPECT(shelf.at == before.at && shelf.is_live && events(&shelf) == 1 && keys(&shelf) == 1);
+    EXPECT(ask(&shelf, FIRST, &told, buffer, sizeof buffer) == RRCACHE_DONE && told.kind == RRCACHE_FRESH);
+    EXPECT(rrcache_free(&shelf) == RRCACHE_DONE);
+}
+
+/* Each refusal of a message that reads what is handed in writes that no offer was made. */
+static void test_refused_counts(void)
+{
+    struct rrcache_shelf shelf = {0};
+    struct rrcache_counts counts;
+    const struct rrcache_limits bad = {0, 3600, 30};
+    const uint64_t late = (1ULL << 40) + 1;
+    EXPECT(make(&shelf) == RRCACHE_DONE);
+#define REFUSES(call, status) \
+    (memset(&counts, 7, sizeof counts), (call) == (status) && counts.kept == 0 && counts.cleared == 0 && counts.refused == 0)
+    EXPECT(REFUSES(rrcache_offer_message(&shelf, ANSWER, sizeof ANSWER, ZONE, sizeof ZONE, FIRST, &bad, 1, &counts), RRCACHE_BAD_LIMITS));
+    EXPECT(REFUSES(rrcache_offer_message(&shelf, ANSWER, sizeof ANSWER, NO_NAME, sizeof NO_NAME, FIRST, &LIMITS, 1, &counts), RRCACHE_BAD_NAME));
+    EXPECT(REFUSES(rrcache_offer_message(&shelf, ANSWER, 30, ZONE, sizeof ZONE, FIRST, &LIMITS, 1, &counts), RRCACHE_BAD_MESSAGE));
+    EXPECT(REFUSES(offer_answer(&shelf, late, &counts), RRCACHE_MOMENT_TOO_LARGE));
+    EXPECT(REFUSES(offer_alias(&shelf, 0, 0, FIRST, &counts), RRCACHE_BAD_RULES) && REFUSES(offer_alias(&shelf, 65, 0, FIRST, &counts), RRCACHE_BAD_RULES));
+    EXPECT(REFUSES(offer_alias(&shelf, PARTS, PARTS, FIRST, &counts), RRCACHE_BAD_RULES));
+    EXPECT(REFUSES(rrcache_offer_part(&shelf, ALIAS, sizeof ALIAS, ZONE, sizeof ZONE, 1, 0, FIRST, &bad, 1, &counts), RRCACHE_BAD_LIMITS));
+    EXPECT(REFUSES(rrcache_offer_part(&shelf, ALIAS, sizeof ALIAS, NO_NAME, sizeof NO_NAME, 1, 0, FIRST, &LIMITS, 1, &counts), RRCACHE_BAD_NAME));
+    EXPECT(REFUSES(rrcache_offer_part(&shelf, ALIAS, 30, ZONE, sizeof ZONE, 1, 0, FIRST, &LIMITS, 1, &counts), RRCACHE_BAD_MESSAGE));
+    EXPECT(REFUSES(offer_alias(&shelf, 1, 0, late, &counts), RRCACHE_MOMENT_TOO_LARGE));
+    /* Of more than one the first is told: the parts before the limits, these before the zone, and that before the message. */
+    EXPECT(REFUSES(rrcache_offer_part(&shelf, ALIAS, 30, NO_NAME, sizeof NO_NAME, 0, 0, late, &bad, 1, &counts), RRCACHE_BAD_RULES));
+    EXPECT(REFUSES(rrcache_offer_part(&shelf, ALIAS, 30, NO_NAME, sizeof NO_NAME, 1, 0, late, &bad, 1, &counts), RRCACHE_BAD_LIMITS));
+    EXPECT(REFUSES(rrcache_offer_part(&shelf, ALIAS, 30, NO_NAME, sizeof NO_NAME, 1, 0, late, &LIMITS, 1, &counts), RRCACHE_BAD_NAME));
+#undef REFUSES
+    EXPECT(events(&shelf) == 0 && rrcache_free(&shelf) == RRCACHE_DONE);
+}
+
+/* That a name does not exist has no type, so none is asked for; that it has no data of a type has one. */
+static void test_denied_names(void)
+{
+    struct rrcache_shelf shelf = {0};
+    struct rrcache_told told = {0};
+    uint32_t outcome = 7;
+    uint8_t buffer[64];
+    EXPECT(make(&shelf) == RRCACHE_DONE);
+    EXPECT(rrcache_offer_negative(&shelf, NAME, sizeof NAME, OPT, RRCACHE_DENIES_TYPE, 3, 60, ZONE, sizeof ZONE, SOA_DATA, sizeof SOA_DATA, FIRST, 1,
+                                  &outcome) == RRCACHE_BAD_TYPE && outcome == 7);
+    EXPECT(rrcache_offer_negative(&shelf, NAME, sizeof NAME, OPT, RRCACHE_DENIES_NAME, 3, 60, ZONE, sizeof ZONE, SOA_DATA, sizeof SOA_DATA, FIRST, 1,
+                                  &outcome) == RRCACHE_DONE && outcome == RRCACHE_KEPT);
+    EXPECT(rrcache_offer_negative(&shelf, OTHER, sizeof OTHER, 0, RRCACHE_DENIES_NAME, 3, 60, ZONE, sizeof ZONE, SOA_DATA, sizeof SOA_DATA, FIRST, 2,
+                                  &outcome) == RRCACHE_DONE && outcome == RRCACHE_KEPT);
+    EXPECT(peek(&shelf, FIRST, &told, buffer, sizeof buffer) == RRCACHE_DONE && told.kind == RRCACHE_NO_NAME);
+    EXPECT(rrcache_free(&shelf) == RRCACHE_DONE);
+}
+
 static void test_refusals(void)
 {
     struct rrcache_shelf shelf = {0};
@@ -484,6 +546,92 @@ static void test_null(void)
     EXPECT(rrcache_sizes(&shelf, &other, &wide, &wide) == RRCACHE_NULL);
     EXPECT(rrcache_fault(NULL, 1, &number) == RRCACHE_NULL && rrcache_part_of(NAME, sizeof NAME, 1, NULL) == RRCACHE_NULL);
     EXPECT(events(&shelf) == 0 && rrcache_free(&shelf) == RRCACHE_DONE);
+}
+
+/* What a call writes, and what else it is handed, lie in one stretch of memory: each pair in turn overlaps by an octet. */
+static void test_overlaps(void)
+{
+    /* Places of 64 octets for the handle, a record and octets, so that any two can be made to overlap. */
+    union {
+        uint8_t octets[512];
+        uint64_t aligned;
+    } memory;
+    struct rrcache_shelf held = {0}, *shelf = (struct rrcache_shelf *)(void *)memory.octets;
+    uint8_t *end = memory.octets + sizeof held; /* the octet behind the handle */
+    uint8_t *const apart = memory.octets + 64, *const far = memory.octets + 128;
+    struct rrcache_counts *counts = (struct rrcache_counts *)(void *)apart;
+    struct rrcache_told *told = (struct rrcache_told *)(void *)apart;
+    uint64_t *wide = (uint64_t *)(void *)apart;
+    uint32_t *number = (uint32_t *)(void *)apart;
+    memset(&memory, 0, sizeof memory);
+    memcpy(far, NAME, sizeof NAME);
+#define IS_NULL(call) EXPECT((call) == RRCACHE_NULL)
+    EXPECT(rrcache_make(shelf, 100, 4, 3600, end - 1) == RRCACHE_NULL && !shelf->is_live && rrcache_make(shelf, 100, 4, 3600, end) == RRCACHE_DONE);
+    memcpy(&held, shelf, sizeof held);
+
+    /* The handle with what else is written, and with what is read. */
+    IS_NULL(rrcache_sweep(shelf, FIRST, 1, (uint64_t *)(void *)(memory.octets + 8)));
+    IS_NULL(rrcache_drop_chapters(shelf, (uint64_t *)(void *)(memory.octets + 8)));
+    IS_NULL(rrcache_sizes(shelf, (uint64_t *)(void *)(memory.octets + 8), wide, wide + 1));
+    IS_NULL(rrcache_sizes(shelf, wide, (uint64_t *)(void *)(memory.octets + 8), wide + 1));
+    IS_NULL(rrcache_sizes(shelf, wide, wide + 1, (uint64_t *)(void *)(memory.octets + 8)));
+    IS_NULL(ask(shelf, FIRST, (struct rrcache_told *)(void *)(memory.octets + 8), far, 64));
+    IS_NULL(peek(shelf, FIRST, (struct rrcache_told *)(void *)(memory.octets + 8), far, 64));
+    IS_NULL(ask(shelf, FIRST, told, end - 1, 8));
+    IS_NULL(peek(shelf, FIRST, told, end - 1, 8));
+    IS_NULL(rrcache_ask(shelf, end - 1, 1, A, FIRST, 0, 0, 1, told, far, 64));
+    IS_NULL(rrcache_peek(shelf, end - 1, 1, A, FIRST, 0, 0, told, far, 64));
+    IS_NULL(offer_answer(shelf, FIRST, (struct rrcache_counts *)(void *)(memory.octets + 8)));
+    IS_NULL(offer_alias(shelf, 1, 0, FIRST, (struct rrcache_counts *)(void *)(memory.octets + 8)));
+    IS_NULL(rrcache_offer_message(shelf, end - 1, 8, ZONE, sizeof ZONE, FIRST, &LIMITS, 1, counts));
+    IS_NULL(rrcache_offer_message(shelf, ANSWER, sizeof ANSWER, end - 1, 8, FIRST, &LIMITS, 1, counts));
+    IS_NULL(rrcache_offer_message(shelf, ANSWER, sizeof ANSWER, ZONE, sizeof ZONE, FIRST, (struct rrcache_limits *)(void *)(memory.octets + 8), 1, counts));
+    IS_NULL(rrcache_offer_part(shelf, end - 1, 8, ZONE, sizeof ZONE, 1, 0, FIRST, &LIMITS, 1, counts));
+    IS_NULL(rrcache_offer_part(shelf, ALIAS, sizeof ALIAS, end - 1, 8, 1, 0, FIRST, &LIMITS, 1, counts));
+    IS_NULL(rrcache_offer_part(shelf, ALIAS, sizeof ALIAS, ZONE, sizeof ZONE, 1, 0, FIRST, (struct rrcache_limits *)(void *)(memory.octets + 8), 1, counts));
+    IS_NULL(rrcache_offer_set(shelf, end - 1, 8, A, 4, 60, ADDRESS, sizeof ADDRESS, FIRST, 1, number));
+    IS_NULL(rrcache_offer_set(shelf, NAME, sizeof NAME, A, 4, 60, end - 1, 8, FIRST, 1, number));
+    IS_NULL(rrcache_offer_set(shelf, NAME, sizeof NAME, A, 4, 60, ADDRESS, sizeof ADDRESS, FIRST, 1, (uint32_t *)(void *)(memory.octets + 12)));
+    IS_NULL(rrcache_offer_negative(shelf, end - 1, 8, A, 0, 3, 60, ZONE, sizeof ZONE, SOA_DATA, sizeof SOA_DATA, FIRST, 1, number));
+    IS_NULL(rrcache_offer_negative(shelf, NAME, sizeof NAME, A, 0, 3, 60, end - 1, 8, SOA_DATA, sizeof SOA_DATA, FIRST, 1, number));
+    IS_NULL(rrcache_offer_negative(shelf, NAME, sizeof NAME, A, 0, 3, 60, ZONE, sizeof ZONE, end - 1, 8, FIRST, 1, number));
+    IS_NULL(rrcache_offer_negative(shelf, NAME, sizeof NAME, A, 0, 3, 60, ZONE, sizeof ZONE, SOA_DATA, sizeof SOA_DATA, FIRST, 1,
+                                   (uint32_t *)(void *)(memory.octets + 12)));
+    IS_NULL(rrcache_offer_failure(shelf, end - 1, 8, A, 30, FIRST, 1, number));
+    IS_NULL(rrcache_offer_failure(shelf, NAME, sizeof NAME, A, 30, FIRST, 1, (uint32_t *)(void *)(memory.octets + 12)));
+
+    /* What else is written, with itself and with what is read. */
+    IS_NULL(ask(shelf, FIRST, told, apart + sizeof *told - 1, 64));
+    IS_NULL(peek(shelf, FIRST, told, apart + sizeof *told - 1, 64));
+    IS_NULL(rrcache_ask(shelf, apart + sizeof *told - 1, 8, A, FIRST, 0, 0, 1, told, far, 64));
+    IS_NULL(rrcache_peek(shelf, apart + sizeof *told - 1, 8, A, FIRST, 0, 0, told, far, 64));
+    IS_NULL(rrcache_ask(shelf, far, sizeof NAME, A, FIRST, 0, 0, 1, told, far + sizeof NAME - 1, 64));
+    IS_NULL(rrcache_peek(shelf, far, sizeof NAME, A, FIRST, 0, 0, told, far + sizeof NAME - 1, 64));
+    IS_NULL(rrcache_sizes(shelf, wide, wide, wide + 1));
+    IS_NULL(rrcache_sizes(shelf, wide, wide + 1, wide));
+    IS_NULL(rrcache_sizes(shelf, wide + 1, wide, wide));
+    IS_NULL(rrcache_offer_message(shelf, apart + sizeof *counts - 1, 8, ZONE, sizeof ZONE, FIRST, &LIMITS, 1, counts));
+    IS_NULL(rrcache_offer_message(shelf, ANSWER, sizeof ANSWER, apart + sizeof *counts - 1, 8, FIRST, &LIMITS, 1, counts));
+    IS_NULL(rrcache_offer_message(shelf, ANSWER, sizeof ANSWER, ZONE, sizeof ZONE, FIRST, (struct rrcache_limits *)(void *)(apart + sizeof *counts - 4), 1, counts));
+    IS_NULL(rrcache_offer_part(shelf, apart + sizeof *counts - 1, 8, ZONE, sizeof ZONE, 1, 0, FIRST, &LIMITS, 1, counts));
+    IS_NULL(rrcache_offer_part(shelf, ALIAS, sizeof ALIAS, apart + sizeof *counts - 1, 8, 1, 0, FIRST, &LIMITS, 1, counts));
+    IS_NULL(rrcache_offer_part(shelf, ALIAS, sizeof ALIAS, ZONE, sizeof ZONE, 1, 0, FIRST, (struct rrcache_limits *)(void *)(apart + sizeof *counts - 4), 1, counts));
+    IS_NULL(rrcache_offer_set(shelf, apart + 3, 8, A, 4, 60, ADDRESS, sizeof ADDRESS, FIRST, 1, number));
+    IS_NULL(rrcache_offer_set(shelf, NAME, sizeof NAME, A, 4, 60, apart + 3, 8, FIRST, 1, number));
+    IS_NULL(rrcache_offer_negative(shelf, apart + 3, 8, A, 0, 3, 60, ZONE, sizeof ZONE, SOA_DATA, sizeof SOA_DATA, FIRST, 1, number));
+    IS_NULL(rrcache_offer_negative(shelf, NAME, sizeof NAME, A, 0, 3, 60, apart + 3, 8, SOA_DATA, sizeof SOA_DATA, FIRST, 1, number));
+    IS_NULL(rrcache_offer_negative(shelf, NAME, sizeof NAME, A, 0, 3, 60, ZONE, sizeof ZONE, apart + 3, 8, FIRST, 1, number));
+    IS_NULL(rrcache_offer_failure(shelf, apart + 3, 8, A, 30, FIRST, 1, number));
+    IS_NULL(rrcache_fault(apart + 3, 8, number));
+    IS_NULL(rrcache_part_of(apart + 7, 8, 1, wide));
+#undef IS_NULL
+
+    /* Nothing was written, and what lies side by side, or is only read, is no overlap. */
+    EXPECT(memcmp(&held, shelf, sizeof held) == 0 && events(shelf) == 0);
+    EXPECT(rrcache_ask(shelf, far, sizeof NAME, A, FIRST, 0, 0, 1, told, far + sizeof NAME, 64) == RRCACHE_DONE);
+    EXPECT(ask(shelf, FIRST, told, apart + sizeof *told, 0) == RRCACHE_DONE && ask(shelf, FIRST, told, apart, 0) == RRCACHE_DONE);
+    EXPECT(rrcache_offer_negative(shelf, far, sizeof NAME, A, 0, 3, 60, far, sizeof NAME, SOA_DATA, sizeof SOA_DATA, FIRST, 1, number) == RRCACHE_DONE);
+    EXPECT(rrcache_sizes(shelf, wide, wide + 1, wide + 2) == RRCACHE_DONE && rrcache_free(shelf) == RRCACHE_DONE);
 }
 
 #ifdef REFUSE
@@ -637,8 +785,12 @@ int main(void)
     test_octets();
     test_no_shelf();
     test_making_refused();
+    test_has_shelf();
     test_refusals();
+    test_refused_counts();
+    test_denied_names();
     test_null();
+    test_overlaps();
 #ifdef REFUSE
     test_refused_memory();
 #endif

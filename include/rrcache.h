@@ -105,11 +105,9 @@
 
    The functions of the library proper begin with `rrc_`, and need pointers that are not null and
    buffers that do not overlap. The inline functions below answer RRCACHE_NULL where a pointer is
-   null that may not be, where the buffer for a reply overlaps the name, the handle or `told`, and
-   where two of the numbers of `rrcache_sizes` are one, and else call them. That a handle was made
-   by zeros, that no two threads are in it, that buffers lie where they are said to, and that
-   `told`, `counts` and the numbers that calls tell lie apart from the handle and from the octets
-   handed in, no test finds out. */
+   null that may not be, and where what the call writes, the handle too, overlaps anything else that
+   it is handed; what is only read may overlap. Else they call them. That a handle was made by zeros,
+   that no two threads are in it, and that buffers lie where they are said to, no test finds out. */
 #ifndef RRCACHE_H
 #define RRCACHE_H
 
@@ -138,9 +136,9 @@ enum rrcache_status {
     RRCACHE_BAD_TYPE = 12,        /* data of this type are not kept, as those of OPT and of questions alone */
     RRCACHE_BAD_DATA = 13,        /* data do not fill the layout of their type, or their lengths do not fit */
     RRCACHE_WRONG_BODY = 14,      /* a set with no data, or a time to live above 2^31 - 1 */
-    RRCACHE_WIDE = 15,            /* a datum of the reply has more than 65,535 octets, which no response brings */
+    RRCACHE_WIDE = 15,            /* a datum of the reply has more than 65,535 octets, which no response brings, or all have 2^64 */
     RRCACHE_SMALL = 16,           /* the buffer is too small: `told` says what it needs, and no event was written */
-    RRCACHE_NULL = 17             /* a pointer is null, or buffers overlap that may not (told by the inline functions alone) */
+    RRCACHE_NULL = 17             /* a pointer is null, or what is written overlaps (told by the inline functions alone) */
 };
 
 /* What a reply is. */
@@ -251,19 +249,37 @@ static inline bool rrcache_overlap(const void *one, size_t one_size, const void 
     return one_size != 0 && other_size != 0 && (a < b ? b - a < one_size : a - b < other_size);
 }
 
+/* Whether one of two stretches of memory that a call writes has an octet in common with one that it reads. */
+static inline bool rrcache_touch(const void *one, size_t one_size, const void *other, size_t other_size, const void *read, size_t read_size)
+{
+    return rrcache_overlap(one, one_size, read, read_size) || rrcache_overlap(other, other_size, read, read_size);
+}
+
+/* Whether the numbers that a call of a shelf writes overlap the handle. */
+static inline bool rrcache_holds(const struct rrcache_shelf *shelf, const void *written, size_t size)
+{
+    return rrcache_overlap(shelf, sizeof *shelf, written, size);
+}
+
 /* Makes an empty shelf for a handle that holds none: for 1 to 65,536 keys, with 1 to 1,048,576 events in a chapter, and sets that
-   may answer for 0 to 604,800 seconds past their time to live. Keys are hashed behind the seed of 16 octets, which is to be random
-   and kept secret, so that nobody can pick names whose hashes are alike. */
+   may answer for 0 to 604,800 seconds past their time to live. Names are hashed by SipHash-1-3, whose
+   key is the seed of 16 octets. Let it be random and keep it secret: then nobody can pick names whose
+   hashes are alike, which would make calls slow. Where the handle holds a shelf RRCACHE_HAS_SHELF is
+   answered, whatever the rules are, and that shelf is as it was. */
 static inline uint32_t rrcache_make(struct rrcache_shelf *shelf, uint64_t capacity, uint64_t chapter, uint64_t stale, const uint8_t seed[16])
 {
-    return shelf == NULL || seed == NULL ? RRCACHE_NULL : rrc_make(shelf, capacity, chapter, stale, seed, 16);
+    if (shelf == NULL || seed == NULL || rrcache_holds(shelf, seed, 16))
+        return RRCACHE_NULL;
+    return rrc_make(shelf, capacity, chapter, stale, seed, 16);
 }
 
 /* Frees the shelf of a handle, which then holds none, with all its keys and the events of all its
    chapters, one by one. Where it held none RRCACHE_NO_SHELF is answered and nothing done. */
 static inline uint32_t rrcache_free(struct rrcache_shelf *shelf)
 {
-    return shelf == NULL ? RRCACHE_NULL : rrc_free(shelf);
+    if (shelf == NULL)
+        return RRCACHE_NULL;
+    return rrc_free(shelf);
 }
 
 /* Offers all that a response from a server of this zone says: its RRsets at or below the zone, and its negative answer or that asking
@@ -274,7 +290,10 @@ static inline uint32_t rrcache_offer_message(struct rrcache_shelf *shelf, const 
                                              size_t zone_size, uint64_t moment, const struct rrcache_limits *limits, uint64_t line,
                                              struct rrcache_counts *counts)
 {
-    if (shelf == NULL || limits == NULL || counts == NULL || !rrcache_is_there(octets, size) || !rrcache_is_there(zone, zone_size))
+    if (shelf == NULL || limits == NULL || counts == NULL || !rrcache_is_there(octets, size) || !rrcache_is_there(zone, zone_size)
+        || rrcache_holds(shelf, counts, sizeof *counts) || rrcache_touch(shelf, sizeof *shelf, counts, sizeof *counts, octets, size)
+        || rrcache_touch(shelf, sizeof *shelf, counts, sizeof *counts, zone, zone_size)
+        || rrcache_touch(shelf, sizeof *shelf, counts, sizeof *counts, limits, sizeof *limits))
         return RRCACHE_NULL;
     return rrc_offer_message(shelf, rrcache_octets(octets, size), size, rrcache_octets(zone, zone_size), zone_size, moment, limits, line, counts);
 }
@@ -285,7 +304,10 @@ static inline uint32_t rrcache_offer_part(struct rrcache_shelf *shelf, const uin
                                           size_t zone_size, uint64_t parts, uint64_t part, uint64_t moment,
                                           const struct rrcache_limits *limits, uint64_t line, struct rrcache_counts *counts)
 {
-    if (shelf == NULL || limits == NULL || counts == NULL || !rrcache_is_there(octets, size) || !rrcache_is_there(zone, zone_size))
+    if (shelf == NULL || limits == NULL || counts == NULL || !rrcache_is_there(octets, size) || !rrcache_is_there(zone, zone_size)
+        || rrcache_holds(shelf, counts, sizeof *counts) || rrcache_touch(shelf, sizeof *shelf, counts, sizeof *counts, octets, size)
+        || rrcache_touch(shelf, sizeof *shelf, counts, sizeof *counts, zone, zone_size)
+        || rrcache_touch(shelf, sizeof *shelf, counts, sizeof *counts, limits, sizeof *limits))
         return RRCACHE_NULL;
     return rrc_offer_part(shelf, rrcache_octets(octets, size), size, rrcache_octets(zone, zone_size), zone_size, parts, part, moment, limits,
                           line, counts);
@@ -296,20 +318,26 @@ static inline uint32_t rrcache_offer_set(struct rrcache_shelf *shelf, const uint
                                          uint32_t trust, uint32_t ttl, const uint8_t *data, size_t data_size, uint64_t moment,
                                          uint64_t line, uint32_t *outcome)
 {
-    if (shelf == NULL || outcome == NULL || !rrcache_is_there(owner, owner_size) || !rrcache_is_there(data, data_size))
+    if (shelf == NULL || outcome == NULL || !rrcache_is_there(owner, owner_size) || !rrcache_is_there(data, data_size)
+        || rrcache_holds(shelf, outcome, sizeof *outcome) || rrcache_touch(shelf, sizeof *shelf, outcome, sizeof *outcome, owner, owner_size)
+        || rrcache_touch(shelf, sizeof *shelf, outcome, sizeof *outcome, data, data_size))
         return RRCACHE_NULL;
     return rrc_offer_set(shelf, rrcache_octets(owner, owner_size), owner_size, rtype, trust, ttl, rrcache_octets(data, data_size),
                          data_size, moment, line, outcome);
 }
 
-/* Offers that a name has no data of a type, or does not exist, with the SOA record that says so, its names not compressed. */
+/* Offers that a name has no data of a type, or does not exist, with the SOA record that says so, its names not compressed. A name
+   that does not exist has no type: with RRCACHE_DENIES_NAME none is asked for, and `rtype` may be any number. */
 static inline uint32_t rrcache_offer_negative(struct rrcache_shelf *shelf, const uint8_t *name, size_t name_size, uint16_t rtype,
                                               uint32_t denial, uint32_t trust, uint32_t ttl, const uint8_t *soa_owner,
                                               size_t soa_owner_size, const uint8_t *soa, size_t soa_size, uint64_t moment,
                                               uint64_t line, uint32_t *outcome)
 {
     if (shelf == NULL || outcome == NULL || !rrcache_is_there(name, name_size) || !rrcache_is_there(soa_owner, soa_owner_size)
-        || !rrcache_is_there(soa, soa_size))
+        || !rrcache_is_there(soa, soa_size) || rrcache_holds(shelf, outcome, sizeof *outcome)
+        || rrcache_touch(shelf, sizeof *shelf, outcome, sizeof *outcome, name, name_size)
+        || rrcache_touch(shelf, sizeof *shelf, outcome, sizeof *outcome, soa_owner, soa_owner_size)
+        || rrcache_touch(shelf, sizeof *shelf, outcome, sizeof *outcome, soa, soa_size))
         return RRCACHE_NULL;
     return rrc_offer_negative(shelf, rrcache_octets(name, name_size), name_size, rtype, denial, trust, ttl,
                               rrcache_octets(soa_owner, soa_owner_size), soa_owner_size, rrcache_octets(soa, soa_size), soa_size,
@@ -320,7 +348,8 @@ static inline uint32_t rrcache_offer_negative(struct rrcache_shelf *shelf, const
 static inline uint32_t rrcache_offer_failure(struct rrcache_shelf *shelf, const uint8_t *name, size_t name_size, uint16_t rtype,
                                              uint32_t ttl, uint64_t moment, uint64_t line, uint32_t *outcome)
 {
-    if (shelf == NULL || outcome == NULL || !rrcache_is_there(name, name_size))
+    if (shelf == NULL || outcome == NULL || !rrcache_is_there(name, name_size) || rrcache_holds(shelf, outcome, sizeof *outcome)
+        || rrcache_touch(shelf, sizeof *shelf, outcome, sizeof *outcome, name, name_size))
         return RRCACHE_NULL;
     return rrc_offer_failure(shelf, rrcache_octets(name, name_size), name_size, rtype, ttl, moment, line, outcome);
 }
@@ -335,8 +364,9 @@ static inline uint32_t rrcache_ask(struct rrcache_shelf *shelf, const uint8_t *n
 {
     uint8_t none;
     if (shelf == NULL || told == NULL || !rrcache_is_there(name, name_size) || !rrcache_is_there(buffer, buffer_size)
-        || rrcache_overlap(buffer, buffer_size, name, name_size) || rrcache_overlap(buffer, buffer_size, shelf, sizeof *shelf)
-        || rrcache_overlap(buffer, buffer_size, told, sizeof *told))
+        || rrcache_holds(shelf, told, sizeof *told) || rrcache_holds(shelf, buffer, buffer_size) || rrcache_holds(shelf, name, name_size)
+        || rrcache_overlap(buffer, buffer_size, told, sizeof *told)
+        || rrcache_touch(told, sizeof *told, buffer, buffer_size, name, name_size))
         return RRCACHE_NULL;
     return rrc_ask(shelf, rrcache_octets(name, name_size), name_size, rtype, moment, purpose, mode, line, told,
                    buffer_size == 0 ? &none : buffer, buffer_size);
@@ -349,8 +379,9 @@ static inline uint32_t rrcache_peek(struct rrcache_shelf *shelf, const uint8_t *
 {
     uint8_t none;
     if (shelf == NULL || told == NULL || !rrcache_is_there(name, name_size) || !rrcache_is_there(buffer, buffer_size)
-        || rrcache_overlap(buffer, buffer_size, name, name_size) || rrcache_overlap(buffer, buffer_size, shelf, sizeof *shelf)
-        || rrcache_overlap(buffer, buffer_size, told, sizeof *told))
+        || rrcache_holds(shelf, told, sizeof *told) || rrcache_holds(shelf, buffer, buffer_size) || rrcache_holds(shelf, name, name_size)
+        || rrcache_overlap(buffer, buffer_size, told, sizeof *told)
+        || rrcache_touch(told, sizeof *told, buffer, buffer_size, name, name_size))
         return RRCACHE_NULL;
     return rrc_peek(shelf, rrcache_octets(name, name_size), name_size, rtype, moment, purpose, mode, told,
                     buffer_size == 0 ? &none : buffer, buffer_size);
@@ -359,14 +390,18 @@ static inline uint32_t rrcache_peek(struct rrcache_shelf *shelf, const uint8_t *
 /* Removes the keys that can answer no more at a moment, which is one event, and tells how many they were. */
 static inline uint32_t rrcache_sweep(struct rrcache_shelf *shelf, uint64_t moment, uint64_t line, uint64_t *removed)
 {
-    return shelf == NULL || removed == NULL ? RRCACHE_NULL : rrc_sweep(shelf, moment, line, removed);
+    if (shelf == NULL || removed == NULL || rrcache_holds(shelf, removed, sizeof *removed))
+        return RRCACHE_NULL;
+    return rrc_sweep(shelf, moment, line, removed);
 }
 
 /* Takes the closed chapters and drops them, and tells how many they were. No reply changes. Each
    event of these chapters is freed before the call returns. */
 static inline uint32_t rrcache_drop_chapters(struct rrcache_shelf *shelf, uint64_t *dropped)
 {
-    return shelf == NULL || dropped == NULL ? RRCACHE_NULL : rrc_drop_chapters(shelf, dropped);
+    if (shelf == NULL || dropped == NULL || rrcache_holds(shelf, dropped, sizeof *dropped))
+        return RRCACHE_NULL;
+    return rrc_drop_chapters(shelf, dropped);
 }
 
 /* Tells how many keys the shelf holds, those that are dead and not yet swept with them, how many events the open chapter has, and how
@@ -374,7 +409,10 @@ static inline uint32_t rrcache_drop_chapters(struct rrcache_shelf *shelf, uint64
    failed for. */
 static inline uint32_t rrcache_sizes(struct rrcache_shelf *shelf, uint64_t *keys, uint64_t *events, uint64_t *chapters)
 {
-    if (shelf == NULL || keys == NULL || events == NULL || chapters == NULL || keys == events || keys == chapters || events == chapters)
+    if (shelf == NULL || keys == NULL || events == NULL || chapters == NULL || rrcache_holds(shelf, keys, sizeof *keys)
+        || rrcache_holds(shelf, events, sizeof *events) || rrcache_holds(shelf, chapters, sizeof *chapters)
+        || rrcache_overlap(keys, sizeof *keys, events, sizeof *events)
+        || rrcache_touch(keys, sizeof *keys, events, sizeof *events, chapters, sizeof *chapters))
         return RRCACHE_NULL;
     return rrc_sizes(shelf, keys, events, chapters);
 }
@@ -384,13 +422,17 @@ static inline uint32_t rrcache_sizes(struct rrcache_shelf *shelf, uint64_t *keys
    question, 8 they are more than 65,535. */
 static inline uint32_t rrcache_fault(const uint8_t *octets, size_t size, uint32_t *fault)
 {
-    return fault == NULL || !rrcache_is_there(octets, size) ? RRCACHE_NULL : rrc_fault(rrcache_octets(octets, size), size, fault);
+    if (fault == NULL || !rrcache_is_there(octets, size) || rrcache_overlap(fault, sizeof *fault, octets, size))
+        return RRCACHE_NULL;
+    return rrc_fault(rrcache_octets(octets, size), size, fault);
 }
 
 /* Tells in which of 1 to 64 parts all keys of a name lie, counted from 0. */
 static inline uint32_t rrcache_part_of(const uint8_t *name, size_t name_size, uint64_t parts, uint64_t *part)
 {
-    return part == NULL || !rrcache_is_there(name, name_size) ? RRCACHE_NULL : rrc_part_of(rrcache_octets(name, name_size), name_size, parts, part);
+    if (part == NULL || !rrcache_is_there(name, name_size) || rrcache_overlap(part, sizeof *part, name, name_size))
+        return RRCACHE_NULL;
+    return rrc_part_of(rrcache_octets(name, name_size), name_size, parts, part);
 }
 
 #ifdef __cplusplus

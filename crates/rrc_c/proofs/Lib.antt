@@ -2,3 +2,4 @@ pub mod AsBox
 pub mod Filling
 pub mod Answering
 pub mod Taking
+pub mod Refusing

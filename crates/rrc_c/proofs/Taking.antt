@@ -1,12 +1,13 @@
 -- Offers that are made one after another.
-use Rattle.std.proofs.Common.{◌≡◌, ℕ, ◌+◌, List, [], ◌∷◌, ◌++◌, length, reverse, Result, Ok, Err, sym, ap, subst, ◌∙◌, arith}
-use Rattle.std.proofs.lemmas.List.{length-reverse, reverse-append, length-append}
-use Rattle.std.specs.Prelude.{OnOk, OnErr}
+use Rattle.std.proofs.Common.{◌≡◌, ℕ, ◌+◌, List, [], ◌∷◌, ◌++◌, length, reverse, take, drop, get_or, ◌<◌, Result, Ok, Err, sym, ap, subst, ◌∙◌, arith}
+use Rattle.std.proofs.lemmas.List.{length-reverse, reverse-append, length-append, take-append-drop, drop_more}
+use Rattle.std.specs.Prelude.{OnOk, IfErr}
 use Rattle.rrc_history.specs.Fits.{OfferOf}
 use Rattle.rrc_history.specs.declared.event.Outcome.{Outcome}
 use Rattle.rrc_history.specs.declared.event.Outcome.TheVariants.{Kept, Cleared, LessTrusted}
 use Rattle.rrc_share.specs.Shelf.{ShelfOf, AppendsOffer, IsLeft}
 use Rattle.rrc_c.specs.declared.counts.Counts.{Counts}
+use Rattle.rrc_c.specs.Refusals.{WriteDue}
 use Rattle.rrc_c.specs.Offered.{Takes, TakesAll, TakesFirst, count_more, total}
 
 -- one more is counted
@@ -30,19 +31,22 @@ takes_more line offers offer outcome counts after old middle new place (all, siz
     (record { outcomes = outcome ∷ all.outcomes; takes = takes; counted = counted ∙ ap (count_more outcome) all.counted }, sum ∙ ap (λ n. n + 1) sized ∙ sym (length-append offers (offer ∷ [])))
 
 -- the next one was refused
-pub takes_first : (line : ℕ) (offers taken others : List OfferOf) (counts : Counts) (old middle new : ShelfOf) → offers ≡ taken ++ others
-    → TakesAll line taken counts old middle → IsLeft middle new → TakesFirst line offers counts old new
-takes_first line offers taken others counts old middle new parts all left =
-    record { taken = taken; others = others; parts = parts; middle = middle; all = all; left = left }
+pub takes_first : (number line : ℕ) (offers taken others : List OfferOf) (next : OfferOf) (counts : Counts) (old middle new : ShelfOf) → offers ≡ taken ++ next ∷ others
+    → TakesAll line taken counts old middle → WriteDue middle.part next.moment number → IsLeft middle new → TakesFirst number line offers counts old new
+takes_first number line offers taken others next counts old middle new parts all due left =
+    record { taken = taken; next = next; others = others; parts = parts; middle = middle; all = all; due = due; left = left }
 
-pub on_err : {A B : Type 0} (result : Result A B) (X : Type 0) → X → OnErr result X
-on_err (Ok done) X x = tt
-on_err (Err refusal) X x = x
+-- what a vector's iterator yields next stands behind what it has yielded
+pub parts_at : (offers yielded : List OfferOf) (next : OfferOf) → yielded ≡ take (length yielded) offers → (length yielded < length offers) × (next ≡ get_or offers (length yielded) next)
+    → offers ≡ yielded ++ next ∷ drop (length yielded + 1) offers
+parts_at offers yielded next first (below, at) =
+    sym (take-append-drop (length yielded) offers)
+    ∙ (λ i. sym first i ++ (drop_more offers (length yielded) next below ∙ ap (λ one. one ∷ drop (length yielded + 1) offers) (sym at)) i)
 
 pub map_ok : {A B : Type 0} (result : Result A B) (X Y : Type 0) → (X → Y) → OnOk result X → OnOk result Y
 map_ok (Ok done) X Y f x = f x
 map_ok (Err refusal) X Y f x = tt
 
-pub map_err : {A B : Type 0} (result : Result A B) (X Y : Type 0) → (X → Y) → OnErr result X → OnErr result Y
+pub map_err : {A B : Type 0} (result : Result A B) (X Y : B → Type 0) → ((error : B) → X error → Y error) → IfErr result X → IfErr result Y
 map_err (Ok done) X Y f x = tt
-map_err (Err refusal) X Y f x = f x
+map_err (Err refusal) X Y f x = f refusal x

@@ -4,6 +4,7 @@ pub mod Handles
 pub mod Made
 pub mod Told
 pub mod Asked
+pub mod Refusals
 pub mod Offered
 pub mod Parted
 pub mod Kept

@@ -1,6 +1,6 @@
 -- What C offers, and what it is told of it.
-use Rattle.std.specs.Prelude.{◌≡◌, ℕ, ◌+◌, ◌≤◌, ◌⊎◌, List, [], ◌∷◌, ◌++◌, length, reverse, if◌then◌else◌, ◌==◌}
-use Rattle.rrc_name.specs.Wire.{folded}
+use Rattle.std.specs.Prelude.{◌≡◌, ℕ, ◌+◌, ◌⊎◌, List, [], ◌∷◌, ◌++◌, length, reverse, if◌then◌else◌, ◌==◌}
+use Rattle.rrc_name.specs.Wire.{folded, IsWireForm}
 use Rattle.rrc_name.specs.declared.slot.Slot.{Slot}
 use Rattle.rrc_name.specs.declared.slot.Slot.TheVariants.{Set, Nx, Failed}
 use Rattle.rrc_history.specs.Fits.{OfferOf}
@@ -16,6 +16,7 @@ use Rattle.rrc_sets.specs.declared.limits.Limits.{Limits}
 use Rattle.rrc_wire.specs.Grammar.{MessageOf}
 use Rattle.rrc_wire.specs.declared.message.Message.{Message}
 use Rattle.rrc_c.specs.Told.{data_text}
+use Rattle.rrc_c.specs.Refusals.{OffersRefused, WriteDue}
 use Rattle.rrc_c.specs.declared.counts.Counts.{Counts}
 use Rattle.rrc_c.specs.declared.counts.Bounds.{Bounds}
 
@@ -24,11 +25,6 @@ use Rattle.rrc_c.specs.declared.counts.Bounds.{Bounds}
 -- the trust of a number, 1 to 4 from low to high
 abbrev pub trust_of : ℕ → Trust
 trust_of number = if number == 1 then Additional else (if number == 2 then NonAuthoritativeAnswer else (if number == 3 then Authority else AuthoritativeAnswer))
-
--- the number is of a trust
-pub record IsTrust (number : ℕ) : Type 0 where
-  pub least : 1 ≤ number
-  pub most : number ≤ 4
 
 -- what a denial is of: of data of a type, by 0, or of the name, by 1
 abbrev pub denied : ℕ → ℕ → Slot
@@ -94,17 +90,20 @@ pub record TakesAll (line : ℕ) (offers : List OfferOf) (counts : Counts) (old 
   pub takes : Takes line (reverse offers) outcomes old new
   pub counted : counts ≡ counts_of outcomes
 
--- the first of the offers were written, and what became of them is counted; the next one was refused
-pub record TakesFirst (line : ℕ) (offers : List OfferOf) (counts : Counts) (old new : ShelfOf) : Type 0 where
+-- the first of the offers were written, and what became of them is counted; the next one, which there is, was refused by this number
+pub record TakesFirst (number line : ℕ) (offers : List OfferOf) (counts : Counts) (old new : ShelfOf) : Type 0 where
   pub taken : List OfferOf
+  pub next : OfferOf
   pub others : List OfferOf
-  pub parts : offers ≡ taken ++ others
+  pub parts : offers ≡ taken ++ next ∷ others
   pub middle : ShelfOf
   pub all : TakesAll line taken counts old middle
+  pub due : WriteDue middle.part next.moment number
   pub left : IsLeft middle new
 
 -- what the message offers that some octets are
 pub record AreOffered (octets zone : List ℕ) (at : ℕ) (bounds : Bounds) (offers : List OfferOf) : Type 0 where
+  pub zone_is : IsWireForm zone
   pub message : Message
   pub is_message : MessageOf octets message
   pub limits : Limits
@@ -113,28 +112,25 @@ pub record AreOffered (octets zone : List ℕ) (at : ℕ) (bounds : Bounds) (off
 
 -- all that a message offers was written
 pub record TakesMessage (line : ℕ) (octets zone : List ℕ) (at : ℕ) (bounds : Bounds) (counts : Counts) (old new : ShelfOf) : Type 0 where
-  pub message : Message
-  pub is_message : MessageOf octets message
-  pub limits : Limits
-  pub are_limits : Are limits bounds.cap bounds.negative_cap bounds.recheck
-  pub takes : TakesAll line (offers_of message zone at limits) counts old new
+  pub offers : List OfferOf
+  pub offered : AreOffered octets zone at bounds offers
+  pub takes : TakesAll line offers counts old new
 
--- the first of what a message offers was written
-pub record TakesBeginning (line : ℕ) (octets zone : List ℕ) (at : ℕ) (bounds : Bounds) (counts : Counts) (old new : ShelfOf) : Type 0 where
-  pub message : Message
-  pub is_message : MessageOf octets message
-  pub limits : Limits
-  pub are_limits : Are limits bounds.cap bounds.negative_cap bounds.recheck
-  pub takes : TakesFirst line (offers_of message zone at limits) counts old new
+-- the first of what a message offers was written, and then it was refused by this number
+pub record TakesBeginning (number line : ℕ) (octets zone : List ℕ) (at : ℕ) (bounds : Bounds) (counts : Counts) (old new : ShelfOf) : Type 0 where
+  pub offers : List OfferOf
+  pub offered : AreOffered octets zone at bounds offers
+  pub takes : TakesFirst number line offers counts old new
 
 -- nothing was written and nothing counted
 pub record TakesNone (counts : Counts) (old new : ShelfOf) : Type 0 where
   pub counted : counts ≡ counts_of []
   pub kept : new ≡ old
 
--- what a refusal leaves: nothing was written, or the first of what the message offers
-abbrev pub TakesSome : ℕ → List ℕ → List ℕ → ℕ → Bounds → Counts → ShelfOf → ShelfOf → Type 0
-TakesSome line octets zone at bounds counts old new = TakesNone counts old new ⊎ TakesBeginning line octets zone at bounds counts old new
+-- what a refusal by this number leaves: nothing was written, as what was handed in is refused, or the first of what the message offers
+abbrev pub TakesSome : ℕ → ℕ → List ℕ → List ℕ → ℕ → Bounds → Counts → ShelfOf → ShelfOf → Type 0
+TakesSome number line octets zone at bounds counts old new =
+    (TakesNone counts old new × OffersRefused octets zone bounds number) ⊎ TakesBeginning number line octets zone at bounds counts old new
 
 -- how many offers were counted
 abbrev pub total : Counts → ℕ

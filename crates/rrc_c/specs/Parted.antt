@@ -5,7 +5,9 @@ use Rattle.rrc_sets.specs.Parts.{part_of}
 use Rattle.rrc_share.specs.Shelf.{ShelfOf}
 use Rattle.rrc_c.specs.Offered.{AreOffered, TakesAll, TakesFirst, TakesNone}
 use Rattle.rrc_c.specs.declared.counts.Counts.{Counts}
+use Rattle.rrc_c.specs.Refusals.{Because, Then, OffersRefused}
 use Rattle.rrc_c.specs.declared.counts.Bounds.{Bounds}
+use Rattle.rrc_c.specs.declared.status.Status.TheVariants.{BadRules}
 
 -- the offers under names that lie in a part, so many being all
 abbrev pub lying_in : ℕ → ℕ → List OfferOf → List OfferOf
@@ -23,13 +25,19 @@ pub record TakesPart (line : ℕ) (octets zone : List ℕ) (parts part at : ℕ)
   pub offered : AreOffered octets zone at bounds offers
   pub takes : TakesAll line (lying_in parts part offers) counts old new
 
--- the first of these were written, and nothing else
-pub record TakesBeginningOfPart (line : ℕ) (octets zone : List ℕ) (parts part at : ℕ) (bounds : Bounds) (counts : Counts) (old new : ShelfOf) : Type 0 where
+-- the first of these were written, and nothing else, and then it was refused by this number
+pub record TakesBeginningOfPart (number line : ℕ) (octets zone : List ℕ) (parts part at : ℕ) (bounds : Bounds) (counts : Counts) (old new : ShelfOf) : Type 0 where
+  pub is_part : IsPart parts part
   pub offers : List OfferOf
   pub offered : AreOffered octets zone at bounds offers
-  pub takes : TakesFirst line (lying_in parts part offers) counts old new
+  pub takes : TakesFirst number line (lying_in parts part offers) counts old new
 
--- what a refusal leaves: nothing was written, or the first of what the message offers under names of the part
-abbrev pub TakesSomeOfPart : ℕ → List ℕ → List ℕ → ℕ → ℕ → ℕ → Bounds → Counts → ShelfOf → ShelfOf → Type 0
-TakesSomeOfPart line octets zone parts part at bounds counts old new =
-    TakesNone counts old new ⊎ TakesBeginningOfPart line octets zone parts part at bounds counts old new
+-- nothing is offered, since what was handed in is refused
+abbrev pub PartRefused : List ℕ → List ℕ → ℕ → ℕ → Bounds → ℕ → Type 0
+PartRefused octets zone parts part bounds = Then (Because BadRules (IsPart parts part → ⊥)) (IsPart parts part) (OffersRefused octets zone bounds)
+
+-- what a refusal by this number leaves: nothing was written, or the first of what the message offers under names of the part
+abbrev pub TakesSomeOfPart : ℕ → ℕ → List ℕ → List ℕ → ℕ → ℕ → ℕ → Bounds → Counts → ShelfOf → ShelfOf → Type 0
+TakesSomeOfPart number line octets zone parts part at bounds counts old new =
+    (TakesNone counts old new × PartRefused octets zone parts part bounds number)
+    ⊎ TakesBeginningOfPart number line octets zone parts part at bounds counts old new

@@ -39,6 +39,14 @@ OnRefused status fact = (status ≡ 0 → ⊥) → fact
 abbrev pub OnSmall : ℕ → Type 0 → Type 0
 OnSmall status fact = status ≡ 16 → fact
 
+-- what holds where a call answers that the handle holds no shelf
+abbrev pub OnNoShelf : ℕ → Type 0 → Type 0
+OnNoShelf status fact = status ≡ 1 → fact
+
+-- what holds where a call tells nothing: it was refused, and not since the buffer is too small
+abbrev pub OnUntold : ℕ → Type 0 → Type 0
+OnUntold status fact = (status ≡ 0 → ⊥) → (status ≡ 16 → ⊥) → fact
+
 -- what a call answers that tells a reply, by whether it fits the buffer
 abbrev pub number_of_reply : Result Bool Status → ℕ
 number_of_reply (Ok true) = 0

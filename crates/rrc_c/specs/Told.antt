@@ -1,5 +1,5 @@
 -- A reply as C is told it: a record of numbers, and the octets of a buffer.
-use Rattle.std.specs.Prelude.{◌≡◌, ℕ, ◌/◌, ◌%◌, ◌≤◌, List, [], ◌∷◌, ◌++◌, length, drop, None, Some}
+use Rattle.std.specs.Prelude.{◌≡◌, ℕ, ◌/◌, ◌%◌, ◌^◌, ◌<◌, ◌≤◌, List, [], ◌∷◌, ◌++◌, length, drop, None, Some}
 use Rattle.rrc_history.specs.declared.event.Reply.{Reply}
 use Rattle.rrc_history.specs.declared.event.Reply.TheVariants.{Fresh, Stale, NoData, NxDomain, Miss}
 use Rattle.rrc_c.specs.declared.told.Told.{Told}
@@ -71,6 +71,11 @@ IsFilled before text after = after ≡ text ++ drop (length text) before
 abbrev pub AreNarrow : List (List ℕ) → Type 0
 AreNarrow [] = Unit {0}
 AreNarrow (octets ∷ behind) = (length octets ≤ 65535) × AreNarrow behind
+
+-- data that a record and a buffer can tell: each is narrow, and the octets of all of them can be counted
+pub record AreTellable (items : List (List ℕ)) : Type 0 where
+  pub narrow : AreNarrow items
+  pub countable : length (data_text items) < 2 ^ 64
 
 -- where a buffer begins with so many octets of one's own, it begins with them and these after
 abbrev pub WritesOn : ℕ → List ℕ → List ℕ → List ℕ → Type 0

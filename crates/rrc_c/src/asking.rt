@@ -1,6 +1,9 @@
-ghost use Rattle.std.specs.Prelude.{◌≡◌, ◌+◌, ◌≤◌, ◌↔◌, length, IsTrue, IfOk, OnOk, OnErr};
-ghost use Rattle.rrc_c.specs.Asked.{asked, purpose_of, mode_of, reply_of, AreChoices, AreKept, AnswersOr, ShowsOr};
-ghost use Rattle.rrc_c.specs.Told.{told_of, data_of, AreNarrow};
+ghost use Rattle.std.specs.Prelude.{◌≡◌, ◌+◌, ◌≤◌, ◌↔◌, length, IsTrue, IfOk, IfErr, OnOk, OnErr};
+ghost use Rattle.rrc_c.specs.Asked.{asked, purpose_of, mode_of, reply_of, AreKept, AnswersOr, ShowsOr};
+ghost use Rattle.rrc_c.specs.Refusals.{AskDue, IsQuestion, NameRefused, PeekDue, QuestionRefused, ReplyRefused, TellingThen, WriteDue};
+ghost use Rattle.rrc_c.specs.Statuses.{number_of, number_of_call, number_of_reply};
+ghost use Rattle.rrc_c.specs.Told.{told_of, data_of, AreTellable};
+ghost use Rattle.rrc_name.specs.Wire.{IsWireForm};
 ghost use Rattle.rrc_share.specs.Shelf.{AppendsAsk, IsLeft};
 
 use crate::status::Status;
@@ -13,7 +16,9 @@ use std::alloc::Global;
 
 /// The name whose wire form some octets are.
 pub(crate) fn name_of(alloc: Global, octets: &[u8]) -> Result<Name, Status>
-    ensures { IfOk result (λ name. name ≡ octets.now) }
+    ensures name { IfOk result (λ name. name ≡ octets.now) }
+    ensures wire_form { OnOk result (IsWireForm octets.now) }
+    ensures refused { IfErr result (λ status. NameRefused octets.now (number_of status)) }
 {
     match Name::from_wire(alloc, octets) {
         Ok(name) => Ok(name),
@@ -54,7 +59,8 @@ pub(crate) fn ask_of(
     mode: u32,
 ) -> Result<Ask, Status>
     ensures ask { IfOk result (λ ask. ask ≡ asked name.now rtype moment purpose mode) }
-    ensures choices { OnOk result (AreChoices purpose mode) }
+    ensures fit { OnOk result (IsQuestion name.now purpose mode) }
+    ensures refused { IfErr result (λ status. QuestionRefused name.now purpose mode (number_of status)) }
 {
     if purpose > 1 || mode > 2 {
         return Err(Status::BadChoice);
@@ -72,7 +78,8 @@ pub(crate) fn ask_of(
 fn peeked(shelf: &Shelf, ask: &Ask) -> Result<(Reply, Told), Status>
     ensures reply { IfOk result (λ both. both.0 ≡ reply_of shelf.now ask.now) }
     ensures told { IfOk result (λ both. both.1 ≡ told_of both.0) }
-    ensures narrow { IfOk result (λ both. AreNarrow (data_of both.0)) }
+    ensures tellable { OnOk result (AreTellable (data_of (reply_of shelf.now ask.now))) }
+    ensures refused { IfErr result (λ status. ReplyRefused (reply_of shelf.now ask.now) (number_of status)) }
 {
     let reply = shelf.would_answer(ask)?;
     match told_of(&reply) {
@@ -93,6 +100,7 @@ fn has_room(buffer: &[u8], told: &Told) -> bool
 fn show(shelf: &Shelf, ask: &Ask, told: &mut Told, buffer: &mut [u8]) -> Result<bool, Status>
     ensures ok { IfOk result (λ fits. ShowsOr fits ask.now told.new buffer.old buffer.new shelf.now shelf.now) }
     ensures err { OnErr result (AreKept told.old buffer.old told.new buffer.new) }
+    ensures due { TellingThen (reply_of shelf.now ask.now) (length buffer.old) (λ number. number ≡ 0) (number_of_reply result) }
 {
     let (reply, record) = peeked(shelf, ask)?;
     let fits = has_room(buffer, &record);
@@ -107,6 +115,7 @@ fn show(shelf: &Shelf, ask: &Ask, told: &mut Told, buffer: &mut [u8]) -> Result<
 fn write_ask(shelf: &mut Shelf, ask: &Ask, line: u64) -> Result<(), Status>
     ensures ok { OnOk result (AppendsAsk shelf.old shelf.new (record { line = line; place = 0 }) ask.now (reply_of shelf.old ask.now)) }
     ensures left { OnErr result (IsLeft shelf.old shelf.new) }
+    ensures due { WriteDue shelf.old.part ask.now.moment (number_of_call result) }
 {
     on_shelf_ask(shelf, Tag { line, place: 0 }, ask)?;
     Ok(())
@@ -123,6 +132,7 @@ fn answer(
     ensures ok { IfOk result (λ fits. AnswersOr fits ask.now line told.new buffer.old buffer.new shelf.old shelf.new) }
     ensures err { OnErr result (AreKept told.old buffer.old told.new buffer.new) }
     ensures left { OnErr result (IsLeft shelf.old shelf.new) }
+    ensures due { TellingThen (reply_of shelf.old ask.now) (length buffer.old) (WriteDue shelf.old.part ask.now.moment) (number_of_reply result) }
 {
     let (reply, record) = peeked(shelf, ask)?;
     let is_written = has_room(buffer, &record);
@@ -148,9 +158,10 @@ pub(crate) fn ask_shelf(
     buffer: &mut [u8],
 ) -> Result<bool, Status>
     ensures ok { IfOk result (λ fits. AnswersOr fits (asked name.now rtype moment purpose mode) line told.new buffer.old buffer.new shelf.old shelf.new) }
-    ensures choices { OnOk result (AreChoices purpose mode) }
     ensures err { OnErr result (AreKept told.old buffer.old told.new buffer.new) }
     ensures left { OnErr result (IsLeft shelf.old shelf.new) }
+    ensures fit { OnOk result (IsQuestion name.now purpose mode) }
+    ensures due { AskDue name.now rtype moment purpose mode (length buffer.old) shelf.old (number_of_reply result) }
 {
     let ask = ask_of(alloc, name, rtype, moment, purpose, mode)?;
     answer(shelf, &ask, line, told, buffer)
@@ -169,8 +180,9 @@ pub(crate) fn peek_at_shelf(
     buffer: &mut [u8],
 ) -> Result<bool, Status>
     ensures ok { IfOk result (λ fits. ShowsOr fits (asked name.now rtype moment purpose mode) told.new buffer.old buffer.new shelf.now shelf.now) }
-    ensures choices { OnOk result (AreChoices purpose mode) }
     ensures err { OnErr result (AreKept told.old buffer.old told.new buffer.new) }
+    ensures fit { OnOk result (IsQuestion name.now purpose mode) }
+    ensures due { PeekDue name.now rtype moment purpose mode (length buffer.old) shelf.now (number_of_reply result) }
 {
     let ask = ask_of(alloc, name, rtype, moment, purpose, mode)?;
     show(shelf, &ask, told, buffer)

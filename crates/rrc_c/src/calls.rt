@@ -1,10 +1,11 @@
-ghost use Rattle.std.specs.Prelude.{◌≡◌, ◌≤◌, ◌<◌, ◌⊎◌, IfOk, OnErr};
-ghost use Rattle.rrc_c.specs.Statuses.{number_of_call, number_of_reply, OnDone, OnRefused, OnSmall};
+ghost use Rattle.std.specs.Prelude.{◌≡◌, ◌<◌, ◌⊎◌, None, IfOk, OnErr, length};
+ghost use Rattle.rrc_c.specs.Statuses.{number_of_call, number_of_reply, OnDone, OnNoShelf, OnRefused, OnSmall, OnUntold};
 ghost use Rattle.rrc_c.specs.Handles.{BothHold, HoldsNone, IsKept, TellsNone};
-ghost use Rattle.rrc_c.specs.Asked.{asked, AreChoices, Answers, Shows, TellsSizeAlone};
+ghost use Rattle.rrc_c.specs.Asked.{asked, Answers, Shows, TellsSizeAlone};
 ghost use Rattle.rrc_c.specs.Kept.{TellsFault, TellsSizes, DropsChapters};
-ghost use Rattle.rrc_c.specs.Offered.{denial_offer, failure_offer, IsTrust, TakesMessage, TakesOne, TakesSet, TakesSome};
+ghost use Rattle.rrc_c.specs.Offered.{denial_offer, failure_offer, TakesMessage, TakesOne, TakesSet, TakesSome};
 ghost use Rattle.rrc_c.specs.Parted.{IsPart, TakesPart, TakesSomeOfPart};
+ghost use Rattle.rrc_c.specs.Refusals.{AskDue, DenialDue, FailureDue, IfHeld, IsDenial, IsFailure, IsQuestion, IsSet, OutOfMemory, PartDue, PeekDue, SetDue, WriteDue};
 ghost use Rattle.rrc_share.specs.Shelf.{AppendsSweep};
 ghost use Rattle.rrc_sets.specs.Parts.{part_of};
 
@@ -48,7 +49,9 @@ pub extern "C" fn rrc_ask(
     ensures small { OnSmall result (BothHold handle.old.seal.shelf handle.new.seal.shelf (TellsSizeAlone (asked name.now rtype moment purpose mode) told.new buffer.old buffer.new)) }
     ensures refused { OnRefused result (IsKept handle.old.seal.shelf handle.new.seal.shelf) }
     ensures buffer { OnRefused result (buffer.new ≡ buffer.old) }
-    ensures choices { OnDone result (AreChoices purpose mode) }
+    ensures told { OnUntold result (told.new ≡ told.old) }
+    ensures fit { OnDone result (IsQuestion name.now purpose mode) }
+    ensures due { IfHeld handle.old.seal.shelf (λ shelf. AskDue name.now rtype moment purpose mode (length buffer.old) shelf result) }
 {
     let Some(mut shelf) = handle.take(alloc) else {
         return NO_SHELF;
@@ -78,7 +81,9 @@ pub extern "C" fn rrc_peek(
     ensures small { OnSmall result (BothHold handle.old.seal.shelf handle.new.seal.shelf (TellsSizeAlone (asked name.now rtype moment purpose mode) told.new buffer.old buffer.new)) }
     ensures kept { handle.new.seal.shelf ≡ handle.old.seal.shelf }
     ensures buffer { OnRefused result (buffer.new ≡ buffer.old) }
-    ensures choices { OnDone result (AreChoices purpose mode) }
+    ensures told { OnUntold result (told.new ≡ told.old) }
+    ensures fit { OnDone result (IsQuestion name.now purpose mode) }
+    ensures due { IfHeld handle.old.seal.shelf (λ shelf. PeekDue name.now rtype moment purpose mode (length buffer.old) shelf result) }
 {
     let Some(shelf) = handle.take(alloc) else {
         return NO_SHELF;
@@ -147,7 +152,8 @@ pub extern "C" fn rrc_offer_message(
 ) -> u32
     ensures none { TellsNone handle.old.seal.shelf result }
     ensures done { OnDone result (BothHold handle.old.seal.shelf handle.new.seal.shelf (TakesMessage line octets.now zone.now moment bounds.now counts.new)) }
-    ensures refused { OnRefused result (HoldsNone handle.old.seal.shelf handle.new.seal.shelf ⊎ BothHold handle.old.seal.shelf handle.new.seal.shelf (TakesSome line octets.now zone.now moment bounds.now counts.new)) }
+    ensures refused { OnRefused result (HoldsNone handle.old.seal.shelf handle.new.seal.shelf ⊎ BothHold handle.old.seal.shelf handle.new.seal.shelf (TakesSome result line octets.now zone.now moment bounds.now counts.new)) }
+    ensures counts { OnNoShelf result (counts.new ≡ counts.old) }
 {
     let Some(mut shelf) = handle.take(alloc) else {
         return NO_SHELF;
@@ -176,7 +182,8 @@ pub extern "C" fn rrc_offer_part(
     ensures none { TellsNone handle.old.seal.shelf result }
     ensures done { OnDone result (BothHold handle.old.seal.shelf handle.new.seal.shelf (TakesPart line octets.now zone.now parts part moment bounds.now counts.new)) }
     ensures part { OnDone result (IsPart parts part) }
-    ensures refused { OnRefused result (HoldsNone handle.old.seal.shelf handle.new.seal.shelf ⊎ BothHold handle.old.seal.shelf handle.new.seal.shelf (TakesSomeOfPart line octets.now zone.now parts part moment bounds.now counts.new)) }
+    ensures refused { OnRefused result (HoldsNone handle.old.seal.shelf handle.new.seal.shelf ⊎ BothHold handle.old.seal.shelf handle.new.seal.shelf (TakesSomeOfPart result line octets.now zone.now parts part moment bounds.now counts.new)) }
+    ensures counts { OnNoShelf result (counts.new ≡ counts.old) }
 {
     let Some(mut shelf) = handle.take(alloc) else {
         return NO_SHELF;
@@ -205,7 +212,9 @@ pub extern "C" fn rrc_offer_set(
     ensures none { TellsNone handle.old.seal.shelf result }
     ensures done { OnDone result (BothHold handle.old.seal.shelf handle.new.seal.shelf (TakesSet line owner.now rtype trust ttl octets.now moment outcome.new)) }
     ensures refused { OnRefused result (IsKept handle.old.seal.shelf handle.new.seal.shelf) }
-    ensures trust { OnDone result (IsTrust trust) }
+    ensures outcome { OnRefused result (outcome.new ≡ outcome.old) }
+    ensures fit { OnDone result (IsSet owner.now rtype trust ttl octets.now) }
+    ensures due { IfHeld handle.old.seal.shelf (λ shelf. SetDue owner.now rtype trust ttl octets.now moment shelf result) }
 {
     let Some(mut shelf) = handle.take(alloc) else {
         return NO_SHELF;
@@ -236,8 +245,9 @@ pub extern "C" fn rrc_offer_negative(
     ensures none { TellsNone handle.old.seal.shelf result }
     ensures done { OnDone result (BothHold handle.old.seal.shelf handle.new.seal.shelf (TakesOne line (denial_offer name.now rtype denial trust ttl soa_owner.now soa.now moment) outcome.new)) }
     ensures refused { OnRefused result (IsKept handle.old.seal.shelf handle.new.seal.shelf) }
-    ensures trust { OnDone result (IsTrust trust) }
-    ensures denial { OnDone result (denial ≤ 1) }
+    ensures outcome { OnRefused result (outcome.new ≡ outcome.old) }
+    ensures fit { OnDone result (IsDenial name.now rtype denial trust ttl soa_owner.now soa.now) }
+    ensures due { IfHeld handle.old.seal.shelf (λ shelf. DenialDue name.now rtype denial trust ttl soa_owner.now soa.now moment shelf result) }
 {
     let Some(mut shelf) = handle.take(alloc) else {
         return NO_SHELF;
@@ -264,6 +274,9 @@ pub extern "C" fn rrc_offer_failure(
     ensures none { TellsNone handle.old.seal.shelf result }
     ensures done { OnDone result (BothHold handle.old.seal.shelf handle.new.seal.shelf (TakesOne line (failure_offer name.now rtype ttl moment) outcome.new)) }
     ensures refused { OnRefused result (IsKept handle.old.seal.shelf handle.new.seal.shelf) }
+    ensures outcome { OnRefused result (outcome.new ≡ outcome.old) }
+    ensures fit { OnDone result (IsFailure name.now rtype ttl) }
+    ensures due { IfHeld handle.old.seal.shelf (λ shelf. FailureDue name.now rtype ttl moment shelf result) }
 {
     let Some(mut shelf) = handle.take(alloc) else {
         return NO_SHELF;
@@ -285,6 +298,8 @@ pub extern "C" fn rrc_sweep(
     ensures none { TellsNone handle.old.seal.shelf result }
     ensures done { OnDone result (BothHold handle.old.seal.shelf handle.new.seal.shelf (λ old new. AppendsSweep old new (record { line = line; place = 0 }) moment removed.new)) }
     ensures refused { OnRefused result (IsKept handle.old.seal.shelf handle.new.seal.shelf) }
+    ensures removed { OnRefused result (removed.new ≡ removed.old) }
+    ensures due { IfHeld handle.old.seal.shelf (λ shelf. WriteDue shelf.part moment result) }
 {
     let Some(mut shelf) = handle.take(alloc) else {
         return NO_SHELF;
@@ -300,6 +315,8 @@ pub extern "C" fn rrc_drop_chapters(alloc: Global, handle: &mut Handle, dropped:
     ensures none { TellsNone handle.old.seal.shelf result }
     ensures done { OnDone result (BothHold handle.old.seal.shelf handle.new.seal.shelf (DropsChapters dropped.new)) }
     ensures refused { OnRefused result (IsKept handle.old.seal.shelf handle.new.seal.shelf) }
+    ensures dropped { OnRefused result (dropped.new ≡ dropped.old) }
+    ensures due { OnRefused result (handle.old.seal.shelf ≡ None) }
 {
     let Some(mut shelf) = handle.take(alloc) else {
         return NO_SHELF;
@@ -323,6 +340,10 @@ pub extern "C" fn rrc_sizes(
     ensures none { TellsNone handle.old.seal.shelf result }
     ensures done { OnDone result (BothHold handle.old.seal.shelf handle.new.seal.shelf (TellsSizes keys.new events.new chapters.new)) }
     ensures kept { handle.new.seal.shelf ≡ handle.old.seal.shelf }
+    ensures keys { OnRefused result (keys.new ≡ keys.old) }
+    ensures events { OnRefused result (events.new ≡ events.old) }
+    ensures chapters { OnRefused result (chapters.new ≡ chapters.old) }
+    ensures due { OnRefused result (handle.old.seal.shelf ≡ None) }
 {
     let Some(shelf) = handle.take(alloc) else {
         return NO_SHELF;
@@ -339,6 +360,7 @@ pub extern "C" fn rrc_sizes(
 pub extern "C" fn rrc_fault(alloc: Global, octets: &[u8], fault: &mut u32) -> u32
     ensures done { OnDone result (TellsFault octets.now fault.new) }
     ensures refused { OnRefused result (fault.new ≡ fault.old) }
+    ensures memory { OnRefused result (OutOfMemory result) }
 {
     number_of_u32(fault_in(alloc, octets), fault)
 }
@@ -349,6 +371,7 @@ pub extern "C" fn rrc_part_of(alloc: Global, name: &[u8], parts: u64, part: &mut
     ensures done { OnDone result (part.new ≡ part_of name.now parts) }
     ensures below { OnDone result (part.new < parts) }
     ensures refused { OnRefused result (part.new ≡ part.old) }
+    ensures due { PartDue name.now parts result }
 {
     number_of_u64(part_in(alloc, name, parts), part)
 }

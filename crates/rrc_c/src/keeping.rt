@@ -1,5 +1,7 @@
-ghost use Rattle.std.specs.Prelude.{◌≡◌, ◌≤◌, ◌<◌, IfOk, OnOk, OnErr};
+ghost use Rattle.std.specs.Prelude.{◌≡◌, ◌≤◌, ◌<◌, IfOk, IfErr, OnOk, OnErr};
 ghost use Rattle.rrc_c.specs.Kept.{TellsFault};
+ghost use Rattle.rrc_c.specs.Refusals.{OutOfMemory, PartDue, WriteDue};
+ghost use Rattle.rrc_c.specs.Statuses.{number_of, number_of_call};
 ghost use Rattle.rrc_sets.specs.Parts.{part_of};
 ghost use Rattle.rrc_share.specs.Shelf.{AppendsSweep, IsLeft};
 
@@ -15,6 +17,7 @@ use std::alloc::Global;
 pub(crate) fn sweep(shelf: &mut Shelf, line: u64, moment: u64) -> Result<u64, Status>
     ensures ok { IfOk result (AppendsSweep shelf.old shelf.new (record { line = line; place = 0 }) moment) }
     ensures left { OnErr result (IsLeft shelf.old shelf.new) }
+    ensures due { WriteDue shelf.old.part moment (number_of_call result) }
 {
     let removed = on_shelf_sweep(shelf, Tag { line, place: 0 }, moment)?;
     Ok(removed as u64)
@@ -22,7 +25,8 @@ pub(crate) fn sweep(shelf: &mut Shelf, line: u64, moment: u64) -> Result<u64, St
 
 /// The number of the first fault of some octets, or 0 where they are a message.
 pub(crate) fn fault_in(alloc: Global, octets: &[u8]) -> Result<u32, Status>
-    ensures { IfOk result (TellsFault octets.now) }
+    ensures fault { IfOk result (TellsFault octets.now) }
+    ensures memory { IfErr result (λ status. OutOfMemory (number_of status)) }
 {
     match read_message(alloc, octets) {
         Ok(_message) => Ok(0),
@@ -35,6 +39,7 @@ pub(crate) fn fault_in(alloc: Global, octets: &[u8]) -> Result<u32, Status>
 pub(crate) fn part_in(alloc: Global, name: &[u8], parts: u64) -> Result<u64, Status>
     ensures value { IfOk result (λ part. part ≡ part_of name.now parts) }
     ensures below { IfOk result (λ part. part < parts) }
+    ensures due { PartDue name.now parts (number_of_call result) }
 {
     if !(1..=64).contains(&parts) {
         return Err(Status::BadRules);

@@ -1,5 +1,6 @@
 ghost use Rattle.std.specs.Prelude.{◌≡◌, ◌↔◌, None, IfOk};
-ghost use Rattle.rrc_c.specs.Statuses.{OnDone, OnRefused};
+ghost use Rattle.rrc_c.specs.Refusals.{MakingDue, NewDue};
+ghost use Rattle.rrc_c.specs.Statuses.{number_of_call, OnDone, OnRefused};
 ghost use Rattle.rrc_c.specs.Handles.{TellsNone};
 ghost use Rattle.rrc_c.specs.Made.{IsNew, HoldsNew};
 
@@ -18,7 +19,8 @@ fn new_shelf(
     stale: u64,
     seed: &[u8],
 ) -> Result<Box<Shelf>, Status>
-    ensures { IfOk result (λ shelf. IsNew capacity chapter stale shelf.value) }
+    ensures new { IfOk result (λ shelf. IsNew capacity chapter stale shelf.value) }
+    ensures due { NewDue capacity chapter stale seed.now (number_of_call result) }
 {
     let Some(rules) = Rules::new(capacity, chapter, stale) else {
         return Err(Status::BadRules);
@@ -40,6 +42,7 @@ pub extern "C" fn rrc_make(
     stale: u64,
     seed: &[u8],
 ) -> u32
+    ensures due { MakingDue capacity chapter stale seed.now handle.old.seal.shelf result }
     ensures done { OnDone result (HoldsNew capacity chapter stale handle.new.seal.shelf) }
     ensures refused { OnRefused result (handle.new.seal.shelf ≡ handle.old.seal.shelf) }
 {

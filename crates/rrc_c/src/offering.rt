@@ -1,9 +1,14 @@
-ghost use Rattle.std.specs.Prelude.{◌≡◌, ◌≤◌, ◌<◌, ◌+◌, ◌^◌, ◌++◌, [], length, IfOk, OnOk, OnErr};
+ghost use Rattle.std.specs.Prelude.{◌≡◌, ◌≤◌, ◌<◌, ◌+◌, ◌^◌, ◌++◌, [], length, true, false, IfOk, IfErr, OnOk, OnErr};
+ghost use Rattle.std.specs.List.{AllByRecursion};
 ghost use Rattle.rrc_c.specs.Told.{datum, data_text};
-ghost use Rattle.rrc_c.specs.Offered.{trust_of, denied, denial_offer, failure_offer, outcome_number, count_more, counts_of, AreOffered, IsTrust, IsSetOffer, TakesOne, TakesAll, TakesFirst, TakesMessage, TakesSet, TakesSome, total};
+ghost use Rattle.rrc_c.specs.Offered.{trust_of, denied, denial_offer, failure_offer, outcome_number, count_more, counts_of, AreOffered, IsSetOffer, TakesOne, TakesAll, TakesFirst, TakesMessage, TakesSet, TakesSome, total};
 ghost use Rattle.rrc_c.specs.Parted.{lying_in, IsPart, TakesPart, TakesSomeOfPart};
+ghost use Rattle.rrc_c.specs.Refusals.{AreLimits, AreData, Because, DataRefused, DatumRefused, DenialDue, DenialRefused, FailureDue, FailureRefused, IsCutOff, IsDenial, IsFailure, IsSet, MessageRefused, OffersRefused, SetDue, SetRefused, WriteDue};
+ghost use Rattle.rrc_c.specs.Statuses.{number_of, number_of_call};
+ghost use Rattle.rrc_history.specs.Fits.{fits};
 ghost use Rattle.rrc_sets.specs.Limits.{Are};
 ghost use Rattle.rrc_wire.specs.Grammar.{MessageOf};
+ghost use Rattle.rrc_wire.specs.Plain.{IsPlain};
 ghost use Rattle.rrc_share.specs.Shelf.{IsLeft};
 
 use crate::asking::name_of;
@@ -45,7 +50,9 @@ fn denied(denial: u32, rtype: u16) -> Slot
 
 /// The octets of a type's data.
 fn data_in(alloc: Global, rtype: u16, octets: &[u8]) -> Result<Octets, Status>
-    ensures { IfOk result (λ rdata. rdata ≡ octets.now) }
+    ensures rdata { IfOk result (λ rdata. rdata ≡ octets.now) }
+    ensures plain { OnOk result (IsPlain rtype octets.now) }
+    ensures refused { IfErr result (λ status. DatumRefused rtype octets.now (number_of status)) }
 {
     match plain_rdata(alloc, rtype, octets) {
         Ok(rdata) => Ok(rdata),
@@ -56,7 +63,8 @@ fn data_in(alloc: Global, rtype: u16, octets: &[u8]) -> Result<Octets, Status>
 
 /// The datum that stands first behind its length, and what stands behind it.
 fn first_datum(octets: &[u8]) -> Result<(&[u8], &[u8]), Status>
-    ensures { IfOk result (λ both. octets.now ≡ datum both.0.now ++ both.1.now) }
+    ensures parts { IfOk result (λ both. octets.now ≡ datum both.0.now ++ both.1.now) }
+    ensures cut_off { IfErr result (λ status. Because Status.BadData (IsCutOff octets.now) (number_of status)) }
 {
     if octets.len() < 2 {
         return Err(Status::BadData);
@@ -70,7 +78,9 @@ fn first_datum(octets: &[u8]) -> Result<(&[u8], &[u8]), Status>
 
 /// The data that stand in some octets, each behind its length.
 fn items_in(alloc: Global, rtype: u16, octets: &[u8]) -> Result<Sequence<Octets>, Status>
-    ensures { IfOk result (λ items. data_text items ≡ octets.now) }
+    ensures stand { IfOk result (λ items. data_text items ≡ octets.now) }
+    ensures plain { IfOk result (AllByRecursion (IsPlain rtype)) }
+    ensures refused { IfErr result (λ status. DataRefused rtype octets.now (number_of status)) }
 {
     let mut items = Sequence::new(alloc);
     let mut rest = octets;
@@ -84,7 +94,9 @@ fn items_in(alloc: Global, rtype: u16, octets: &[u8]) -> Result<Sequence<Octets>
 
 /// An offer, where the body fits the key.
 fn offer_of(key: Key, body: Body, moment: u64) -> Result<Offer, Status>
-    ensures { IfOk result (λ offer. offer ≡ record { key = key; body = body; moment = moment }) }
+    ensures offer { IfOk result (λ offer. offer ≡ record { key = key; body = body; moment = moment }) }
+    ensures fit { OnOk result (fits key body ≡ true) }
+    ensures refused { IfErr result (λ status. Because Status.WrongBody (fits key body ≡ false) (number_of status)) }
 {
     match Offer::new(key, body, moment) {
         Ok(offer) => Ok(offer),
@@ -103,7 +115,8 @@ fn set_offer(
     moment: u64,
 ) -> Result<Offer, Status>
     ensures offer { IfOk result (IsSetOffer owner.now rtype trust ttl octets.now moment) }
-    ensures choice { OnOk result (IsTrust trust) }
+    ensures fit { OnOk result (IsSet owner.now rtype trust ttl octets.now) }
+    ensures refused { IfErr result (λ status. SetRefused owner.now rtype trust ttl octets.now (number_of status)) }
 {
     if !(1..=4).contains(&trust) {
         return Err(Status::BadChoice);
@@ -135,13 +148,13 @@ fn negative_offer(
     moment: u64,
 ) -> Result<Offer, Status>
     ensures offer { IfOk result (λ offer. offer ≡ denial_offer name.now rtype denial trust ttl soa_owner.now soa.now moment) }
-    ensures trust { OnOk result (IsTrust trust) }
-    ensures denial { OnOk result (denial ≤ 1) }
+    ensures fit { OnOk result (IsDenial name.now rtype denial trust ttl soa_owner.now soa.now) }
+    ensures refused { IfErr result (λ status. DenialRefused name.now rtype denial trust ttl soa_owner.now soa.now (number_of status)) }
 {
     if !(1..=4).contains(&trust) || denial > 1 {
         return Err(Status::BadChoice);
     }
-    if !is_kept(rtype) {
+    if denial == 0 && !is_kept(rtype) {
         return Err(Status::BadType);
     }
     let key = Key::of(&name_of(alloc, name)?, denied(denial, rtype))?;
@@ -162,7 +175,9 @@ fn failure_offer(
     ttl: u32,
     moment: u64,
 ) -> Result<Offer, Status>
-    ensures { IfOk result (λ offer. offer ≡ failure_offer name.now rtype ttl moment) }
+    ensures offer { IfOk result (λ offer. offer ≡ failure_offer name.now rtype ttl moment) }
+    ensures fit { OnOk result (IsFailure name.now rtype ttl) }
+    ensures refused { IfErr result (λ status. FailureRefused name.now rtype ttl (number_of status)) }
 {
     if !is_kept(rtype) {
         return Err(Status::BadType);
@@ -185,6 +200,7 @@ fn outcome_number(outcome: Outcome) -> u32
 fn make_offer(shelf: &mut Shelf, line: u64, offer: Offer) -> Result<u32, Status>
     ensures ok { IfOk result (λ number. TakesOne line offer number shelf.old shelf.new) }
     ensures left { OnErr result (IsLeft shelf.old shelf.new) }
+    ensures due { WriteDue shelf.old.part offer.moment (number_of_call result) }
 {
     let outcome = on_shelf_offer(shelf, Tag { line, place: 0 }, offer)?;
     Ok(outcome_number(outcome))
@@ -211,7 +227,7 @@ fn take_each(
 ) -> Result<(), Status>
     requires { counts.old ≡ counts_of [] }
     ensures ok { OnOk result (TakesAll line offers.items counts.new shelf.old shelf.new) }
-    ensures err { OnErr result (TakesFirst line offers.items counts.new shelf.old shelf.new) }
+    ensures err { IfErr result (λ status. TakesFirst (number_of status) line offers.items counts.new shelf.old shelf.new) }
 {
     for offer in offers {
         let place = counts.kept + counts.cleared + counts.refused;
@@ -223,7 +239,9 @@ fn take_each(
 
 /// The limits with these numbers.
 fn limits_of(bounds: &Bounds) -> Result<Limits, Status>
-    ensures { IfOk result (λ limits. Are limits bounds.now.cap bounds.now.negative_cap bounds.now.recheck) }
+    ensures limits { IfOk result (λ limits. Are limits bounds.now.cap bounds.now.negative_cap bounds.now.recheck) }
+    ensures fit { OnOk result (AreLimits bounds.now) }
+    ensures refused { IfErr result (λ status. Because Status.BadLimits (AreLimits bounds.now → ⊥) (number_of status)) }
 {
     match Limits::new(bounds.cap, bounds.negative_cap, bounds.recheck) {
         Some(limits) => Ok(limits),
@@ -233,7 +251,8 @@ fn limits_of(bounds: &Bounds) -> Result<Limits, Status>
 
 /// The message that some octets are.
 fn message_in(alloc: Global, octets: &[u8]) -> Result<Message, Status>
-    ensures { IfOk result (λ message. MessageOf octets.now message) }
+    ensures message { IfOk result (λ message. MessageOf octets.now message) }
+    ensures refused { IfErr result (λ status. MessageRefused octets.now (number_of status)) }
 {
     match read_message(alloc, octets) {
         Ok(message) => Ok(message),
@@ -250,7 +269,8 @@ fn offers_in(
     moment: u64,
     bounds: &Bounds,
 ) -> Result<Vec<Offer>, Status>
-    ensures { IfOk result (λ made. AreOffered octets.now zone.now moment bounds.now made.items) }
+    ensures offers { IfOk result (λ made. AreOffered octets.now zone.now moment bounds.now made.items) }
+    ensures refused { IfErr result (λ status. OffersRefused octets.now zone.now bounds.now (number_of status)) }
 {
     let limits = limits_of(bounds)?;
     let zone = name_of(alloc, zone)?;
@@ -270,7 +290,7 @@ pub(crate) fn offer_message(
     counts: &mut Counts,
 ) -> Result<(), Status>
     ensures ok { OnOk result (TakesMessage line octets.now zone.now moment bounds.now counts.new shelf.old shelf.new) }
-    ensures err { OnErr result (TakesSome line octets.now zone.now moment bounds.now counts.new shelf.old shelf.new) }
+    ensures err { IfErr result (λ status. TakesSome (number_of status) line octets.now zone.now moment bounds.now counts.new shelf.old shelf.new) }
 {
     *counts = Counts {
         kept: 0,
@@ -292,6 +312,17 @@ fn offers_of_part(offers: Vec<Offer>, parts: usize, part: usize) -> Vec<Offer>
     offers
 }
 
+/// Whether there are so many parts, and this is one of them.
+fn check_part(parts: u64, part: u64) -> Result<(), Status>
+    ensures fit { OnOk result (IsPart parts part) }
+    ensures refused { IfErr result (λ status. Because Status.BadRules (IsPart parts part → ⊥) (number_of status)) }
+{
+    if !(1..=64).contains(&parts) || part >= parts {
+        return Err(Status::BadRules);
+    }
+    Ok(())
+}
+
 /// Offers a shelf what a message offers of the names that lie in a part, so many being all.
 pub(crate) fn offer_part(
     alloc: Global,
@@ -307,16 +338,14 @@ pub(crate) fn offer_part(
 ) -> Result<(), Status>
     ensures ok { OnOk result (TakesPart line octets.now zone.now parts part moment bounds.now counts.new shelf.old shelf.new) }
     ensures part { OnOk result (IsPart parts part) }
-    ensures err { OnErr result (TakesSomeOfPart line octets.now zone.now parts part moment bounds.now counts.new shelf.old shelf.new) }
+    ensures err { IfErr result (λ status. TakesSomeOfPart (number_of status) line octets.now zone.now parts part moment bounds.now counts.new shelf.old shelf.new) }
 {
     *counts = Counts {
         kept: 0,
         cleared: 0,
         refused: 0,
     };
-    if !(1..=64).contains(&parts) || part >= parts {
-        return Err(Status::BadRules);
-    }
+    check_part(parts, part)?;
     let offered = offers_in(alloc, octets, zone, moment, bounds)?;
     let offered = offers_of_part(offered, parts as usize, part as usize);
     take_each(shelf, line, offered, counts)
@@ -335,8 +364,9 @@ pub(crate) fn take_set(
     line: u64,
 ) -> Result<u32, Status>
     ensures ok { IfOk result (λ number. TakesSet line owner.now rtype trust ttl octets.now moment number shelf.old shelf.new) }
-    ensures trust { OnOk result (IsTrust trust) }
     ensures left { OnErr result (IsLeft shelf.old shelf.new) }
+    ensures fit { OnOk result (IsSet owner.now rtype trust ttl octets.now) }
+    ensures due { SetDue owner.now rtype trust ttl octets.now moment shelf.old (number_of_call result) }
 {
     let offer = set_offer(alloc, owner, rtype, trust, ttl, octets, moment)?;
     make_offer(shelf, line, offer)
@@ -357,9 +387,9 @@ pub(crate) fn take_negative(
     line: u64,
 ) -> Result<u32, Status>
     ensures ok { IfOk result (λ number. TakesOne line (denial_offer name.now rtype denial trust ttl soa_owner.now soa.now moment) number shelf.old shelf.new) }
-    ensures trust { OnOk result (IsTrust trust) }
-    ensures denial { OnOk result (denial ≤ 1) }
     ensures left { OnErr result (IsLeft shelf.old shelf.new) }
+    ensures fit { OnOk result (IsDenial name.now rtype denial trust ttl soa_owner.now soa.now) }
+    ensures due { DenialDue name.now rtype denial trust ttl soa_owner.now soa.now moment shelf.old (number_of_call result) }
 {
     let offer = negative_offer(
         alloc, name, rtype, denial, trust, ttl, soa_owner, soa, moment,
@@ -379,6 +409,8 @@ pub(crate) fn take_failure(
 ) -> Result<u32, Status>
     ensures ok { IfOk result (λ number. TakesOne line (failure_offer name.now rtype ttl moment) number shelf.old shelf.new) }
     ensures left { OnErr result (IsLeft shelf.old shelf.new) }
+    ensures fit { OnOk result (IsFailure name.now rtype ttl) }
+    ensures due { FailureDue name.now rtype ttl moment shelf.old (number_of_call result) }
 {
     let offer = failure_offer(alloc, name, rtype, ttl, moment)?;
     make_offer(shelf, line, offer)

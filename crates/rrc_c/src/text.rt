@@ -1,5 +1,5 @@
-ghost use Rattle.std.specs.Prelude.{◌≡◌, ◌+◌, ◌≤◌, ◌++◌, length, take, drop, IfSome};
-ghost use Rattle.rrc_c.specs.Told.{datum, data_text, AreNarrow, IsFilled, WritesOn};
+ghost use Rattle.std.specs.Prelude.{◌≡◌, ◌+◌, ◌≤◌, ◌++◌, length, take, drop, IfSome, IfNone};
+ghost use Rattle.rrc_c.specs.Told.{datum, data_text, AreNarrow, AreTellable, IsFilled, WritesOn};
 
 use rrc_name::Octets;
 
@@ -27,7 +27,9 @@ fn put_datum(buffer: &mut [u8], at: usize, octets: &[u8])
 
 /// How many octets data take, each behind its length, where each has as many as its length can tell, and they can be counted.
 pub(crate) fn size_of_data(items: &[Octets]) -> Option<usize>
-    ensures { IfSome result (λ size. (size ≡ length (data_text items.now)) × AreNarrow items.now) }
+    ensures size { IfSome result (λ size. size ≡ length (data_text items.now)) }
+    ensures some { IfSome result (λ size. AreTellable items.now) }
+    ensures none { IfNone result (AreTellable items.now → ⊥) }
 {
     let mut size = 0usize;
     for octets in items {

@@ -1,5 +1,5 @@
-ghost use Rattle.std.specs.Prelude.{◌≡◌, IfSome};
-ghost use Rattle.rrc_c.specs.Told.{owner_of, data_of, kind_of, left_of, retry_of, told_of, AreNarrow};
+ghost use Rattle.std.specs.Prelude.{◌≡◌, IfSome, IfNone};
+ghost use Rattle.rrc_c.specs.Told.{owner_of, data_of, kind_of, left_of, retry_of, told_of, AreTellable};
 
 use crate::text::size_of_data;
 use rrc_history::Reply;
@@ -82,10 +82,11 @@ fn retry_of(reply: &Reply) -> u64
     }
 }
 
-/// The record of a reply, where each of its data has as many octets as its length can tell.
+/// The record of a reply, where each of its data has as many octets as its length can tell, and all can be counted.
 pub(crate) fn told_of(reply: &Reply) -> Option<Told>
     ensures told { IfSome result (λ told. told ≡ told_of reply.now) }
-    ensures narrow { IfSome result (λ told. AreNarrow (data_of reply.now)) }
+    ensures some { IfSome result (λ told. AreTellable (data_of reply.now)) }
+    ensures none { IfNone result (AreTellable (data_of reply.now) → ⊥) }
 {
     let data_size = size_of_data(data_of(reply))? as u64;
     Some(Told {

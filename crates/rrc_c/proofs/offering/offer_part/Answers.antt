@@ -1,5 +1,6 @@
 use Rattle.std.proofs.Common.{subst, inr}
 use Rattle.rrc_c.specs.Offered.{TakesAll, TakesFirst}
+use Rattle.rrc_c.specs.Statuses.{number_of}
 use Rattle.rrc_c.proofs.Taking.{map_ok, map_err}
 use Rattle.rrc_c.proofs.offering.offer_part.Goals as goal
 
@@ -8,7 +9,7 @@ returns-clause-ok c =
     map_ok c.take_each.result _ _
     (λ all. record {
       offers = _;
-      offered = c.in_ok-offered.ensures;
+      offered = c.in_ok-offered.ensures.offers;
       takes = subst (λ offers. TakesAll c.args.line offers c.take_each.new.counts c.args.shelf.now c.take_each.new.shelf) c.offers_of_part-offered.ensures all;
     })
     c.take_each.ensures.ok
@@ -16,9 +17,10 @@ returns-clause-ok c =
 pub returns-clause-err : goal.returns-clause-err
 returns-clause-err c =
     map_err c.take_each.result _ _
-    (λ first. inr (record {
+    (λ status first. inr (record {
+      is_part = c.in_ok-check_part.ensures.fit;
       offers = _;
-      offered = c.in_ok-offered.ensures;
-      takes = subst (λ offers. TakesFirst c.args.line offers c.take_each.new.counts c.args.shelf.now c.take_each.new.shelf) c.offers_of_part-offered.ensures first;
+      offered = c.in_ok-offered.ensures.offers;
+      takes = subst (λ offers. TakesFirst (number_of status) c.args.line offers c.take_each.new.counts c.args.shelf.now c.take_each.new.shelf) c.offers_of_part-offered.ensures first;
     }))
     c.take_each.ensures.err

@@ -1,8 +1,10 @@
-use Rattle.std.proofs.Common.{◌≡◌, ◌++◌, drop, length, refl, sym, ap, ◌∙◌, map-id}
-use Rattle.std.proofs.lemmas.List.{take-append-drop}
-use Rattle.std.proofs.lemmas.Iterator.Consumers.{YieldsList-so_far}
+use Rattle.std.proofs.Common.{◌≡◌, length, take, refl, sym, ◌∙◌, map-id}
+use Rattle.std.proofs.lemmas.Iterator.Consumers.{YieldsList-so_far, YieldsList-turn}
 use Rattle.std.proofs.lemmas.Iterator.Adapters.{YieldsList-from_vec}
-use Rattle.rrc_c.proofs.Taking.{takes_more, takes_first, on_err}
+use Rattle.rrc_c.specs.Offered.{TakesFirst}
+use Rattle.rrc_c.specs.Statuses.{number_of, refused_as}
+use Rattle.rrc_c.proofs.Refusing.{on_err, write_refused}
+use Rattle.rrc_c.proofs.Taking.{takes_more, takes_first, parts_at}
 use Rattle.rrc_c.proofs.offering.take_each.Goals as goal
 
 pub returns-in_err-outcome-clause-err : goal.returns-in_err-outcome-clause-err
@@ -11,10 +13,13 @@ returns-in_err-outcome-clause-err c =
     let yielded = c.loop-offer.yielded in
     let gives = c.into_iter-offer-iterator.ensures.into_iter_gives in
     let from = YieldsList-from_vec {s = c.into_iter-offer-iterator.result} offers.items gives.0 (gives.1 ∙ offers.ok.0) in
-    let first = YieldsList-so_far from yielded c.loop-offer.offer-iterator c.loop-offer.yielded_by in
-    let others = drop (length yielded) offers.items in
-    let parts : offers.items ≡ yielded ++ others = sym (take-append-drop (length yielded) offers.items) ∙ ap (λ xs. xs ++ others) (sym first ∙ map-id yielded) in
-    on_err c.from_residual.result _ (takes_first c.args.line offers.items yielded others c.loop-offer.counts c.args.shelf.now c.loop-offer.shelf c.on_shelf_offer.new.shelf parts c.loop-offer.invariant.0 c.in_err-outcome.ensures.err)
+    let first : yielded ≡ take (length yielded) offers.items = sym (map-id yielded) ∙ YieldsList-so_far from yielded c.loop-offer.offer-iterator c.loop-offer.yielded_by in
+    let turn = YieldsList-turn from yielded c.loop-offer.offer-iterator c.loop-offer.yielded_by c.next.result c.next.new.self c.in-Some.offer c.in-Some.is c.next.ensures.steps in
+    let refusal = c.in_err-outcome.field-0.0 in
+    let middle = c.loop-offer.shelf in
+    on_err c.from_residual.result (refused_as refusal) (λ number. TakesFirst number c.args.line offers.items c.loop-offer.counts c.args.shelf.now c.on_shelf_offer.new.shelf) c.from_residual.ensures.1
+    (takes_first (number_of (refused_as refusal)) c.args.line offers.items yielded _ c.in-Some.offer c.loop-offer.counts c.args.shelf.now middle c.on_shelf_offer.new.shelf
+    (parts_at offers.items yielded c.in-Some.offer first turn) c.loop-offer.invariant.0 (write_refused middle.part c.in-Some.offer.moment refusal c.in_err-outcome.ensures.due) c.in_err-outcome.ensures.err)
 
 pub loop-offer-preserved : goal.loop-offer-preserved
 loop-offer-preserved c =

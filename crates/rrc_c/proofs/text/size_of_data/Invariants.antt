@@ -1,7 +1,10 @@
-use Rattle.std.proofs.Common.{◌≡◌, ◌+◌, length, drop}
+use Rattle.std.proofs.Common.{◌≡◌, ◌+◌, ◌^◌, ◌<◌, length, drop}
 use Rattle.rrc_c.specs.Told.{data_text, AreNarrow}
 use Rattle.rrc_c.proofs.text.size_of_data.Given as goal
 
 abbrev pub invariant-loop-octets : goal.invariant-loop-octets
-invariant-loop-octets l =
-    (l.size + length (data_text (drop l.octets-index l.items)) ≡ length (data_text l.items)) × (AreNarrow (drop l.octets-index l.items) → AreNarrow l.items)
+invariant-loop-octets l = record {
+  counted : l.size + length (data_text (drop l.octets-index l.items)) ≡ length (data_text l.items);
+  narrow : AreNarrow (drop l.octets-index l.items) → AreNarrow l.items;
+  small : l.size < 2 ^ 64;
+}

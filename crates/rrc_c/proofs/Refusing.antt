@@ -1,0 +1,60 @@
+-- Why calls are refused.
+use Rattle.std.proofs.Common.{◌≡◌, ℕ, ◌+◌, ◌^◌, ◌<◌, ◌≤◌, List, [], ◌∷◌, ◌++◌, length, drop, get_or, refl, sym, ap, subst, inl, inr, arith, Option, Some, Result, Ok, Err}
+use Rattle.std.proofs.lemmas.List.{drop_all}
+use Rattle.std.specs.List.{AllByRecursion}
+use Rattle.std.specs.Prelude.{IfErr, IsErrAnd}
+use Rattle.rrc_history.specs.declared.event.Outcome.{Outcome}
+use Rattle.rrc_cache.specs.Part.{PartOf}
+use Rattle.rrc_cache.specs.declared.refusal.Refusal.{Refusal}
+use Rattle.rrc_cache.specs.declared.refusal.Refusal.TheVariants as Refusals
+use Rattle.rrc_share.specs.Shelf.{ShelfOf, IsDue}
+use Rattle.rrc_c.specs.Refusals.{IfHeld, WriteDue}
+use Rattle.rrc_c.specs.Statuses.{number_of, number_of_call, refused_as}
+use Rattle.rrc_c.specs.Told.{data_text, AreNarrow, AreTellable}
+use Rattle.rrc_c.specs.declared.status.Status.{Status}
+use Rattle.rrc_c.proofs.Filling.{narrow_next}
+
+-- ---- events
+
+-- a shelf that refuses an offer tells why
+pub write_refused : (part : PartOf) (at : ℕ) (refusal : Refusal) → IsDue {A = Outcome} part at (Err refusal) → WriteDue part at (number_of (refused_as refusal))
+write_refused part at Refusals.HistoryFull spent = inl (refl, spent)
+write_refused part at Refusals.MomentTooLarge (can, late) = inr (can, inl (refl, late))
+write_refused part at Refusals.Memory ready = inr (ready.room, inr (ready.moment, inl refl))
+
+-- what is said of a refusal is said of the number that a call answers
+pub refused_told : {A : Type 0} (result : Result A Status) (status : Status) (X : ℕ → Type 0) → IsErrAnd result (λ one. one ≡ status) → X (number_of status) → X (number_of_call result)
+refused_told (Ok answer) status X is x = absurd is
+refused_told (Err one) status X is x = subst (λ it. X (number_of it)) (sym is) x
+
+pub on_err : {A : Type 0} (result : Result A Status) (status : Status) (X : ℕ → Type 0) → IsErrAnd result (λ one. one ≡ status) → X (number_of status) → IfErr result (λ one. X (number_of one))
+on_err (Ok answer) status X is x = tt
+on_err (Err one) status X is x = subst (λ it. X (number_of it)) (sym is) x
+
+-- ---- handles
+
+-- what a call says of the shelf that it took and of its number
+pub told_of_held : (held : Option ShelfOf) (shelf : ShelfOf) (told number : ℕ) (fact : ShelfOf → ℕ → Type 0) → Some shelf ≡ held → told ≡ number → fact shelf number
+    → IfHeld held (λ one. fact one told)
+told_of_held held shelf told number fact is same holds = subst (λ one. IfHeld one (λ it. fact it told)) is (subst (fact shelf) (sym same) holds)
+
+-- ---- replies
+
+-- a datum that is too wide can't be told
+pub wide_next : (items : List (List ℕ)) (i : ℕ) (item d : List ℕ) → i < length items → item ≡ get_or items i d → 65535 < length item → AreTellable items → ⊥
+wide_next items i item d below is wide tellable = let narrow = narrow_next items i item d below is tellable.narrow in omega (arith, narrow, wide)
+
+-- where all data were counted they can be told
+pub tellable_whole : (items : List (List ℕ)) (i size : ℕ) → length items ≤ i → size + length (data_text (drop i items)) ≡ length (data_text items)
+    → (AreNarrow (drop i items) → AreNarrow items) → size < 2 ^ 64 → AreTellable items
+tellable_whole items i size past sum narrow small =
+    let none = drop_all i items past in
+    let counted = ap (λ xs. length (data_text xs)) none in
+    record { narrow = narrow (subst AreNarrow (sym none) tt); countable = omega (arith, counted, sum, small) }
+
+-- ---- offers
+
+-- one more of which a fact holds
+pub all_more : (P : List ℕ → Type 0) (items : List (List ℕ)) (item : List ℕ) → AllByRecursion P items → P item → AllByRecursion P (items ++ item ∷ [])
+all_more P [] item all holds = (holds, tt)
+all_more P (first ∷ behind) item all holds = (all.0, all_more P behind item all.1 holds)
