@@ -87,7 +87,7 @@ turns_in tasks histories (event ∷ behind) = turn_at tasks histories (tag_of ev
 -- What the workers of a replay did fits the histories of its parts.
 -- joined: who joined a fetch had another worker's fetch of that question to join
 -- turns: in every part the fetches of a question stand one behind the other, never mixed, and in the same order in all parts
-pub record IsCollated (lines workers : ℕ) (tasks : List Task) (histories events : List (List Event)) : Type 0 where
+pub record FitsHistories (lines workers : ℕ) (tasks : List Task) (histories events : List (List Event)) : Type 0 where
   pub ordered : AreInOrder lines workers tasks histories events
   pub joined : All (λ task. IsJoinedTo tasks task.worker task.fate) tasks
   pub turns : All (λ history. NeverFalls (turns_in tasks histories history)) histories

@@ -2,7 +2,7 @@ ghost use Rattle.std.specs.Prelude.{◌≡◌, List, ◌<◌, length, map, IfOk,
 ghost use Rattle.std.specs.List.{All};
 ghost use Rattle.rrc_history.specs.declared.event.Event.{Event};
 ghost use Rattle.rrc_collate.specs.Fetches.{IsNumbered};
-ghost use Rattle.rrc_collate.specs.Collated.{histories_of, IsCollated};
+ghost use Rattle.rrc_collate.specs.Collated.{histories_of, FitsHistories};
 
 use crate::drawn::Drawn;
 use crate::fetching::are_joined;
@@ -28,9 +28,9 @@ pub fn collate<'a>(
     requires workers { All (λ task. task.worker < workers) tasks.now }
     requires parts { All (λ task. All (λ operation. operation.part < length wholes.now) task.operations) tasks.now }
     requires questions { All (λ task. IsNumbered questions task.fate) tasks.now }
-    ensures collated { IfOk result (λ found. IfSome found (λ events. IsCollated lines workers tasks.now (histories_of wholes.now) (map (λ own. map (λ event. event.now) own.items) events.items))) }
-    ensures only { IfOk result (λ found. IfSome found (λ events. (others : List (List Event)) → IsCollated lines workers tasks.now (histories_of wholes.now) others → others ≡ map (λ own. map (λ event. event.now) own.items) events.items)) }
-    ensures strayed { IfOk result (λ found. IfNone found ((others : List (List Event)) → IsCollated lines workers tasks.now (histories_of wholes.now) others → ⊥)) }
+    ensures collated { IfOk result (λ found. IfSome found (λ events. FitsHistories lines workers tasks.now (histories_of wholes.now) (map (λ own. map (λ event. event.now) own.items) events.items))) }
+    ensures only { IfOk result (λ found. IfSome found (λ events. (others : List (List Event)) → FitsHistories lines workers tasks.now (histories_of wholes.now) others → others ≡ map (λ own. map (λ event. event.now) own.items) events.items)) }
+    ensures strayed { IfOk result (λ found. IfNone found ((others : List (List Event)) → FitsHistories lines workers tasks.now (histories_of wholes.now) others → ⊥)) }
 {
     let events = match order(alloc, lines, workers, wholes, tasks)? {
         None => return Ok(None),

@@ -10,7 +10,7 @@ use std::alloc::{AllocError, Global};
 
 /// The events of tasks, in order: each task takes those of its operations from its worker's hands. `None` where a hand has other
 /// events than its worker's tasks call for, or fewer.
-pub fn draw_all<'a>(
+pub(crate) fn draw_all<'a>(
     alloc: Global,
     parts: &mut [Hands<'a>],
     workers: usize,

@@ -6,7 +6,11 @@ use crate::valued::Valued;
 use std::alloc::{AllocError, Global};
 
 /// Whether within no class a value is lower than one before it. The classes are numbered from 0, and there are `classes` of them.
-pub fn never_falls(alloc: Global, classes: usize, values: &[Valued]) -> Result<bool, AllocError>
+pub(crate) fn never_falls(
+    alloc: Global,
+    classes: usize,
+    values: &[Valued],
+) -> Result<bool, AllocError>
     requires { All (λ valued. valued.class < classes) values.now }
     ensures { IfOk result (λ holds. IsTrue holds ↔ NeverFalls values.now) }
 {

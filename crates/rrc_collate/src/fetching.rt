@@ -71,7 +71,11 @@ fn joins_in(alloc: Global, tasks: &[Task]) -> Result<Vec<Valued>, AllocError>
 
 /// Whether each worker that joined a fetch had another worker's fetch of that question to join. The questions are numbered from 0,
 /// and there are `questions` of them. Where there is none, it looks at no task.
-pub fn are_joined(alloc: Global, questions: usize, tasks: &[Task]) -> Result<bool, AllocError>
+pub(crate) fn are_joined(
+    alloc: Global,
+    questions: usize,
+    tasks: &[Task],
+) -> Result<bool, AllocError>
     requires { All (λ task. IsNumbered questions task.fate) tasks.now }
     ensures { IfOk result (λ all. IsTrue all ↔ All (λ task. IsJoinedTo tasks.now task.worker task.fate) tasks.now) }
 {

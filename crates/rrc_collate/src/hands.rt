@@ -12,7 +12,7 @@ use std::marker::Model;
 /// The events of a part, dealt to the workers that took their lines: to each worker its own, in order. Contracts see the list of
 /// the hands, and each as the list of its events.
 #[derive(Drop)]
-pub struct Hands<'a> {
+pub(crate) struct Hands<'a> {
     hands: Vec<VecDeque<&'a Event>>,
 }
 
@@ -47,7 +47,7 @@ impl<'a> Hands<'a> {
     }
 
     /// Takes the first event of a worker's hand, if it has one.
-    pub fn take(&mut self, worker: usize) -> Option<&'a Event>
+    pub(crate) fn take(&mut self, worker: usize) -> Option<&'a Event>
         requires { worker < length self.old }
         ensures first { option_copied result ≡ slice_get (slice_index_or self.old worker []) 0 }
         ensures rest { self.new ≡ slice_set self.old worker (drop 1 (slice_index_or self.old worker [])) }
@@ -56,7 +56,7 @@ impl<'a> Hands<'a> {
     }
 
     /// Whether every hand is empty.
-    pub fn is_empty(&self) -> bool
+    pub(crate) fn is_empty(&self) -> bool
         ensures { IsTrue result ↔ All (λ hand. hand ≡ []) self.now }
     {
         for hand in &self.hands {
@@ -76,7 +76,7 @@ fn is_nothing(hand: &VecDeque<&Event>) -> bool
 }
 
 /// Deals the events of a part. `owners` has the worker that took each line. `None` where an event names a line that it has not.
-pub fn deal<'a>(
+pub(crate) fn deal<'a>(
     alloc: Global,
     workers: usize,
     owners: &[usize],

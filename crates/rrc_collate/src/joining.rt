@@ -51,7 +51,7 @@ fn seen_in(alloc: Global, classes: usize, present: &[Valued]) -> Result<Vec<Seen
 
 /// Whether beside each wanted value its class has another one: beside each worker that joined a fetch another one that fetched the
 /// question. The classes are numbered from 0, and there are `classes` of them.
-pub fn have_others(
+pub(crate) fn have_others(
     alloc: Global,
     classes: usize,
     present: &[Valued],

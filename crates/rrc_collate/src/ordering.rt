@@ -97,7 +97,7 @@ fn events_in<'a>(
 /// events of a worker's lines are those of its tasks' operations that go there, one each, task by task. `None` where they are not.
 ///
 /// Its time is linear in tasks, operations and events, and so is its memory.
-pub fn order<'a>(
+pub(crate) fn order<'a>(
     alloc: Global,
     lines: usize,
     workers: usize,

@@ -44,7 +44,7 @@ fn all_of(alloc: Global, found: &[Option<usize>]) -> Result<Option<Vec<usize>>, 
 
 /// The worker that took each line, where each of so many lines was taken once and no other line was. In `taken` the class is
 /// the worker, and the value is the line.
-pub fn owners(
+pub(crate) fn owners(
     alloc: Global,
     lines: usize,
     taken: &[Valued],

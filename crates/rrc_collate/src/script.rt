@@ -1,8 +1,8 @@
 ghost use Rattle.std.specs.Prelude.{◌≡◌, ◌↔◌, IsTrue};
 ghost use Rattle.rrc_collate.specs.Calls.{call_of, tag_of};
-ghost use Rattle.rrc_collate.specs.Same.{purpose_eq, mode_eq, offer_eq, ask_eq, call_eq};
+ghost use Rattle.rrc_collate.specs.Same.{offer_eq, ask_eq, call_eq};
 
-use rrc_history::{Ask, Event, Mode, Offer, Purpose, Tag};
+use rrc_history::{Ask, Event, Offer, Tag};
 
 /// A call on a part of the cache.
 #[derive(Debug, Drop)]
@@ -20,27 +20,6 @@ pub struct Operation {
     pub call: Call,
 }
 
-fn is_same_purpose(purpose: Purpose, other: Purpose) -> bool
-    ensures { result ≡ purpose_eq purpose other }
-{
-    match (purpose, other) {
-        (Purpose::Any, Purpose::Any) => true,
-        (Purpose::Answer, Purpose::Answer) => true,
-        _ => false,
-    }
-}
-
-fn is_same_mode(mode: Mode, other: Mode) -> bool
-    ensures { result ≡ mode_eq mode other }
-{
-    match (mode, other) {
-        (Mode::NoStale, Mode::NoStale) => true,
-        (Mode::Failed, Mode::Failed) => true,
-        (Mode::Now, Mode::Now) => true,
-        _ => false,
-    }
-}
-
 fn is_same_offer(offer: &Offer, other: &Offer) -> bool
     ensures { result ≡ offer_eq offer.now other.now }
 {
@@ -52,8 +31,8 @@ fn is_same_ask(ask: &Ask, other: &Ask) -> bool
 {
     ask.moment == other.moment
         && ask.rtype == other.rtype
-        && is_same_purpose(ask.purpose, other.purpose)
-        && is_same_mode(ask.mode, other.mode)
+        && ask.purpose == other.purpose
+        && ask.mode == other.mode
         && ask.name == other.name
 }
 
@@ -69,7 +48,7 @@ fn is_same_call(event: &Event, call: &Call) -> bool
 }
 
 /// Where the call of an event stands in a trace.
-pub fn tag_of(event: &Event) -> Tag
+pub(crate) fn tag_of(event: &Event) -> Tag
     ensures { result ≡ tag_of event.now }
 {
     match event {
@@ -80,7 +59,7 @@ pub fn tag_of(event: &Event) -> Tag
 }
 
 /// Whether an event is of this call, octet for octet. What became of the call may be anything.
-pub fn is_call_of(event: &Event, call: &Call) -> bool
+pub(crate) fn is_call_of(event: &Event, call: &Call) -> bool
     ensures { IsTrue result ↔ (call_of event.now ≡ call.now) }
 {
     is_same_call(event, call)

@@ -170,7 +170,7 @@ fn none_fetched(questions: usize, tasks: &[Task]) -> bool
 ///
 /// Its time is linear in lines, tasks, questions for each part, and events, and so is its memory. Where nothing was fetched, as in most
 /// traces, it looks at the tasks at most and takes no memory.
-pub fn are_in_turn(
+pub(crate) fn are_in_turn(
     alloc: Global,
     lines: usize,
     questions: usize,

@@ -1,19 +1,20 @@
 -- the report that is made of what was handed in, and that there is none where a step finds none
-use Rattle.std.proofs.Common.{◌≡◌, List, [], ◌∷◌, length, map, Option, Some, None, refl, sym, ◌∙◌, ap, subst}
+use Rattle.std.proofs.Common.{◌≡◌, ℕ, List, [], ◌∷◌, length, map, Option, Some, None, refl, sym, ◌∙◌, ap, subst}
 use Rattle.std.specs.Prelude.{IfSome, IfNone}
 use Rattle.std.specs.List.{AllZip}
 use Rattle.std.proofs.lemmas.List.{length-map}
 use Rattle.std.proofs.lemmas.Slice.Zip.{AllZip-long}
 use Rattle.rrc_history.specs.declared.event.Event.{Event}
+use Rattle.rrc_history.specs.declared.rules.Rules.{Rules}
 use Rattle.rrc_history.specs.Chains.{WholeOf}
 use Rattle.rrc_share.specs.Shelf.{ShelfOf}
 use Rattle.rrc_trace.specs.declared.line.Line.{Line}
 use Rattle.rrc_trace.specs.declared.answer.Answer.{Answer}
 use Rattle.rrc_trace.specs.Questions.{questions_of}
+use Rattle.rrc_collate.specs.Drawn.{DrawnOf}
 use Rattle.rrc_collate.specs.declared.task.Task.{Task}
 use Rattle.rrc_collate.specs.Words.{AreSharedOut}
-use Rattle.rrc_collate.specs.Collated.{histories_of}
-use Rattle.rrc_collate.specs.Collated as collated
+use Rattle.rrc_collate.specs.Collated.{histories_of, FitsHistories}
 use Rattle.rrc_collate.specs.Tasks as of_tasks
 use Rattle.rrc_report.specs.declared.config.Config.{Config}
 use Rattle.rrc_report.specs.declared.done.Done.{Done}
@@ -21,7 +22,7 @@ use Rattle.rrc_report.specs.declared.report.Report.{Report}
 use Rattle.rrc_report.specs.Scripts.{OneScript}
 use Rattle.rrc_report.specs.Reports.{IsCollated, Holds, IsOfShelf, lines_done, taken_from}
 use Rattle.rrc_report.specs.Collates.{Stray}
-use Rattle.rrc_report.specs.Steps.{given_from, as_taken, AreTasks, AreParts, AreComplete}
+use Rattle.rrc_report.specs.Steps.{given_from, as_taken, AreTasks, AreFitting, AreParts, AreComplete}
 use Rattle.rrc_report.specs.Steps as steps
 use Rattle.rrc_report.proofs.Tasked.{given_taken, tasks_taken, shares_taken}
 use Rattle.rrc_report.proofs.Completed.{each_given, complete_gives, complete_answers, complete_from, told_of_given}
@@ -34,6 +35,14 @@ some_of P found x is holds = subst (λ one. IfSome one P) is holds
 
 pub none_of : {X : Type 0} (Q : Type 0) (found : Option X) → found ≡ None → IfNone found Q → Q
 none_of Q found is holds = subst (λ one. IfNone one Q) is holds
+
+pub some_by : {X : Type 0} (P Q : X → Type 0) (found : Option X) → ((x : X) → P x → Q x) → IfSome found P → IfSome found Q
+some_by P Q None gives holds = tt
+some_by P Q (Some x) gives holds = gives x holds
+
+pub none_by : {X : Type 0} (P Q : Type 0) (found : Option X) → (P → Q) → IfNone found P → IfNone found Q
+none_by P Q None gives holds = gives holds
+none_by P Q (Some x) gives holds = tt
 
 -- ---- the histories of shelves
 
@@ -48,6 +57,9 @@ histories_same (shelf ∷ shelves) (whole ∷ wholes) (other ∷ others) are are
     ap (λ h. h ∷ histories_of wholes) (are.0.events ∙ sym are_others.0.events)
     ∙ ap (λ l. other.events ∷ l) (histories_same shelves wholes others are.1 are_others.1)
 
+pub parts_counted : (rules : Rules) (shelves : List ShelfOf) (wholes : List WholeOf) → AreParts rules shelves wholes → length wholes ≡ length shelves
+parts_counted rules shelves wholes parts = AllZip-long IsOfShelf shelves wholes parts.shelves_are
+
 -- ---- what a report that holds what was handed in has
 
 -- it has a share for each worker that did something, and a history for each shelf
@@ -57,11 +69,6 @@ count_stray config lines shelves done other report holds is =
     other (sym (length-map done lines_done) ∙ (sym (ap length holds.shares) ∙ is.shares))
     (sym (AllZip-long IsOfShelf shelves report.wholes holds.wholes) ∙ is.parts)
 
--- its histories are those of the shelves
-pub whole_stray : (config : Config) (lines : List Line) (shelves : List ShelfOf) (done : List Done)
-    → ((wholes : List WholeOf) → AreParts config.rules shelves wholes → ⊥) → Stray config lines shelves done
-whole_stray config lines shelves done none report holds is = none report.wholes (record { shelves_are = holds.wholes; parts_are = is.histories })
-
 -- its tasks are those of what the workers say that they did
 pub report_tasks : (config : Config) (lines : List Line) (shelves : List ShelfOf) (done : List Done) (report : Report) → Holds shelves done report
     → (is : IsCollated config lines report) → AreTasks config lines (questions_of lines) (given_from 0 done) is.tasks
@@ -70,25 +77,19 @@ report_tasks config lines shelves done report holds is =
     (is.taken ∙ (ap (taken_from 0) holds.shares ∙ sym (given_taken 0 done)))
     is.scripts (each_given report.lines 0 done holds.given)
 
-pub task_stray : (config : Config) (lines : List Line) (shelves : List ShelfOf) (done : List Done)
-    → ((tasks : List Task) → AreTasks config lines (questions_of lines) (given_from 0 done) tasks → ⊥) → Stray config lines shelves done
-task_stray config lines shelves done none report holds is = none is.tasks (report_tasks config lines shelves done report holds is)
+-- its events fit the histories that were found
+pub report_fits : (config : Config) (lines : List Line) (shelves : List ShelfOf) (done : List Done) (wholes : List WholeOf) → AreParts config.rules shelves wholes
+    → (report : Report) → Holds shelves done report → (is : IsCollated config lines report) → AreFitting config lines done (histories_of wholes) is.events
+report_fits config lines shelves done wholes parts report holds is = record {
+  tasks = is.tasks;
+  tasks_are = report_tasks config lines shelves done report holds is;
+  fits =
+      subst (λ h. FitsHistories (length lines) config.workers is.tasks h is.events) (histories_same shelves report.wholes wholes holds.wholes parts.shelves_are) is.fits;
+}
 
--- its events fit the tasks and histories that were found
-pub report_fits : OneScript → (config : Config) (lines : List Line) (shelves : List ShelfOf) (done : List Done) (wholes : List WholeOf) (tasks : List Task)
-    → AreParts config.rules shelves wholes → AreTasks config lines (questions_of lines) (given_from 0 done) tasks → (report : Report) → Holds shelves done report
-    → (is : IsCollated config lines report) → collated.IsCollated (length lines) config.workers tasks (histories_of wholes) is.events
-report_fits one_script config lines shelves done wholes tasks parts are report holds is =
-    subst (λ t. collated.IsCollated (length lines) config.workers t (histories_of wholes) is.events)
-    (tasks_same one_script config lines (questions_of lines) (given_from 0 done) is.tasks tasks (report_tasks config lines shelves done report holds is) are)
-    (subst (λ h. collated.IsCollated (length lines) config.workers is.tasks h is.events)
-    (histories_same shelves report.wholes wholes holds.wholes parts.shelves_are) is.fits)
-
-pub event_stray : OneScript → (config : Config) (lines : List Line) (shelves : List ShelfOf) (done : List Done) (wholes : List WholeOf) (tasks : List Task)
-    → AreParts config.rules shelves wholes → AreTasks config lines (questions_of lines) (given_from 0 done) tasks
-    → ((others : List (List Event)) → collated.IsCollated (length lines) config.workers tasks (histories_of wholes) others → ⊥) → Stray config lines shelves done
-event_stray one_script config lines shelves done wholes tasks parts are none report holds is =
-    none is.events (report_fits one_script config lines shelves done wholes tasks parts are report holds is)
+pub event_stray : (config : Config) (lines : List Line) (shelves : List ShelfOf) (done : List Done) (wholes : List WholeOf) → AreParts config.rules shelves wholes
+    → ((others : List (List Event)) → AreFitting config lines done (histories_of wholes) others → ⊥) → Stray config lines shelves done
+event_stray config lines shelves done wholes parts none report holds is = none is.events (report_fits config lines shelves done wholes parts report holds is)
 
 -- its answers complete those that were given
 pub report_complete : (config : Config) (lines : List Line) (shelves : List ShelfOf) (done : List Done) (report : Report) → Holds shelves done report
@@ -98,63 +99,63 @@ report_complete config lines shelves done report holds is =
     (told_of_given config lines (questions_of lines) report.lines (given_from 0 done) is.tasks is.events
     (report_tasks config lines shelves done report holds is) is.told)
 
-pub answer_stray : OneScript → (config : Config) (lines : List Line) (shelves : List ShelfOf) (done : List Done) (wholes : List WholeOf) (tasks : List Task) (events : List (List Event))
-    → AreParts config.rules shelves wholes → AreTasks config lines (questions_of lines) (given_from 0 done) tasks
-    → ((others : List (List Event)) → collated.IsCollated (length lines) config.workers tasks (histories_of wholes) others → others ≡ events)
+pub answer_stray : (config : Config) (lines : List Line) (shelves : List ShelfOf) (done : List Done) (wholes : List WholeOf) (events : List (List Event)) → AreParts config.rules shelves wholes
+    → ((others : List (List Event)) → AreFitting config lines done (histories_of wholes) others → others ≡ events)
     → ((answers : List Answer) → AreComplete (length lines) (given_from 0 done) events answers → ⊥) → Stray config lines shelves done
-answer_stray one_script config lines shelves done wholes tasks events parts are only none report holds is =
+answer_stray config lines shelves done wholes events parts only none report holds is =
     none report.lines
     (subst (λ e. AreComplete (length lines) (given_from 0 done) e report.lines)
-    (only is.events (report_fits one_script config lines shelves done wholes tasks parts are report holds is))
+    (only is.events (report_fits config lines shelves done wholes parts report holds is))
     (report_complete config lines shelves done report holds is))
 
 -- ---- the report that is made
 
--- what was found on the way to a report
-pub record AreFound (config : Config) (lines : List Line) (shelves : List ShelfOf) (done : List Done) (wholes : List WholeOf) (tasks : List Task) (events : List (List Event)) (answers : List Answer) : Type 0 where
-  pub workers : length done ≡ config.workers
-  pub shelves_are : length shelves ≡ config.parts
-  pub parts : AreParts config.rules shelves wholes
-  pub tasks_are : AreTasks config lines (questions_of lines) (given_from 0 done) tasks
-  pub fits : collated.IsCollated (length lines) config.workers tasks (histories_of wholes) events
-  pub complete : AreComplete (length lines) (given_from 0 done) events answers
-
-abbrev pub report_of : List Done → List WholeOf → List Answer → Report
-report_of done wholes answers = record { lines = answers; shares = map lines_done done; wholes = wholes }
-
-pub found_collated : (config : Config) (lines : List Line) (shelves : List ShelfOf) (done : List Done) (wholes : List WholeOf) (tasks : List Task) (events : List (List Event)) (answers : List Answer)
-    → AreFound config lines shelves done wholes tasks events answers → IsCollated config lines (report_of done wholes answers)
-found_collated config lines shelves done wholes tasks events answers found = record {
-  tasks = tasks;
+pub found_collated : (config : Config) (lines : List Line) (shelves : List ShelfOf) (done : List Done) (events : List (List Event)) (report : Report) (count : ℕ)
+    → length done ≡ config.workers → length shelves ≡ config.parts → count ≡ length lines → report.shares ≡ map lines_done done → AreParts config.rules shelves report.wholes
+    → AreFitting config lines done (histories_of report.wholes) events → AreComplete count (given_from 0 done) events report.lines → IsCollated config lines report
+found_collated config lines shelves done events report count workers size is shares parts fit complete = record {
+  tasks = fit.tasks;
   events = events;
-  shares = length-map done lines_done ∙ found.workers;
-  parts = AllZip-long IsOfShelf shelves wholes found.parts.shelves_are ∙ found.shelves_are;
-  answers = found.complete.size;
-  histories = found.parts.parts_are;
-  taken = shares_taken config lines (questions_of lines) done tasks found.tasks_are;
-  scripts = scripted_all config lines answers (given_from 0 done) tasks events found.tasks_are found.complete.each;
-  fits = found.fits;
-  told = complete_answers config lines (questions_of lines) answers (given_from 0 done) tasks events found.tasks_are found.complete.each;
+  shares = ap length shares ∙ (length-map done lines_done ∙ workers);
+  parts = parts_counted config.rules shelves report.wholes parts ∙ size;
+  answers = complete.size ∙ is;
+  histories = parts.parts_are;
+  taken = shares_taken config lines (questions_of lines) done fit.tasks fit.tasks_are ∙ ap (taken_from 0) (sym shares);
+  scripts = scripted_all config lines report.lines (given_from 0 done) fit.tasks events fit.tasks_are complete.each;
+  fits = fit.fits;
+  told = complete_answers config lines (questions_of lines) report.lines (given_from 0 done) fit.tasks events fit.tasks_are complete.each;
 }
 
-pub found_holds : (config : Config) (lines : List Line) (shelves : List ShelfOf) (done : List Done) (wholes : List WholeOf) (tasks : List Task) (events : List (List Event)) (answers : List Answer)
-    → AreFound config lines shelves done wholes tasks events answers → Holds shelves done (report_of done wholes answers)
-found_holds config lines shelves done wholes tasks events answers found = record {
-  shares = refl;
-  given = complete_gives (length lines) done events answers found.complete;
-  wholes = found.parts.shelves_are;
+pub found_holds : (rules : Rules) (shelves : List ShelfOf) (done : List Done) (events : List (List Event)) (report : Report) (count : ℕ) → report.shares ≡ map lines_done done
+    → AreParts rules shelves report.wholes → AreComplete count (given_from 0 done) events report.lines → Holds shelves done report
+found_holds rules shelves done events report count shares parts complete = record {
+  shares = shares;
+  given = complete_gives count done events report.lines complete;
+  wholes = parts.shelves_are;
 }
 
 -- ---- what the completing of the answers asks for
 
-pub given_shared_out : (config : Config) (lines : List Line) (done : List Done) (tasks : List Task) (histories events : List (List Event))
-    → AreTasks config lines (questions_of lines) (given_from 0 done) tasks → collated.IsCollated (length lines) config.workers tasks histories events
+pub given_shared_out : (config : Config) (lines : List Line) (done : List Done) (histories events : List (List Event)) → AreFitting config lines done histories events
     → AreSharedOut (length lines) (map as_taken (given_from 0 done))
-given_shared_out config lines done tasks histories events are fits =
-    subst (AreSharedOut (length lines)) (tasks_taken config lines (questions_of lines) (given_from 0 done) tasks are) fits.ordered.shared_out
+given_shared_out config lines done histories events fit =
+    subst (AreSharedOut (length lines)) (tasks_taken config lines (questions_of lines) (given_from 0 done) fit.tasks fit.tasks_are) fit.fits.ordered.shared_out
 
-pub events_given : (config : Config) (lines : List Line) (done : List Done) (tasks : List Task) (histories events : List (List Event))
-    → AreTasks config lines (questions_of lines) (given_from 0 done) tasks → collated.IsCollated (length lines) config.workers tasks histories events
-    → length events ≡ length (given_from 0 done)
-events_given config lines done tasks histories events are fits =
-    AllZip-long of_tasks.IsTaskOf tasks events fits.ordered.calls ∙ AllZip-long (steps.IsTaskOf config lines (questions_of lines)) (given_from 0 done) tasks are
+pub events_given : (config : Config) (lines : List Line) (done : List Done) (histories : List (List Event)) (events : List DrawnOf)
+    → AreFitting config lines done histories (map (λ own. map (λ event. event.now) own.items) events) → length events ≡ length (given_from 0 done)
+events_given config lines done histories events fit =
+    let lists = map (λ (own : DrawnOf). map (λ event. event.now) own.items) events in
+    sym (length-map events (λ (own : DrawnOf). map (λ event. event.now) own.items))
+    ∙ (AllZip-long of_tasks.IsTaskOf fit.tasks lists fit.fits.ordered.calls
+    ∙ AllZip-long (steps.IsTaskOf config lines (questions_of lines)) (given_from 0 done) fit.tasks fit.tasks_are)
+
+-- ---- the events that fit
+
+-- they fit the tasks that were found
+pub fitting_tasks : OneScript → (config : Config) (lines : List Line) (done : List Done) (histories events : List (List Event)) (tasks : List Task) (count : ℕ)
+    → AreTasks config lines (questions_of lines) (given_from 0 done) tasks → count ≡ length lines → AreFitting config lines done histories events
+    → FitsHistories count config.workers tasks histories events
+fitting_tasks one_script config lines done histories events tasks count are is fit =
+    subst (λ n. FitsHistories n config.workers tasks histories events) (sym is)
+    (subst (λ t. FitsHistories (length lines) config.workers t histories events)
+    (tasks_same one_script config lines (questions_of lines) (given_from 0 done) fit.tasks tasks fit.tasks_are are) fit.fits)

@@ -61,7 +61,7 @@ pub record IsAnswered (answers : List Answer) (task : Task) (events : List Event
 -- taken: the tasks are those of the shares, worker by worker
 -- scripts: each task makes the operations that its line calls for
 -- fits: the histories are just what the tasks wrote: each line was taken once, each operation stands once in its part, in its worker's order, and
---   fetches of a question never mix (`IsCollated` of rrc_collate)
+--   fetches of a question never mix (`FitsHistories` of rrc_collate)
 -- told: what each line got is what the events of its task tell
 pub record IsCollated (config : Config) (lines : List Line) (report : Report) : Type 0 where
   pub tasks : List Task
@@ -72,7 +72,7 @@ pub record IsCollated (config : Config) (lines : List Line) (report : Report) : 
   pub histories : All (IsPartOf config.rules) report.wholes
   pub taken : taken_by tasks ≡ taken_from 0 report.shares
   pub scripts : All (IsScripted config lines report.lines) tasks
-  pub fits : collated.IsCollated (length lines) config.workers tasks (histories_of report.wholes) events
+  pub fits : collated.FitsHistories (length lines) config.workers tasks (histories_of report.wholes) events
   pub told : AllZip (IsAnswered report.lines) tasks events
 
 -- ---- what was handed in

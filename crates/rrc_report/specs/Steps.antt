@@ -10,8 +10,10 @@ use Rattle.rrc_trace.specs.declared.line.Line.{Line}
 use Rattle.rrc_trace.specs.declared.answer.Answer.{Answer}
 use Rattle.rrc_trace.specs.declared.fault.ReplayFault.{ReplayFault}
 use Rattle.rrc_trace.specs.declared.fault.ReplayFault.TheVariants.{BadLine, TooManyLines, Read, Write, Strayed, Memory, Spent, TooManyQuestions, NotLegal}
+use Rattle.rrc_trace.specs.Questions.{questions_of}
 use Rattle.rrc_collate.specs.declared.task.Task.{Task}
 use Rattle.rrc_collate.specs.declared.valued.Valued.{Valued}
+use Rattle.rrc_collate.specs.Collated.{FitsHistories}
 use Rattle.rrc_report.specs.declared.config.Config.{Config}
 use Rattle.rrc_report.specs.declared.done.Answered.{Answered}
 use Rattle.rrc_report.specs.declared.done.Done.{Done}
@@ -46,6 +48,12 @@ pub record IsTaskOf (config : Config) (lines : List Line) (questions : List KeyO
 
 abbrev pub AreTasks : Config → List Line → List KeyOf → List Given → List Task → Type 0
 AreTasks config lines questions given tasks = AllZip (IsTaskOf config lines questions) given tasks
+
+-- the events of the tasks of what workers say that they did, where these fit the histories of the parts
+pub record AreFitting (config : Config) (lines : List Line) (done : List Done) (histories events : List (List Event)) : Type 0 where
+  pub tasks : List Task
+  pub tasks_are : AreTasks config lines (questions_of lines) (given_from 0 done) tasks
+  pub fits : FitsHistories (length lines) config.workers tasks histories events
 
 -- the histories of shelves, each of them one of a part
 pub record AreParts (rules : Rules) (shelves : List ShelfOf) (wholes : List WholeOf) : Type 0 where

@@ -1,6 +1,10 @@
-ghost use Rattle.std.specs.Prelude.{◌≡◌, map, IfOk, IfErr};
+ghost use Rattle.std.specs.Prelude.{◌≡◌, List, length, map, IfOk, IfErr, IfSome, IfNone};
+ghost use Rattle.rrc_history.specs.declared.event.Event.{Event};
+ghost use Rattle.rrc_trace.specs.declared.fault.ReplayFault.TheVariants as faults;
+ghost use Rattle.rrc_collate.specs.Collated.{histories_of};
 ghost use Rattle.rrc_report.specs.Reports.{IsCollated, Holds, lines_done};
 ghost use Rattle.rrc_report.specs.Collates.{IsWhy};
+ghost use Rattle.rrc_report.specs.Steps.{AreFitting};
 
 use crate::completing::lines_of;
 use crate::config::Config;
@@ -9,6 +13,8 @@ use crate::report::Report;
 use crate::scripting::one_script;
 use crate::tasking::tasks_of;
 use crate::wholes::wholes_of;
+use rrc_collate::Drawn;
+use rrc_history::Whole;
 use rrc_name::Sequence;
 use rrc_share::Shelf;
 use rrc_trace::{Questions, ReplayFault, Trace};
@@ -37,10 +43,42 @@ fn shares_of(alloc: Global, done: &[Done]) -> Result<Sequence<Sequence<usize>>, 
     Ok(Sequence::from_vec(shares))
 }
 
+/// The events of what workers say that they did, where these fit the histories of the parts, or `None` where no events do.
+#[tactic(auto, using(crate::proofs::Tasked::workers_below, crate::proofs::Tasked::parts_below, crate::proofs::Tasked::are_numbered))]
+fn events_of<'a>(
+    alloc: Global,
+    trace: &Trace,
+    config: &Config,
+    wholes: &'a [Whole],
+    done: &[Done],
+) -> Result<Option<Vec<Drawn<'a>>>, ReplayFault>
+    requires workers { length done.now ≡ config.now.workers }
+    requires parts { length wholes.now ≡ config.now.parts }
+    ensures some { IfOk result (λ found. IfSome found (λ events. AreFitting config.now trace.now done.now (histories_of wholes.now) (map (λ own. map (λ event. event.now) own.items) events.items))) }
+    ensures only { IfOk result (λ found. IfSome found (λ events. (others : List (List Event)) → AreFitting config.now trace.now done.now (histories_of wholes.now) others → others ≡ map (λ own. map (λ event. event.now) own.items) events.items)) }
+    ensures none { IfOk result (λ found. IfNone found ((others : List (List Event)) → AreFitting config.now trace.now done.now (histories_of wholes.now) others → ⊥)) }
+    ensures err { IfErr result (λ fault. fault ≡ faults.Memory) }
+{
+    one_script();
+    let questions = Questions::of(alloc, trace)?;
+    let Some(tasks) = tasks_of(alloc, trace, config, &questions, done)? else {
+        return Ok(None);
+    };
+    Ok(rrc_collate::collate(
+        alloc,
+        trace.lines.len(),
+        config.workers,
+        questions.len(),
+        wholes,
+        tasks.as_slice(),
+    )?)
+}
+
 /// The report of a replay: what each line got, from what the workers say that they did and the shelves that they left.
 ///
 /// `Strayed` where no report that holds these is one of the trace; `Spent` of the number of lines where a part's last chapter can't be
 /// closed; `Memory`. Its time is linear in lines, offers and events, times log n for the questions.
+#[tactic(auto, using(crate::proofs::ReportLaws::given_shared_out, crate::proofs::ReportLaws::events_given))]
 pub fn collate(
     alloc: Global,
     trace: &Trace,
@@ -52,7 +90,6 @@ pub fn collate(
     ensures holds { IfOk result (Holds shelves.items done.items) }
     ensures err { IfErr result (IsWhy config.now trace.now shelves.items done.items) }
 {
-    one_script();
     let count = trace.lines.len();
     if done.len() != config.workers || shelves.len() != config.parts {
         return Err(ReplayFault::Strayed);
@@ -60,22 +97,9 @@ pub fn collate(
     let Some(wholes) = wholes_of(alloc, &config.rules, count as u64, shelves)? else {
         return Err(ReplayFault::Strayed);
     };
-    let questions = Questions::of(alloc, trace)?;
-    let Some(tasks) = tasks_of(alloc, trace, config, &questions, done.as_slice())? else {
+    let Some(events) = events_of(alloc, trace, config, wholes.as_slice(), done.as_slice())? else {
         return Err(ReplayFault::Strayed);
     };
-    let Some(events) = rrc_collate::collate(
-        alloc,
-        count,
-        config.workers,
-        questions.len(),
-        wholes.as_slice(),
-        tasks.as_slice(),
-    )?
-    else {
-        return Err(ReplayFault::Strayed);
-    };
-    drop(tasks);
     let shares = shares_of(alloc, done.as_slice())?;
     let Some(lines) = lines_of(alloc, count, done, events.as_slice())? else {
         return Err(ReplayFault::Strayed);

@@ -1,79 +1,21 @@
 ghost use Rattle.std.specs.Prelude.{◌≡◌, ◌&&◌, ◌==◌, map, length, Some, None, IfOk, IfSome, IfNone, if◌then◌else◌};
-ghost use Rattle.rrc_history.specs.Auditing.{outcome_eq, set_eq, soa_eq, moment_eq, reply_eq};
 ghost use Rattle.rrc_trace.specs.declared.answer.Answer.{Answer};
 ghost use Rattle.rrc_report.specs.Answers.{Completes, OneCompletion};
 ghost use Rattle.rrc_report.specs.Completing.{told_by, replies, counts, is_hit, all_told_by, all_count, is_empty, replies_alone, one_told_by, told_before, fetched_by, only_where, complete};
 ghost use Rattle.rrc_history.specs.declared.event.Reply.TheVariants.{Miss};
 ghost use Rattle.rrc_trace.specs.declared.answer.Answer.TheVariants as answers;
 
-use rrc_history::{Event, Outcome, Reply, RrSet, Soa};
+use rrc_history::{Event, Reply};
 use rrc_name::Sequence;
 use rrc_trace::{Answer, Told};
 use std::alloc::{AllocError, Global};
-
-fn is_same_outcome(outcome: Outcome, other: Outcome) -> bool
-    ensures { result ≡ outcome_eq outcome other }
-{
-    match (outcome, other) {
-        (Outcome::Kept, Outcome::Kept) => true,
-        (Outcome::Cleared, Outcome::Cleared) => true,
-        (Outcome::LessTrusted, Outcome::LessTrusted) => true,
-        _ => false,
-    }
-}
-
-fn is_same_moment(moment: Option<u64>, other: Option<u64>) -> bool
-    ensures { result ≡ moment_eq moment other }
-{
-    match (moment, other) {
-        (None, None) => true,
-        (Some(moment), Some(other)) => moment == other,
-        _ => false,
-    }
-}
-
-fn is_same_set(set: &RrSet, other: &RrSet) -> bool
-    ensures { result ≡ set_eq set.now other.now }
-{
-    set.owner == other.owner && set.items == other.items
-}
-
-fn is_same_soa(soa: &Soa, other: &Soa) -> bool
-    ensures { result ≡ soa_eq soa.now other.now }
-{
-    soa.owner == other.owner && soa.octets == other.octets
-}
-
-/// Whether replies are the same, octet for octet.
-fn is_same_reply(reply: &Reply, other: &Reply) -> bool
-    ensures { result ≡ reply_eq reply.now other.now }
-{
-    match (reply, other) {
-        (Reply::Fresh { set, left }, Reply::Fresh { set: s, left: l }) => {
-            is_same_set(set, s) && *left == *l
-        }
-        (Reply::Stale { set, left }, Reply::Stale { set: s, left: l }) => {
-            is_same_set(set, s) && *left == *l
-        }
-        (Reply::NoData { soa, left }, Reply::NoData { soa: s, left: l }) => {
-            is_same_soa(soa, s) && *left == *l
-        }
-        (Reply::NxDomain { soa, left }, Reply::NxDomain { soa: s, left: l }) => {
-            is_same_soa(soa, s) && *left == *l
-        }
-        (Reply::Miss { retry_from }, Reply::Miss { retry_from: other }) => {
-            is_same_moment(*retry_from, *other)
-        }
-        _ => false,
-    }
-}
 
 /// Whether an event tells a reply.
 fn replies(reply: &Reply, event: &Event) -> bool
     ensures { result ≡ replies reply.now event.now }
 {
     match event {
-        Event::Asked { reply: other, .. } => is_same_reply(reply, other),
+        Event::Asked { reply: other, .. } => reply == other,
         Event::Offered { .. } | Event::Swept { .. } => false,
     }
 }
@@ -111,7 +53,7 @@ fn told_by(told: &Told, event: &Event) -> Result<Option<Told>, AllocError>
         } => (*outcome, evicted),
         Event::Asked { .. } | Event::Swept { .. } => return Ok(None),
     };
-    if !is_same_outcome(told.outcome, outcome) || told.evicted.is_some() {
+    if told.outcome != outcome || told.evicted.is_some() {
         return Ok(None);
     }
     let evicted = match evicted {
