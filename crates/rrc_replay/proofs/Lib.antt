@@ -1,3 +1,4 @@
 pub mod OfferMoments
 pub mod AuditLemmas
 pub mod QuestionNumbers
+pub mod StopLemmas

@@ -1,8 +1,9 @@
-ghost use Rattle.std.specs.Prelude.{◌≡◌, ◌<◌, ◌+◌, ◌*◌, IfOk, IfErr, IfSome};
+ghost use Rattle.std.specs.Prelude.{◌≡◌, ◌<◌, ◌+◌, ◌*◌, None, IfOk, IfErr, OnOk};
 ghost use Rattle.rrc_marks.specs.Seen.{IsPassOf};
 ghost use Rattle.rrc_marks.specs.Views.{opening_view};
 ghost use Rattle.rrc_report.specs.Reports.{IsCollated};
 ghost use Rattle.rrc_replay.specs.Faults.{IsOfReplay};
+ghost use Rattle.rrc_replay.specs.Stops.{Tells, first_fault, lower, fault_of};
 
 use crate::calls::Refused;
 use crate::gate::Gate;
@@ -67,33 +68,44 @@ fn all_worked<R: Threads + Wait + Sync, G: Gate + Sync>(
     )
 }
 
-/// The fault of the lowest line that was refused, if one was.
-fn first_fault(worked: &[Worked]) -> Option<ReplayFault>
-    ensures { IfSome result IsOfReplay }
+/// Of two stops, where there are two, the one at the lower line.
+fn lower(stop: Option<Stop>, other: Option<Stop>) -> Option<Stop>
+    ensures { result ≡ lower stop other }
 {
-    let mut first: Option<Stop> = None;
-    for one in worked {
-        first = match (first, one.stop) {
-            (Some(first), Some(stop)) if first.line < stop.line => Some(first),
-            (first, None) => first,
-            (_, stop) => stop,
-        };
-    }
-    match first {
-        None => None,
-        Some(
-            Stop {
-                line,
-                why: Refused::Spent,
-            },
-        ) => Some(ReplayFault::Spent(line as u64)),
-        Some(_) => Some(ReplayFault::Memory),
+    match (stop, other) {
+        (Some(stop), Some(other)) if other.line < stop.line => Some(other),
+        (Some(stop), _) => Some(stop),
+        (None, other) => other,
     }
 }
 
+/// As what a stop is told.
+fn fault_of(stop: Stop) -> ReplayFault
+    ensures { result ≡ fault_of stop }
+{
+    match stop.why {
+        Refused::Spent => ReplayFault::Spent(stop.line as u64),
+        Refused::Memory => ReplayFault::Memory,
+    }
+}
+
+/// The fault of the lowest line that was refused, if one was.
+fn first_fault(worked: &[Worked]) -> Option<ReplayFault>
+    ensures { result ≡ first_fault worked.now }
+{
+    let mut first: Option<Stop> = None;
+    for one in worked {
+        first = lower(first, one.stop);
+    }
+    first.map(fault_of)
+}
+
 /// What each worker did, or the fault of the lowest line that was refused.
+#[tactic(auto, using(crate::proofs::StopLemmas::told))]
 fn done_by(alloc: Global, worked: Vec<Worked>) -> Result<Vec<Done>, ReplayFault>
-    ensures { IfErr result IsOfReplay }
+    ensures none { OnOk result (first_fault worked.items ≡ None) }
+    ensures tells { IfErr result (Tells worked.items) }
+    ensures err { IfErr result IsOfReplay }
 {
     if let Some(fault) = first_fault(worked.as_slice()) {
         return Err(fault);

@@ -50,10 +50,10 @@ const FOUR_ASKS: &str =
 
 const FOUR_MISSES: &str = "0 ask miss\n1 ask miss\n2 ask miss\n3 ask miss\n";
 
-/// So many workers over one part, by the usual rules.
-fn by(workers: usize) -> Result<Config, Fail> {
+/// So many workers over so many parts, by the usual rules.
+fn by(workers: usize, parts: usize) -> Result<Config, Fail> {
     let rules = Rules::new(1024, 4096, 86_400).ok_or("the rules are in range")?;
-    Ok(Config::new(workers, 1, rules, usual_limits()).ok_or("the config is in range")?)
+    Ok(Config::new(workers, parts, rules, usual_limits()).ok_or("the config is in range")?)
 }
 
 /// The report of a trace.
@@ -116,7 +116,7 @@ fn test_report<T: Abort + Threads + Wait + Sync, G: Gate + Sync>(
 
 #[test]
 fn a_run_writes_the_report(rt: HostRuntime) -> Result<(), Fail> {
-    let alone = by(1)?;
+    let alone = by(1, 1)?;
     for (trace, wanted, audit) in [
         (SWEEPS, SWEEPS_REPORT, Audit::Made),
         (RESPONSES, RESPONSES_REPORT, Audit::Skipped),
@@ -128,24 +128,31 @@ fn a_run_writes_the_report(rt: HostRuntime) -> Result<(), Fail> {
 
 #[test]
 fn a_fetch_joins_another_one(rt: HostRuntime) -> Result<(), Fail> {
-    let (config, gate) = (by(2)?, Pair::new());
-    test_report(
-        &rt,
-        rt.alloc(),
-        FETCHES,
-        &config,
-        Audit::Made,
-        &gate,
-        FETCHES_BY_TWO,
-    )?;
-    assert!(rt; !gate.ran_out());
+    for parts in [1, 4] {
+        let (config, gate) = (by(2, parts)?, Pair::new());
+        test_report(
+            &rt,
+            rt.alloc(),
+            FETCHES,
+            &config,
+            Audit::Made,
+            &gate,
+            FETCHES_BY_TWO,
+        )?;
+        assert!(rt; !gate.ran_out(), "over {parts}");
+    }
     Ok(())
 }
 
 #[test]
 fn as_many_lines_at_once_as_workers(rt: HostRuntime) -> Result<(), Fail> {
-    for (workers, trace, wanted) in [(2, TWO_ASKS, TWO_MISSES), (4, FOUR_ASKS, FOUR_MISSES)] {
-        let (config, gate) = (by(workers)?, Crowd::new(workers as u64));
+    for (workers, parts, trace, wanted) in [
+        (2, 1, TWO_ASKS, TWO_MISSES),
+        (4, 1, FOUR_ASKS, FOUR_MISSES),
+        (2, 4, TWO_ASKS, TWO_MISSES),
+        (4, 4, FOUR_ASKS, FOUR_MISSES),
+    ] {
+        let (config, gate) = (by(workers, parts)?, Crowd::new(workers as u64));
         test_report(
             &rt,
             rt.alloc(),
@@ -155,7 +162,7 @@ fn as_many_lines_at_once_as_workers(rt: HostRuntime) -> Result<(), Fail> {
             &gate,
             wanted,
         )?;
-        assert!(rt; !gate.ran_out(), "by {workers}");
+        assert!(rt; !gate.ran_out(), "by {workers} over {parts}");
     }
     Ok(())
 }
@@ -180,7 +187,7 @@ fn test_failing<T: Abort + Threads + Wait + Sync>(
 
 #[test]
 fn readers_that_fail_once(rt: HostRuntime) -> Result<(), Fail> {
-    let alone = by(1)?;
+    let alone = by(1, 1)?;
     for reads in 0..=SWEEPS.len() {
         test_failing(&rt, rt.alloc(), &alone, reads);
     }
@@ -209,7 +216,7 @@ fn test_stumble<T: Abort + Threads + Wait + Sync>(
 
 #[test]
 fn writers_that_stumble_once(rt: HostRuntime) -> Result<(), Fail> {
-    let alone = by(1)?;
+    let alone = by(1, 1)?;
     // The last call flushes; of an empty report it is the only one.
     for (trace, report) in [(SWEEPS, SWEEPS_REPORT), ("", "")] {
         for stumble in [Stumble::Fails, Stumble::TakesNothing] {
@@ -248,7 +255,7 @@ fn fetches_among_sets(alloc: Global, sets: usize, fetches: usize) -> Result<Stri
 #[test]
 fn a_mark_is_held_until_all_is_asked(rt: HostRuntime) -> Result<(), Fail> {
     let trace = fetches_among_sets(rt.alloc(), 100, 100)?;
-    let config = by(4)?;
+    let config = by(4, 1)?;
     let report = report_of(
         &rt,
         rt.alloc(),
