@@ -18,11 +18,18 @@ class Item:
     module: str
     name: str
     impl: tuple = ()
-    is_function: bool = True
+    kind: str = "fn"
+
+    @property
+    def is_told(self):
+        """Whether the prover tells of it, or of what is its alone: a function, or a type with its impls."""
+        return self.kind in ("fn", "enum", "struct", "union")
 
     def pattern(self, crate):
-        """What the prover's names of this item, of its closures and of its impl look like."""
+        """What the prover's names of this item look like: of a function also those of its closures and of its impl, of a type also those of all in its impls."""
         module = "::".join(re.escape(it) for it in (crate, *filter(None, self.module.split("::"))))
+        if self.kind != "fn":
+            return re.compile(rf"{module}::{re.escape(self.name)}([A-Z]\w*)?(::.*)?")
         impl = "[^:]*".join(map(re.escape, self.impl))
         impl = f"[^:]*{impl}[^:]*" if len(self.impl) > 1 else impl
         name = re.escape(self.name)
@@ -77,10 +84,10 @@ def items_in(text, module):
                 found.append(((head.start(), stop), Item(module, head["fn"], impl)))
             elif head["impl"] is not None or head["trait"]:
                 names = impl_of(head["impl"]) if head["impl"] is not None else (head["trait"],)
-                found.append(((head.start(), stop), Item(module, "", names, False)))
+                found.append(((head.start(), stop), Item(module, "", names, "impl")))
                 scan(head.end(), stop, names)
             else:
-                found.append(((head.start(), stop), Item(module, head["other"], (), False)))
+                found.append(((head.start(), stop), Item(module, head["other"], (), head["kind"])))
             at = max(stop, head.end())
 
     scan(0, len(text), ())

@@ -45,6 +45,34 @@ def is_ready(crate):
     return crate.is_built() or made_by_ci(crate)
 
 
+def archive_of(crate):
+    """The archive that is made of a static library."""
+    return Path(crate.folder) / "out" / f"lib{crate.name}.a"
+
+
+def checked_of(crate):
+    """What bin/prove keeps of the proofs of a static library."""
+    return Path(crate.folder) / "out" / "checked"
+
+
+def stamp_of(rt, made, stamp):
+    """What tells that a program or an archive was made of files of this stamp, and is still what was made then."""
+    return stamp + rt.rtlib.sum_of(str(made))
+
+
+def stamp_archive(rt, crate, stamp):
+    """Writes beside the archive of a static library the stamp of what it was made of, as `rt run` does beside a program."""
+    archive = archive_of(crate)
+    Path(f"{archive}.stamp").write_text(stamp_of(rt, archive, stamp))
+
+
+def is_proved(rt, crate):
+    """Whether a library or an archive stands there that was made of the crate's present files, once they were proved."""
+    if crate.is_static:
+        return rt.rtlib.text_of(f"{archive_of(crate)}.stamp") == stamp_of(rt, archive_of(crate), crate.stamp())
+    return not crate.is_program and is_ready(crate)
+
+
 def unpack(rlib, to):
     """Writes the checked modules that a library holds into a folder, in the form in which a check keeps them and takes them up again. Nothing is written
     of a library that holds the statements of its functions alone, as those that `rt ci` builds, or that is of a form unknown here."""
