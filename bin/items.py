@@ -25,9 +25,13 @@ class Item:
         """Whether the prover tells of it, or of what is its alone: a function, or a type with its impls."""
         return self.kind in ("fn", "enum", "struct", "union")
 
-    def pattern(self, crate):
-        """What the prover's names of this item look like: of a function also those of its closures and of its impl, of a type also those of all in its impls."""
-        module = "::".join(re.escape(it) for it in (crate, *filter(None, self.module.split("::"))))
+    def patterns(self, crate):
+        """What the prover's names of this item look like: those of its own module, or else, since a type's functions may stand in another module than the type, of any."""
+        own = "::".join(re.escape(it) for it in (crate, *filter(None, self.module.split("::"))))
+        return [self.pattern(own), self.pattern(rf"{re.escape(crate)}(?:::\w+)*")]
+
+    def pattern(self, module):
+        """What the prover's names of this item look like in such a module: of a function also those of its closures and of its impl, of a type also those of all in its impls."""
         if self.kind != "fn":
             return re.compile(rf"{module}::{re.escape(self.name)}([A-Z]\w*)?(::.*)?")
         impl = "[^:]*".join(map(re.escape, self.impl))
