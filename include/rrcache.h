@@ -354,6 +354,17 @@ static inline uint32_t rrcache_offer_failure(struct rrcache_shelf *shelf, const 
     return rrc_offer_failure(shelf, rrcache_octets(name, name_size), name_size, rtype, ttl, moment, line, outcome);
 }
 
+/* Whether a reply about a name may be told: what is needed is there, and nothing that is written
+   overlaps anything else. */
+static inline bool rrcache_can_tell(const struct rrcache_shelf *shelf, const uint8_t *name, size_t name_size,
+                                    const struct rrcache_told *told, const uint8_t *buffer, size_t buffer_size)
+{
+    return shelf != NULL && told != NULL && rrcache_is_there(name, name_size) && rrcache_is_there(buffer, buffer_size)
+        && !rrcache_holds(shelf, told, sizeof *told) && !rrcache_holds(shelf, buffer, buffer_size)
+        && !rrcache_holds(shelf, name, name_size) && !rrcache_overlap(buffer, buffer_size, told, sizeof *told)
+        && !rrcache_touch(told, sizeof *told, buffer, buffer_size, name, name_size);
+}
+
 /* Asks, which is one event: the reply is told and written to the buffer. Where the buffer is too small RRCACHE_SMALL is answered,
    `told` tells the reply and its sizes, and no event is written. A reply never takes more than 255 octets and those of its data.
    RRCACHE_SMALL comes before RRCACHE_HISTORY_FULL and RRCACHE_MOMENT_TOO_LARGE, so that the call
@@ -363,10 +374,7 @@ static inline uint32_t rrcache_ask(struct rrcache_shelf *shelf, const uint8_t *n
                                    size_t buffer_size)
 {
     uint8_t none;
-    if (shelf == NULL || told == NULL || !rrcache_is_there(name, name_size) || !rrcache_is_there(buffer, buffer_size)
-        || rrcache_holds(shelf, told, sizeof *told) || rrcache_holds(shelf, buffer, buffer_size) || rrcache_holds(shelf, name, name_size)
-        || rrcache_overlap(buffer, buffer_size, told, sizeof *told)
-        || rrcache_touch(told, sizeof *told, buffer, buffer_size, name, name_size))
+    if (!rrcache_can_tell(shelf, name, name_size, told, buffer, buffer_size))
         return RRCACHE_NULL;
     return rrc_ask(shelf, rrcache_octets(name, name_size), name_size, rtype, moment, purpose, mode, line, told,
                    buffer_size == 0 ? &none : buffer, buffer_size);
@@ -378,10 +386,7 @@ static inline uint32_t rrcache_peek(struct rrcache_shelf *shelf, const uint8_t *
                                     uint32_t purpose, uint32_t mode, struct rrcache_told *told, uint8_t *buffer, size_t buffer_size)
 {
     uint8_t none;
-    if (shelf == NULL || told == NULL || !rrcache_is_there(name, name_size) || !rrcache_is_there(buffer, buffer_size)
-        || rrcache_holds(shelf, told, sizeof *told) || rrcache_holds(shelf, buffer, buffer_size) || rrcache_holds(shelf, name, name_size)
-        || rrcache_overlap(buffer, buffer_size, told, sizeof *told)
-        || rrcache_touch(told, sizeof *told, buffer, buffer_size, name, name_size))
+    if (!rrcache_can_tell(shelf, name, name_size, told, buffer, buffer_size))
         return RRCACHE_NULL;
     return rrc_peek(shelf, rrcache_octets(name, name_size), name_size, rtype, moment, purpose, mode, told,
                     buffer_size == 0 ? &none : buffer, buffer_size);
