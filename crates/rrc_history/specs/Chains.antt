@@ -1,9 +1,9 @@
 -- Chapters that chain: where one doesn't go on from the one before it, and the whole history that they are else.
-use Rattle.std.specs.Prelude.{◌≡◌, ℕ, ◌+◌, List, [], ◌∷◌, ◌++◌, Bool, not, ◌&&◌, ◌==◌, if◌then◌else◌, Option, Some, None}
+use Rattle.std.specs.Prelude.{◌≡◌, ◌⊎◌, ℕ, ◌+◌, List, [], ◌∷◌, ◌++◌, Bool, not, ◌&&◌, ◌==◌, if◌then◌else◌, Option, Some, None}
 use Rattle.std.specs.Option.{option_or}
 use Rattle.rrc_history.specs.declared.event.Event.{Event}
 use Rattle.rrc_history.specs.declared.chains.ChainFault.{ChainFault}
-use Rattle.rrc_history.specs.declared.chains.ChainFault.TheVariants.{NumberGap, NotTheSameContents}
+use Rattle.rrc_history.specs.declared.chains.ChainFault.TheVariants.{NumberGap, NotTheSameContents, Memory}
 use Rattle.rrc_history.specs.declared.snapshot.Snapshot.{Snapshot}
 use Rattle.rrc_history.specs.Chapters.{ChapterOf}
 use Rattle.rrc_history.specs.Same.{snapshot_eq}
@@ -34,6 +34,10 @@ fault_from place before (chapter ∷ behind) = option_or (link_fault place befor
 abbrev pub chain_fault : List ChapterOf → Option ChainFault
 chain_fault [] = Some (NumberGap 0)
 chain_fault (chapter ∷ behind) = fault_from 1 chapter behind
+
+-- why chapters are no history: their first fault, or where they have none, that memory was refused
+abbrev pub IsWhyNot : List ChapterOf → ChainFault → Type 0
+IsWhyNot chapters fault = (chain_fault chapters ≡ Some fault) ⊎ ((fault ≡ Memory) × (chain_fault chapters ≡ None))
 
 -- the events of chapters, one after another
 abbrev pub events_of : List ChapterOf → List Event

@@ -1,7 +1,7 @@
-ghost use Rattle.std.specs.Prelude.{◌≡◌, ◌⊎◌, ◌++◌, [], ◌∷◌, reverse, Some, None, IfOk, IfErr, OnOk};
+ghost use Rattle.std.specs.Prelude.{◌≡◌, ◌++◌, [], ◌∷◌, reverse, Some, None, IfOk, IfErr, OnOk};
 ghost use Rattle.std.specs.Vec.Iter.{into_iter_items};
 ghost use Rattle.rrc_history.specs.Chapters.{LeadTo};
-ghost use Rattle.rrc_history.specs.Chains.{IsWhole, chain_fault, fault_from, link_fault, follows};
+ghost use Rattle.rrc_history.specs.Chains.{IsWhole, IsWhyNot, chain_fault, fault_from, link_fault, follows};
 ghost use Rattle.rrc_history.specs.WholeLaws.{AllKeepLaws};
 
 use crate::chapter::Chapter;
@@ -73,13 +73,14 @@ impl From<AllocError> for ChainFault {
 ///
 /// The first chapter that does not go on from the one before it is answered for, by its place in the list: `NumberGap` where its
 /// number or that of its first event is not the next, else `NotTheSameContents` where its snapshot is not the closing before it,
-/// octet for octet, rules counted. No chapters at all are `NumberGap(0)`. `Memory` comes last.
+/// octet for octet, rules counted. No chapters at all are `NumberGap(0)`. `Memory` comes only where nothing is
+/// wrong with the chapters.
 pub fn chain(chapters: Vec<Chapter>) -> Result<Whole, ChainFault>
     ensures whole { IfOk result (λ whole. IsWhole chapters.items whole) }
     ensures leads { IfOk result (λ whole. LeadTo whole.snapshot whole.events whole.closing) }
     ensures laws { IfOk result (λ whole. AllKeepLaws whole.snapshot (reverse whole.events)) }
     ensures chained { OnOk result (chain_fault chapters.items ≡ None) }
-    ensures err { IfErr result (λ fault. (fault ≡ ChainFault.Memory) ⊎ (chain_fault chapters.items ≡ Some fault)) }
+    ensures err { IfErr result (IsWhyNot chapters.items) }
 {
     if let Some(fault) = first_fault(chapters.as_slice()) {
         return Err(fault);

@@ -1,8 +1,9 @@
 -- Which line is told where workers stopped.
-use Rattle.std.proofs.Common.{◌≡◌, ℕ, ◌<◌, ◌≤◌, List, ◌∷◌, ◌+◌, length, drop, get_or, ap, ◌∙◌, Bool, true, false, cond, nat_lt, Option, Some, None, option_map, refl, subst, sym, arith}
+use Rattle.std.proofs.Common.{◌≡◌, ℕ, ◌<◌, ◌≤◌, List, ◌∷◌, ◌+◌, length, drop, get_or, ap, ◌∙◌, Bool, true, false, cond, nat_lt, if◌then◌else◌, Option, Some, None, option_map, refl, subst, sym, arith}
 use Rattle.std.proofs.lemmas.List.{drop_all, drop_more}
 use Rattle.std.proofs.lemmas.Bool.Decides.{nat_tests}
 use Rattle.rrc_trace.specs.declared.fault.ReplayFault.{ReplayFault}
+use Rattle.rrc_trace.specs.declared.fault.ReplayFault.TheVariants.{Spent, Strayed}
 use Rattle.rrc_replay.specs.declared.calls.Refused.{Refused}
 use Rattle.rrc_replay.specs.declared.calls.Refused.TheVariants as refused
 use Rattle.rrc_replay.specs.declared.working.Stop.{Stop}
@@ -43,14 +44,20 @@ no_more first workers i all so_far = sym (alone first) ∙ ap (λ ws. lower firs
 
 -- ---- what is told
 
+-- a line that was spent is one of the trace's
+spent_within : (lines line : ℕ) (is_below : Bool) → nat_lt line lines ≡ is_below → IsOfReplay lines (if is_below then Spent line else Strayed)
+spent_within lines line true below = grind (arith, nat_tests)
+spent_within lines line false not_below = tt
+
 -- it is a fault of a replay
-at_line : (line : ℕ) (why : Refused) → IsOfReplay (fault_at line why)
-at_line line refused.Spent = tt
-at_line line refused.Memory = tt
+at_line : (lines line : ℕ) (why : Refused) → IsOfReplay lines (fault_at lines line why)
+at_line lines line refused.Spent = spent_within lines line (nat_lt line lines) refl
+at_line lines line refused.Memory = tt
 
-of_stop : (stop : Option Stop) (fault : ReplayFault) → option_map fault_of stop ≡ Some fault → IsOfReplay fault
-of_stop None fault told = absurd cc
-of_stop (Some stop) fault told = let same : fault_at stop.line stop.why ≡ fault = cc in subst IsOfReplay same (at_line stop.line stop.why)
+of_stop : (lines : ℕ) (stop : Option Stop) (fault : ReplayFault) → option_map (fault_of lines) stop ≡ Some fault → IsOfReplay lines fault
+of_stop lines None fault told = absurd cc
+of_stop lines (Some stop) fault told =
+    let same : fault_at lines stop.line stop.why ≡ fault = cc in subst (IsOfReplay lines) same (at_line lines stop.line stop.why)
 
-pub told : (worked : List Worked) (fault : ReplayFault) → first_fault worked ≡ Some fault → IsOfReplay fault
-told worked fault is = of_stop (lowest worked) fault is
+pub told : (lines : ℕ) (worked : List Worked) (fault : ReplayFault) → first_fault lines worked ≡ Some fault → IsOfReplay lines fault
+told lines worked fault is = of_stop lines (lowest worked) fault is

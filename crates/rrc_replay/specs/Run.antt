@@ -1,5 +1,5 @@
 -- What a run reads and writes.
-use Rattle.std.specs.Prelude.{ℕ, List, Option}
+use Rattle.std.specs.Prelude.{ℕ, ◌≤◌, List, length, Option}
 use Rattle.std.specs.Io.KnownBytes.{Appends, Keeps}
 use Rattle.rrc_trace.specs.declared.fault.ReplayFault.{ReplayFault}
 use Rattle.rrc_trace.specs.declared.fault.ReplayFault.TheVariants.{BadLine, TooManyLines, Read, Write, Strayed, Memory, Spent, TooManyQuestions, NotLegal}
@@ -35,6 +35,12 @@ pub record BeginsReport (config : Config) (read old new : Option (List ℕ)) : T
   pub replays : Replays config read lines report
   pub begun : AppendsFront old new (report_text report.lines)
 
+-- what was read is a trace, and this is the number of a line or of all its lines
+pub record IsWithin (read : Option (List ℕ)) (number : ℕ) : Type 0 where
+  pub lines : List Line
+  pub trace : IsTraceFrom read lines
+  pub within : number ≤ length lines
+
 -- a fault of the text is its first one; each other one is of a read, of a write, of memory or threads, of workers, or of numbers that are spent
 abbrev pub IsFirstFaultOf : Option (List ℕ) → ReplayFault → Type 0
 IsFirstFaultOf read (BadLine number) = IsFaultOfTrace read (BadLine number)
@@ -43,7 +49,7 @@ IsFirstFaultOf read Read = Unit {0}
 IsFirstFaultOf read Write = Unit {0}
 IsFirstFaultOf read Strayed = Unit {0}
 IsFirstFaultOf read Memory = Unit {0}
-IsFirstFaultOf read (Spent number) = Unit {0}
+IsFirstFaultOf read (Spent number) = IsWithin read number
 IsFirstFaultOf read (TooManyQuestions number) = IsFaultOfTrace read (TooManyQuestions number)
 IsFirstFaultOf read NotLegal = ⊥
 

@@ -1,4 +1,4 @@
-ghost use Rattle.std.specs.Prelude.{◌≡◌, ◌<◌, ◌+◌, ◌*◌, None, IfOk, IfErr, OnOk};
+ghost use Rattle.std.specs.Prelude.{◌≡◌, ◌<◌, ◌+◌, ◌*◌, length, None, IfOk, IfErr, OnOk};
 ghost use Rattle.rrc_marks.specs.Seen.{IsPassOf};
 ghost use Rattle.rrc_marks.specs.Views.{opening_view};
 ghost use Rattle.rrc_report.specs.Reports.{IsCollated};
@@ -79,35 +79,40 @@ fn lower(stop: Option<Stop>, other: Option<Stop>) -> Option<Stop>
     }
 }
 
-/// As what a stop is told.
-fn fault_of(stop: Stop) -> ReplayFault
-    ensures { result ≡ fault_of stop }
+/// As what a stop is told, of so many lines. A line that is none of them no worker takes.
+fn fault_of(lines: usize, stop: Stop) -> ReplayFault
+    ensures { result ≡ fault_of lines stop }
 {
     match stop.why {
-        Refused::Spent => ReplayFault::Spent(stop.line as u64),
+        Refused::Spent if stop.line < lines => ReplayFault::Spent(stop.line as u64),
+        Refused::Spent => ReplayFault::Strayed,
         Refused::Memory => ReplayFault::Memory,
     }
 }
 
 /// The fault of the lowest line that was refused, if one was.
-fn first_fault(worked: &[Worked]) -> Option<ReplayFault>
-    ensures { result ≡ first_fault worked.now }
+fn first_fault(lines: usize, worked: &[Worked]) -> Option<ReplayFault>
+    ensures { result ≡ first_fault lines worked.now }
 {
     let mut first: Option<Stop> = None;
     for one in worked {
         first = lower(first, one.stop);
     }
-    first.map(fault_of)
+    first.map(|stop| fault_of(lines, stop))
 }
 
-/// What each worker did, or the fault of the lowest line that was refused.
+/// What each worker did, or the fault of the lowest line that was refused, of so many lines.
 #[tactic(auto, using(crate::proofs::StopLemmas::told))]
-fn done_by(alloc: Global, worked: Vec<Worked>) -> Result<Vec<Done>, ReplayFault>
-    ensures none { OnOk result (first_fault worked.items ≡ None) }
-    ensures tells { IfErr result (Tells worked.items) }
-    ensures err { IfErr result IsOfReplay }
+fn done_by(
+    alloc: Global,
+    lines: usize,
+    worked: Vec<Worked>,
+) -> Result<Vec<Done>, ReplayFault>
+    ensures none { OnOk result (first_fault lines worked.items ≡ None) }
+    ensures tells { IfErr result (Tells lines worked.items) }
+    ensures err { IfErr result (IsOfReplay lines) }
 {
-    if let Some(fault) = first_fault(worked.as_slice()) {
+    if let Some(fault) = first_fault(lines, worked.as_slice()) {
         return Err(fault);
     }
     let mut done = Vec::with_capacity(alloc, worked.len())?;
@@ -126,7 +131,7 @@ fn all_done<R: Threads + Wait + Sync, G: Gate + Sync>(
     cache: &SharedCache,
     gate: &G,
 ) -> Result<Vec<Done>, ReplayFault>
-    ensures { IfErr result IsOfReplay }
+    ensures { IfErr result (IsOfReplay (length trace.now)) }
 {
     let questions = Questions::of(alloc, trace)?;
     let marks = questions.len().max(1);
@@ -147,7 +152,7 @@ fn all_done<R: Threads + Wait + Sync, G: Gate + Sync>(
         gate,
     };
     let workers = hired(alloc, &common, turns, pass)?;
-    done_by(alloc, all_worked(rt, alloc, workers)?)
+    done_by(alloc, trace.lines.len(), all_worked(rt, alloc, workers)?)
 }
 
 /// Replays a trace by many workers, each in a thread of its own, on a cache that they share, and tells what each line got. A worker draws one
@@ -166,7 +171,7 @@ pub fn replay<R: Threads + Wait + Sync, G: Gate + Sync>(
     gate: &G,
 ) -> Result<Report, ReplayFault>
     ensures collated { IfOk result (IsCollated config.now trace.now) }
-    ensures err { IfErr result IsOfReplay }
+    ensures err { IfErr result (IsOfReplay (length trace.now)) }
 {
     let Ok(cache) = SharedCache::seeded(alloc, config.parts, config.rules, seed) else {
         return Err(ReplayFault::Memory);

@@ -1,4 +1,4 @@
-ghost use Rattle.std.specs.Prelude.{◌≢◌, IfOk, IfErr, OnOk};
+ghost use Rattle.std.specs.Prelude.{◌≢◌, length, IfOk, IfErr, OnOk};
 ghost use Rattle.std.specs.Io.KnownBytes.{IsAtEnd};
 ghost use Rattle.rrc_report.specs.Reports.{IsCollated};
 ghost use Rattle.rrc_replay.specs.Faults.{IsOfReplay};
@@ -68,7 +68,7 @@ fn audited<T: Threads + Wait + Sync, G: Gate + Sync>(
     gate: &G,
 ) -> Result<Report, ReplayFault>
     ensures collated { IfOk result (IsCollated config.now trace.now) }
-    ensures err { IfErr result IsOfReplay }
+    ensures err { IfErr result (IsOfReplay (length trace.now)) }
 {
     let report = replay(rt, alloc, trace, config, seed, gate)?;
     audit_all(alloc, report.wholes.as_slice(), seed, audit)?;
