@@ -9,6 +9,7 @@ import argparse
 import pathlib
 import subprocess
 import sys
+import textwrap
 import time
 
 from quiet import undisturbed
@@ -65,9 +66,12 @@ def measure(args):
 
 def section(rates, by_python, args):
     least, most = args.threads[0], args.threads[-1]
-    lines = [
+    written = (
         "Written by `bench/c.py --write`: millions of calls a second by threads of C (`bench/c_threads.c`), the best of "
-        f"{args.runs} runs of {args.calls} calls on 16 shelves with 16,384 names.",
+        f"{args.runs} runs of {args.calls} calls on 16 shelves with 16,384 names."
+    )
+    lines = [
+        textwrap.fill(written, 100),
         "",
         "| What | Shelves | " + " | ".join(f"{it} {'thread' if it == 1 else 'threads'}" for it in args.threads) + f" | {most} to {least} |",
         "|---|---|" + "---|" * (len(args.threads) + 1),

@@ -12,6 +12,7 @@ import statistics
 import subprocess
 import sys
 import tempfile
+import textwrap
 import time
 
 from quiet import undisturbed
@@ -28,6 +29,8 @@ TASKS = {
 }
 THREADS, PARTS = (1, 2, 4), (1, 4, 64)
 NAMES = 65_536
+# How wide a line of the page is.
+COLUMNS = 100
 
 
 def seconds_of_calls(task, threads, parts, calls):
@@ -113,13 +116,20 @@ def picture(rates):
 
 
 def page(rates, lent, shared, words):
+    written = (
+        f"Written by `bench/share.py --write` on a machine with {os.cpu_count()} cores. Each number is the median of {words.runs} runs, in millions a second by "
+        "the clock. A run during which the host took processors away from the machine was made again. The calls are those of a shared cache with "
+        f"{NAMES} names, {words.calls} of them over all threads (`bench_share`). The lines are those of a trace of {words.lines} lines, read, replayed, collated "
+        "and reported (`rrcache`)."
+    )
+    of_one_thread = (
+        f"An ask that hits takes one thread {lent:.0f} ns on lent parts and {shared:.0f} ns on a shared cache (medians of 16 short runs each, in turn). The lock and "
+        f"finding the part cost {shared - lent:.0f} ns."
+    )
     lines = [
         "# Performance",
         "",
-        f"Written by `bench/share.py --write` on a machine with {os.cpu_count()} cores. Each number is the median of {words.runs} runs, in millions a second of "
-        "passed time; a run during which the host took processors away from the machine was made again. They are calls of a shared cache that holds",
-        f"{NAMES} names, {words.calls} of them over all threads (`bench_share`), and the lines of a trace of {words.lines} lines, read, replayed, collated and "
-        "reported (`rrcache`).",
+        textwrap.fill(written, COLUMNS),
         "",
         "![Millions a second](performance.svg)",
         "",
@@ -132,7 +142,7 @@ def page(rates, lent, shared, words):
             lines.append(f"| {title} | {parts} | " + " | ".join(f"{rate:.2f}" for rate in by) + f" | {by[-1] / by[0]:.2f} |")
     lines += [
         "",
-        f"An ask that hits takes one thread {lent:.0f} ns on lent parts and {shared:.0f} ns on a shared cache (medians of 16 short runs each, in turn): a lock and the look for its part cost {shared - lent:.0f} ns.",
+        textwrap.fill(of_one_thread, COLUMNS),
         "",
     ]
     return "\n".join(lines)
