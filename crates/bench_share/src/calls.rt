@@ -2,7 +2,7 @@
 
 use rrc_cache::{Part, Refusal};
 use rrc_history::{Ask, Offer, Outcome, Reply, Tag};
-use rrc_sets::part_of;
+use rrc_name::part_of;
 use rrc_share::SharedCache;
 use std::sync::Wait;
 

@@ -11,10 +11,8 @@ use Rattle.rrc_history.specs.declared.event.Outcome.{Outcome}
 use Rattle.rrc_history.specs.declared.event.Outcome.TheVariants.{Kept, Cleared, LessTrusted}
 use Rattle.rrc_share.specs.Shelf.{ShelfOf, AppendsOffer, IsLeft}
 use Rattle.rrc_sets.specs.Limits.{Are}
-use Rattle.rrc_sets.specs.Offers.{offers_of}
+use Rattle.rrc_sets.specs.Message.{Brings}
 use Rattle.rrc_sets.specs.declared.limits.Limits.{Limits}
-use Rattle.rrc_wire.specs.Grammar.{MessageOf}
-use Rattle.rrc_wire.specs.declared.message.Message.{Message}
 use Rattle.rrc_c.specs.Told.{data_text}
 use Rattle.rrc_c.specs.Refusals.{OffersRefused, WriteDue}
 use Rattle.rrc_c.specs.declared.counts.Counts.{Counts}
@@ -104,11 +102,9 @@ pub record TakesFirst (number line : ℕ) (offers : List OfferOf) (counts : Coun
 -- what the message offers that some octets are
 pub record AreOffered (octets zone : List ℕ) (at : ℕ) (bounds : Bounds) (offers : List OfferOf) : Type 0 where
   pub zone_is : IsWireForm zone
-  pub message : Message
-  pub is_message : MessageOf octets message
   pub limits : Limits
   pub are_limits : Are limits bounds.cap bounds.negative_cap bounds.recheck
-  pub are : offers ≡ offers_of message zone at limits
+  pub brought : Brings limits octets zone at offers
 
 -- all that a message offers was written
 pub record TakesMessage (line : ℕ) (octets zone : List ℕ) (at : ℕ) (bounds : Bounds) (counts : Counts) (old new : ShelfOf) : Type 0 where

@@ -1,7 +1,7 @@
 -- What C offers of a message to a shelf that is one of many: that of the names which lie in its part.
 use Rattle.std.specs.Prelude.{ℕ, ◌<◌, ◌≤◌, ◌⊎◌, ◌==◌, List, filter}
 use Rattle.rrc_history.specs.Fits.{OfferOf}
-use Rattle.rrc_sets.specs.Parts.{part_of}
+use Rattle.rrc_name.specs.Parts.{part_of}
 use Rattle.rrc_share.specs.Shelf.{ShelfOf}
 use Rattle.rrc_c.specs.Offered.{AreOffered, TakesAll, TakesFirst, TakesNone}
 use Rattle.rrc_c.specs.declared.counts.Counts.{Counts}

@@ -7,7 +7,7 @@ ghost use Rattle.rrc_c.specs.Offered.{denial_offer, failure_offer, TakesMessage,
 ghost use Rattle.rrc_c.specs.Parted.{IsPart, TakesPart, TakesSomeOfPart};
 ghost use Rattle.rrc_c.specs.Refusals.{AskDue, DenialDue, FailureDue, IfHeld, IsDenial, IsFailure, IsQuestion, IsSet, OutOfMemory, PartDue, PeekDue, SetDue, WriteDue};
 ghost use Rattle.rrc_share.specs.Shelf.{AppendsSweep};
-ghost use Rattle.rrc_sets.specs.Parts.{part_of};
+ghost use Rattle.rrc_name.specs.Parts.{part_of};
 
 use crate::asking::{ask_shelf, peek_at_shelf};
 use crate::counts::{Bounds, Counts};

@@ -2,13 +2,13 @@ ghost use Rattle.std.specs.Prelude.{◌≡◌, ◌≤◌, ◌<◌, IfOk, IfErr, 
 ghost use Rattle.rrc_c.specs.Kept.{TellsFault};
 ghost use Rattle.rrc_c.specs.Refusals.{OutOfMemory, PartDue, WriteDue};
 ghost use Rattle.rrc_c.specs.Statuses.{number_of, number_of_call};
-ghost use Rattle.rrc_sets.specs.Parts.{part_of};
+ghost use Rattle.rrc_name.specs.Parts.{part_of};
 ghost use Rattle.rrc_share.specs.Shelf.{AppendsSweep, IsLeft};
 
 use crate::asking::name_of;
 use crate::status::Status;
 use rrc_history::Tag;
-use rrc_sets::part_of;
+use rrc_name::part_of;
 use rrc_share::{Shelf, on_shelf_sweep};
 use rrc_wire::{WireFault, read_message};
 use std::alloc::Global;

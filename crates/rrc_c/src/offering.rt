@@ -7,7 +7,7 @@ ghost use Rattle.rrc_c.specs.Refusals.{AreLimits, AreData, Because, DataRefused,
 ghost use Rattle.rrc_c.specs.Statuses.{number_of, number_of_call};
 ghost use Rattle.rrc_history.specs.Fits.{fits};
 ghost use Rattle.rrc_sets.specs.Limits.{Are};
-ghost use Rattle.rrc_wire.specs.Grammar.{MessageOf};
+ghost use Rattle.rrc_sets.specs.Message.{Brings};
 ghost use Rattle.rrc_wire.specs.Plain.{IsPlain};
 ghost use Rattle.rrc_share.specs.Shelf.{IsLeft};
 
@@ -15,10 +15,10 @@ use crate::asking::name_of;
 use crate::counts::{Bounds, Counts};
 use crate::status::Status;
 use rrc_history::{Body, Offer, Outcome, Tag, Trust};
-use rrc_name::{Key, Octets, Sequence, Shared, Slot};
-use rrc_sets::{Limits, offers, part_of};
+use rrc_name::{Key, Name, Octets, Sequence, Shared, Slot, part_of};
+use rrc_sets::Limits;
 use rrc_share::{Shelf, on_shelf_offer};
-use rrc_wire::{Message, WireFault, is_kept, plain_rdata, read_message};
+use rrc_wire::{WireFault, is_kept, plain_rdata};
 use std::alloc::Global;
 
 /// The type of SOA records (RFC 1035 section 3.2.2).
@@ -249,13 +249,19 @@ fn limits_of(bounds: &Bounds) -> Result<Limits, Status>
     }
 }
 
-/// The message that some octets are.
-fn message_in(alloc: Global, octets: &[u8]) -> Result<Message, Status>
-    ensures message { IfOk result (λ message. MessageOf octets.now message) }
+/// What the message offers that some octets are.
+fn offers_of_message(
+    alloc: Global,
+    octets: &[u8],
+    zone: &Name,
+    moment: u64,
+    limits: &Limits,
+) -> Result<Vec<Offer>, Status>
+    ensures offers { IfOk result (λ made. Brings limits.now octets.now zone.now moment made.items) }
     ensures refused { IfErr result (λ status. MessageRefused octets.now (number_of status)) }
 {
-    match read_message(alloc, octets) {
-        Ok(message) => Ok(message),
+    match rrc_sets::offers_in(alloc, octets, zone, moment, limits) {
+        Ok(offers) => Ok(offers),
         Err(WireFault::Memory) => Err(Status::Memory),
         Err(_) => Err(Status::BadMessage),
     }
@@ -274,8 +280,8 @@ fn offers_in(
 {
     let limits = limits_of(bounds)?;
     let zone = name_of(alloc, zone)?;
-    let message = message_in(alloc, octets)?;
-    Ok(offers(alloc, &message, &zone, moment, &limits)?)
+    let made = offers_of_message(alloc, octets, &zone, moment, &limits)?;
+    Ok(made)
 }
 
 /// Offers a shelf what a message offers.

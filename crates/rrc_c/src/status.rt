@@ -2,7 +2,6 @@ ghost use Rattle.std.specs.Prelude.{◌≡◌, ◌≤◌};
 ghost use Rattle.rrc_c.specs.Statuses.{number_of};
 
 use rrc_cache::Refusal;
-use rrc_sets::SetsFault;
 use std::alloc::{AllocError, AllocFailed};
 
 /// Why a shelf did not do what was called for. The numbers are those of `include/rrcache.h`, where 0 is a call that was done.
@@ -89,16 +88,5 @@ impl From<Refusal> for Status {
             Refusal::MomentTooLarge => Status::MomentTooLarge,
             Refusal::Memory => Status::Memory,
         }
-    }
-}
-
-impl From<SetsFault> for Status {
-    ghost use Rattle.std.specs.Prelude.{◌≡◌};
-    ghost use Rattle.rrc_c.specs.declared.status.Status.TheVariants.{Memory};
-
-    ghost from_gives = { λ _ status. status ≡ Memory };
-
-    fn from(_refused: SetsFault) -> Status {
-        Status::Memory
     }
 }

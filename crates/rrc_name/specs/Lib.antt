@@ -6,4 +6,5 @@ pub mod Reading
 pub mod WireFault
 pub mod Key
 pub mod KeyRef
+pub mod Parts
 pub mod lemmas

@@ -1,5 +1,6 @@
 mod keys;
 mod names;
 mod orders;
+mod parts;
 mod sequences;
 mod shared_values;

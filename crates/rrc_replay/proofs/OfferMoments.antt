@@ -15,7 +15,8 @@ use Rattle.rrc_sets.specs.Sets.{SetOf, sets_of}
 use Rattle.rrc_sets.specs.Aliases.{final_name}
 use Rattle.rrc_sets.specs.Denials.{denied, soa_of, negative_offer}
 use Rattle.rrc_trace.specs.declared.line.Fetch.{Fetch}
-use Rattle.rrc_report.specs.Scripts.{failure_by, Brings, BringsOctets, Fetches}
+use Rattle.rrc_script.specs.Scripts.{failure_by, BringsOctets, Fetches}
+use Rattle.rrc_sets.specs.Message.{Brings}
 use Rattle.rrc_sets.specs.Offers.{living_offer, set_offer, records_of, section_offers, answer_offers, failure_offers, is_silent, offers_of}
 
 -- the offer is of this moment

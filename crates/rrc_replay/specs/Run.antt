@@ -7,7 +7,7 @@ use Rattle.rrc_trace.specs.declared.line.Line.{Line}
 use Rattle.rrc_trace.specs.Reading.{IsTraceFrom, IsFaultOfTrace}
 use Rattle.rrc_trace.specs.Report.{report_text}
 use Rattle.rrc_trace.specs.Writing.{AppendsFront}
-use Rattle.rrc_report.specs.declared.config.Config.{Config}
+use Rattle.rrc_script.specs.declared.config.Config.{Config}
 use Rattle.rrc_report.specs.declared.report.Report.{Report}
 use Rattle.rrc_report.specs.Reports.{IsCollated}
 

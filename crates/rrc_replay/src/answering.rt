@@ -8,7 +8,8 @@ use crate::gate::Gate;
 use crate::working::Common;
 use rrc_history::{Mode, Reply, Tag};
 use rrc_marks::{Began, Pass};
-use rrc_report::{ask_at, failure_at, offer_at, offers_fetched, offers_in};
+use rrc_script::{ask_at, failure_at, offer_at, offers_fetched};
+use rrc_sets::offers_in;
 use rrc_trace::{Answer, Fetch, Line, Response};
 use rrc_wire::WireFault;
 use std::alloc::Global;
@@ -84,7 +85,7 @@ fn fetch_or_join<R: Wait, G: Gate>(
     ensures free { pass.new.view.held ≡ [] }
     ensures turns { pass.new.view.turns ≡ pass.old.view.turns }
 {
-    let Some(mark) = common.questions.number(fetch)? else {
+    let Some(mark) = common.trace.questions().number(fetch)? else {
         unreachable!()
     };
     if common.marks.begin(pass, mark) == Began::Taken {

@@ -9,9 +9,10 @@ use crate::calls::Refused;
 use crate::gate::Gate;
 use crate::working::{Common, Stop, Worked, Worker, work};
 use rrc_marks::{Marks, MarksFault, Pass};
-use rrc_report::{Config, Done, Report, collate};
+use rrc_report::{Done, Report, collate};
+use rrc_script::Config;
 use rrc_share::SharedCache;
-use rrc_trace::{Questions, ReplayFault, Trace};
+use rrc_trace::{ReplayFault, Trace};
 use std::alloc::{AllocError, Global};
 use std::sync::Wait;
 use std::thread;
@@ -133,8 +134,7 @@ fn all_done<R: Threads + Wait + Sync, G: Gate + Sync>(
 ) -> Result<Vec<Done>, ReplayFault>
     ensures { IfErr result (IsOfReplay (length trace.now)) }
 {
-    let questions = Questions::of(alloc, trace)?;
-    let marks = questions.len().max(1);
+    let marks = trace.questions().len().max(1);
     let lines = trace.lines.len() as u64;
     let turns = lines + 1;
     let all_turns = (config.workers as u64 + 1) * turns;
@@ -146,7 +146,6 @@ fn all_done<R: Threads + Wait + Sync, G: Gate + Sync>(
     let common = Common {
         trace,
         config,
-        questions: &questions,
         cache,
         marks: &marks,
         gate,

@@ -7,7 +7,8 @@ ghost use Rattle.rrc_replay.specs.Run.{Reports, IsReportOf, IsFirstFaultOf, Leav
 use crate::auditing::{Audit, audit_all};
 use crate::gate::Gate;
 use crate::replaying::replay;
-use rrc_report::{Config, Report};
+use rrc_report::Report;
+use rrc_script::Config;
 use rrc_trace::{ReplayFault, Trace, read_trace, write_report};
 use std::alloc::Global;
 use std::io::{Read, Write};

@@ -7,9 +7,10 @@ use crate::calls::Refused;
 use crate::gate::Gate;
 use rrc_marks::{Marks, Pass};
 use rrc_name::Sequence;
-use rrc_report::{Answered, Config, Done};
+use rrc_report::{Answered, Done};
+use rrc_script::Config;
 use rrc_share::SharedCache;
-use rrc_trace::{Questions, Trace};
+use rrc_trace::Trace;
 use std::alloc::Global;
 use std::sync::Wait;
 
@@ -18,13 +19,11 @@ use std::sync::Wait;
 pub(crate) struct Common<'a, G> {
     pub(crate) trace: &'a Trace,
     pub(crate) config: &'a Config,
-    pub(crate) questions: &'a Questions,
     pub(crate) cache: &'a SharedCache,
     pub(crate) marks: &'a Marks,
     pub(crate) gate: &'a G,
     pub(crate) ghost lines: { marks.now.lines ≡ length trace.now },
-    pub(crate) ghost asked: { questions.now ≡ questions_of trace.now },
-    pub(crate) ghost marked: { length questions.now ≤ marks.now.marks },
+    pub(crate) ghost marked: { length (questions_of trace.now) ≤ marks.now.marks },
 }
 
 /// A worker: what it shares with the others, and its pass.

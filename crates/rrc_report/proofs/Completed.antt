@@ -8,7 +8,7 @@ use Rattle.rrc_history.specs.declared.event.Event.{Event}
 use Rattle.rrc_trace.specs.declared.line.Line.{Line}
 use Rattle.rrc_trace.specs.declared.answer.Answer.{Answer}
 use Rattle.rrc_collate.specs.declared.task.Task.{Task}
-use Rattle.rrc_report.specs.declared.config.Config.{Config}
+use Rattle.rrc_script.specs.declared.config.Config.{Config}
 use Rattle.rrc_report.specs.declared.done.Answered.{Answered}
 use Rattle.rrc_report.specs.declared.done.Done.{Done}
 use Rattle.rrc_report.specs.Answers.{IsTold, without_keys}

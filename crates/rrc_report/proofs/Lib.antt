@@ -1,4 +1,4 @@
-pub mod Scripted
+pub mod ScriptKeys
 pub mod Tasked
 pub mod TaskLemmas
 pub mod Completed

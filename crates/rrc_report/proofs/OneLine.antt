@@ -13,7 +13,8 @@ use Rattle.rrc_history.specs.declared.event.Reply.TheVariants.{Fresh, Stale, NoD
 use Rattle.rrc_history.specs.declared.snapshot.Snapshot.{Snapshot}
 use Rattle.rrc_history.specs.Asked.{AskOf}
 use Rattle.rrc_history.specs.Fits.{OfferOf}
-use Rattle.rrc_sets.specs.Parts.{part_of, hash_of}
+use Rattle.rrc_name.specs.Parts.{part_of, hash_of}
+use Rattle.rrc_sets.specs.Message.{Brings}
 use Rattle.rrc_trace.specs.declared.line.Line.{Line}
 use Rattle.rrc_trace.specs.declared.line.Line.TheVariants as lines
 use Rattle.rrc_trace.specs.declared.line.Put.{Put}
@@ -27,11 +28,11 @@ use Rattle.rrc_collate.specs.declared.script.Operation.{Operation}
 use Rattle.rrc_collate.specs.declared.task.Fate.{Fate}
 use Rattle.rrc_collate.specs.declared.task.Fate.TheVariants as fates
 use Rattle.rrc_collate.specs.Calls.{AreCalls}
-use Rattle.rrc_report.specs.declared.config.Config.{Config}
-use Rattle.rrc_report.specs.declared.script.Script.{Script}
-use Rattle.rrc_report.specs.Scripts.{offer_of, failure_of, Brings, offering, asking, sweeping, plain, first_ask, last_ask, fetching, HasScript}
+use Rattle.rrc_script.specs.declared.config.Config.{Config}
+use Rattle.rrc_script.specs.declared.script.Script.{Script}
+use Rattle.rrc_script.specs.Scripts.{offer_of, failure_of, offering, asking, sweeping, plain, first_ask, last_ask, fetching, HasScript}
 use Rattle.rrc_report.specs.Answers.{Tells, Replies, Counts, TellAll, TellFetched, CountAll, RepliesAlone, IsHit, IsTold}
-use Rattle.rrc_report.proofs.Scripted.{OneMessageOrFault, not_both, one_script}
+use Rattle.rrc_script.proofs.Scripted.{OneMessageOrFault, not_both, one_script}
 use Rattle.rrc_report.proofs.OneRun.{GoRight, AreHome, one_first, one_run}
 
 -- ---- what octets bring

@@ -21,12 +21,12 @@ use Rattle.rrc_collate.specs.Calls.{tag_of, AreCalls, going_to}
 use Rattle.rrc_collate.specs.Hands.{AreNamed, is_of}
 use Rattle.rrc_collate.specs.Tasks.{IsTaskOf, written_by}
 use Rattle.rrc_collate.specs.Collated.{taken_by, own_events, IsJoinedTo, histories_of}
-use Rattle.rrc_report.specs.declared.config.Config.{Config}
+use Rattle.rrc_script.specs.declared.config.Config.{Config}
 use Rattle.rrc_report.specs.declared.report.Report.{Report}
 use Rattle.rrc_report.specs.Answers.{IsTold}
 use Rattle.rrc_report.specs.Reports.{empty_under, IsPartOf, taken_from, IsScripted, IsAnswered, IsCollated}
 use Rattle.rrc_report.specs.OneWorker.{OneReportByOneWorker}
-use Rattle.rrc_report.proofs.Scripted.{OneMessageOrFault}
+use Rattle.rrc_script.proofs.Scripted.{OneMessageOrFault}
 use Rattle.rrc_report.proofs.OneRun.{AreRight, all_right, with_events, right_behind}
 use Rattle.rrc_report.proofs.OneLine.{IsAlone, IsLineDone, AreSame, line_same}
 use Rattle.rrc_report.proofs.OneTurn.{AreInTurn, AreFirst, all_between, in_turn, as_many, first_class, class_first}

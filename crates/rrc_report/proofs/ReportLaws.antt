@@ -16,10 +16,10 @@ use Rattle.rrc_collate.specs.declared.task.Task.{Task}
 use Rattle.rrc_collate.specs.Words.{AreSharedOut}
 use Rattle.rrc_collate.specs.Collated.{histories_of, FitsHistories}
 use Rattle.rrc_collate.specs.Tasks as of_tasks
-use Rattle.rrc_report.specs.declared.config.Config.{Config}
+use Rattle.rrc_script.specs.declared.config.Config.{Config}
 use Rattle.rrc_report.specs.declared.done.Done.{Done}
 use Rattle.rrc_report.specs.declared.report.Report.{Report}
-use Rattle.rrc_report.specs.Scripts.{OneScript}
+use Rattle.rrc_script.specs.Scripts.{OneScript}
 use Rattle.rrc_report.specs.Reports.{IsCollated, Holds, IsOfShelf, lines_done, taken_from}
 use Rattle.rrc_report.specs.Collates.{Stray}
 use Rattle.rrc_report.specs.Steps.{given_from, as_taken, AreTasks, AreFitting, AreParts, AreComplete}

@@ -11,13 +11,13 @@ use Rattle.rrc_trace.specs.Questions.{questions_of}
 use Rattle.rrc_collate.specs.declared.task.Task.{Task}
 use Rattle.rrc_collate.specs.declared.valued.Valued.{Valued}
 use Rattle.rrc_collate.specs.Collated.{taken_by}
-use Rattle.rrc_report.specs.declared.config.Config.{Config}
-use Rattle.rrc_report.specs.declared.script.Script.{Script}
-use Rattle.rrc_report.specs.Scripts.{HasScript, OneScript}
+use Rattle.rrc_script.specs.declared.config.Config.{Config}
+use Rattle.rrc_script.specs.declared.script.Script.{Script}
+use Rattle.rrc_script.specs.Scripts.{HasScript, OneScript}
 use Rattle.rrc_report.specs.Answers.{without_keys}
 use Rattle.rrc_report.specs.Reports.{IsScripted}
 use Rattle.rrc_report.specs.Steps.{Given, as_taken, IsTaskOf, AreTasks, StandsComplete}
-use Rattle.rrc_report.proofs.Scripted.{script_without_keys, script_with_keys}
+use Rattle.rrc_report.proofs.ScriptKeys.{script_without_keys, script_with_keys}
 use Rattle.rrc_report.proofs.Completed.{IsHeld}
 
 -- ---- tasks are those of a report

@@ -5,7 +5,7 @@ use Rattle.std.proofs.lemmas.List.{append_assoc, append-nil, map-append, take_mo
 use Rattle.rrc_name.specs.Key.{KeyOf}
 use Rattle.rrc_trace.specs.declared.line.Line.{Line}
 use Rattle.rrc_collate.specs.declared.task.Task.{Task}
-use Rattle.rrc_report.specs.declared.config.Config.{Config}
+use Rattle.rrc_script.specs.declared.config.Config.{Config}
 use Rattle.rrc_report.specs.declared.done.Answered.{Answered}
 use Rattle.rrc_report.specs.declared.done.Done.{Done}
 use Rattle.rrc_report.specs.Steps.{Given, given_by, given_from, IsTaskOf, AreTasks}

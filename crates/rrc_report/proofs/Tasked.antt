@@ -6,7 +6,7 @@ use Rattle.std.proofs.lemmas.List.Elements.{All-nil, All-cons, All-head, All-tai
 use Rattle.std.proofs.lemmas.List.Quantifiers.{position-Some}
 use Rattle.rrc_name.specs.Key.{KeyOf, key_eq}
 use Rattle.rrc_history.specs.Fits.{OfferOf}
-use Rattle.rrc_sets.specs.Parts.{part_of}
+use Rattle.rrc_name.specs.Parts.{part_of}
 use Rattle.rrc_name.specs.Wire.{folded}
 use Rattle.rrc_trace.specs.declared.line.Line.{Line}
 use Rattle.rrc_trace.specs.declared.line.Line.TheVariants as lines
@@ -18,11 +18,11 @@ use Rattle.rrc_collate.specs.declared.script.Operation.{Operation}
 use Rattle.rrc_collate.specs.declared.task.Task.{Task}
 use Rattle.rrc_collate.specs.Fetches.{IsNumbered}
 use Rattle.rrc_collate.specs.Collated.{taken_by}
-use Rattle.rrc_report.specs.declared.config.Config.{Config}
+use Rattle.rrc_script.specs.declared.config.Config.{Config}
 use Rattle.rrc_report.specs.declared.done.Answered.{Answered}
 use Rattle.rrc_report.specs.declared.done.Done.{Done}
-use Rattle.rrc_report.specs.declared.script.Script.{Script}
-use Rattle.rrc_report.specs.Scripts.{offer_of, failure_of, offering, asking, sweeping, first_ask, last_ask, fetching, HasScript}
+use Rattle.rrc_script.specs.declared.script.Script.{Script}
+use Rattle.rrc_script.specs.Scripts.{offer_of, failure_of, offering, asking, sweeping, first_ask, last_ask, fetching, HasScript}
 use Rattle.rrc_report.specs.Reports.{lines_done, taken_from}
 use Rattle.rrc_report.specs.Steps.{Given, given_by, given_from, as_taken, IsTaskOf, AreTasks}
 

@@ -5,7 +5,7 @@ use Rattle.rrc_share.specs.Shelf.{ShelfOf}
 use Rattle.rrc_trace.specs.declared.line.Line.{Line}
 use Rattle.rrc_trace.specs.declared.fault.ReplayFault.{ReplayFault}
 use Rattle.rrc_trace.specs.declared.fault.ReplayFault.TheVariants.{BadLine, TooManyLines, Read, Write, Strayed, Memory, Spent, TooManyQuestions, NotLegal}
-use Rattle.rrc_report.specs.declared.config.Config.{Config}
+use Rattle.rrc_script.specs.declared.config.Config.{Config}
 use Rattle.rrc_report.specs.declared.done.Done.{Done}
 use Rattle.rrc_report.specs.declared.report.Report.{Report}
 use Rattle.rrc_report.specs.Reports.{IsCollated, Holds}

@@ -1,5 +1,3 @@
-pub mod Configs
-pub mod Scripts
 pub mod Answers
 pub mod Reports
 pub mod Collates

@@ -1,7 +1,7 @@
 -- What a worker alone makes of a trace.
 use Rattle.std.specs.Prelude.{◌≡◌, List}
 use Rattle.rrc_trace.specs.declared.line.Line.{Line}
-use Rattle.rrc_report.specs.declared.config.Config.{Config}
+use Rattle.rrc_script.specs.declared.config.Config.{Config}
 use Rattle.rrc_report.specs.declared.report.Report.{Report}
 use Rattle.rrc_report.specs.Reports.{IsCollated}
 

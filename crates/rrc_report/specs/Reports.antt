@@ -15,11 +15,11 @@ use Rattle.rrc_collate.specs.declared.task.Task.{Task}
 use Rattle.rrc_collate.specs.declared.valued.Valued.{Valued}
 use Rattle.rrc_collate.specs.Collated.{taken_by, histories_of}
 use Rattle.rrc_collate.specs.Collated as collated
-use Rattle.rrc_report.specs.declared.config.Config.{Config}
+use Rattle.rrc_script.specs.declared.config.Config.{Config}
 use Rattle.rrc_report.specs.declared.done.Answered.{Answered}
 use Rattle.rrc_report.specs.declared.done.Done.{Done}
 use Rattle.rrc_report.specs.declared.report.Report.{Report}
-use Rattle.rrc_report.specs.Scripts.{HasScript}
+use Rattle.rrc_script.specs.Scripts.{HasScript}
 use Rattle.rrc_report.specs.Answers.{IsTold, without_keys}
 
 -- the snapshot of a new part, which holds nothing

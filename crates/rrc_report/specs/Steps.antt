@@ -14,10 +14,10 @@ use Rattle.rrc_trace.specs.Questions.{questions_of}
 use Rattle.rrc_collate.specs.declared.task.Task.{Task}
 use Rattle.rrc_collate.specs.declared.valued.Valued.{Valued}
 use Rattle.rrc_collate.specs.Collated.{FitsHistories}
-use Rattle.rrc_report.specs.declared.config.Config.{Config}
+use Rattle.rrc_script.specs.declared.config.Config.{Config}
 use Rattle.rrc_report.specs.declared.done.Answered.{Answered}
 use Rattle.rrc_report.specs.declared.done.Done.{Done}
-use Rattle.rrc_report.specs.Scripts.{HasScript}
+use Rattle.rrc_script.specs.Scripts.{HasScript}
 use Rattle.rrc_report.specs.Answers.{Completes}
 use Rattle.rrc_report.specs.Reports.{IsOfShelf, IsPartOf}
 

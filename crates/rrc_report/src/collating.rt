@@ -7,17 +7,16 @@ ghost use Rattle.rrc_report.specs.Collates.{IsWhy};
 ghost use Rattle.rrc_report.specs.Steps.{AreFitting};
 
 use crate::completing::lines_of;
-use crate::config::Config;
 use crate::done::Done;
 use crate::report::Report;
-use crate::scripting::one_script;
 use crate::tasking::tasks_of;
 use crate::wholes::wholes_of;
 use rrc_collate::Drawn;
 use rrc_history::Whole;
 use rrc_name::Sequence;
+use rrc_script::{Config, one_script};
 use rrc_share::Shelf;
-use rrc_trace::{Questions, ReplayFault, Trace};
+use rrc_trace::{ReplayFault, Trace};
 use std::alloc::{AllocError, Global};
 
 /// The lines that a worker says it did, in order.
@@ -60,8 +59,8 @@ fn events_of<'a>(
     ensures err { IfErr result (λ fault. fault ≡ faults.Memory) }
 {
     one_script();
-    let questions = Questions::of(alloc, trace)?;
-    let Some(tasks) = tasks_of(alloc, trace, config, &questions, done)? else {
+    let questions = trace.questions();
+    let Some(tasks) = tasks_of(alloc, trace, config, questions, done)? else {
         return Ok(None);
     };
     Ok(rrc_collate::collate(

@@ -3,11 +3,10 @@ ghost use Rattle.rrc_trace.specs.declared.fault.ReplayFault.TheVariants as fault
 ghost use Rattle.rrc_collate.specs.declared.task.Task.{Task};
 ghost use Rattle.rrc_report.specs.Steps.{given_by, given_from, IsTaskOf, AreTasks};
 
-use crate::config::Config;
 use crate::done::{Answered, Done};
 use crate::joined::joined;
-use crate::scripting::script_of;
 use rrc_collate::Task;
+use rrc_script::{Config, script_of};
 use rrc_trace::{Questions, ReplayFault, Trace};
 use std::alloc::Global;
 

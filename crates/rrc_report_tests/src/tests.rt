@@ -5,8 +5,9 @@ mod lines;
 use rrc_history::{Body, Offer, Outcome, Reply, Rules, Tag};
 use rrc_name::{Key, Name, Sequence, Slot};
 use rrc_report::{
-    Answered, Config, Done, Report, collate, one_completion, one_report_by_one_worker, one_script,
+    Answered, Config, Done, Report, collate, one_completion, one_report_by_one_worker,
 };
+use rrc_script::one_script;
 use rrc_sets::Limits;
 use rrc_share::{SharedCache, Shelf, on_shelf_ask, on_shelf_offer, on_shelf_sweep};
 use rrc_trace::{Answer, Line, ReplayFault, Told, read_trace};

@@ -1,12 +1,12 @@
 pub mod Limits
 pub mod Life
-pub mod Parts
 pub mod Uniques
 pub mod Sets
 pub mod Ranks
 pub mod Aliases
 pub mod Denials
 pub mod Offers
+pub mod Message
 pub mod Gathering
 pub mod Same
 pub mod Trees

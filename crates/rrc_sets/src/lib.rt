@@ -5,8 +5,8 @@ mod alias;
 mod denial;
 mod fault;
 mod limits;
+mod message;
 mod name;
-mod parts;
 mod rank;
 mod reply;
 mod section;
@@ -17,6 +17,7 @@ mod walks;
 
 pub use fault::SetsFault;
 pub use limits::Limits;
-pub use parts::part_of;
+pub use message::offers_in;
 pub use reply::offers;
+pub use rrc_name::part_of;
 pub use times::life;

@@ -6,8 +6,7 @@ use crate::shelf::Shelf;
 use crossbeam_utils::CachePadded;
 use rrc_cache::{Part, Refusal};
 use rrc_history::{Ask, Chapter, Offer, Outcome, Reply, Rules, Tag};
-use rrc_name::Name;
-use rrc_sets::part_of;
+use rrc_name::{Name, part_of};
 use std::alloc::Global;
 use std::marker::Model;
 use std::sync::{Mutex, MutexGuard, Wait};
@@ -65,7 +64,7 @@ fn unlocked(lock: Locked) -> Shelf
 }
 
 impl SharedCache {
-    ghost use Rattle.rrc_sets.specs.Parts.{part_of};
+    ghost use Rattle.rrc_name.specs.Parts.{part_of};
     ghost use Rattle.rrc_share.specs.Shared.{AreChained, IsTimely, IsWithoutMoment};
 
     /// As many empty parts, by the same rules. Their seed is that of `Part::new`, which anyone may know.

@@ -1,8 +1,7 @@
 ghost use Rattle.std.specs.Prelude.{◌≡◌, [], length, IfOk, OnOk, OnErr};
-ghost use Rattle.rrc_trace.specs.Questions.{question_of, fetched_by, with_question, questions_of, number_among};
+ghost use Rattle.rrc_trace.specs.Questions.{question_of, fetched_by, with_question, number_among};
 
 use crate::line::{Fetch, Line};
-use crate::trace::Trace;
 use rrc_name::{Key, Slot};
 use std::alloc::{AllocError, Global};
 use std::collections::BTreeMap;
@@ -47,18 +46,6 @@ impl Questions {
             keys: Vec::new(alloc),
             numbers: BTreeMap::new(alloc),
         }
-    }
-
-    /// The questions of a trace, in a time that grows little faster than its lines.
-    pub fn of(alloc: Global, trace: &Trace) -> Result<Questions, AllocError>
-        ensures { IfOk result (λ questions. questions ≡ questions_of trace.now) }
-    {
-        let mut questions = Questions::new(alloc);
-        let lines = trace.lines.as_slice();
-        for line in lines {
-            questions.add(line)?;
-        }
-        Ok(questions)
     }
 
     /// Adds the question that a line fetches, if it fetches one and that is new. An `Err` leaves all as it was.

@@ -4,6 +4,7 @@ ghost use Rattle.rrc_trace.specs.Lines.{line_of_piece};
 ghost use Rattle.rrc_trace.specs.Trace.{OneTraceOrFault};
 ghost use Rattle.rrc_trace.specs.Reading.{IsCut, MovesPart, ReadsPiece, LeavesNothing, IsOfReading, GivesLine, AddsLine, IsTraceFrom, IsFaultOfTrace};
 ghost use Rattle.rrc_trace.specs.Lawful.{AreLawful};
+ghost use Rattle.rrc_trace.specs.Questions.{questions_of};
 
 use crate::ahead::Ahead;
 use crate::fault::ReplayFault;
@@ -170,6 +171,7 @@ impl Reading {
         requires lines { self.old.lines ≡ [] }
         ensures ok { OnOk result (IsTraceFrom (R.remaining reader.old) self.new.lines) }
         ensures lawful { OnOk result (AreLawful self.new.lines) }
+        ensures asked { OnOk result (self.new.questions ≡ questions_of self.new.lines) }
         ensures whole { OnOk result (IsAtEnd (R.remaining reader.new)) }
         ensures err { IfErr result (IsFaultOfTrace (R.remaining reader.old)) }
     {
@@ -209,6 +211,7 @@ pub fn read_trace<R: Read>(alloc: Global, reader: &mut R) -> Result<Trace, Repla
     reading.read_lines(alloc, reader)?;
     Ok(Trace {
         lines: reading.lines,
+        questions: reading.questions,
     })
 }
 

@@ -1,4 +1,5 @@
 use crate::line::Line;
+use crate::questions::Questions;
 use rrc_name::Sequence;
 use std::marker::Model;
 
@@ -8,18 +9,31 @@ use std::marker::Model;
 #[derive(Debug, Drop)]
 pub struct Trace {
     pub lines: Sequence<Line>,
+    /// The questions that the lines fetch.
+    pub(crate) questions: Questions,
 }
 
 impl Model for Trace {
-    ghost use Rattle.std.specs.Prelude.{List};
+    ghost use Rattle.std.specs.Prelude.{◌≡◌, List};
     ghost use Rattle.rrc_trace.specs.declared.line.Line.{Line};
     ghost use Rattle.rrc_trace.specs.Lawful.{AreLawful};
+    ghost use Rattle.rrc_trace.specs.Questions.{questions_of};
 
     ghost Value = { List Line };
 
     ghost view = { λ t. t.lines };
 
-    ghost invariant = { λ t. AreLawful t.lines };
+    ghost invariant = { λ t. AreLawful t.lines × (t.questions ≡ questions_of t.lines) };
+}
 
-    ghost inverse = { λ lines. record { lines = lines } };
+impl Trace {
+    ghost use Rattle.std.specs.Prelude.{◌≡◌};
+    ghost use Rattle.rrc_trace.specs.Questions.{questions_of};
+
+    /// The questions that the lines fetch, each once, in the order in which they stand first.
+    pub fn questions(&self) -> &Questions
+        ensures { result.now ≡ questions_of self.now }
+    {
+        &self.questions
+    }
 }

@@ -2,8 +2,8 @@
 
 use rrc_history::{Body, Offer};
 use rrc_name::{Name, Octets, Slot};
-use rrc_sets::{Limits, offers};
-use rrc_wire::read_message;
+use rrc_sets::{Limits, offers, offers_in};
+use rrc_wire::{WireFault, read_message};
 use std::alloc::{AllocError, Global};
 use std::test::Fail;
 
@@ -127,6 +127,25 @@ fn messages_offer_as_told(rt: HostRuntime) -> Result<(), Fail> {
         assert_eq!(rt; found.as_str(), wanted.as_str(), "{line}");
         let elsewhere = offered(alloc, octets.as_slice(), "test.")?;
         assert_eq!(rt; elsewhere.as_str(), "", "{line}");
+    }
+    Ok(())
+}
+
+#[test]
+fn octets_offer_what_their_message_offers(rt: HostRuntime) -> Result<(), Fail> {
+    let alloc = rt.alloc();
+    let limits = Limits::new(604_800, 10_800, 30).ok_or("within the ranges")?;
+    let zone = Name::from_text(alloc, "example.")?;
+    let words = "1234 8400 0001 0001 0000 0000 Q c00c000100010000003c0004c0000201";
+    let octets = octets_of(alloc, words)?;
+    let octets = octets.as_slice();
+    let offers = offers_in(alloc, octets, &zone, 100, &limits)?;
+    let found = shown(alloc, offers.as_slice(), 100)?;
+    assert_eq!(rt; found.as_str(), " a.example. 1 rank 4 ttl 60 c0000201;");
+    let cut_off = &octets[..octets.len() - 1];
+    match offers_in(alloc, cut_off, &zone, 100, &limits) {
+        Ok(_) => Err("no message")?,
+        Err(fault) => assert_eq!(rt; fault, WireFault::BadData),
     }
     Ok(())
 }

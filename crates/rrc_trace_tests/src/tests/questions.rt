@@ -45,12 +45,12 @@ fn have_numbers(
 fn are_numbered(rt: &impl Abort, alloc: Global, trace: &Trace) -> Result<(), Fail> {
     let none = Questions::new(alloc);
     have_numbers(rt, alloc, &none, trace, &[None; 4])?;
-    let questions = Questions::of(alloc, trace)?;
+    let questions = trace.questions();
     assert_eq!(rt; questions.len(), 3);
     have_numbers(
         rt,
         alloc,
-        &questions,
+        questions,
         trace,
         &[Some(0), Some(1), Some(0), Some(2)],
     )?;

@@ -1,15 +1,13 @@
-use Rattle.std.proofs.Common.{ap, ◌∙◌}
-use Rattle.rrc_sets.specs.Offers.{offers_of}
+use Rattle.std.proofs.Common.{subst}
+use Rattle.rrc_sets.specs.Message.{Brings}
 use Rattle.rrc_c.proofs.offering.offers_in.Goals as goal
 
 pub returns-clause-offers : goal.returns-clause-offers
 returns-clause-offers c =
-    let message = c.in_ok-message.message in let limits = c.in_ok-limits.limits in
+    let limits = c.in_ok-limits.limits in let made = c.in_ok-made.made.items in
     record {
       zone_is = c.in_ok-zone.ensures.wire_form;
-      message = message;
-      is_message = c.in_ok-message.ensures.message;
       limits = limits;
       are_limits = c.in_ok-limits.ensures.limits;
-      are = c.in_ok-offers.ensures.ok ∙ ap (λ zone. offers_of message zone c.args.moment limits) c.in_ok-zone.ensures.name;
+      brought = subst (λ zone. Brings limits c.args.octets.now zone c.args.moment made) c.in_ok-zone.ensures.name c.in_ok-made.ensures.offers;
     }

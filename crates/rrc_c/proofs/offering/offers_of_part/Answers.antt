@@ -1,7 +1,7 @@
 use Rattle.std.proofs.Common.{rules, ◌==◌}
 use Rattle.std.proofs.lemmas.Fn.{filter_same}
 use Rattle.rrc_history.specs.Fits.{OfferOf}
-use Rattle.rrc_sets.specs.Parts.{part_of}
+use Rattle.rrc_name.specs.Parts.{part_of}
 use Rattle.rrc_c.proofs.offering.offers_of_part.Goals as goal
 
 pub returns : goal.returns

@@ -4,5 +4,5 @@ use Rattle.rrc_replay.proofs.answering.fetch_or_join.Goals as goal
 
 pub unreachable-requires : goal.unreachable-requires
 unreachable-requires g c =
-    numbered c.args.common.now.trace.now c.args.common.now.questions.now c.args.fetch.now c.args.common.now.asked c.requires.stands
+    numbered c.args.common.now.trace.now c.questions.result.now c.args.fetch.now c.questions.ensures c.requires.stands
     (sym c.in_ok-mark.ensures ∙ c.in_default.is)

@@ -2,7 +2,7 @@ use Rattle.std.proofs.Common.{◌≡◌, ◌∙◌, List, length, refl, subst, S
 use Rattle.std.specs.Prelude.{slice_get}
 use Rattle.std.proofs.lemmas.Option.{slice_get_read}
 use Rattle.rrc_trace.specs.declared.line.Line.{Line}
-use Rattle.rrc_report.specs.Scripts.{HasScript}
+use Rattle.rrc_script.specs.Scripts.{HasScript}
 use Rattle.rrc_report.proofs.tasking.task_of.Goals as goal
 
 pub returns-clause-some : goal.returns-clause-some

@@ -95,6 +95,19 @@ returns-in-Last-clause-lawful g c =
     let far = so_far_more all old new c.loop-number.self.lines c.loop-number.number c.loop-number.self.questions c.add_line-in-Last.new.self.questions piece adds.0 (omega arith) c.loop-number.invariant (reads_last old new piece was some) adds.2 in
     rw adds.1 (are_lawful all new (c.loop-number.self.lines ++ adds.0 ∷ []) (c.loop-number.number + 1) c.add_line-in-Last.new.self.questions far (omega arith))
 
+pub returns-in-Last-clause-asked : goal.returns-in-Last-clause-asked
+returns-in-Last-clause-asked g c =
+    let known = g.R.Read.remaining in
+    let all = known c.args.reader.now in
+    let old = prepend_known c.loop-number.self.ahead (known c.loop-number.reader) in
+    let new = prepend_known c.piece_from.new.ahead (known c.piece_from.new.reader) in
+    let piece = c.piece_from.new.piece.items in
+    let was = rw c.in-Last.is at c.in_ok-piece_from.ensures.ok in
+    let some = some_octets piece (rw c.as_slice.ensures.value at (sym c.is_empty.ensures ∙ c.if-is_empty.false)) in
+    let adds = c.in_ok-add_line-in-Last.ensures.ok in
+    let far = so_far_more all old new c.loop-number.self.lines c.loop-number.number c.loop-number.self.questions c.add_line-in-Last.new.self.questions piece adds.0 (omega arith) c.loop-number.invariant (reads_last old new piece was some) adds.2 in
+    rw adds.1 far.fetched
+
 pub returns-in-Last-clause-whole : goal.returns-in-Last-clause-whole
 returns-in-Last-clause-whole g c =
     let last = rw c.in-Last.is at c.in_ok-piece_from.ensures.last in

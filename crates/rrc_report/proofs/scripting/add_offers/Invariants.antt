@@ -1,7 +1,0 @@
--- the offers so far stand behind the operations that there were
-use Rattle.std.proofs.Common.{◌≡◌, ◌++◌, map}
-use Rattle.rrc_report.specs.Scripts.{offering}
-use Rattle.rrc_report.proofs.scripting.add_offers.Given as goal
-
-abbrev pub invariant-loop-offer : goal.invariant-loop-offer
-invariant-loop-offer l = l.operations.items ≡ l.initial.operations.items ++ map (offering l.config.parts) l.yielded

@@ -1,0 +1,29 @@
+ghost use Rattle.std.specs.Prelude.{◌≡◌, ◌⊎◌, IfOk, IfErr};
+ghost use Rattle.rrc_wire.specs.Message.{FirstFault};
+ghost use Rattle.rrc_sets.specs.Message.{Brings};
+
+use crate::limits::Limits;
+use crate::reply::offers;
+use rrc_history::Offer;
+use rrc_name::Name;
+use rrc_wire::{WireFault, read_message};
+use std::alloc::Global;
+
+/// Reads a response (RFC 1035 section 4.1), and tells what it offers to a cache for a zone, at a
+/// moment in seconds, as `offers` does. The first fault of octets that are no message, or `Memory`.
+pub fn offers_in(
+    alloc: Global,
+    octets: &[u8],
+    zone: &Name,
+    moment: u64,
+    limits: &Limits,
+) -> Result<Vec<Offer>, WireFault>
+    ensures ok { IfOk result (λ offers. Brings limits.now octets.now zone.now moment offers.items) }
+    ensures err { IfErr result (λ fault. (fault ≡ WireFault.Memory) ⊎ FirstFault octets.now fault) }
+{
+    let message = read_message(alloc, octets)?;
+    match offers(alloc, &message, zone, moment, limits) {
+        Ok(offers) => Ok(offers),
+        Err(_) => Err(WireFault::Memory),
+    }
+}
