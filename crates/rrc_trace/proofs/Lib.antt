@@ -5,7 +5,12 @@ pub mod NumberLemmas
 pub mod ItemLemmas
 pub mod SaidLemmas
 pub mod SearchLemmas
+pub mod FieldLemmas
+pub mod SpelledLemmas
+pub mod SpelledItems
 pub mod NameLemmas
+pub mod FormLemmas
+pub mod LineLemmas
 pub mod WritingLemmas
 pub mod OutputLemmas
 pub mod QuestionLemmas

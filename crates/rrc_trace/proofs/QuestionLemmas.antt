@@ -1,29 +1,14 @@
 -- Questions, and the numbers under which a map has them.
-use Rattle.std.proofs.Common.{◌≡◌, ℕ, zero, suc, ◌+◌, ◌≤◌, ◌||◌, List, [], ◌∷◌, ◌++◌, length, take, length-append, Option, Some, None, Bool, true, false, cond, refl, sym, ap, ◌∙◌, arith, nat_lt, position}
-use Rattle.std.specs.List.{position_or_len, list_any}
+use Rattle.std.proofs.Common.{◌≡◌, ℕ, suc, ◌≤◌, ◌||◌, List, [], ◌∷◌, ◌++◌, length, length-append, Option, Some, None, Bool, true, false, cond, refl, sym, ap, ◌∙◌, arith, position}
+use Rattle.std.specs.List.{list_any}
 use Rattle.std.specs.Option.{option_map, is_some}
 use Rattle.std.specs.Ordering.{is_eq}
 use Rattle.std.specs.BTreeMap as map
-use Rattle.std.proofs.lemmas.Bool.Decides.{nat_tests}
 use Rattle.rrc_name.specs.Key.{KeyOf, key_eq, key_order}
 use Rattle.rrc_name.specs.lemmas.KeyLaws.{key_eq-laws, key_eq-same, key_order-ties}
 use Rattle.rrc_trace.specs.Questions.{with_question, questions_behind, fetched_by, FindsNumbers}
 use Rattle.rrc_trace.specs.declared.line.Line.{Line}
-
--- the place in a list with one more in front
-position-cons : {X : Type 0} (p : X → Bool) (x : X) (xs : List X) → position p (x ∷ xs) ≡ cond (p x) (Some 0) (option_map suc (position p xs))
-position-cons p x xs = by (p x) refl (nat_lt (position_or_len p xs) (length xs)) refl
-  where
-    at : ℕ
-    at = position_or_len p xs
-
-    by : (is : Bool) → p x ≡ is → (within : Bool) → nat_lt at (length xs) ≡ within → position p (x ∷ xs) ≡ cond is (Some 0) (option_map suc (position p xs))
-    by true is within inside = let first : nat_lt 0 (suc (length xs)) ≡ true = grind (arith, nat_tests) in rw (is, first) refl
-    by false is true inside =
-        let further : nat_lt (1 + at) (suc (length xs)) ≡ true = grind (arith, nat_tests, inside) in
-        let next : 1 + at ≡ suc at = omega arith in rw (is, inside, further) (ap Some next)
-    by false is false inside =
-        let further : nat_lt (1 + at) (suc (length xs)) ≡ false = grind (arith, nat_tests, inside) in rw (is, inside, further) refl
+use Rattle.rrc_trace.proofs.SearchLemmas.{position-cons}
 
 -- there is a place exactly where one passes
 position-any : {X : Type 0} (p : X → Bool) (xs : List X) → is_some (position p xs) ≡ list_any p xs
@@ -112,16 +97,11 @@ questions-grow questions [] = omega arith
 questions-grow questions (line ∷ lines) =
     omega (arith, with_question-grows questions (fetched_by line), questions-grow (with_question questions (fetched_by line)) lines)
 
-pub questions-between : (questions : List KeyOf) (few more : ℕ) (lines : List Line) → few ≤ more
-    → length (questions_behind questions (take few lines)) ≤ length (questions_behind questions (take more lines))
-questions-between questions zero more lines within = questions-grow questions (take more lines)
-questions-between questions (suc few) zero lines within = absurd (omega (arith, within))
-questions-between questions (suc few) (suc more) [] within = omega arith
-questions-between questions (suc few) (suc more) (line ∷ lines) within =
-    questions-between (with_question questions (fetched_by line)) few more lines (omega (arith, within))
+questions-append : (questions : List KeyOf) (lines more : List Line) → questions_behind questions (lines ++ more) ≡ questions_behind (questions_behind questions lines) more
+questions-append questions [] more = refl
+questions-append questions (line ∷ lines) more = questions-append (with_question questions (fetched_by line)) lines more
 
-pub questions-prefix : (questions : List KeyOf) (few : ℕ) (lines : List Line)
-    → length (questions_behind questions (take few lines)) ≤ length (questions_behind questions lines)
-questions-prefix questions zero lines = questions-grow questions lines
-questions-prefix questions (suc few) [] = omega arith
-questions-prefix questions (suc few) (line ∷ lines) = questions-prefix (with_question questions (fetched_by line)) few lines
+-- so those in front fetch few where all do
+pub few-in_front : (most : ℕ) (lines more : List Line) → length (questions_behind [] (lines ++ more)) ≤ most → length (questions_behind [] lines) ≤ most
+few-in_front most lines more few =
+    omega (arith, few, questions-grow (questions_behind [] lines) more, ap (λ (questions : List KeyOf). length questions) (questions-append [] lines more))

@@ -14,16 +14,12 @@ use Rattle.rrc_name.specs.Key.{KeyOf}
 use Rattle.rrc_trace.specs.Questions.{fetched_by, with_question, questions_of}
 use Rattle.rrc_trace.specs.Trace.{with_octet, pieces_of, MOST_LINES, MOST_QUESTIONS, HaveFewQuestions}
 use Rattle.rrc_trace.proofs.QuestionLemmas.{questions-push}
-use Rattle.rrc_trace.proofs.TraceLemmas.{with_line, lines_from, trace_of, read-many, read-bad, read-crowded, read-more, trace_of-says, trace_of-bad, trace_of-many, trace_of-crowded}
+use Rattle.rrc_trace.proofs.TraceLemmas.{lines_from, trace_of, lines_behind, one_piece, read-many, read-bad, read-crowded, trace_of-says, trace_of-fault}
 use Rattle.rrc_trace.specs.declared.reading.Ending.TheVariants.{Lf, Last, Endless}
 use Rattle.rrc_trace.specs.Lawful.{IsLawful, AreLawful}
 use Rattle.rrc_trace.proofs.LawfulLemmas.{says_lawful}
 use Rattle.rrc_trace.specs.declared.fault.ReplayFault.TheVariants as faults
 use Rattle.rrc_trace.specs.Reading.{IsUnended, ReadsPiece, IsOfReading, GivesLine, IsTraceFrom, IsFaultOfTrace}
-
-abbrev pub lines_behind : List Line → Result (List Line) ReplayFault → Result (List Line) ReplayFault
-lines_behind front (Ok lines) = Ok (front ++ lines)
-lines_behind front (Err fault) = Err fault
 
 -- what is left to read says, behind the lines so far, what the whole trace says
 abbrev pub IsReadTo : Option (List ℕ) → Option (List ℕ) → List Line → ℕ → Type 0
@@ -46,20 +42,6 @@ pieces_of-last octet (next ∷ octets) unended =
 
 abbrev wrapped : List Line → Result (List Line) ReplayFault
 wrapped lines = Ok lines
-
-with_line-behind : (front : List Line) (line : Line) (said : Result (List Line) ReplayFault) → lines_behind front (with_line line said) ≡ lines_behind (front ++ line ∷ []) said
-with_line-behind front line (Ok lines) = ap wrapped (sym (append_assoc front (line ∷ []) lines))
-with_line-behind front line (Err fault) = refl
-
--- one piece is read
-one_piece : (front : List Line) (number : ℕ) (piece : List ℕ) (pieces : List (List ℕ)) (line : Line) → number < 1000000 → line_of_piece piece ≡ Some line
-    → length (with_question (questions_of front) (fetched_by line)) ≤ MOST_QUESTIONS
-    → lines_behind front (lines_from number (questions_of front) (piece ∷ pieces))
-    ≡ lines_behind (front ++ line ∷ []) (lines_from (number + 1) (questions_of (front ++ line ∷ [])) pieces)
-one_piece front number piece pieces line few is fits =
-    ap (lines_behind front) (read-more number (questions_of front) piece pieces line few is fits)
-    ∙ (with_line-behind front line (lines_from (number + 1) (with_question (questions_of front) (fetched_by line)) pieces)
-    ∙ ap (λ (questions : List KeyOf). lines_behind (front ++ line ∷ []) (lines_from (number + 1) questions pieces)) (sym (questions-push [] front line)))
 
 -- more pieces than a trace may have lines
 too_many : (front : List Line) (number octet : ℕ) (octets : List ℕ) → MOST_LINES ≤ number
@@ -144,7 +126,7 @@ stops_at (faults.BadLine bad) None old new lines number piece after few read cut
 stops_at (faults.BadLine bad) (Some all) None new lines number piece after few read cut said = absurd read
 stops_at (faults.BadLine bad) (Some all) (Some octets) None lines number piece after few read cut said = absurd cut
 stops_at (faults.BadLine bad) (Some all) (Some octets) (Some rest) lines number piece after few read cut said =
-    trace_of-bad all bad (stopped all octets lines number piece (pieces_of rest) few read cut said.1 ∙ ap (λ (n : ℕ). err_at n) (sym said.0))
+    trace_of-fault all (BadLine bad) (stopped all octets lines number piece (pieces_of rest) few read cut said.1 ∙ ap (λ (n : ℕ). err_at n) (sym said.0))
 stops_at faults.TooManyLines all old new lines number piece after few read cut said = absurd said
 stops_at faults.Read all old new lines number piece after few read cut said = tt
 stops_at faults.Write all old new lines number piece after few read cut said = absurd said
@@ -155,7 +137,7 @@ stops_at (faults.TooManyQuestions bad) None old new lines number piece after few
 stops_at (faults.TooManyQuestions bad) (Some all) None new lines number piece after few read cut said = absurd read
 stops_at (faults.TooManyQuestions bad) (Some all) (Some octets) None lines number piece after few read cut said = absurd cut
 stops_at (faults.TooManyQuestions bad) (Some all) (Some octets) (Some rest) lines number piece after few read cut said =
-    trace_of-crowded all bad (crowded all octets lines number piece (pieces_of rest) few read cut said.1.0 said.1.1 said.1.2 ∙ ap (λ (n : ℕ). crowded_at n) (sym said.0))
+    trace_of-fault all (TooManyQuestions bad) (crowded all octets lines number piece (pieces_of rest) few read cut said.1.0 said.1.1 said.1.2 ∙ ap (λ (n : ℕ). crowded_at n) (sym said.0))
 stops_at faults.NotLegal all old new lines number piece after few read cut said = absurd said
 
 pub fails : (fault : ReplayFault) (all : Option (List ℕ)) → IsOfReading fault → IsFaultOfTrace all fault
@@ -184,7 +166,7 @@ goes_on (Some all) None known ahead lines number many read kept some = absurd re
 goes_on (Some all) (Some octets) None ahead lines number many read kept some = absurd kept
 goes_on (Some all) (Some octets) (Some rest) [] lines number many read kept some = absurd (omega arith)
 goes_on (Some all) (Some octets) (Some rest) (octet ∷ ahead) lines number many read kept some =
-    trace_of-many all
+    trace_of-fault all TooManyLines
     (sym read ∙ ap (λ o. lines_behind lines (lines_from number (questions_of lines) (pieces_of o))) (sym kept) ∙ too_many lines number octet (ahead ++ rest) many)
 
 -- what is left to read stays
@@ -268,7 +250,7 @@ endless (Some all) None new lines number piece few read was = absurd read
 endless (Some all) (Some octets) None lines number piece few read was = absurd was
 endless (Some all) (Some octets) (Some rest) lines number [] few read was = absurd (omega (arith, was.1.1))
 endless (Some all) (Some octets) (Some rest) lines number (octet ∷ piece) few read was =
-    trace_of-bad all number (endless_in all octets lines number (octet ∷ piece) (pieces_of rest) few read was.1.0 was.1.1
+    trace_of-fault all (BadLine number) (endless_in all octets lines number (octet ∷ piece) (pieces_of rest) few read was.1.0 was.1.1
     (ap pieces_of was.0 ∙ pieces_of-onto octet piece rest was.1.0))
 
 -- nothing more was read

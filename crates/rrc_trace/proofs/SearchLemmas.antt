@@ -1,10 +1,25 @@
--- What a search for an octet finds is its first place.
-use Rattle.std.proofs.Common.{◌≡◌, ◌==◌, ℕ, Bool, true, false, List, length, position, Option, Some, None, arith, le_refl, ⊎_elim}
+-- What a search finds is the first place.
+use Rattle.std.proofs.Common.{◌≡◌, ◌==◌, ◌+◌, ℕ, suc, Bool, true, false, List, ◌∷◌, length, position, option_map, Option, Some, None, cond, refl, ap, nat_lt, arith, le_refl, ⊎_elim}
 use Rattle.std.specs.List.{position_or_len}
 use Rattle.std.proofs.lemmas.Bool.{cases_Bool}
 use Rattle.std.proofs.lemmas.Bool.Decides.{nat_tests}
 use Rattle.std.proofs.lemmas.List.Sums.{position_or_len_is}
 use Rattle.memchr.specs.Find.{IsFirstByte, is_byte}
+
+-- the place in a list with one more in front
+pub position-cons : {X : Type 0} (p : X → Bool) (x : X) (xs : List X) → position p (x ∷ xs) ≡ cond (p x) (Some 0) (option_map suc (position p xs))
+position-cons p x xs = by (p x) refl (nat_lt (position_or_len p xs) (length xs)) refl
+  where
+    at : ℕ
+    at = position_or_len p xs
+
+    by : (is : Bool) → p x ≡ is → (within : Bool) → nat_lt at (length xs) ≡ within → position p (x ∷ xs) ≡ cond is (Some 0) (option_map suc (position p xs))
+    by true is within inside = let first : nat_lt 0 (suc (length xs)) ≡ true = grind (arith, nat_tests) in rw (is, first) refl
+    by false is true inside =
+        let further : nat_lt (1 + at) (suc (length xs)) ≡ true = grind (arith, nat_tests, inside) in
+        let next : 1 + at ≡ suc at = omega arith in rw (is, inside, further) (ap Some next)
+    by false is false inside =
+        let further : nat_lt (1 + at) (suc (length xs)) ≡ false = grind (arith, nat_tests, inside) in rw (is, inside, further) refl
 
 fails : (b : Bool) → ¬ (b ≡ true) → b ≡ false
 fails b never = ⊎_elim (λ passes. absurd (never passes)) (λ fails. fails) (cases_Bool b)

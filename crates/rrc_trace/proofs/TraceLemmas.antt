@@ -1,14 +1,17 @@
--- A text is read piece by piece, and what it says is a trace or has a first fault.
-use Rattle.std.proofs.Common.{◌≡◌, ℕ, suc, ◌+◌, ◌-◌, ◌<◌, ◌≤◌, List, [], ◌∷◌, length, map, take, Option, Some, None, Result, Ok, Err, Bool, true, false, refl, sym, ap, subst, ◌∙◌, arith, nat_le, nat_lt, if◌then◌else◌}
-use Rattle.std.specs.List.{position, position_or_len}
+-- A text is read piece by piece, and what is read of it is its trace, or its first fault.
+use Rattle.std.proofs.Common.{◌≡◌, ℕ, ◌+◌, ◌<◌, ◌≤◌, List, [], ◌∷◌, ◌++◌, length, Option, Some, None, Result, Ok, Err, Bool, true, false, refl, sym, ap, subst, ◌∙◌, arith, nat_le, if◌then◌else◌, leb-true, leb-false, append_assoc, append-nil, length-append}
+use Rattle.std.specs.List.{AllZip}
 use Rattle.std.proofs.lemmas.Bool.Decides.{nat_tests}
 use Rattle.rrc_name.specs.Key.{KeyOf}
 use Rattle.rrc_trace.specs.declared.line.Line.{Line}
 use Rattle.rrc_trace.specs.declared.fault.ReplayFault.{ReplayFault}
-use Rattle.rrc_trace.specs.declared.fault.ReplayFault.TheVariants.{BadLine, TooManyLines, Read, Write, Memory, Strayed, Spent, TooManyQuestions, NotLegal}
+use Rattle.rrc_trace.specs.declared.fault.ReplayFault.TheVariants.{BadLine, TooManyLines, TooManyQuestions}
 use Rattle.rrc_trace.specs.Lines.{line_of_piece}
-use Rattle.rrc_trace.specs.Questions.{fetched_by, with_question, questions_behind}
-use Rattle.rrc_trace.specs.Trace.{pieces_of, MOST_LINES, MOST_QUESTIONS, TraceOf, says_nothing, lines_said, good_lines, IsFirstFault}
+use Rattle.rrc_trace.specs.Grammar.{IsLine}
+use Rattle.rrc_trace.specs.Questions.{fetched_by, with_question, questions_of}
+use Rattle.rrc_trace.specs.Trace.{pieces_of, MOST_LINES, MOST_QUESTIONS, HaveFewQuestions, TraceOf, BeginsWith, IsFirstFault, bad_line, too_many_questions, too_many_lines}
+use Rattle.rrc_trace.proofs.LineLemmas.{is_line, no_line}
+use Rattle.rrc_trace.proofs.QuestionLemmas.{questions-push, few-in_front}
 
 abbrev pub with_line : Line → Result (List Line) ReplayFault → Result (List Line) ReplayFault
 with_line line (Ok lines) = Ok (line ∷ lines)
@@ -56,210 +59,164 @@ read-more number questions piece pieces line few said fits =
     let within : nat_le (length (with_question questions (fetched_by line))) MOST_QUESTIONS ≡ true = grind (arith, nat_tests, fits) in
     rw (room, said, within) refl
 
--- what lines, the first of which has this number, say up to the first bad one, a million in all at most
-abbrev pub good_from : ℕ → List (List ℕ) → List Line
-good_from number pieces = lines_said (take (MOST_LINES - number) pieces)
+abbrev pub lines_behind : List Line → Result (List Line) ReplayFault → Result (List Line) ReplayFault
+lines_behind front (Ok lines) = Ok (front ++ lines)
+lines_behind front (Err fault) = Err fault
 
--- how many questions there are behind others
-abbrev pub count_behind : List KeyOf → List Line → ℕ
-count_behind questions lines = length (questions_behind questions lines)
-
--- the pieces, the first of which has this number, say just these lines
-record Say (number : ℕ) (questions : List KeyOf) (pieces : List (List ℕ)) (lines : List Line) : Type 0 where
-  said : map line_of_piece pieces ≡ map Some lines
-  few : number + length lines ≤ MOST_LINES
-  fits : count_behind questions lines ≤ MOST_QUESTIONS
-
--- the pieces, the first of which has this number, say lines up to a bad one
-record AreBadAt (number : ℕ) (questions : List KeyOf) (pieces : List (List ℕ)) (bad : ℕ) : Type 0 where
-  place : ℕ
-  number_is : bad ≡ number + place
-  first : position_or_len says_nothing (take (MOST_LINES - number) pieces) ≡ place
-  within : place < length (take (MOST_LINES - number) pieces)
-  fits : count_behind questions (good_from number pieces) ≤ MOST_QUESTIONS
-
--- the pieces, the first of which has this number, say lines, and are more than may be
-record AreTooMany (number : ℕ) (questions : List KeyOf) (pieces : List (List ℕ)) : Type 0 where
-  good : position_or_len says_nothing (take (MOST_LINES - number) pieces) ≡ length (take (MOST_LINES - number) pieces)
-  more : MOST_LINES < number + length pieces
-  fits : count_behind questions (good_from number pieces) ≤ MOST_QUESTIONS
-
--- the pieces, the first of which has this number, say lines up to one that fetches one question too many
-record AreCrowdedAt (number : ℕ) (questions : List KeyOf) (pieces : List (List ℕ)) (crowded : ℕ) : Type 0 where
-  place : ℕ
-  number_is : crowded ≡ number + place
-  before : count_behind questions (take place (good_from number pieces)) ≤ MOST_QUESTIONS
-  beyond : MOST_QUESTIONS < count_behind questions (take (suc place) (good_from number pieces))
-
--- what is read of pieces holds of them
-abbrev Tells : ℕ → List KeyOf → List (List ℕ) → Result (List Line) ReplayFault → Type 0
-Tells number questions pieces (Ok lines) = Say number questions pieces lines
-Tells number questions pieces (Err (BadLine bad)) = AreBadAt number questions pieces bad
-Tells number questions pieces (Err TooManyLines) = AreTooMany number questions pieces
-Tells number questions pieces (Err Read) = ⊥
-Tells number questions pieces (Err Write) = ⊥
-Tells number questions pieces (Err Strayed) = ⊥
-Tells number questions pieces (Err Memory) = ⊥
-Tells number questions pieces (Err (Spent bad)) = ⊥
-Tells number questions pieces (Err (TooManyQuestions crowded)) = AreCrowdedAt number questions pieces crowded
-Tells number questions pieces (Err NotLegal) = ⊥
-
--- a piece in front that says a line
-module _ (number : ℕ) (questions : List KeyOf) (piece : List ℕ) (pieces : List (List ℕ)) (line : Line) (few : number < MOST_LINES) (said : line_of_piece piece ≡ Some line) where
-  left : MOST_LINES - number ≡ suc (MOST_LINES - (number + 1))
-  left = omega (arith, few)
-
-  grown : List KeyOf
-  grown = with_question questions (fetched_by line)
-
-  good_more : good_from number (piece ∷ pieces) ≡ line ∷ good_from (number + 1) pieces
-  good_more = rw (left, said) refl
-
-  tells-more : (others : Result (List Line) ReplayFault) → Tells (number + 1) (with_question questions (fetched_by line)) pieces others → Tells number questions (piece ∷ pieces) (with_line line others)
-  tells-more (Ok lines) behind = record {
-    said = ap (λ s. s ∷ map line_of_piece pieces) said ∙ ap (λ ss. Some line ∷ ss) behind.said;
-    few = omega (arith, behind.few);
-    fits = behind.fits;
-  }
-  tells-more (Err (BadLine bad)) behind = record {
-    place = suc behind.place;
-    number_is = omega (arith, behind.number_is);
-    first = rw (left, said) (omega (arith, behind.first));
-    within = rw left (omega (arith, behind.within));
-    fits = subst (λ (lines : List Line). count_behind questions lines ≤ MOST_QUESTIONS) (sym good_more) behind.fits;
-  }
-  tells-more (Err TooManyLines) behind = record {
-    good = rw (left, said) (omega (arith, behind.good));
-    more = omega (arith, behind.more);
-    fits = subst (λ (lines : List Line). count_behind questions lines ≤ MOST_QUESTIONS) (sym good_more) behind.fits;
-  }
-  tells-more (Err Read) behind = behind
-  tells-more (Err Write) behind = behind
-  tells-more (Err Strayed) behind = behind
-  tells-more (Err Memory) behind = behind
-  tells-more (Err (Spent bad)) behind = behind
-  tells-more (Err (TooManyQuestions crowded)) behind = record {
-    place = suc behind.place;
-    number_is = omega (arith, behind.number_is);
-    before = subst (λ (lines : List Line). count_behind questions (take (suc behind.place) lines) ≤ MOST_QUESTIONS) (sym good_more) behind.before;
-    beyond = subst (λ (lines : List Line). MOST_QUESTIONS < count_behind questions (take (suc (suc behind.place)) lines)) (sym good_more) behind.beyond;
-  }
-  tells-more (Err NotLegal) behind = behind
-
-  -- one that says one question too many
-  tells-crowded : length questions ≤ MOST_QUESTIONS → MOST_QUESTIONS < length (with_question questions (fetched_by line)) → AreCrowdedAt number questions (piece ∷ pieces) number
-  tells-crowded fits crowded = record {
-    place = 0;
-    number_is = omega arith;
-    before = fits;
-    beyond = subst (λ (lines : List Line). MOST_QUESTIONS < count_behind questions (take 1 lines)) (sym good_more) crowded;
-  }
-
--- a piece in front that says nothing
-tells-bad : (number : ℕ) (questions : List KeyOf) (piece : List ℕ) (pieces : List (List ℕ)) → number < MOST_LINES → line_of_piece piece ≡ None
-    → length questions ≤ MOST_QUESTIONS → AreBadAt number questions (piece ∷ pieces) number
-tells-bad number questions piece pieces few said fits =
-    let left : MOST_LINES - number ≡ suc (MOST_LINES - (number + 1)) = omega (arith, few) in
-    let none : good_from number (piece ∷ pieces) ≡ [] = rw (left, said) refl in
-    record {
-      place = 0;
-      number_is = omega arith;
-      first = rw (left, said) refl;
-      within = rw left (omega arith);
-      fits = subst (λ (lines : List Line). count_behind questions lines ≤ MOST_QUESTIONS) (sym none) fits;
-    }
-
--- one more piece than may be
-tells-many : (number : ℕ) (questions : List KeyOf) (piece : List ℕ) (pieces : List (List ℕ)) → MOST_LINES ≤ number → length questions ≤ MOST_QUESTIONS
-    → AreTooMany number questions (piece ∷ pieces)
-tells-many number questions piece pieces many fits =
-    let left : MOST_LINES - number ≡ 0 = omega (arith, many) in
-    let none : good_from number (piece ∷ pieces) ≡ [] = rw left refl in
-    record {
-      good = rw left refl;
-      more = omega (arith, many);
-      fits = subst (λ (lines : List Line). count_behind questions lines ≤ MOST_QUESTIONS) (sym none) fits;
-    }
-
-tells : (pieces : List (List ℕ)) (number : ℕ) (questions : List KeyOf) → number ≤ MOST_LINES → length questions ≤ MOST_QUESTIONS
-    → Tells number questions pieces (lines_from number questions pieces)
-tells [] number questions few fits = record { said = refl; few = omega (arith, few); fits = fits }
-tells (piece ∷ pieces) number questions few fits = by (nat_le MOST_LINES number) refl (line_of_piece piece) refl (tells pieces (number + 1))
+with_line-behind : (front : List Line) (line : Line) (said : Result (List Line) ReplayFault)
+    → lines_behind front (with_line line said) ≡ lines_behind (front ++ line ∷ []) said
+with_line-behind front line (Ok lines) = ap (λ (l : List Line). all l) (sym (append_assoc front (line ∷ []) lines))
   where
-    by : (many : Bool) → nat_le MOST_LINES number ≡ many → (said : Option Line) → line_of_piece piece ≡ said
-        → ((others : List KeyOf) → number + 1 ≤ MOST_LINES → length others ≤ MOST_QUESTIONS → Tells (number + 1) others pieces (lines_from (number + 1) others pieces))
-        → Tells number questions (piece ∷ pieces) (lines_from number questions (piece ∷ pieces))
-    by true more said at later =
-        let many : MOST_LINES ≤ number = grind (arith, nat_tests, more) in
-        subst (Tells number questions (piece ∷ pieces)) (sym (read-many number questions piece pieces many)) (tells-many number questions piece pieces many fits)
-    by false more None at later =
-        let below : number < MOST_LINES = grind (arith, nat_tests, more) in
-        subst (Tells number questions (piece ∷ pieces)) (sym (read-bad number questions piece pieces below at)) (tells-bad number questions piece pieces below at fits)
-    by false more (Some line) at later =
-        let below : number < MOST_LINES = grind (arith, nat_tests, more) in
-        counted line at below (nat_le (length (with_question questions (fetched_by line))) MOST_QUESTIONS) refl (later (with_question questions (fetched_by line)))
-      where
-        counted : (line : Line) → line_of_piece piece ≡ Some line → number < MOST_LINES → (within : Bool) → nat_le (length (with_question questions (fetched_by line))) MOST_QUESTIONS ≡ within
-            → (number + 1 ≤ MOST_LINES → length (with_question questions (fetched_by line)) ≤ MOST_QUESTIONS
-            → Tells (number + 1) (with_question questions (fetched_by line)) pieces (lines_from (number + 1) (with_question questions (fetched_by line)) pieces))
-            → Tells number questions (piece ∷ pieces) (lines_from number questions (piece ∷ pieces))
-        counted line at below true is later =
-            let enough : length (with_question questions (fetched_by line)) ≤ MOST_QUESTIONS = grind (arith, nat_tests, is) in
-            subst (Tells number questions (piece ∷ pieces)) (sym (read-more number questions piece pieces line below at enough))
-            (tells-more number questions piece pieces line below at (lines_from (number + 1) (with_question questions (fetched_by line)) pieces) (later (omega (arith, below)) enough))
-        counted line at below false is later =
-            let crowded : MOST_QUESTIONS < length (with_question questions (fetched_by line)) = grind (arith, nat_tests, is) in
-            subst (Tells number questions (piece ∷ pieces)) (sym (read-crowded number questions piece pieces line below at crowded))
-            (tells-crowded number questions piece pieces line below at fits crowded)
+    all : List Line → Result (List Line) ReplayFault
+    all l = Ok l
+with_line-behind front line (Err fault) = refl
 
-position-at : {X : Type 0} (p : X → Bool) (xs : List X) (place : ℕ) → position_or_len p xs ≡ place → place < length xs → position p xs ≡ Some place
-position-at p xs place is within =
-    let inside : nat_lt (position_or_len p xs) (length xs) ≡ true = grind (arith, nat_tests, is, within) in rw inside (ap Some is)
+-- one piece behind lines is read
+pub one_piece : (front : List Line) (number : ℕ) (piece : List ℕ) (pieces : List (List ℕ)) (line : Line) → number < MOST_LINES → line_of_piece piece ≡ Some line
+    → length (with_question (questions_of front) (fetched_by line)) ≤ MOST_QUESTIONS
+    → lines_behind front (lines_from number (questions_of front) (piece ∷ pieces))
+    ≡ lines_behind (front ++ line ∷ []) (lines_from (number + 1) (questions_of (front ++ line ∷ [])) pieces)
+one_piece front number piece pieces line few is fits =
+    ap (lines_behind front) (read-more number (questions_of front) piece pieces line few is fits)
+    ∙ (with_line-behind front line (lines_from (number + 1) (with_question (questions_of front) (fetched_by line)) pieces)
+    ∙ ap (λ (questions : List KeyOf). lines_behind (front ++ line ∷ []) (lines_from (number + 1) questions pieces)) (sym (questions-push [] front line)))
 
-pub position-none : {X : Type 0} (p : X → Bool) (xs : List X) → position_or_len p xs ≡ length xs → position p xs ≡ None
-position-none p xs is =
-    let outside : nat_lt (position_or_len p xs) (length xs) ≡ false = grind (arith, nat_tests, is) in rw outside refl
+-- lines in front of what is read
+behind_line : (line : Line) (lines : List Line) (said : Result (List Line) ReplayFault) → with_line line (lines_behind lines said) ≡ lines_behind (line ∷ lines) said
+behind_line line lines (Ok others) = refl
+behind_line line lines (Err fault) = refl
+
+behind_none : (said : Result (List Line) ReplayFault) → lines_behind [] said ≡ said
+behind_none (Ok lines) = refl
+behind_none (Err fault) = refl
+
+-- what is read of pieces behind lines
+abbrev rest_of : List Line → List (List ℕ) → Result (List Line) ReplayFault
+rest_of lines pieces = lines_from (length lines) (questions_of lines) pieces
+
+lines-push : (front : List (List ℕ)) (lines : List Line) (piece : List ℕ) (line : Line) → AllZip IsLine front lines → IsLine piece line
+    → AllZip IsLine (front ++ piece ∷ []) (lines ++ line ∷ [])
+lines-push [] [] piece line are is = (is, tt)
+lines-push [] (first ∷ lines) piece line are is = absurd are
+lines-push (first ∷ front) [] piece line are is = absurd are
+lines-push (first ∷ front) (other ∷ lines) piece line are is = (are.0, lines-push front lines piece line are.1 is)
 
 -- what is read of a text holds of it
-abbrev TellsText : List ℕ → Result (List Line) ReplayFault → Type 0
-TellsText octets said = Tells 0 [] (pieces_of octets) said
+abbrev Tells : List ℕ → Result (List Line) ReplayFault → Type 0
+Tells octets (Ok lines) = TraceOf octets lines
+Tells octets (Err fault) = IsFirstFault octets fault
 
-text-tells : (octets : List ℕ) (said : Result (List Line) ReplayFault) → trace_of octets ≡ said → TellsText octets said
-text-tells octets said is = subst (TellsText octets) is (tells (pieces_of octets) 0 [] (omega arith) (omega arith))
+module _ (octets : List ℕ) where
+  -- one more piece is a line
+  begins-more : (lines : List Line) (piece : List ℕ) (pieces : List (List ℕ)) (line : Line) → BeginsWith octets lines (piece ∷ pieces) → IsLine piece line
+      → length (with_question (questions_of lines) (fetched_by line)) ≤ MOST_QUESTIONS → BeginsWith octets (lines ++ line ∷ []) pieces
+  begins-more lines piece pieces line begins is few = record {
+    front = begins.front ++ piece ∷ [];
+    cut = begins.cut ∙ sym (append_assoc begins.front (piece ∷ []) pieces);
+    are_lines = lines-push begins.front lines piece line begins.are_lines is;
+    questions = subst (λ (questions : List KeyOf). length questions ≤ MOST_QUESTIONS) (sym (questions-push [] lines line)) few;
+  }
 
-pub trace_of-says : (octets : List ℕ) (lines : List Line) → trace_of octets ≡ Ok lines → TraceOf octets lines
-trace_of-says octets lines is =
-    let say : Say 0 [] (pieces_of octets) lines = text-tells octets (Ok lines) is in
-    record { said = say.said; few = omega (arith, say.few); questions = say.fits }
+  rest-more : (lines : List Line) (piece : List ℕ) (pieces : List (List ℕ)) (line : Line) → length lines < MOST_LINES → line_of_piece piece ≡ Some line
+      → length (with_question (questions_of lines) (fetched_by line)) ≤ MOST_QUESTIONS
+      → lines_behind lines (rest_of lines (piece ∷ pieces)) ≡ lines_behind (lines ++ line ∷ []) (rest_of (lines ++ line ∷ []) pieces)
+  rest-more lines piece pieces line below is few =
+      one_piece lines (length lines) piece pieces line below is few
+      ∙ ap (λ (n : ℕ). lines_behind (lines ++ line ∷ []) (lines_from n (questions_of (lines ++ line ∷ [])) pieces)) (sym (length-append lines (line ∷ [])))
 
-pub trace_of-bad : (octets : List ℕ) (bad : ℕ) → trace_of octets ≡ Err (BadLine bad) → IsFirstFault octets (BadLine bad)
-trace_of-bad octets bad is =
-    let found : AreBadAt 0 [] (pieces_of octets) bad = text-tells octets (Err (BadLine bad)) is in
-    let same : found.place ≡ bad = omega (arith, found.number_is) in
-    (position-at says_nothing (take MOST_LINES (pieces_of octets)) bad (found.first ∙ same) (omega (arith, same, found.within)), found.fits)
+  tells : (pieces : List (List ℕ)) (lines : List Line) → BeginsWith octets lines pieces → length lines ≤ MOST_LINES
+      → Tells octets (lines_behind lines (rest_of lines pieces))
+  tells [] lines begins few =
+      subst (TraceOf octets) (sym (append-nil lines)) (record {
+        are_lines = subst (λ (pieces : List (List ℕ)). AllZip IsLine pieces lines) (sym (begins.cut ∙ append-nil begins.front)) begins.are_lines;
+        few = few;
+        questions = begins.questions;
+      })
+  tells (piece ∷ pieces) lines begins few = by (nat_le MOST_LINES (length lines)) refl (line_of_piece piece) refl (tells pieces)
+    where
+      by : (many : Bool) → nat_le MOST_LINES (length lines) ≡ many → (said : Option Line) → line_of_piece piece ≡ said
+          → ((more : List Line) → BeginsWith octets more pieces → length more ≤ MOST_LINES → Tells octets (lines_behind more (rest_of more pieces)))
+          → Tells octets (lines_behind lines (rest_of lines (piece ∷ pieces)))
+      by true more said at later =
+          let many : MOST_LINES ≤ length lines = leb-true MOST_LINES (length lines) more in
+          subst (λ (found : Result (List Line) ReplayFault). Tells octets (lines_behind lines found)) (sym (read-many (length lines) (questions_of lines) piece pieces many))
+          (too_many_lines begins (omega (arith, many, few)))
+      by false more None at later =
+          let below : length lines < MOST_LINES = leb-false MOST_LINES (length lines) more in
+          subst (λ (found : Result (List Line) ReplayFault). Tells octets (lines_behind lines found)) (sym (read-bad (length lines) (questions_of lines) piece pieces below at))
+          (bad_line begins below (λ line is. let never : None ≡ Some line = sym at ∙ (is_line piece line).1 is in absurd cc))
+      by false more (Some line) at later =
+          counted line at (leb-false MOST_LINES (length lines) more) (nat_le (length (with_question (questions_of lines) (fetched_by line))) MOST_QUESTIONS) refl (later (lines ++ line ∷ []))
+        where
+          counted : (line : Line) → line_of_piece piece ≡ Some line → length lines < MOST_LINES
+              → (within : Bool) → nat_le (length (with_question (questions_of lines) (fetched_by line))) MOST_QUESTIONS ≡ within
+              → (BeginsWith octets (lines ++ line ∷ []) pieces → length (lines ++ line ∷ []) ≤ MOST_LINES → Tells octets (lines_behind (lines ++ line ∷ []) (rest_of (lines ++ line ∷ []) pieces)))
+              → Tells octets (lines_behind lines (rest_of lines (piece ∷ pieces)))
+          counted line at below true is later =
+              let enough : length (with_question (questions_of lines) (fetched_by line)) ≤ MOST_QUESTIONS = leb-true _ MOST_QUESTIONS is in
+              subst (Tells octets) (sym (rest-more lines piece pieces line below at enough))
+              (later (begins-more lines piece pieces line begins ((is_line piece line).0 at) enough) (omega (arith, below, length-append lines (line ∷ []))))
+          counted line at below false is later =
+              let crowded : MOST_QUESTIONS < length (with_question (questions_of lines) (fetched_by line)) = leb-false _ MOST_QUESTIONS is in
+              subst (λ (found : Result (List Line) ReplayFault). Tells octets (lines_behind lines found)) (sym (read-crowded (length lines) (questions_of lines) piece pieces line below at crowded))
+              (too_many_questions begins below ((is_line piece line).0 at)
+              (subst (λ (questions : List KeyOf). MOST_QUESTIONS < length questions) (sym (questions-push [] lines line)) crowded))
 
-pub trace_of-many : (octets : List ℕ) → trace_of octets ≡ Err TooManyLines → IsFirstFault octets TooManyLines
-trace_of-many octets is =
-    let many : AreTooMany 0 [] (pieces_of octets) = text-tells octets (Err TooManyLines) is in
-    (position-none says_nothing (take MOST_LINES (pieces_of octets)) many.good, omega (arith, many.more), many.fits)
+  trace_of-tells : Tells octets (trace_of octets)
+  trace_of-tells = subst (Tells octets) (behind_none (trace_of octets)) (tells (pieces_of octets) [] (record { front = []; cut = refl; are_lines = tt; questions = omega arith }) (omega arith))
 
-pub trace_of-crowded : (octets : List ℕ) (crowded : ℕ) → trace_of octets ≡ Err (TooManyQuestions crowded) → IsFirstFault octets (TooManyQuestions crowded)
-trace_of-crowded octets crowded is =
-    let found : AreCrowdedAt 0 [] (pieces_of octets) crowded = text-tells octets (Err (TooManyQuestions crowded)) is in
-    let same : found.place ≡ crowded = omega (arith, found.number_is) in
-    record {
-      before = subst (λ (place : ℕ). count_behind [] (take place (good_lines octets)) ≤ MOST_QUESTIONS) same found.before;
-      more = subst (λ (place : ℕ). MOST_QUESTIONS < count_behind [] (take (suc place) (good_lines octets))) same found.beyond;
-    }
+  pub trace_of-says : (lines : List Line) → trace_of octets ≡ Ok lines → TraceOf octets lines
+  trace_of-says lines is = subst (Tells octets) is trace_of-tells
 
--- whatever is read of a text other than lines is its first fault
-pub trace_of-fault : (octets : List ℕ) (fault : ReplayFault) → trace_of octets ≡ Err fault → IsFirstFault octets fault
-trace_of-fault octets (BadLine number) is = trace_of-bad octets number is
-trace_of-fault octets TooManyLines is = trace_of-many octets is
-trace_of-fault octets Read is = text-tells octets (Err Read) is
-trace_of-fault octets Write is = text-tells octets (Err Write) is
-trace_of-fault octets Strayed is = text-tells octets (Err Strayed) is
-trace_of-fault octets Memory is = text-tells octets (Err Memory) is
-trace_of-fault octets (Spent number) is = text-tells octets (Err (Spent number)) is
-trace_of-fault octets (TooManyQuestions number) is = trace_of-crowded octets number is
-trace_of-fault octets NotLegal is = text-tells octets (Err NotLegal) is
+  -- whatever is read of a text other than lines is its first fault
+  pub trace_of-fault : (fault : ReplayFault) → trace_of octets ≡ Err fault → IsFirstFault octets fault
+  trace_of-fault fault is = subst (Tells octets) is trace_of-tells
+
+-- pieces that are lines are read as these
+lines-read : (front : List (List ℕ)) (more lines : List Line) (pieces : List (List ℕ)) → AllZip IsLine front more → length lines + length more ≤ MOST_LINES
+    → HaveFewQuestions (lines ++ more) → rest_of lines (front ++ pieces) ≡ lines_behind more (rest_of (lines ++ more) pieces)
+lines-read [] [] lines pieces are few questions =
+    sym (behind_none (rest_of lines pieces)) ∙ ap (λ (l : List Line). lines_behind [] (rest_of l pieces)) (sym (append-nil lines))
+lines-read [] (line ∷ more) lines pieces are few questions = absurd are
+lines-read (piece ∷ front) [] lines pieces are few questions = absurd are
+lines-read (piece ∷ front) (line ∷ more) lines pieces are few questions =
+    let whole : (lines ++ line ∷ []) ++ more ≡ lines ++ line ∷ more = append_assoc lines (line ∷ []) more in
+    let fits : HaveFewQuestions ((lines ++ line ∷ []) ++ more) = subst HaveFewQuestions (sym whole) questions in
+    let enough : length (with_question (questions_of lines) (fetched_by line)) ≤ MOST_QUESTIONS =
+    subst (λ (q : List KeyOf). length q ≤ MOST_QUESTIONS) (questions-push [] lines line) (few-in_front MOST_QUESTIONS (lines ++ line ∷ []) more fits) in
+    let size : length (lines ++ line ∷ []) ≡ length lines + 1 = length-append lines (line ∷ []) in
+    read-more (length lines) (questions_of lines) piece (front ++ pieces) line (omega (arith, few)) ((is_line piece line).1 are.0) enough
+    ∙ (ap (λ (n : ℕ). with_line line (lines_from n (with_question (questions_of lines) (fetched_by line)) (front ++ pieces))) (sym size)
+    ∙ (ap (λ (q : List KeyOf). with_line line (lines_from (length (lines ++ line ∷ [])) q (front ++ pieces))) (sym (questions-push [] lines line))
+    ∙ (ap (with_line line) (lines-read front more (lines ++ line ∷ []) pieces are.1 (omega (arith, few, size)) fits)
+    ∙ (behind_line line more (rest_of ((lines ++ line ∷ []) ++ more) pieces)
+    ∙ ap (λ (l : List Line). lines_behind (line ∷ more) (rest_of l pieces)) whole))))
+
+module _ (octets : List ℕ) where
+  begun-read : (lines : List Line) (behind : List (List ℕ)) → BeginsWith octets lines behind → length lines ≤ MOST_LINES
+      → trace_of octets ≡ lines_behind lines (rest_of lines behind)
+  begun-read lines behind begins few =
+      ap (lines_from 0 []) begins.cut ∙ lines-read begins.front lines [] behind begins.are_lines (omega (arith, few)) begins.questions
+
+  -- a trace is read as its lines
+  pub trace-read : (lines : List Line) → TraceOf octets lines → trace_of octets ≡ Ok lines
+  trace-read lines trace =
+      begun-read lines [] (record { front = pieces_of octets; cut = sym (append-nil (pieces_of octets)); are_lines = trace.are_lines; questions = trace.questions }) trace.few
+      ∙ ap (λ (l : List Line). all l) (append-nil lines)
+    where
+      all : List Line → Result (List Line) ReplayFault
+      all l = Ok l
+
+  -- and any other text as its first fault
+  pub fault-read : (fault : ReplayFault) → IsFirstFault octets fault → trace_of octets ≡ Err fault
+  fault-read fault (bad_line {lines = lines} {piece = piece} {behind = behind} begins below never) =
+      begun-read lines (piece ∷ behind) begins (omega (arith, below))
+      ∙ ap (lines_behind lines) (read-bad (length lines) (questions_of lines) piece behind below (no_line piece never))
+  fault-read fault (too_many_questions {lines = lines} {piece = piece} {behind = behind} {line = line} begins below is more) =
+      let crowded : MOST_QUESTIONS < length (with_question (questions_of lines) (fetched_by line)) =
+      subst (λ (questions : List KeyOf). MOST_QUESTIONS < length questions) (questions-push [] lines line) more in
+      begun-read lines (piece ∷ behind) begins (omega (arith, below))
+      ∙ ap (lines_behind lines) (read-crowded (length lines) (questions_of lines) piece behind line below ((is_line piece line).1 is) crowded)
+  fault-read fault (too_many_lines {lines = lines} {piece = piece} {behind = behind} begins many) =
+      begun-read lines (piece ∷ behind) begins (omega (arith, many))
+      ∙ ap (lines_behind lines) (read-many (length lines) (questions_of lines) piece behind (omega (arith, many)))

@@ -1,10 +1,10 @@
--- The data of a put: hexadecimal digits, with a comma between two items.
-use Rattle.std.specs.Prelude.{ℕ, List, Bool, option_map, [], ◌∷◌, ◌++◌, length, take, drop, position, ◌+◌, Option, Some, None, ◌==◌, nat_le, if◌then◌else◌}
-use Rattle.std.specs.List.{slice_split, list_any}
+-- How the items of a put are read, piece by piece: what private contracts say.
+use Rattle.std.specs.Prelude.{ℕ, List, Bool, option_map, [], ◌∷◌, length, take, drop, position, ◌+◌, Option, Some, None, ◌==◌, nat_le, if◌then◌else◌}
+use Rattle.std.specs.List.{slice_split}
 use Rattle.rrc_wire.specs.Plain.{is_plain}
-use Rattle.rrc_wire.specs.Same.{same_rdata}
 use Rattle.rrc_trace.specs.Octets.{octets_of}
 use Rattle.rrc_trace.specs.Gives.{◌>>=◌}
+use Rattle.rrc_trace.specs.Grammar.{with_item}
 
 -- octets where they are plain data of a type: they fill its layout, with no pointer in their names (RFC 1035 3.3, RFC 3597 4)
 abbrev pub plain_of : ℕ → List ℕ → Option (List ℕ)
@@ -13,10 +13,6 @@ plain_of rtype octets = if is_plain rtype octets then Some octets else None
 -- plain data of a type in hexadecimal
 abbrev pub item_of : ℕ → List ℕ → Option (List ℕ)
 item_of rtype piece = octets_of piece >>= plain_of rtype
-
--- some items, and one more where none of them is the same (RFC 2181 5, RFC 3597 6)
-abbrev pub with_item : ℕ → List (List ℕ) → List ℕ → List (List ℕ)
-with_item rtype items item = if list_any (same_rdata rtype item) items then items else items ++ item ∷ []
 
 -- some items, and the one of a piece
 abbrev pub with_piece : ℕ → List (List ℕ) → List ℕ → Option (List (List ℕ))

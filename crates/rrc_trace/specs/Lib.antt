@@ -1,3 +1,4 @@
+pub mod Grammar
 pub mod Gives
 pub mod Fields
 pub mod Numbers

@@ -1,4 +1,4 @@
--- The lines of a trace.
+-- How a line is read, field after field: what private contracts say. What a line is stands in Grammar.
 use Rattle.std.specs.Prelude.{ℕ, ◌-◌, List, length, take, slice_index, Option, Some, None, unwrap_or, ◌==◌, nat_le, if◌then◌else◌}
 use Rattle.rrc_name.specs.Wire.{folded}
 use Rattle.rrc_history.specs.declared.ask.Mode.{Mode}
@@ -6,6 +6,7 @@ use Rattle.rrc_history.specs.declared.ask.Purpose.{Purpose}
 use Rattle.rrc_history.specs.declared.body.Trust.{Trust}
 use Rattle.rrc_trace.specs.declared.line.Line.{Line}
 use Rattle.rrc_trace.specs.declared.line.Line.TheVariants as lines
+use Rattle.rrc_trace.specs.declared.word.Form.{Form}
 use Rattle.rrc_trace.specs.declared.word.Form.TheVariants as forms
 use Rattle.rrc_trace.specs.Gives.{◌>>=◌}
 use Rattle.rrc_trace.specs.Fields.{said_at, has_field}
@@ -90,19 +91,19 @@ sweep_of octets = do
   moment ← said_at moment_of octets
   ended moment.1 (lines.Sweep moment.0)
 
+-- what the fields behind the word of a form say
+abbrev pub said_as : Form → List ℕ → Option Line
+said_as forms.Put octets = put_of octets
+said_as forms.Ask octets = ask_of octets
+said_as forms.Fail octets = fail_of octets
+said_as forms.Response octets = response_of octets
+said_as forms.Fetch octets = fetch_of octets
+said_as forms.Sweep octets = sweep_of octets
+said_as forms.Checkpoint octets = ended octets lines.Checkpoint
+
 -- the fields of a line, the first of which says its form
 abbrev pub line_of : List ℕ → Option Line
-line_of octets = do
-  form ← said_at form_of octets
-  elim form.0 [
-    | forms.Put ↦ put_of form.1
-    | forms.Ask ↦ ask_of form.1
-    | forms.Fail ↦ fail_of form.1
-    | forms.Response ↦ response_of form.1
-    | forms.Fetch ↦ fetch_of form.1
-    | forms.Sweep ↦ sweep_of form.1
-    | forms.Checkpoint ↦ ended form.1 lines.Checkpoint
-  ]
+line_of octets = said_at form_of octets >>= λ form. said_as form.0 form.1
 
 -- the octets before the last one, where that is this one
 abbrev pub before_last : List ℕ → ℕ → Option (List ℕ)

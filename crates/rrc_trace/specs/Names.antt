@@ -1,4 +1,4 @@
--- The names of a line of a trace.
+-- How the names of a line are read: what private contracts say, and the law that it is what they spell.
 use Rattle.std.specs.Prelude.{◌≡◌, ◌↔◌, ℕ, List, Option, Some}
 use Rattle.std.specs.Result.{result_ok}
 use Rattle.rrc_name.specs.Text.{Spells}

@@ -1,4 +1,4 @@
--- The numbers of a line of a trace: decimal digits, with zeros in front or none, and no sign.
+-- How the numbers of a line are read, digit by digit: what private contracts say. What digits spell stands in Grammar.
 use Rattle.std.specs.Prelude.{ℕ, ◌+◌, ◌-◌, ◌*◌, ◌^◌, List, [], ◌∷◌, Option, Some, None, option_and_then, ◌==◌, nat_le, if◌then◌else◌}
 use Rattle.std.specs.Char.{is_ascii_digit}
 use Rattle.rrc_history.specs.Lives.{LAST_MOMENT}

@@ -1,10 +1,10 @@
--- A trace: its lines, cut apart, and what they say.
-use Rattle.std.specs.Prelude.{◌≡◌, ◌<◌, ◌≤◌, ◌⊎◌, ℕ, suc, List, [], ◌∷◌, length, map, take, position, Bool, Option, Some, None, ◌==◌, if◌then◌else◌}
-use Rattle.std.specs.Option.{is_none}
+-- A trace: the pieces of a text are the lines of the grammar, or one of them is its first fault.
+use Rattle.std.specs.Prelude.{◌≡◌, ◌<◌, ◌≤◌, ◌⊎◌, ℕ, List, [], ◌∷◌, ◌++◌, length, ◌==◌, if◌then◌else◌}
+use Rattle.std.specs.List.{AllZip}
 use Rattle.rrc_trace.specs.declared.line.Line.{Line}
 use Rattle.rrc_trace.specs.declared.fault.ReplayFault.{ReplayFault}
-use Rattle.rrc_trace.specs.declared.fault.ReplayFault.TheVariants.{BadLine, TooManyLines, Read, Write, Memory, Strayed, Spent, TooManyQuestions, NotLegal}
-use Rattle.rrc_trace.specs.Lines.{line_of_piece}
+use Rattle.rrc_trace.specs.declared.fault.ReplayFault.TheVariants.{BadLine, TooManyLines, TooManyQuestions}
+use Rattle.rrc_trace.specs.Grammar.{IsLine}
 use Rattle.rrc_trace.specs.Questions.{questions_of}
 
 -- pieces, with one more octet in front of the first
@@ -29,51 +29,34 @@ MOST_QUESTIONS = 4096
 abbrev pub HaveFewQuestions : List Line → Type 0
 HaveFewQuestions lines = length (questions_of lines) ≤ MOST_QUESTIONS
 
--- the text is a trace of these lines: each of its pieces says one
+-- the text is a trace of these lines: each of its pieces is one, by the grammar
 pub record TraceOf (octets : List ℕ) (lines : List Line) : Type 0 where
-  pub said : map line_of_piece (pieces_of octets) ≡ map Some lines
+  pub are_lines : AllZip IsLine (pieces_of octets) lines
   pub few : length lines ≤ MOST_LINES
   pub questions : HaveFewQuestions lines
 
-abbrev pub says_nothing : List ℕ → Bool
-says_nothing piece = is_none (line_of_piece piece)
+-- a text begins with these lines, which fetch no more questions than they may, and these pieces
+-- of it follow
+pub record BeginsWith (octets : List ℕ) (lines : List Line) (behind : List (List ℕ)) : Type 0 where
+  pub front : List (List ℕ)
+  pub cut : pieces_of octets ≡ front ++ behind
+  pub are_lines : AllZip IsLine front lines
+  pub questions : HaveFewQuestions lines
 
--- the first bad line: of the pieces that may be lines, the first that says nothing
-abbrev pub first_bad : List ℕ → Option ℕ
-first_bad octets = position says_nothing (take MOST_LINES (pieces_of octets))
-
--- a line in front of others, or nothing where there is no line
-abbrev pub in_front : Option Line → List Line → List Line
-in_front None lines = []
-in_front (Some line) lines = line ∷ lines
-
--- the lines that pieces say, up to the first piece that says nothing
-abbrev pub lines_said : List (List ℕ) → List Line
-lines_said [] = []
-lines_said (piece ∷ pieces) = in_front (line_of_piece piece) (lines_said pieces)
-
--- the lines of a text before the first bad one, a million at most
-abbrev pub good_lines : List ℕ → List Line
-good_lines octets = lines_said (take MOST_LINES (pieces_of octets))
-
--- the line of this number is the first that fetches one question too many: the lines before it have few questions, and with it they
--- have more
-pub record IsOneTooMany (lines : List Line) (number : ℕ) : Type 0 where
-  pub before : HaveFewQuestions (take number lines)
-  pub more : MOST_QUESTIONS < length (questions_of (take (suc number) lines))
-
--- the first fault of a text: of the lines before the first bad one, the first that fetches one question too many; or else the bad line,
--- or else more lines than a trace may have
-abbrev pub IsFirstFault : List ℕ → ReplayFault → Type 0
-IsFirstFault octets (BadLine number) = (first_bad octets ≡ Some number) × HaveFewQuestions (good_lines octets)
-IsFirstFault octets TooManyLines = (first_bad octets ≡ None) × (MOST_LINES < length (pieces_of octets)) × HaveFewQuestions (good_lines octets)
-IsFirstFault octets Read = ⊥
-IsFirstFault octets Write = ⊥
-IsFirstFault octets Memory = ⊥
-IsFirstFault octets (Spent number) = ⊥
-IsFirstFault octets Strayed = ⊥
-IsFirstFault octets (TooManyQuestions number) = IsOneTooMany (good_lines octets) number
-IsFirstFault octets NotLegal = ⊥
+-- the first fault of a text, behind lines that have none: its next piece is no line, or is a line
+-- that fetches one question too many, or is one piece more than a trace may have
+pub data IsFirstFault (octets : List ℕ) : ReplayFault → Type 0 where
+  bad_line : {lines : List Line} {piece : List ℕ} {behind : List (List ℕ)}
+      → BeginsWith octets lines (piece ∷ behind) → length lines < MOST_LINES
+      → ((line : Line) → IsLine piece line → ⊥)
+      → IsFirstFault octets (BadLine (length lines))
+  too_many_questions : {lines : List Line} {piece : List ℕ} {behind : List (List ℕ)} {line : Line}
+      → BeginsWith octets lines (piece ∷ behind) → length lines < MOST_LINES
+      → IsLine piece line → MOST_QUESTIONS < length (questions_of (lines ++ line ∷ []))
+      → IsFirstFault octets (TooManyQuestions (length lines))
+  too_many_lines : {lines : List Line} {piece : List ℕ} {behind : List (List ℕ)}
+      → BeginsWith octets lines (piece ∷ behind) → length lines ≡ MOST_LINES
+      → IsFirstFault octets TooManyLines
 
 -- every text is the text of one list of lines, or it has one first fault, and never both
 pub record HasTraceOrFault (octets : List ℕ) : Type 0 where

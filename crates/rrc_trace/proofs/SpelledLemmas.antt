@@ -1,0 +1,279 @@
+-- What a field says as it is read is what it says by the grammar: numbers and words.
+use Rattle.std.proofs.Common.{◌≡◌, ◌⊎◌, ◌==◌, ◌≤◌, ◌^◌, ℕ, ◌+◌, ◌-◌, ◌*◌, List, [], ◌∷◌, ◌++◌, Option, Some, None, Bool, true, false, cond, option_and_then, refl, sym, ap, subst, ◌∙◌, arith, inl, inr, nat_le, bytes_eq, codes, if◌then◌else◌, append-nil, append_assoc, eqb-true, leb-true, le-leb}
+use Rattle.std.specs.Char.{is_ascii_digit}
+use Rattle.std.proofs.lemmas.Bool.{and_parts, and_from}
+use Rattle.std.proofs.lemmas.Slice.Eq.{bytes_eq-Decides}
+use Rattle.rrc_history.specs.Lives.{rank as rank_of_trust, LAST_MOMENT}
+use Rattle.rrc_history.specs.declared.ask.Mode.{Mode}
+use Rattle.rrc_history.specs.declared.ask.Mode.TheVariants.{NoStale, Failed, Now}
+use Rattle.rrc_history.specs.declared.ask.Purpose.{Purpose}
+use Rattle.rrc_history.specs.declared.ask.Purpose.TheVariants.{Any, Answer}
+use Rattle.rrc_history.specs.declared.body.Trust.{Trust}
+use Rattle.rrc_history.specs.declared.body.Trust.TheVariants.{Additional, NonAuthoritativeAnswer, Authority, AuthoritativeAnswer}
+use Rattle.rrc_wire.specs.Layout.{is_kept}
+use Rattle.rrc_trace.specs.declared.word.Form.{Form}
+use Rattle.rrc_trace.specs.declared.word.Form.TheVariants as forms
+use Rattle.rrc_trace.specs.Numbers.{number_behind, number_of, at_most, moment_of, ttl_of, kept_type, rtype_of, rank, trust_of}
+use Rattle.rrc_trace.specs.Words.{form_of, purpose_of, mode_of}
+use Rattle.rrc_trace.specs.Grammar.{SpellsNumber, one_digit, digit_more, IsMoment, IsRtype, IsTrust, IsTtl, purpose_word, mode_word}
+use Rattle.rrc_trace.proofs.SaidLemmas.{said_first, said_last}
+
+-- a decimal digit has a value of at most 9
+record HasValue (digit : ℕ) : Type 0 where
+  small : digit - 48 ≤ 9
+  same : 48 + (digit - 48) ≡ digit
+
+digit-value : (digit : ℕ) → is_ascii_digit digit ≡ true → HasValue digit
+digit-value digit is =
+    let within = and_parts (nat_le 48 digit) (nat_le digit 57) is in
+    let low : 48 ≤ digit = leb-true 48 digit within.0 in
+    let high : digit ≤ 57 = leb-true digit 57 within.1 in
+    record { small = omega (arith, low, high); same = omega (arith, low) }
+
+value-digit : (value : ℕ) → value ≤ 9 → is_ascii_digit (48 + value) ≡ true
+value-digit value small =
+    and_from (nat_le 48 (48 + value)) (nat_le (48 + value) 57) (le-leb 48 (48 + value) (omega arith)) (le-leb (48 + value) 57 (omega (arith, small)))
+
+behind-spells : (digits front : List ℕ) (number result : ℕ) → SpellsNumber front number → number_behind number digits ≡ Some result → SpellsNumber (front ++ digits) result
+behind-spells [] front number result spells is =
+    subst (λ (text : List ℕ). SpellsNumber text result) (sym (append-nil front)) (subst (SpellsNumber front) (said_last is) spells)
+behind-spells (digit ∷ digits) front number result spells is = by (is_ascii_digit digit) refl (behind-spells digits (front ++ digit ∷ []) (10 * number + (digit - 48)) result)
+  where
+    by : (ascii : Bool) → is_ascii_digit digit ≡ ascii
+        → (SpellsNumber (front ++ digit ∷ []) (10 * number + (digit - 48)) → number_behind (10 * number + (digit - 48)) digits ≡ Some result → SpellsNumber ((front ++ digit ∷ []) ++ digits) result)
+        → SpellsNumber (front ++ digit ∷ digits) result
+    by false other later = let never : None ≡ Some result = rw other at is in absurd cc
+    by true ascii later =
+        let value = digit-value digit ascii in
+        let one : SpellsNumber (front ++ digit ∷ []) (10 * number + (digit - 48)) =
+        subst (λ (octet : ℕ). SpellsNumber (front ++ octet ∷ []) (10 * number + (digit - 48))) value.same (digit_more spells value.small) in
+        let rest : number_behind (10 * number + (digit - 48)) digits ≡ Some result = rw ascii at is in
+        subst (λ (text : List ℕ). SpellsNumber text result) (append_assoc front (digit ∷ []) digits) (later one rest)
+
+number-spells : (digits : List ℕ) (number : ℕ) → number_of digits ≡ Some number → SpellsNumber digits number
+number-spells [] number is = absurd cc
+number-spells (digit ∷ digits) number is = by (is_ascii_digit digit) refl
+  where
+    by : (ascii : Bool) → is_ascii_digit digit ≡ ascii → SpellsNumber (digit ∷ digits) number
+    by false other = let never : None ≡ Some number = rw other at is in absurd cc
+    by true ascii =
+        let value = digit-value digit ascii in
+        let one : SpellsNumber (digit ∷ []) (10 * 0 + (digit - 48)) =
+        subst (λ (octet : ℕ). SpellsNumber (octet ∷ []) (10 * 0 + (digit - 48))) value.same
+        (subst (SpellsNumber ((48 + (digit - 48)) ∷ [])) (omega arith) (one_digit value.small)) in
+        let rest : number_behind (10 * 0 + (digit - 48)) digits ≡ Some number = rw ascii at is in
+        behind-spells digits (digit ∷ []) (10 * 0 + (digit - 48)) number one rest
+
+-- one more digit
+behind-more : (digits : List ℕ) (front number value : ℕ) → number_behind front digits ≡ Some number → value ≤ 9
+    → number_behind front (digits ++ (48 + value) ∷ []) ≡ Some (10 * number + value)
+behind-more [] front number value is small =
+    let same : front ≡ number = said_last is in
+    rw (value-digit value small) (ap Some (omega (arith, same)))
+behind-more (digit ∷ digits) front number value is small = by (is_ascii_digit digit) refl (behind-more digits (10 * front + (digit - 48)) number value)
+  where
+    by : (ascii : Bool) → is_ascii_digit digit ≡ ascii
+        → (number_behind (10 * front + (digit - 48)) digits ≡ Some number → value ≤ 9 → number_behind (10 * front + (digit - 48)) (digits ++ (48 + value) ∷ []) ≡ Some (10 * number + value))
+        → number_behind front (digit ∷ digits ++ (48 + value) ∷ []) ≡ Some (10 * number + value)
+    by false other later = let never : None ≡ Some number = rw other at is in absurd cc
+    by true ascii later =
+        let rest : number_behind (10 * front + (digit - 48)) digits ≡ Some number = rw ascii at is in rw ascii (later rest small)
+
+number-more : (digits : List ℕ) (number value : ℕ) → number_of digits ≡ Some number → value ≤ 9 → number_of (digits ++ (48 + value) ∷ []) ≡ Some (10 * number + value)
+number-more [] number value is small = absurd cc
+number-more (digit ∷ digits) number value is small = behind-more (digit ∷ digits) 0 number value is small
+
+spelled-number : (digits : List ℕ) (number : ℕ) → SpellsNumber digits number → number_of digits ≡ Some number
+spelled-number digits number (one_digit {value = value} small) = rw (value-digit value small) (ap Some (omega arith))
+spelled-number digits number (digit_more {digits = front} {number = before} {value = value} spells small) =
+    number-more front before value (spelled-number front before spells) small
+
+-- a number that is not too large
+record IsWithin (most : ℕ) (number : Option ℕ) (value : ℕ) : Type 0 where
+  is : number ≡ Some value
+  few : value ≤ most
+
+at_most-says : (most : ℕ) (number : Option ℕ) (value : ℕ) → at_most most number ≡ Some value → IsWithin most number value
+at_most-says most None value said = absurd cc
+at_most-says most (Some number) value said = by (nat_le number most) refl
+  where
+    by : (few : Bool) → nat_le number most ≡ few → IsWithin most (Some number) value
+    by true few =
+        let same : number ≡ value = said_last (rw few at said) in
+        record { is = ap Some same; few = subst (λ n. n ≤ most) same (leb-true number most few) }
+    by false few = let never : None ≡ Some value = rw few at said in absurd cc
+
+within-is : (most : ℕ) (number : Option ℕ) (value : ℕ) → number ≡ Some value → value ≤ most → at_most most number ≡ Some value
+within-is most number value is few = rw (is, le-leb value most few) refl
+
+pub moment-says : (field : List ℕ) (moment : ℕ) → moment_of field ≡ Some moment → IsMoment field moment
+moment-says field moment is =
+    let within = at_most-says LAST_MOMENT (number_of field) moment is in
+    record { digits = number-spells field moment within.is; few = within.few }
+
+pub says_moment : (field : List ℕ) (moment : ℕ) → IsMoment field moment → moment_of field ≡ Some moment
+says_moment field moment is = within-is LAST_MOMENT (number_of field) moment (spelled-number field moment is.digits) is.few
+
+pub ttl-says : (field : List ℕ) (ttl : ℕ) → ttl_of field ≡ Some ttl → IsTtl field ttl
+ttl-says field ttl is =
+    let within = at_most-says (2 ^ 32 - 1) (number_of field) ttl is in
+    record { digits = number-spells field ttl within.is; few = within.few }
+
+pub says_ttl : (field : List ℕ) (ttl : ℕ) → IsTtl field ttl → ttl_of field ≡ Some ttl
+says_ttl field ttl is = within-is (2 ^ 32 - 1) (number_of field) ttl (spelled-number field ttl is.digits) is.few
+
+record IsKeptAs (number rtype : ℕ) : Type 0 where
+  same : number ≡ rtype
+  kept : is_kept rtype ≡ true
+
+kept_type-says : (number rtype : ℕ) → kept_type number ≡ Some rtype → IsKeptAs number rtype
+kept_type-says number rtype is = by (is_kept number) refl
+  where
+    by : (kept : Bool) → is_kept number ≡ kept → IsKeptAs number rtype
+    by true kept =
+        let same : number ≡ rtype = said_last (rw kept at is) in
+        record { same = same; kept = subst (λ n. is_kept n ≡ true) same kept }
+    by false kept = let never : None ≡ Some rtype = rw kept at is in absurd cc
+
+pub rtype-says : (field : List ℕ) (rtype : ℕ) → rtype_of field ≡ Some rtype → IsRtype field rtype
+rtype-says field rtype is =
+    let number = said_first (at_most (2 ^ 16 - 1) (number_of field)) kept_type rtype is in
+    let kept = kept_type-says number.0 rtype number.1.1 in
+    let within = at_most-says (2 ^ 16 - 1) (number_of field) rtype (number.1.0 ∙ ap Some kept.same) in
+    record { digits = number-spells field rtype within.is; few = within.few; kept = kept.kept }
+
+pub says_rtype : (field : List ℕ) (rtype : ℕ) → IsRtype field rtype → rtype_of field ≡ Some rtype
+says_rtype field rtype is =
+    let number : at_most (2 ^ 16 - 1) (number_of field) ≡ Some rtype =
+    within-is (2 ^ 16 - 1) (number_of field) rtype (spelled-number field rtype is.digits) is.few in
+    ap (option_and_then kept_type) number ∙ rw is.kept refl
+
+-- the first of some choices, or one of those behind it
+choice : {X : Type 0} (first : Bool) (here : X) (others : Option X) (value : X) → cond first (Some here) others ≡ Some value
+    → ((first ≡ true) × (here ≡ value)) ⊎ (others ≡ Some value)
+choice true here others value is = inl (refl, said_last is)
+choice false here others value is = inr is
+
+rank-says : (number : ℕ) (trust : Trust) → rank number ≡ Some trust → number ≡ rank_of_trust trust
+rank-says number trust is =
+    elim (choice (number == 1) Additional _ trust is) [
+      | inl one ↦ eqb-true number 1 one.0 ∙ ap rank_of_trust one.1
+      | inr others ↦ elim (choice (number == 2) NonAuthoritativeAnswer _ trust others) [
+        | inl two ↦ eqb-true number 2 two.0 ∙ ap rank_of_trust two.1
+        | inr others ↦ elim (choice (number == 3) Authority _ trust others) [
+          | inl three ↦ eqb-true number 3 three.0 ∙ ap rank_of_trust three.1
+          | inr others ↦ elim (choice (number == 4) AuthoritativeAnswer None trust others) [
+            | inl four ↦ eqb-true number 4 four.0 ∙ ap rank_of_trust four.1
+            | inr none ↦ absurd cc
+          ]
+        ]
+      ]
+    ]
+
+pub trust-says : (field : List ℕ) (trust : Trust) → trust_of field ≡ Some trust → IsTrust field trust
+trust-says field trust is =
+    let number = said_first (at_most 4 (number_of field)) rank trust is in
+    let within = at_most-says 4 (number_of field) number.0 number.1.0 in
+    subst (SpellsNumber field) (rank-says number.0 trust number.1.1) (number-spells field number.0 within.is)
+
+rank-ranked : (trust : Trust) → rank (rank_of_trust trust) ≡ Some trust
+rank-ranked Additional = refl
+rank-ranked NonAuthoritativeAnswer = refl
+rank-ranked Authority = refl
+rank-ranked AuthoritativeAnswer = refl
+
+rank-small : (trust : Trust) → rank_of_trust trust ≤ 4
+rank-small Additional = omega arith
+rank-small NonAuthoritativeAnswer = omega arith
+rank-small Authority = omega arith
+rank-small AuthoritativeAnswer = omega arith
+
+pub says_trust : (field : List ℕ) (trust : Trust) → IsTrust field trust → trust_of field ≡ Some trust
+says_trust field trust is =
+    ap (option_and_then rank) (within-is 4 (number_of field) (rank_of_trust trust) (spelled-number field (rank_of_trust trust) is) (rank-small trust))
+    ∙ rank-ranked trust
+
+-- a word, or another one
+word : {X : Type 0} (field text : List ℕ) (here : X) (others : Option X) (value : X) → cond (bytes_eq field text) (Some here) others ≡ Some value
+    → ((field ≡ text) × (here ≡ value)) ⊎ (others ≡ Some value)
+word field text here others value is =
+    elim (choice (bytes_eq field text) here others value is) [
+      | inl this ↦ inl ((bytes_eq-Decides field text).0 this.0, this.1)
+      | inr other ↦ inr other
+    ]
+
+pub purpose-says : (field : List ℕ) (purpose : Purpose) → purpose_of field ≡ Some purpose → field ≡ purpose_word purpose
+purpose-says field purpose is =
+    elim (word field (codes "any") Any _ purpose is) [
+      | inl any ↦ any.0 ∙ ap purpose_word any.1
+      | inr others ↦ elim (word field (codes "answer") Answer None purpose others) [
+        | inl answer ↦ answer.0 ∙ ap purpose_word answer.1
+        | inr none ↦ absurd cc
+      ]
+    ]
+
+pub says_purpose : (purpose : Purpose) → purpose_of (purpose_word purpose) ≡ Some purpose
+says_purpose Any = refl
+says_purpose Answer = refl
+
+pub mode-says : (field : List ℕ) (mode : Mode) → mode_of field ≡ Some mode → field ≡ mode_word mode
+mode-says field mode is =
+    elim (word field (codes "none") NoStale _ mode is) [
+      | inl none ↦ none.0 ∙ ap mode_word none.1
+      | inr others ↦ elim (word field (codes "failed") Failed _ mode others) [
+        | inl failed ↦ failed.0 ∙ ap mode_word failed.1
+        | inr others ↦ elim (word field (codes "now") Now None mode others) [
+          | inl now ↦ now.0 ∙ ap mode_word now.1
+          | inr none ↦ absurd cc
+        ]
+      ]
+    ]
+
+pub says_mode : (mode : Mode) → mode_of (mode_word mode) ≡ Some mode
+says_mode NoStale = refl
+says_mode Failed = refl
+says_mode Now = refl
+
+-- the word of a form
+abbrev pub form_word : Form → List ℕ
+form_word forms.Put = codes "put"
+form_word forms.Ask = codes "ask"
+form_word forms.Fail = codes "fail"
+form_word forms.Response = codes "response"
+form_word forms.Fetch = codes "fetch"
+form_word forms.Sweep = codes "sweep"
+form_word forms.Checkpoint = codes "checkpoint"
+
+later_form-says : (field : List ℕ) (form : Form) → (
+    if bytes_eq field (codes "response") then Some forms.Response
+    else if bytes_eq field (codes "fetch") then Some forms.Fetch
+    else if bytes_eq field (codes "sweep") then Some forms.Sweep
+    else if bytes_eq field (codes "checkpoint") then Some forms.Checkpoint
+    else None) ≡ Some form → field ≡ form_word form
+later_form-says field form is =
+    elim (word field (codes "response") forms.Response _ form is) [
+      | inl here ↦ here.0 ∙ ap form_word here.1
+      | inr others ↦ elim (word field (codes "fetch") forms.Fetch _ form others) [
+        | inl here ↦ here.0 ∙ ap form_word here.1
+        | inr others ↦ elim (word field (codes "sweep") forms.Sweep _ form others) [
+          | inl here ↦ here.0 ∙ ap form_word here.1
+          | inr others ↦ elim (word field (codes "checkpoint") forms.Checkpoint None form others) [
+            | inl here ↦ here.0 ∙ ap form_word here.1
+            | inr none ↦ absurd cc
+          ]
+        ]
+      ]
+    ]
+
+pub form-says : (field : List ℕ) (form : Form) → form_of field ≡ Some form → field ≡ form_word form
+form-says field form is =
+    elim (word field (codes "put") forms.Put _ form is) [
+      | inl here ↦ here.0 ∙ ap form_word here.1
+      | inr others ↦ elim (word field (codes "ask") forms.Ask _ form others) [
+        | inl here ↦ here.0 ∙ ap form_word here.1
+        | inr others ↦ elim (word field (codes "fail") forms.Fail _ form others) [
+          | inl here ↦ here.0 ∙ ap form_word here.1
+          | inr others ↦ later_form-says field form others
+        ]
+      ]
+    ]
