@@ -8,7 +8,7 @@ use Rattle.rrc_history.specs.declared.event.Outcome.TheVariants.{Kept, Cleared, 
 use Rattle.rrc_share.specs.Shelf.{ShelfOf, AppendsOffer, IsLeft}
 use Rattle.rrc_c.specs.declared.counts.Counts.{Counts}
 use Rattle.rrc_c.specs.Refusals.{WriteDue}
-use Rattle.rrc_c.specs.Offered.{Takes, TakesAll, TakesFirst, count_more, total}
+use Rattle.rrc_c.specs.Offered.{AreAt, Takes, TakesAll, TakesFirst, count_more, total}
 
 -- one more is counted
 pub total_more : (outcome : Outcome) (counts : Counts) → total (count_more outcome counts) ≡ total counts + 1
@@ -32,9 +32,11 @@ takes_more line offers offer outcome counts after old middle new place (all, siz
 
 -- the next one was refused
 pub takes_first : (number line : ℕ) (offers taken others : List OfferOf) (next : OfferOf) (counts : Counts) (old middle new : ShelfOf) → offers ≡ taken ++ next ∷ others
-    → TakesAll line taken counts old middle → WriteDue middle.part next.moment number → IsLeft middle new → TakesFirst number line offers counts old new
-takes_first number line offers taken others next counts old middle new parts all due left =
-    record { taken = taken; next = next; others = others; parts = parts; middle = middle; all = all; due = due; left = left }
+    → (length taken < length offers) × (next ≡ get_or offers (length taken) next) → TakesAll line taken counts old middle → WriteDue middle.part next.moment number → IsLeft middle new
+    → (at : ℕ) → AreAt at offers → TakesFirst number line at offers counts old new
+takes_first number line offers taken others next counts old middle new parts (below, is) all due left at are =
+    let moment : next.moment ≡ at = ap (λ (offer : OfferOf). offer.moment) is ∙ are (length taken) next below in
+    record { taken = taken; next = next; others = others; parts = parts; middle = middle; all = all; due = subst (λ m. WriteDue middle.part m number) moment due; left = left }
 
 -- what a vector's iterator yields next stands behind what it has yielded
 pub parts_at : (offers yielded : List OfferOf) (next : OfferOf) → yielded ≡ take (length yielded) offers → (length yielded < length offers) × (next ≡ get_or offers (length yielded) next)

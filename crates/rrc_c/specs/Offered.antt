@@ -1,5 +1,6 @@
 -- What C offers, and what it is told of it.
 use Rattle.std.specs.Prelude.{◌≡◌, ℕ, ◌+◌, ◌⊎◌, List, [], ◌∷◌, ◌++◌, length, reverse, if◌then◌else◌, ◌==◌}
+use Rattle.std.specs.List.{All}
 use Rattle.rrc_name.specs.Wire.{folded, IsWireForm}
 use Rattle.rrc_name.specs.declared.slot.Slot.{Slot}
 use Rattle.rrc_name.specs.declared.slot.Slot.TheVariants.{Set, Nx, Failed}
@@ -88,15 +89,19 @@ pub record TakesAll (line : ℕ) (offers : List OfferOf) (counts : Counts) (old 
   pub takes : Takes line (reverse offers) outcomes old new
   pub counted : counts ≡ counts_of outcomes
 
--- the first of the offers were written, and what became of them is counted; the next one, which there is, was refused by this number
-pub record TakesFirst (number line : ℕ) (offers : List OfferOf) (counts : Counts) (old new : ShelfOf) : Type 0 where
+-- all offers are of one moment
+abbrev pub AreAt : ℕ → List OfferOf → Type 0
+AreAt at offers = All (λ offer. offer.moment ≡ at) offers
+
+-- the first of the offers were written, and what became of them is counted; the next one, which there is, was refused by this number at their moment
+pub record TakesFirst (number line at : ℕ) (offers : List OfferOf) (counts : Counts) (old new : ShelfOf) : Type 0 where
   pub taken : List OfferOf
   pub next : OfferOf
   pub others : List OfferOf
   pub parts : offers ≡ taken ++ next ∷ others
   pub middle : ShelfOf
   pub all : TakesAll line taken counts old middle
-  pub due : WriteDue middle.part next.moment number
+  pub due : WriteDue middle.part at number
   pub left : IsLeft middle new
 
 -- what the message offers that some octets are
@@ -116,7 +121,7 @@ pub record TakesMessage (line : ℕ) (octets zone : List ℕ) (at : ℕ) (bounds
 pub record TakesBeginning (number line : ℕ) (octets zone : List ℕ) (at : ℕ) (bounds : Bounds) (counts : Counts) (old new : ShelfOf) : Type 0 where
   pub offers : List OfferOf
   pub offered : AreOffered octets zone at bounds offers
-  pub takes : TakesFirst number line offers counts old new
+  pub takes : TakesFirst number line at offers counts old new
 
 -- nothing was written and nothing counted
 pub record TakesNone (counts : Counts) (old new : ShelfOf) : Type 0 where

@@ -30,7 +30,7 @@ pub record TakesBeginningOfPart (number line : ℕ) (octets zone : List ℕ) (pa
   pub is_part : IsPart parts part
   pub offers : List OfferOf
   pub offered : AreOffered octets zone at bounds offers
-  pub takes : TakesFirst number line (lying_in parts part offers) counts old new
+  pub takes : TakesFirst number line at (lying_in parts part offers) counts old new
 
 -- nothing is offered, since what was handed in is refused
 abbrev pub PartRefused : List ℕ → List ℕ → ℕ → ℕ → Bounds → ℕ → Type 0

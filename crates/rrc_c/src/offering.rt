@@ -1,7 +1,7 @@
-ghost use Rattle.std.specs.Prelude.{◌≡◌, ◌≤◌, ◌<◌, ◌+◌, ◌^◌, ◌++◌, [], length, true, false, IfOk, IfErr, OnOk, OnErr};
+ghost use Rattle.std.specs.Prelude.{◌≡◌, ◌≤◌, ◌<◌, ◌+◌, ◌^◌, ◌++◌, ℕ, [], length, true, false, IfOk, IfErr, OnOk, OnErr};
 ghost use Rattle.std.specs.List.{AllByRecursion};
 ghost use Rattle.rrc_c.specs.Told.{datum, data_text};
-ghost use Rattle.rrc_c.specs.Offered.{trust_of, denied, denial_offer, failure_offer, outcome_number, count_more, counts_of, AreOffered, IsSetOffer, TakesOne, TakesAll, TakesFirst, TakesMessage, TakesSet, TakesSome, total};
+ghost use Rattle.rrc_c.specs.Offered.{trust_of, denied, denial_offer, failure_offer, outcome_number, count_more, counts_of, AreAt, AreOffered, IsSetOffer, TakesOne, TakesAll, TakesFirst, TakesMessage, TakesSet, TakesSome, total};
 ghost use Rattle.rrc_c.specs.Parted.{lying_in, IsPart, TakesPart, TakesSomeOfPart};
 ghost use Rattle.rrc_c.specs.Refusals.{AreLimits, AreData, Because, DataRefused, DatumRefused, DenialDue, DenialRefused, FailureDue, FailureRefused, IsCutOff, IsDenial, IsFailure, IsSet, MessageRefused, OffersRefused, SetDue, SetRefused, WriteDue};
 ghost use Rattle.rrc_c.specs.Statuses.{number_of, number_of_call};
@@ -227,7 +227,7 @@ fn take_each(
 ) -> Result<(), Status>
     requires { counts.old ≡ counts_of [] }
     ensures ok { OnOk result (TakesAll line offers.items counts.new shelf.old shelf.new) }
-    ensures err { IfErr result (λ status. TakesFirst (number_of status) line offers.items counts.new shelf.old shelf.new) }
+    ensures err { IfErr result (λ status. (at : ℕ) → AreAt at offers.items → TakesFirst (number_of status) line at offers.items counts.new shelf.old shelf.new) }
 {
     for offer in offers {
         let place = counts.kept + counts.cleared + counts.refused;
@@ -276,6 +276,7 @@ fn offers_in(
     bounds: &Bounds,
 ) -> Result<Vec<Offer>, Status>
     ensures offers { IfOk result (λ made. AreOffered octets.now zone.now moment bounds.now made.items) }
+    ensures moments { IfOk result (λ made. AreAt moment made.items) }
     ensures refused { IfErr result (λ status. OffersRefused octets.now zone.now bounds.now (number_of status)) }
 {
     let limits = limits_of(bounds)?;

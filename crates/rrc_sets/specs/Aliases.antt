@@ -1,10 +1,9 @@
 -- Where the aliases of an answer lead (RFC 2308 1).
-use Rattle.std.specs.Prelude.{ℕ, zero, suc, List, Bool, ◌&&◌, ◌||◌, ◌==◌, if◌then◌else◌, Option, Some, None, find, option_map, option_and_then}
+use Rattle.std.specs.Prelude.{ℕ, zero, suc, List, Bool, ◌&&◌, ◌||◌, ◌==◌, if◌then◌else◌, Option, Some, None, find, option_map}
 use Rattle.std.specs.Option.{option_map_or}
 use Rattle.rrc_name.specs.Wire.{same_name}
 use Rattle.rrc_wire.specs.declared.record.Rr.{Rr}
 use Rattle.rrc_wire.specs.declared.message.Message.{Message}
-use Rattle.rrc_wire.specs.Plain.{is_wire_form}
 
 -- whether a record is of a type, under a name
 abbrev pub is_of : ℕ → List ℕ → Rr → Bool
@@ -19,13 +18,8 @@ unfoldable pub end_of_chain : ℕ → List Rr → List ℕ → Option (List ℕ)
 end_of_chain zero answer name = None
 end_of_chain (suc names) answer name = option_map_or (end_of_chain names answer) (target_of answer name) (Some name)
 
--- octets that are a name (RFC 1035 3.1)
-abbrev pub as_name : List ℕ → Option (List ℕ)
-as_name octets = if is_wire_form octets then Some octets else None
-
 -- the name that an answer ends with: 16 aliases behind the question's name at most (ours), and none where aliases were asked for
 abbrev pub final_name : Message → Option (List ℕ)
 final_name message =
     let question = message.question in
-    if question.qtype == 5 || question.qtype == 255 then Some question.name
-    else option_and_then as_name (end_of_chain 17 message.answer question.name)
+    if question.qtype == 5 || question.qtype == 255 then Some question.name else end_of_chain 17 message.answer question.name

@@ -1,5 +1,5 @@
 -- Negative answers (RFC 2308).
-use Rattle.std.specs.Prelude.{ℕ, ◌-◌, min, List, length, ◌&&◌, not, ◌==◌, nat_lt, if◌then◌else◌, Option, Some, None, find, option_and_then}
+use Rattle.std.specs.Prelude.{ℕ, ◌-◌, min, List, length, ◌&&◌, not, ◌==◌, if◌then◌else◌, Option, Some, None, find, option_and_then}
 use Rattle.std.specs.List.{list_any}
 use Rattle.rrc_name.specs.declared.slot.Slot.{Slot}
 use Rattle.rrc_name.specs.declared.slot.Slot.TheVariants.{Set, Nx}
@@ -39,7 +39,7 @@ soa_of message zone name =
 
 -- the MINIMUM of a SOA record: the last four octets of its data (RFC 1035 3.3.13)
 abbrev pub minimum_of : List ℕ → ℕ
-minimum_of rdata = if nat_lt (length rdata) 4 then 0 else long_at rdata (length rdata - 4)
+minimum_of rdata = long_at rdata (length rdata - 4)
 
 -- how long a negative answer lives (RFC 2308 5): the SOA record's time or its MINIMUM, the lower one, and no more than the cap
 abbrev pub negative_life : Limits → Rr → ℕ

@@ -2,6 +2,7 @@ pub mod Limits
 pub mod Life
 pub mod Uniques
 pub mod Sets
+pub mod Kept
 pub mod Ranks
 pub mod Aliases
 pub mod Denials

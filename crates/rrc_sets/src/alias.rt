@@ -1,10 +1,9 @@
-ghost use Rattle.std.specs.Prelude.{◌≡◌, IfOk, option_map, find};
+ghost use Rattle.std.specs.Prelude.{◌≡◌, IfOk, IfSome, option_map, find};
 ghost use Rattle.std.specs.Option.{option_copied};
-ghost use Rattle.rrc_name.specs.Wire.{same_name};
+ghost use Rattle.rrc_name.specs.Wire.{same_name, IsWireForm};
 ghost use Rattle.rrc_sets.specs.Aliases.{is_of, target_of, end_of_chain, final_name};
 
-use crate::name::name_in;
-use rrc_name::Name;
+use rrc_name::{Name, Octets, Shared};
 use rrc_wire::{Message, Rr};
 use std::alloc::{AllocError, Global};
 
@@ -32,17 +31,28 @@ pub(crate) fn is_of(rtype: u16, name: &[u8], rr: &Rr) -> bool
     rr.rtype == rtype && same(rr.owner.wire.as_slice(), name)
 }
 
+/// The first CNAME record of a name.
+fn alias_of<'a>(answer: &'a [Rr], name: &[u8]) -> Option<&'a Rr>
+    ensures value { option_copied result ≡ find (is_of 5 name.now) answer.now }
+    ensures cname { IfSome result (λ rr. rr.now.rtype ≡ 5) }
+{
+    answer.iter().find(|rr| is_of(CNAME, name, rr))
+}
+
 /// The name that a name is an alias of, in wire form: the data of its first CNAME record.
 fn target_of<'a>(answer: &'a [Rr], name: &[u8]) -> Option<&'a [u8]>
-    ensures { option_map (λ target. target.now) result ≡ target_of answer.now name.now }
+    ensures value { option_map (λ target. target.now) result ≡ target_of answer.now name.now }
+    ensures name { IfSome result (λ target. IsWireForm target.now) }
 {
-    let alias = answer.iter().find(|rr| is_of(CNAME, name, rr))?;
+    let alias = alias_of(answer, name)?;
     Some(alias.rdata.as_slice())
 }
 
 /// The last name of a chain of aliases that begins with a name, in wire form.
 fn end_of_chain<'a>(answer: &'a [Rr], name: &'a [u8]) -> Option<&'a [u8]>
-    ensures { option_map (λ end. end.now) result ≡ end_of_chain 17 answer.now name.now }
+    requires { IsWireForm name.now }
+    ensures value { option_map (λ end. end.now) result ≡ end_of_chain 17 answer.now name.now }
+    ensures name { IfSome result (λ end. IsWireForm end.now) }
 {
     let mut name = name;
     for _name in 0..MOST_NAMES {
@@ -52,6 +62,16 @@ fn end_of_chain<'a>(answer: &'a [Rr], name: &'a [u8]) -> Option<&'a [u8]>
         }
     }
     None
+}
+
+/// The name of a wire form.
+fn name_of(alloc: Global, wire: &[u8]) -> Result<Name, AllocError>
+    requires { IsWireForm wire.now }
+    ensures { IfOk result (λ name. name ≡ wire.now) }
+{
+    Ok(Name {
+        wire: Shared::new(alloc, Octets::from_slice(alloc, wire)?)?,
+    })
 }
 
 /// The name that an answer ends with (RFC 2308 section 1), at most 16 aliases behind the question's name. Where the question is about
@@ -70,7 +90,7 @@ pub(crate) fn final_name(alloc: Global, message: &Message) -> Result<Option<Name
         return Ok(Some(question.name.clone()?));
     }
     match end_of_chain(answer, name) {
-        Some(end) => name_in(alloc, end),
+        Some(end) => Ok(Some(name_of(alloc, end)?)),
         None => Ok(None),
     }
 }

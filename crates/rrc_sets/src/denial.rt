@@ -1,9 +1,11 @@
-ghost use Rattle.std.specs.Prelude.{◌≡◌, ◌≤◌, IfOk, find};
+ghost use Rattle.std.specs.Prelude.{◌≡◌, ◌≤◌, length, IfOk, OnOk, IfSome, find};
 ghost use Rattle.std.specs.Option.{option_copied};
 ghost use Rattle.std.specs.List.{list_any};
 ghost use Rattle.rrc_name.specs.Wire.{same_name};
+ghost use Rattle.rrc_wire.specs.Plain.{IsPlain};
 ghost use Rattle.rrc_sets.specs.Aliases.{is_of};
 ghost use Rattle.rrc_sets.specs.Denials.{denied_name, denied_type, denied, soa_of, minimum_of, negative_life, denial, negative_offer};
+ghost use Rattle.rrc_sets.specs.Kept.{IsOfRecords};
 
 use crate::alias::{final_name, is_of};
 use crate::limits::Limits;
@@ -72,7 +74,8 @@ fn denied(message: &Message, name: &Name) -> Option<Slot>
 /// The SOA record of a negative reply (RFC 2308 section 2): the first of the authority section whose owner is in the zone, and at or
 /// above the name.
 fn soa_of<'a>(message: &'a Message, zone: &Name, name: &Name) -> Option<&'a Rr>
-    ensures { option_copied result ≡ soa_of message.now zone.now name.now }
+    ensures value { option_copied result ≡ soa_of message.now zone.now name.now }
+    ensures soa { IfSome result (λ rr. rr.now.rtype ≡ 6) }
 {
     message.authority.iter().find(|rr| {
         rr.rtype == SOA && (rr.owner.is_at_or_below(zone) && name.is_at_or_below(&rr.owner))
@@ -81,16 +84,15 @@ fn soa_of<'a>(message: &'a Message, zone: &Name, name: &Name) -> Option<&'a Rr>
 
 /// The MINIMUM of a SOA record's data: their last four octets (RFC 1035 section 3.3.13).
 fn minimum_of(rdata: &[u8]) -> u32
+    requires { 4 ≤ length rdata.now }
     ensures { result ≡ minimum_of rdata.now }
 {
-    if rdata.len() < 4 {
-        return 0;
-    }
     BigEndian::read_u32(&rdata[rdata.len() - 4..])
 }
 
 /// How long a negative answer lives (RFC 2308 section 5).
 fn negative_life(soa: &Rr, limits: &Limits) -> u32
+    requires { soa.now.rtype ≡ 6 }
     ensures value { result ≡ negative_life limits.now soa.now }
     ensures capped { result ≤ limits.now.negative_cap }
 {
@@ -101,7 +103,9 @@ fn negative_life(soa: &Rr, limits: &Limits) -> u32
 
 /// That a name does not exist or has no such type, as a SOA record says.
 fn denial(message: &Message, limits: &Limits, name: &Name, soa: &Rr) -> Result<Body, AllocError>
-    ensures { IfOk result (λ body. body ≡ denial message.now limits.now name.now soa.now) }
+    requires { soa.now.rtype ≡ 6 }
+    ensures value { IfOk result (λ body. body ≡ denial message.now limits.now name.now soa.now) }
+    ensures plain { OnOk result (IsPlain 6 soa.now.rdata) }
 {
     let asked = name.same(&message.question.name);
     Ok(Body::Negative {
@@ -121,7 +125,8 @@ pub(crate) fn negative_offer(
     moment: u64,
     limits: &Limits,
 ) -> Result<Option<Offer>, AllocError>
-    ensures { IfOk result (λ offer. offer ≡ negative_offer message.now zone.now moment limits.now) }
+    ensures value { IfOk result (λ offer. offer ≡ negative_offer message.now zone.now moment limits.now) }
+    ensures kept { IfOk result (λ offer. IfSome offer IsOfRecords) }
 {
     let Some(name) = final_name(alloc, message)? else {
         return Ok(None);

@@ -6,7 +6,6 @@ mod denial;
 mod fault;
 mod limits;
 mod message;
-mod name;
 mod rank;
 mod reply;
 mod section;

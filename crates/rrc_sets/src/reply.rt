@@ -1,6 +1,8 @@
-ghost use Rattle.std.specs.Prelude.{◌≡◌, ◌++◌, IfOk, IfErr, OnOk};
+ghost use Rattle.std.specs.Prelude.{◌≡◌, ◌++◌, IfOk, IfErr, OnOk, IfSome};
 ghost use Rattle.std.specs.Option.{option_to_list};
+ghost use Rattle.std.specs.List.{All};
 ghost use Rattle.rrc_sets.specs.Offers.{set_offer, records_of, section_offers, answer_offers, failure_offers, is_silent, offers_of};
+ghost use Rattle.rrc_sets.specs.Kept.{IsOfRecords};
 
 use crate::denial::negative_offer;
 use crate::fault::SetsFault;
@@ -35,7 +37,8 @@ fn set_offer(
     limits: &Limits,
     set: Set,
 ) -> Result<Option<Offer>, AllocError>
-    ensures { IfOk result (λ offer. offer ≡ set_offer section message.now zone.now moment limits.now set) }
+    ensures value { IfOk result (λ offer. offer ≡ set_offer section message.now zone.now moment limits.now set) }
+    ensures kept { IfOk result (λ offer. IfSome offer IsOfRecords) }
 {
     if !set.owner.is_at_or_below(zone) {
         return Ok(None);
@@ -56,7 +59,10 @@ fn set_offer(
 
 /// Puts an offer, if there is one, behind the others.
 fn add(offers: &mut Vec<Offer>, offer: Option<Offer>) -> Result<(), AllocError>
-    ensures { OnOk result (offers.new.items ≡ offers.old.items ++ option_to_list offer) }
+    requires all { All IsOfRecords offers.old.items }
+    requires one { IfSome offer IsOfRecords }
+    ensures value { OnOk result (offers.new.items ≡ offers.old.items ++ option_to_list offer) }
+    ensures kept { OnOk result (All IsOfRecords offers.new.items) }
 {
     match offer {
         Some(offer) => Ok(offers.push(offer)?),
@@ -85,7 +91,9 @@ fn add_section(
     moment: u64,
     limits: &Limits,
 ) -> Result<(), AllocError>
-    ensures { OnOk result (offers.new.items ≡ offers.old.items ++ section_offers section message.now zone.now moment limits.now) }
+    requires { All IsOfRecords offers.old.items }
+    ensures value { OnOk result (offers.new.items ≡ offers.old.items ++ section_offers section message.now zone.now moment limits.now) }
+    ensures kept { OnOk result (All IsOfRecords offers.new.items) }
 {
     for set in sets_of(alloc, records_of(section, message))? {
         let offer = set_offer(alloc, section, message, zone, moment, limits, set)?;
@@ -103,7 +111,8 @@ fn answer_offers(
     moment: u64,
     limits: &Limits,
 ) -> Result<Vec<Offer>, AllocError>
-    ensures { IfOk result (λ offers. offers.items ≡ answer_offers message.now zone.now moment limits.now) }
+    ensures value { IfOk result (λ offers. offers.items ≡ answer_offers message.now zone.now moment limits.now) }
+    ensures kept { IfOk result (λ offers. All IsOfRecords offers.items) }
 {
     let mut offers = Vec::new(alloc);
     let made = &mut offers;
@@ -137,7 +146,8 @@ fn failure_offers(
     moment: u64,
     limits: &Limits,
 ) -> Result<Vec<Offer>, AllocError>
-    ensures { IfOk result (λ offers. offers.items ≡ failure_offers message.now moment limits.now) }
+    ensures value { IfOk result (λ offers. offers.items ≡ failure_offers message.now moment limits.now) }
+    ensures kept { IfOk result (λ offers. All IsOfRecords offers.items) }
 {
     let question = &message.question;
     let mut offers = Vec::new(alloc);
@@ -161,11 +171,32 @@ fn is_silent(message: &Message, zone: &Name) -> bool
         || !message.question.name.is_at_or_below(zone)
 }
 
+/// What a response offers, as `offers` answers it.
+#[tactic(auto, unfolding(crate::specs::Offers::offers_of))]
+fn offers_of(
+    alloc: Global,
+    message: &Message,
+    zone: &Name,
+    moment: u64,
+    limits: &Limits,
+) -> Result<Vec<Offer>, AllocError>
+    ensures value { IfOk result (λ offers. offers.items ≡ offers_of message.now zone.now moment limits.now) }
+    ensures kept { IfOk result (λ offers. All IsOfRecords offers.items) }
+{
+    if is_silent(message, zone) {
+        return Ok(Vec::new(alloc));
+    }
+    if message.rcode == NOERROR || message.rcode == NXDOMAIN {
+        answer_offers(alloc, message, zone, moment, limits)
+    } else {
+        failure_offers(alloc, message, moment, limits)
+    }
+}
+
 /// What a response offers to a cache for a zone, at a moment in seconds: its RRsets from the zone, section by section, each ranked by
 /// where it stood (RFC 2181 sections 5 and 8), and its negative answer (RFC 2308); or that asking failed (RFC 8767 section 5). A
 /// message that is truncated, is no standard query, or whose question is of a class other than IN or outside the zone, offers
-/// nothing.
-#[tactic(auto, unfolding(crate::specs::Offers::offers_of))]
+/// nothing. All that is offered is of types that are kept, with plain data, and of that moment.
 pub fn offers(
     alloc: Global,
     message: &Message,
@@ -174,15 +205,9 @@ pub fn offers(
     limits: &Limits,
 ) -> Result<Vec<Offer>, SetsFault>
     ensures ok { IfOk result (λ offers. offers.items ≡ offers_of message.now zone.now moment limits.now) }
+    ensures moments { IfOk result (λ offers. All (λ offer. offer.moment ≡ moment) offers.items) }
+    ensures kept { IfOk result (λ offers. All IsOfRecords offers.items) }
     ensures err { IfErr result (λ fault. fault ≡ SetsFault.Memory) }
 {
-    if is_silent(message, zone) {
-        return Ok(Vec::new(alloc));
-    }
-    let made = if message.rcode == NOERROR || message.rcode == NXDOMAIN {
-        answer_offers(alloc, message, zone, moment, limits)?
-    } else {
-        failure_offers(alloc, message, moment, limits)?
-    };
-    Ok(made)
+    Ok(offers_of(alloc, message, zone, moment, limits)?)
 }

@@ -1,4 +1,4 @@
-ghost use Rattle.std.specs.Prelude.{◌≡◌, OnOk, IfOk, not};
+ghost use Rattle.std.specs.Prelude.{◌≡◌, OnOk, IfOk, not, true};
 ghost use Rattle.std.specs.List.{list_any};
 ghost use Rattle.rrc_wire.specs.Same.{same_rdata};
 ghost use Rattle.rrc_sets.specs.Gathering.{holds, alone, grown};
@@ -9,8 +9,9 @@ use smallvec::SmallVec;
 use std::alloc::{AllocError, Global};
 use std::marker::Model;
 
-/// An RRset of a section (RFC 2181 section 5): its owner as its first record spells it, its data without repeats, one at least, and
-/// the times to live of all its records.
+/// An RRset of a section (RFC 2181 section 5): its owner as its first record spells it, its data without
+/// repeats, one at least and all plain data of its type, which is kept, and the times to live of all its
+/// records.
 #[derive(Debug, Drop)]
 pub(crate) struct Set {
     pub(crate) owner: Name,
@@ -21,15 +22,14 @@ pub(crate) struct Set {
 }
 
 impl Model for Set {
-    ghost use Rattle.std.specs.Prelude.{◌≡◌, true};
-    ghost use Rattle.rrc_history.specs.Fits.{has_items};
     ghost use Rattle.rrc_sets.specs.Sets.{SetOf};
+    ghost use Rattle.rrc_sets.specs.Kept.{AreOfSet};
 
     ghost Value = { SetOf };
 
     ghost view = { λ s. record { owner = s.owner; rtype = s.rtype; items = s.items; ttls = s.ttls.items } };
 
-    ghost invariant = { λ s. has_items s.items ≡ true };
+    ghost invariant = { λ s. AreOfSet s.rtype s.items };
 }
 
 impl Set {
@@ -65,9 +65,10 @@ impl Set {
             .any(|item| same_rdata(self.rtype, item.as_slice(), rdata))
     }
 
-    /// Takes one more record, of which is known whether its data are new: these where they are, and its time to live in any case.
+    /// Takes one more of its records, of which is known whether its data are new: these where they are, and its time to live in any case.
     pub(crate) fn take(&mut self, rr: &Rr, is_new: bool) -> Result<(), AllocError>
-        requires { is_new ≡ not (list_any (λ item. same_rdata self.old.rtype item rr.now.rdata) self.old.items) }
+        requires own { holds self.old rr.now ≡ true }
+        requires is_new { is_new ≡ not (list_any (λ item. same_rdata self.old.rtype item rr.now.rdata) self.old.items) }
         ensures { OnOk result (self.new ≡ grown self.old rr.now) }
     {
         if is_new {
@@ -77,8 +78,9 @@ impl Set {
         Ok(())
     }
 
-    /// Takes one more record, of which is not known whether its data are new.
+    /// Takes one more of its records, of which is not known whether its data are new.
     pub(crate) fn grow(&mut self, rr: &Rr) -> Result<(), AllocError>
+        requires { holds self.old rr.now ≡ true }
         ensures { OnOk result (self.new ≡ grown self.old rr.now) }
     {
         let is_new = !self.has(rr.rdata.as_slice());

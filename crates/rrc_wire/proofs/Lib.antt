@@ -11,5 +11,6 @@ pub mod Laws
 pub mod FrontNames
 pub mod PlainParts
 pub mod LoweredParts
+pub mod Filling
 pub mod ReadData
 pub mod Pointed

@@ -1,7 +1,8 @@
 -- The data that stand in a message are plain, once their names are expanded.
-use Rattle.std.proofs.Common.{◌≡◌, ℕ, suc, ◌+◌, ◌-◌, ◌*◌, ◌<◌, ◌≤◌, Bool, true, false, cond, List, [], ◌∷◌, ◌++◌, length, Option, Some, None, refl, sym, ap, subst, ◌∙◌, arith, append_assoc, length-append, drop, MatchOption}
-use Rattle.std.specs.Prelude.{slice_range, ⊤}
-use Rattle.std.specs.List.{AllByRecursion, concat}
+use Rattle.std.proofs.Common.{◌≡◌, ℕ, ◌+◌, ◌-◌, ◌<◌, ◌≤◌, List, [], ◌∷◌, ◌++◌, length, Option, Some, None, refl, sym, ap, subst, ◌∙◌, arith, append_assoc, drop, MatchOption}
+use Rattle.std.specs.Prelude.{slice_range}
+use Rattle.std.specs.List.{AllByRecursion}
+use Rattle.std.proofs.lemmas.List.{append-nil}
 use Rattle.std.proofs.lemmas.List.Elements.{All-take, All-drop, All-from_recursion, recursion_from_All}
 use Rattle.rrc_name.specs.Wire.{IsLabel, IsWireForm}
 use Rattle.rrc_name.proofs.WireForms.{wire_form_of}
@@ -13,6 +14,7 @@ use Rattle.rrc_wire.specs.Grammar.{NameAt, root, label, pointer, StandsAt, Follo
 use Rattle.rrc_wire.specs.Plain.{Fills, IsPlain}
 use Rattle.rrc_wire.specs.ReadPlain.{HavePlainData, ReadsPlainData}
 use Rattle.rrc_wire.proofs.Items.{length-slice_range}
+use Rattle.rrc_wire.proofs.Filling.{laid, fills_first, fills_name, fills_whole, plain_by_layout, plain_opaque}
 
 abbrev AreOctets : List ℕ → Type 0
 AreOctets octets = AllByRecursion (λ octet. octet < 256) octets
@@ -33,93 +35,35 @@ StandsAt-IsWireForm : (message : List ℕ) (end place : ℕ) (name : List ℕ) (
 StandsAt-IsWireForm message end place name next octets stands =
     subst IsWireForm stands.octets (wire_form_of stands.labels (NameAt-labels octets stands.labels_stand) (omega (arith, ap length stands.octets, stands.short)))
 
--- so many whole names make the octets
-pub record WholeNames (count : ℕ) (octets : List ℕ) : Type 0 where
-  pub names : List (List ℕ)
-  pub as_many : length names ≡ count
-  pub wire_forms : AllByRecursion IsWireForm names
-  pub whole : concat names ≡ octets
-  pub short : length octets ≤ 255 * count
-
-Follow-names : {message : List ℕ} {end count place next : ℕ} {octets : List ℕ} → AreOctets message → Follow (StandsAt message end) count place octets next → WholeNames count octets
-Follow-names small (none is) = record { names = []; as_many = refl; wire_forms = tt; whole = refl; short = omega arith }
-Follow-names {message} {end} small (more {count = count} {place = place} {middle = middle} {piece = piece} {others = others} {pieces = pieces} first rest are) =
-    let left = Follow-names small rest in
-    let is = StandsAt-IsWireForm message end place piece middle small first in
-    record {
-      names = piece ∷ left.names;
-      as_many = ap suc left.as_many;
-      wire_forms = (is, left.wire_forms);
-      whole = ap (λ octets. piece ++ octets) left.whole ∙ sym are;
-      short = omega (arith, ap length are, length-append piece others, is.short, left.short);
-    }
-
--- layouts are small
-
-record IsSmall (l : LayoutOf) : Type 0 where
-  pub before : l.before ≤ 6
-  pub names : l.names ≤ 2
-  pub behind : l.behind ≤ 20
-
-abbrev AreSmall : Option LayoutOf → Type 0
-AreSmall layout = (l : LayoutOf) → layout ≡ Some l → IsSmall l
-
-one_or : (b : Bool) (one : LayoutOf) (others : Option LayoutOf) → IsSmall one → AreSmall others → AreSmall (cond b (Some one) others)
-one_or true one others is rest = λ l h. subst IsSmall (cc) is
-one_or false one others is rest = rest
-
-no_layout : AreSmall None
-no_layout l h = absurd cc
-
-layout_of-small : (rtype : ℕ) → AreSmall (layout_of rtype)
-unfolding layout_of
-layout_of-small rtype =
-    let fixed : ℕ → ℕ → ℕ → LayoutOf = λ before names behind. record { before = before; names = names; behind = behind } in
-    one_or _ (fixed 0 1 0) _ (record { before = omega arith; names = omega arith; behind = omega arith })
-    (one_or _ (fixed 0 2 20) _ (record { before = omega arith; names = omega arith; behind = omega arith })
-    (one_or _ (fixed 0 2 0) _ (record { before = omega arith; names = omega arith; behind = omega arith })
-    (one_or _ (fixed 2 1 0) _ (record { before = omega arith; names = omega arith; behind = omega arith })
-    (one_or _ (fixed 2 2 0) _ (record { before = omega arith; names = omega arith; behind = omega arith })
-    (one_or _ (fixed 6 1 0) _ (record { before = omega arith; names = omega arith; behind = omega arith })
-    no_layout)))))
+-- names that stand one after another, behind what fills a layout so far
+Follow-fills : {message : List ℕ} {end count place next : ℕ} {octets : List ℕ} → AreOctets message → (before names : ℕ) (front : List ℕ) → Fills (laid before names 0) front
+    → Follow (StandsAt message end) count place octets next → Fills (laid before (names + count) 0) (front ++ octets)
+Follow-fills small before names front fills (none is) =
+    subst (λ n. Fills (laid before n 0) (front ++ [])) (omega arith) (subst (Fills (laid before names 0)) (sym (append-nil front)) fills)
+Follow-fills {message} {end} small before names front fills (more {count = count} {place = place} {middle = middle} {piece = piece} {others = others} {pieces = pieces} first rest are) =
+    let more_names = fills_name before names front piece fills (StandsAt-IsWireForm message end place piece middle small first) in
+    let all = Follow-fills small before (names + 1) (front ++ piece) more_names rest in
+    let whole : (front ++ piece) ++ others ≡ front ++ pieces = append_assoc front piece others ∙ ap (λ octets. front ++ octets) (sym are) in
+    subst (λ n. Fills (laid before n 0) (front ++ pieces)) (omega arith) (subst (Fills (laid before (names + 1 + count) 0)) whole all)
 
 -- data of a layout
 
-pub record FillsShort (layout : LayoutOf) (rdata : List ℕ) : Type 0 where
-  pub fills : Fills layout rdata
-  pub size : length rdata ≤ layout.before + 255 * layout.names + layout.behind
-
-laid_out-Fills : (message : List ℕ) (layout : LayoutOf) (place end : ℕ) (rdata : List ℕ) → AreOctets message → end ≤ length message → IsLaidOut message layout place end rdata → FillsShort layout rdata
+laid_out-Fills : (message : List ℕ) (layout : LayoutOf) (place end : ℕ) (rdata : List ℕ) → AreOctets message → end ≤ length message → IsLaidOut message layout place end rdata → Fills layout rdata
 laid_out-Fills message layout place end rdata octets within is =
     let before = slice_range message place (place + layout.before) in
     let behind = slice_range message is.behind end in
-    let are = Follow-names octets is.names_stand in
     let before_size : length before ≡ layout.before = omega (arith, length-slice_range message place (place + layout.before) (omega arith) (omega (arith, is.first_octets))) in
     let behind_size : length behind ≡ layout.behind = omega (arith, length-slice_range message is.behind end (omega (arith, is.last_octets)) within, is.last_octets) in
-    let whole : before ++ (concat are.names ++ behind) ≡ rdata = ap (λ names. before ++ (names ++ behind)) are.whole ∙ (sym (append_assoc before is.names behind) ∙ sym is.expanded) in
-    record {
-      fills = record {
-        parts = record { before = before; names = are.names; behind = behind };
-        are_parts = record { before = before_size; names = are.as_many; wire_forms = are.wire_forms; behind = behind_size };
-        whole = whole;
-      };
-      size = omega (arith, ap length is.expanded, length-append (before ++ is.names) behind, length-append before is.names, before_size, behind_size, are.short);
-    }
+    let first = fills_first (length before) before refl in
+    let front = subst (λ n. Fills (laid (length before) n 0) (before ++ is.names)) (omega arith) (Follow-fills octets (length before) 0 before first is.names_stand) in
+    fills_whole layout before (before ++ is.names) behind rdata before_size front behind_size is.expanded
 
 plain_by : (rtype : ℕ) (layout : Option LayoutOf) (message : List ℕ) (place end : ℕ) (rdata : List ℕ) → AreOctets message → length message ≤ 65535 → place ≤ end → end ≤ length message → layout_of rtype ≡ layout
     → MatchOption layout (rdata ≡ slice_range message place end) (λ l. IsLaidOut message l place end rdata) → IsPlain rtype rdata
 plain_by rtype None message place end rdata octets short begins within is data_is =
-    record {
-      short = omega (arith, ap length data_is, length-slice_range message place end begins within);
-      fills = subst (λ (l : Option LayoutOf). MatchOption l ⊤ (λ (one : LayoutOf). Fills one rdata)) (sym is) tt;
-    }
+    plain_opaque rtype rdata is (omega (arith, ap length data_is, length-slice_range message place end begins within))
 plain_by rtype (Some layout) message place end rdata octets short begins within is data_is =
-    let filled = laid_out-Fills message layout place end rdata octets within data_is in
-    let small = layout_of-small rtype layout is in
-    record {
-      short = omega (arith, filled.size, small.before, small.names, small.behind);
-      fills = subst (λ (l : Option LayoutOf). MatchOption l ⊤ (λ (one : LayoutOf). Fills one rdata)) (sym is) filled.fills;
-    }
+    plain_by_layout rtype layout rdata is (laid_out-Fills message layout place end rdata octets within data_is)
 
 -- records
 

@@ -9,6 +9,7 @@ pub mod Question
 pub mod Data
 pub mod Record
 pub mod Plain
+pub mod Kept
 pub mod Same
 pub mod SameLaws
 pub mod Message

@@ -1,5 +1,6 @@
-ghost use Rattle.std.specs.Prelude.{◌≡◌, ◌≤◌, length};
+ghost use Rattle.std.specs.Prelude.{◌≡◌, ◌≤◌, ◌+◌, length, IfOk};
 ghost use Rattle.rrc_wire.specs.Reading.{Gives, times};
+ghost use Rattle.rrc_wire.specs.Plain.{Fills, IsPlain};
 ghost use Rattle.rrc_wire.specs.Shown.{as_layout};
 ghost use Rattle.rrc_wire.specs.Data.{data_at, laid_out_at, name_in_data};
 
@@ -21,6 +22,7 @@ fn read_names(
 ) -> Result<(Octets, usize), WireFault>
     requires { end ≤ length source.old }
     ensures gives { Gives (λ read. read) result (times (name_in_data source.old end) names before place) }
+    ensures fills { IfOk result (λ read. Fills (record { before = length before; names = names; behind = 0 }) read.0) }
     ensures same { source.new ≡ source.old }
 {
     let mut next = place;
@@ -42,6 +44,7 @@ fn read_laid_out(
     requires begins { place ≤ end }
     requires ends { end ≤ length source.old }
     ensures gives { Gives (λ octets. octets) result (laid_out_at source.old (as_layout layout) place end) }
+    ensures fills { IfOk result (Fills (as_layout layout)) }
     ensures same { source.new ≡ source.old }
 {
     let message = source.message();
@@ -59,7 +62,8 @@ fn read_laid_out(
     Ok(data)
 }
 
-/// The data from `place` to `end` of a kept record, with the names in them expanded.
+/// The data from `place` to `end` of a kept record, with the names in them expanded, so that they are
+/// plain data of its type. There are as many as RDLENGTH tells, which has 16 bits.
 pub(crate) fn read_data(
     source: &mut Source<'_>,
     rtype: u16,
@@ -68,7 +72,9 @@ pub(crate) fn read_data(
 ) -> Result<Octets, WireFault>
     requires begins { place ≤ end }
     requires ends { end ≤ length source.old }
+    requires short { end ≤ place + 65535 }
     ensures gives { Gives (λ octets. octets) result (data_at source.old rtype place end) }
+    ensures plain { IfOk result (IsPlain rtype) }
     ensures same { source.new ≡ source.old }
 {
     match layout_of(rtype) {

@@ -10,14 +10,29 @@ use crate::layout::is_kept;
 use crate::name::read_name;
 use crate::source::Source;
 use rrc_name::{Name, Octets, Sequence};
+use std::marker::Model;
 
-/// A kept record of class IN (RFC 1035 section 4.1.3). The names in its data are expanded.
+/// A kept record of class IN (RFC 1035 section 4.1.3): its type is one that is kept, and its data are
+/// plain data of that type, since the names in them are expanded.
 #[derive(Debug, Drop, PartialEq, Eq)]
 pub struct Rr {
     pub owner: Name,
     pub rtype: u16,
+    /// As it is written, in seconds, all 32 bits (RFC 2181 section 8).
     pub ttl: u32,
     pub rdata: Octets,
+}
+
+impl Model for Rr {
+    ghost use Rattle.rrc_wire.specs.Kept.{RrOf, AreKept};
+
+    ghost Value = { RrOf };
+
+    ghost view = { λ r. record { owner = r.owner; rtype = r.rtype; ttl = r.ttl; rdata = r.rdata } };
+
+    ghost invariant = { λ r. AreKept r.rtype r.rdata };
+
+    ghost inverse = { λ r. record { owner = r.owner; rtype = r.rtype; ttl = r.ttl; rdata = r.rdata } };
 }
 
 /// The class of the Internet.

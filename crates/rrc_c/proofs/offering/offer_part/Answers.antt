@@ -1,5 +1,7 @@
-use Rattle.std.proofs.Common.{subst, inr}
-use Rattle.rrc_c.specs.Offered.{TakesAll, TakesFirst}
+use Rattle.std.proofs.Common.{◌≡◌, subst, inr}
+use Rattle.std.proofs.lemmas.List.Elements.{All-filter}
+use Rattle.rrc_history.specs.Fits.{OfferOf}
+use Rattle.rrc_c.specs.Offered.{AreAt, TakesAll, TakesFirst}
 use Rattle.rrc_c.specs.Statuses.{number_of}
 use Rattle.rrc_c.proofs.Taking.{map_ok, map_err}
 use Rattle.rrc_c.proofs.offering.offer_part.Goals as goal
@@ -21,6 +23,8 @@ returns-clause-err c =
       is_part = c.in_ok-check_part.ensures.fit;
       offers = _;
       offered = c.in_ok-offered.ensures.offers;
-      takes = subst (λ offers. TakesFirst (number_of status) c.args.line offers c.take_each.new.counts c.args.shelf.now c.take_each.new.shelf) c.offers_of_part-offered.ensures first;
+      takes = subst (λ offers. AreAt c.args.moment offers → TakesFirst (number_of status) c.args.line c.args.moment offers c.take_each.new.counts c.args.shelf.now c.take_each.new.shelf)
+          c.offers_of_part-offered.ensures (first c.args.moment)
+          (All-filter _ (λ (offer : OfferOf). offer.moment ≡ c.args.moment) c.in_ok-offered.offered.items c.in_ok-offered.ensures.moments);
     }))
     c.take_each.ensures.err

@@ -1,7 +1,7 @@
-use Rattle.std.proofs.Common.{◌≡◌, length, take, refl, sym, ◌∙◌, map-id}
+use Rattle.std.proofs.Common.{◌≡◌, ℕ, length, take, refl, sym, ◌∙◌, map-id}
 use Rattle.std.proofs.lemmas.Iterator.Consumers.{YieldsList-so_far, YieldsList-turn}
 use Rattle.std.proofs.lemmas.Iterator.Adapters.{YieldsList-from_vec}
-use Rattle.rrc_c.specs.Offered.{TakesFirst}
+use Rattle.rrc_c.specs.Offered.{AreAt, TakesFirst}
 use Rattle.rrc_c.specs.Statuses.{number_of, refused_as}
 use Rattle.rrc_c.proofs.Refusing.{on_err, write_refused}
 use Rattle.rrc_c.proofs.Taking.{takes_more, takes_first, parts_at}
@@ -17,9 +17,9 @@ returns-in_err-outcome-clause-err c =
     let turn = YieldsList-turn from yielded c.loop-offer.offer-iterator c.loop-offer.yielded_by c.next.result c.next.new.self c.in-Some.offer c.in-Some.is c.next.ensures.steps in
     let refusal = c.in_err-outcome.field-0.0 in
     let middle = c.loop-offer.shelf in
-    on_err c.from_residual.result (refused_as refusal) (λ number. TakesFirst number c.args.line offers.items c.loop-offer.counts c.args.shelf.now c.on_shelf_offer.new.shelf) c.from_residual.ensures.1
+    on_err c.from_residual.result (refused_as refusal) (λ number. (at : ℕ) → AreAt at offers.items → TakesFirst number c.args.line at offers.items c.loop-offer.counts c.args.shelf.now c.on_shelf_offer.new.shelf) c.from_residual.ensures.1
     (takes_first (number_of (refused_as refusal)) c.args.line offers.items yielded _ c.in-Some.offer c.loop-offer.counts c.args.shelf.now middle c.on_shelf_offer.new.shelf
-    (parts_at offers.items yielded c.in-Some.offer first turn) c.loop-offer.invariant.0 (write_refused middle.part c.in-Some.offer.moment refusal c.in_err-outcome.ensures.due) c.in_err-outcome.ensures.err)
+    (parts_at offers.items yielded c.in-Some.offer first turn) turn c.loop-offer.invariant.0 (write_refused middle.part c.in-Some.offer.moment refusal c.in_err-outcome.ensures.due) c.in_err-outcome.ensures.err)
 
 pub loop-offer-preserved : goal.loop-offer-preserved
 loop-offer-preserved c =

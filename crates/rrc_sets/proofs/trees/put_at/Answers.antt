@@ -1,15 +1,24 @@
-use Rattle.std.proofs.Common.{◌≡◌, ◌∙◌, ◌++◌, ◌∷◌, [], ℕ, sym, ap, subst, not, length, get_or, ◌<◌, ◌≤◌, arith}
+use Rattle.std.proofs.Common.{◌≡◌, ◌∙◌, ◌++◌, ◌∷◌, [], ℕ, true, sym, ap, subst, not, length, get_or, ◌<◌, ◌≤◌, arith}
 use Rattle.std.specs.List.{position_or_len, slice_set, list_any}
 use Rattle.rrc_wire.specs.Same.{lowered_rdata, same_rdata}
 use Rattle.rrc_sets.specs.Sets.{SetOf}
-use Rattle.rrc_sets.specs.Gathering.{grown}
+use Rattle.std.proofs.lemmas.List.Sums.{passes_at_first}
+use Rattle.rrc_sets.specs.Gathering.{holds, grown}
 use Rattle.rrc_sets.specs.Trees.{has_at}
 use Rattle.rrc_sets.proofs.Places.{takes, at_place, no_place}
 use Rattle.rrc_sets.proofs.Finding.{place-found, has-own}
 use Rattle.rrc_sets.proofs.trees.put_at.Goals as goal
 
-pub take-requires : goal.take-requires
-take-requires c =
+pub take-requires-clause-own : goal.take-requires-clause-own
+take-requires-clause-own c =
+    let sets = c.args.sets.now.items in let rr = c.args.rr.now in let d = c.index_mut.result.now in
+    let at : c.args.place ≡ position_or_len (takes rr) sets = c.requires.place ∙ place-found rr sets in
+    let inside : position_or_len (takes rr) sets < length sets = omega (arith, at, c.if-place-len.true, c.len.ensures, c.args.sets.now.ok) in
+    subst (λ (set : SetOf). holds set rr ≡ true) (sym c.index_mut.ensures.value)
+    (subst (λ (p : ℕ). holds (get_or sets p d) rr ≡ true) (sym at) (passes_at_first (takes rr) sets d inside))
+
+pub take-requires-clause-is_new : goal.take-requires-clause-is_new
+take-requires-clause-is_new c =
     let sets = c.args.sets.now.items in let rr = c.args.rr.now in let place = c.args.place in let d = c.index_mut.result.now in
     let low = lowered_rdata rr.rtype rr.rdata in
     let at : place ≡ position_or_len (takes rr) sets = c.requires.place ∙ place-found rr sets in

@@ -1,7 +1,9 @@
-use Rattle.std.proofs.Common.{◌≡◌, ◌++◌, Ok, sym, ap, ◌∙◌, inl, inr}
+use Rattle.std.proofs.Common.{◌≡◌, ◌++◌, length, Ok, refl, sym, ap, ◌∙◌, arith, inl, inr}
 use Rattle.std.proofs.lemmas.Result.{err_from_is_err_and}
+use Rattle.rrc_wire.specs.Reading.{times}
 use Rattle.rrc_wire.specs.Name.{name_at}
 use Rattle.rrc_wire.specs.Data.{name_in_data}
+use Rattle.rrc_wire.proofs.Filling.{fills_first, fills_name}
 use Rattle.rrc_wire.proofs.Pieces.{times-more, times-Err}
 use Rattle.rrc_wire.proofs.data.read_names.Goals as goal
 
@@ -15,6 +17,9 @@ returns-in_err-name-clause-gives c =
           (ap (λ octets. name_in_data octets c.args.end c.loop.next) (sym c.loop.invariant.unchanged) ∙ ap (name_at c.loop.source) (sym c.in_data.ensures) ∙ first))
     ])
 
+pub loop-init : goal.loop-init
+loop-init c = record { unchanged = refl; left = ap (λ n. times (name_in_data c.args.source.now c.args.end) n c.args.before c.args.place) (omega arith); fills = fills_first (length c.args.before) c.args.before refl }
+
 pub loop-preserved : goal.loop-preserved
 loop-preserved c =
     let message = c.args.source.now in let name = c.in_ok-name.name in
@@ -25,4 +30,5 @@ loop-preserved c =
     rw octets (record {
       unchanged = c.read_wire.ensures.same ∙ c.loop.invariant.unchanged;
       left = sym (times-more (name_in_data message c.args.end) c.args.names c.loop.counter c.loop.before c.loop.next (name, c.in_ok-name.behind) c.loop-test.true read) ∙ c.loop.invariant.left;
+      fills = fills_name (length c.args.before) c.loop.counter c.loop.before name c.loop.invariant.fills c.in_ok-name.ensures.wire_form;
     })

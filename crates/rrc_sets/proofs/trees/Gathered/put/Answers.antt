@@ -2,6 +2,7 @@ use Rattle.std.proofs.Common.{◌≡◌, ◌∙◌, sym, ap, subst, not, length,
 use Rattle.std.specs.List.{position_or_len}
 use Rattle.std.specs.Option.{unwrap_or}
 use Rattle.rrc_name.specs.Wire.{folded}
+use Rattle.rrc_wire.specs.Kept.{RrOf}
 use Rattle.rrc_wire.specs.Same.{lowered_rdata}
 use Rattle.rrc_sets.specs.Sets.{SetOf}
 use Rattle.rrc_sets.specs.Gathering.{with_record}
@@ -22,7 +23,7 @@ pub put_at-requires-clause-is_new : goal.put_at-requires-clause-is_new
 put_at-requires-clause-is_new c =
     let sets = c.self.inside.sets.items in let place = c.in_ok-place.place in
     c.in_ok-is_new.ensures.added
-    ∙ ap not (c.self.invariant.1 (place, c.in_ok-lowered.lowered) ∙ ap (has_at sets place) (c.in_ok-lowered.ensures ∙ (c.in_ok-lowered_rdata.ensures ∙ ap (lowered_rdata c.args.rr.now.rtype) c.as_slice-2.ensures)))
+    ∙ ap not (c.self.invariant.1 (place, c.in_ok-lowered.lowered) ∙ ap (has_at sets place) (c.in_ok-lowered.ensures ∙ (c.in_ok-lowered_rdata.ensures ∙ (ap (lowered_rdata c.rr.inside.rtype) c.as_slice-2.ensures ∙ ap (λ (rr : RrOf). lowered_rdata rr.rtype rr.rdata) c.rr.view_is))))
 
 pub invariant_of-result : goal.invariant_of-result
 invariant_of-result c =
@@ -33,7 +34,7 @@ invariant_of-result c =
       subst (FindsPlaces c.place_of.new.places) after (subst (λ (s : List SetOf). FindsPlaces c.place_of.new.places (with_record s rr)) c.as_slice.ensures.value c.in_ok-place.ensures.finds),
       subst (FindsData c.insert.new.self) after
           (FindsData-put c.self.inside.seen c.insert.new.self sets rr place c.in_ok-lowered.lowered c.self.invariant.1 at
-          (c.in_ok-lowered.ensures ∙ (c.in_ok-lowered_rdata.ensures ∙ ap (lowered_rdata rr.rtype) c.as_slice-2.ensures)) c.in_ok-is_new.ensures.updates.0),
+          (c.in_ok-lowered.ensures ∙ (c.in_ok-lowered_rdata.ensures ∙ (ap (lowered_rdata c.rr.inside.rtype) c.as_slice-2.ensures ∙ ap (λ (rr : RrOf). lowered_rdata rr.rtype rr.rdata) c.rr.view_is))) c.in_ok-is_new.ensures.updates.0),
     )
 
 pub returns : goal.returns
