@@ -1,7 +1,7 @@
 #!/usr/bin/env python3
 """Times a shared cache by several threads, and replays by several workers, and writes docs/PERFORMANCE.md with its picture.
 
-Build the programs first, by `rt run` in crates/bench_share and `bin/rrcache < rows/first-trace/trace`. Each number is the median of RUNS runs, in
+Build the programs first, by `rt run` in crates/bench_cache and `bin/rrcache < rows/first-trace/trace`. Each number is the median of RUNS runs, in
 millions of calls or of lines a second of passed time, on a machine that should do nothing else. `--write` writes docs/PERFORMANCE.md and
 docs/performance.svg; without it the table is only printed.
 """
@@ -18,7 +18,7 @@ import time
 from quiet import undisturbed
 
 TOP = pathlib.Path(__file__).resolve().parent.parent
-CALLS = TOP / "crates" / "bench_share" / "out" / "bench_share"
+CALLS = TOP / "crates" / "bench_cache" / "out" / "bench_cache"
 REPLAY = TOP / "crates" / "rrcache" / "out" / "rrcache"
 TASKS = {
     "hit": "asks that hit, random names",
@@ -34,7 +34,7 @@ COLUMNS = 100
 
 
 def seconds_of_calls(task, threads, parts, calls):
-    done = subprocess.run([CALLS, task, str(threads), str(parts), str(calls)], capture_output=True, text=True, check=True)
+    done = subprocess.run([CALLS, "shared", task, str(threads), str(parts), str(calls)], capture_output=True, text=True, check=True)
     if done.stdout != f"{task}: {threads * calls} served\n":
         sys.exit(f"the program counted {done.stdout!r}")
     return int(done.stderr) / 1e9
@@ -119,7 +119,7 @@ def page(rates, lent, shared, words):
     written = (
         f"Written by `bench/share.py --write` on a machine with {os.cpu_count()} cores. Each number is the median of {words.runs} runs, in millions a second by "
         "the clock. A run during which the host took processors away from the machine was made again. The calls are those of a shared cache with "
-        f"{NAMES} names, {words.calls} of them over all threads (`bench_share`). The lines are those of a trace of {words.lines} lines, read, replayed, collated "
+        f"{NAMES} names, {words.calls} of them over all threads (`bench_cache shared`). The lines are those of a trace of {words.lines} lines, read, replayed, collated "
         "and reported (`rrcache`)."
     )
     of_one_thread = (

@@ -12,7 +12,7 @@ use std::alloc::Global;
 const CHAPTER: u64 = 1 << 20;
 
 /// How long each set lives, in seconds, but for those that are to be swept. All is asked at the second 1.
-const TTL: u32 = 86_400;
+pub const TTL: u32 = 86_400;
 
 /// How many places of four octets 8 MiB have.
 const PLACES: u32 = 1 << 21;
@@ -31,10 +31,9 @@ pub struct PickedOffer {
     pub offer: Offer,
 }
 
-fn key(alloc: Global, number: u64) -> Result<Key> {
+pub fn name(alloc: Global, number: u64) -> Result<Name> {
     let text = format!(in alloc; "www{}.zone{}.example.", number % 7, number)?;
-    let name = Name::from_text(alloc, text.as_str())?;
-    Ok(Key::of(&name, Slot::Set(1))?)
+    Ok(Name::from_text(alloc, text.as_str())?)
 }
 
 /// The data of a set of one address.
@@ -44,9 +43,9 @@ fn address(alloc: Global) -> Result<Shared<Sequence<Octets>>> {
     Ok(Shared::new(alloc, items)?)
 }
 
-fn body(alloc: Global, key: &Key, ttl: u32) -> Result<Body> {
+fn body(alloc: Global, name: &Name, ttl: u32) -> Result<Body> {
     Ok(Body::Positive {
-        owner: key.name().clone()?,
+        owner: name.clone()?,
         items: address(alloc)?,
         trust: Trust::AuthoritativeAnswer,
         ttl,
@@ -54,15 +53,21 @@ fn body(alloc: Global, key: &Key, ttl: u32) -> Result<Body> {
 }
 
 /// An offer of one address.
-fn offer(alloc: Global, number: u64, moment: u64, ttl: u32) -> Result<Offer> {
-    let key = key(alloc, number)?;
-    let body = body(alloc, &key, ttl)?;
+pub fn offer(alloc: Global, name: &Name, moment: u64, ttl: u32) -> Result<Offer> {
+    let key = Key::of(name, Slot::Set(1))?;
+    let body = body(alloc, name, ttl)?;
     Ok(Offer::new(key, body, moment)?)
+}
+
+/// An offer of the address of a number.
+fn numbered(alloc: Global, number: u64, moment: u64, ttl: u32) -> Result<Offer> {
+    let name = name(alloc, number)?;
+    offer(alloc, &name, moment, ttl)
 }
 
 /// Puts the address of a number.
 fn put(alloc: Global, part: &mut Part, number: u64, moment: u64, ttl: u32) -> Result<()> {
-    part.offer(TAG, offer(alloc, number, moment, ttl)?)?;
+    part.offer(TAG, numbered(alloc, number, moment, ttl)?)?;
     Ok(())
 }
 
@@ -101,7 +106,7 @@ pub fn filled(alloc: Global, parts: u32, keys: u32) -> Result<Vec<Part>> {
 /// A question for the address of a number.
 fn ask(alloc: Global, number: u64) -> Result<Ask> {
     Ok(Ask {
-        name: key(alloc, number)?.name().clone()?,
+        name: name(alloc, number)?,
         rtype: 1,
         moment: 1,
         purpose: Purpose::Answer,
@@ -151,7 +156,7 @@ pub fn offers_of_held(
         let number = numbers.below(held).context("no keys")?;
         offers.push(PickedOffer {
             part: part_of(number, parts)?,
-            offer: offer(alloc, number, 1, TTL)?,
+            offer: numbered(alloc, number, 1, TTL)?,
         })?;
     }
     Ok(offers)
@@ -169,7 +174,7 @@ pub fn offers_of_absent(
         let number = held.saturating_add(u64::from(call));
         offers.push(PickedOffer {
             part: part_of(number, parts)?,
-            offer: offer(alloc, number, 1, TTL)?,
+            offer: numbered(alloc, number, 1, TTL)?,
         })?;
     }
     Ok(offers)

@@ -3,14 +3,22 @@
 //! `room`, `replace`, `evict`, `sweep`, `load`, `audit` or `recheck`. KEYS is how many each part holds. A call of `shelf` is an ask of
 //! the first part on a shelf that lets a chapter go after each 4,096; of `sweep`, one of the first part, after a tenth of its keys died;
 //! of `load`, one load from a random place of 8 MiB. `audit` and `recheck` find each once that the history of CALLS puts and asks of a
-//! part that may hold KEYS keys is legal. Without arguments it does a few of each.
+//! part that may hold KEYS keys is legal.
+//!
+//! `bench_cache shared TASK THREADS PARTS CALLS` calls a shared cache by several threads at once, each of which makes CALLS, and prints
+//! on standard error the nanoseconds that passed. TASK is `hit`, which asks for names that are held, `put`, which replaces what is
+//! held, `mix`, which is nine asks to one put, `hot`, which asks for one name alone, or `lent`, which is `hit` by one thread on parts
+//! with no lock. Without arguments it does a few of each.
 #![tactic(auto)]
 
+mod arguments;
 mod audits;
 mod calls;
 mod made;
 mod numbers;
+mod shared;
 
+use crate::arguments::number;
 use crate::audits::{Audited, timed};
 use crate::calls::{
     Counts, Done, ask_all, ask_shelf, has_room_all, load_all, offer_all, sweep_all,
@@ -22,7 +30,9 @@ use rrc_share::Shelf;
 use std::alloc::Global;
 use std::env::{self, Args};
 use std::rt::Env;
-use std::time::CpuClock;
+use std::sync::Wait;
+use std::thread::Threads;
+use std::time::{Clock, CpuClock};
 
 const USAGE: &str = "TASK KEYS CALLS [PARTS]";
 
@@ -93,7 +103,7 @@ fn done<R: CpuClock>(rt: &R, alloc: Global, task: &Task<'_>) -> Result<Done> {
         "shelf" => shelved(rt, alloc, task),
         "load" => loaded(rt, alloc, task),
         _ => bail!(
-            "it does hit, shelf, miss, would, room, replace, evict, sweep, load, audit or recheck"
+            "it does hit, shelf, miss, would, room, replace, evict, sweep, load, audit, recheck or shared"
         ),
     }
 }
@@ -166,14 +176,6 @@ fn report_each<R: Print + Eprint + Alloc<A = Global> + CpuClock>(rt: &R) -> Resu
     Ok(())
 }
 
-/// The number that the next argument tells, if there is one.
-fn number(args: &mut Args) -> Result<Option<u32>> {
-    let Some(word) = args.next() else {
-        return Ok(None);
-    };
-    Ok(Some(word.as_str().parse::<u32>()?))
-}
-
 /// What the arguments behind its name tell of a task.
 fn task_in<'a>(name: &'a str, args: &mut Args) -> Result<Task<'a>> {
     Ok(Task {
@@ -194,12 +196,18 @@ fn report_told<R: Print + Eprint + Alloc<A = Global> + CpuClock>(
     report(rt, &task)
 }
 
-fn run<R: Env + Print + Eprint + Alloc<A = Global> + CpuClock>(rt: &R) -> Result<()> {
+fn run<R: Env + Print + Eprint + Alloc<A = Global> + CpuClock + Threads + Wait + Sync + Clock>(
+    rt: &R,
+) -> Result<()> {
     let mut args = env::args(rt)?;
     let _program = args.next();
     match args.next() {
+        Some(name) if name.as_str() == "shared" => shared::report_told(rt, &mut args),
         Some(name) => report_told(rt, name.as_str(), &mut args),
-        None => report_each(rt),
+        None => {
+            report_each(rt)?;
+            shared::report_each(rt)
+        }
     }
 }
 

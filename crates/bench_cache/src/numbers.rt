@@ -8,7 +8,14 @@ pub struct Numbers {
 
 impl Numbers {
     pub fn new() -> Numbers {
-        Numbers { state: 1 }
+        Numbers::of(0)
+    }
+
+    /// The numbers that a thread draws.
+    pub fn of(thread: u32) -> Numbers {
+        Numbers {
+            state: u64::from(thread) + 1,
+        }
     }
 
     /// The next number below the limit. `None` where the limit is 0.

@@ -1,5 +1,7 @@
-//! Tests of `rrc_history`, by its public calls.
+//! Tests of `rrc_name` and `rrc_history`, by their public calls.
 #![tactic(auto)]
 
 #[cfg(test)]
-mod tests;
+mod history;
+#[cfg(test)]
+mod name;

@@ -1,5 +1,7 @@
-//! Tests of `rrc_replay`, by its public calls.
+//! Tests of `rrc_marks` and `rrc_replay`, by their public calls.
 #![tactic(auto)]
 
 #[cfg(test)]
-mod tests;
+mod marks;
+#[cfg(test)]
+mod replay;

@@ -1,5 +1,9 @@
-//! Tests of `rrc_report`, by its public calls.
+//! Tests of `rrc_trace`, `rrc_collate` and `rrc_report`, by their public calls.
 #![tactic(auto)]
 
 #[cfg(test)]
-mod tests;
+mod collate;
+#[cfg(test)]
+mod report;
+#[cfg(test)]
+mod trace;

@@ -1,5 +1,7 @@
-//! Tests of `rrc_sets`, by its public calls.
+//! Tests of `rrc_wire` and `rrc_sets`, by their public calls.
 #![tactic(auto)]
 
 #[cfg(test)]
-mod tests;
+mod sets;
+#[cfg(test)]
+mod wire;

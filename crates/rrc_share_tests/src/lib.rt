@@ -1,5 +1,7 @@
-//! Tests of `rrc_share`, by its public calls.
+//! Tests of `rrc_cache` and `rrc_share`, by their public calls.
 #![tactic(auto)]
 
 #[cfg(test)]
-mod tests;
+mod cache;
+#[cfg(test)]
+mod share;

@@ -1,5 +1,0 @@
-//! Tests of `rrc_trace`, by its public calls.
-#![tactic(auto)]
-
-#[cfg(test)]
-mod tests;
