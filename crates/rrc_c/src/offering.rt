@@ -258,6 +258,7 @@ fn offers_of_message(
     limits: &Limits,
 ) -> Result<Vec<Offer>, Status>
     ensures offers { IfOk result (λ made. Brings limits.now octets.now zone.now moment made.items) }
+    ensures moments { IfOk result (λ made. AreAt moment made.items) }
     ensures refused { IfErr result (λ status. MessageRefused octets.now (number_of status)) }
 {
     match rrc_sets::offers_in(alloc, octets, zone, moment, limits) {

@@ -1,5 +1,7 @@
 ghost use Rattle.std.specs.Prelude.{◌≡◌, ◌⊎◌, IfOk, IfErr};
+ghost use Rattle.std.specs.List.{All};
 ghost use Rattle.rrc_wire.specs.Message.{FirstFault};
+ghost use Rattle.rrc_sets.specs.Kept.{IsOfRecords};
 ghost use Rattle.rrc_sets.specs.Message.{Brings};
 
 use crate::limits::Limits;
@@ -19,6 +21,8 @@ pub fn offers_in(
     limits: &Limits,
 ) -> Result<Vec<Offer>, WireFault>
     ensures ok { IfOk result (λ offers. Brings limits.now octets.now zone.now moment offers.items) }
+    ensures moments { IfOk result (λ offers. All (λ offer. offer.moment ≡ moment) offers.items) }
+    ensures kept { IfOk result (λ offers. All IsOfRecords offers.items) }
     ensures err { IfErr result (λ fault. (fault ≡ WireFault.Memory) ⊎ FirstFault octets.now fault) }
 {
     let message = read_message(alloc, octets)?;

@@ -145,7 +145,7 @@ fn octets_offer_what_their_message_offers(rt: HostRuntime) -> Result<(), Fail> {
     let cut_off = &octets[..octets.len() - 1];
     match offers_in(alloc, cut_off, &zone, 100, &limits) {
         Ok(_) => Err("no message")?,
-        Err(fault) => assert_eq!(rt; fault, WireFault::BadData),
+        Err(fault) => assert_eq!(rt; fault, WireFault::Short),
     }
     Ok(())
 }
