@@ -105,8 +105,9 @@ pub fn filled(alloc: Global, parts: u32, keys: u32) -> Result<Vec<Part>> {
 
 /// A question for the address of a number.
 fn ask(alloc: Global, number: u64) -> Result<Ask> {
+    let key = Key::of(&name(alloc, number)?, Slot::Set(1))?;
     Ok(Ask {
-        name: name(alloc, number)?,
+        name: key.name().clone()?,
         rtype: 1,
         moment: 1,
         purpose: Purpose::Answer,
