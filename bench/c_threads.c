@@ -1,6 +1,7 @@
-/* c_threads THREADS CALLS shared|own ask|put|both: times the library for C. So many threads make so many calls in all on 16 shelves, each
-   shelf under a lock: `shared`, each thread picks the shelf of each name; `own`, each thread has 16 shelves of its own and takes no lock.
-   It prints how many calls there were and the nanoseconds that they took, by the clock. bench/c.py runs it. */
+/* c_threads THREADS CALLS shared|own ask|put|both: times the library for C. So many threads make so
+   many calls in all on 16 shelves, each shelf under a lock: `shared`, each thread picks the shelf
+   of each name; `own`, each thread has 16 shelves of its own and takes no lock. It prints how many
+   calls there were and the nanoseconds that they took, by the clock. bench/c.py runs it. */
 #include <pthread.h>
 #include <stdio.h>
 #include <stdlib.h>
@@ -53,7 +54,9 @@ static void put(struct shelf *shelf, const uint8_t *name, uint64_t line)
 {
     static const uint8_t data[] = {0, 4, 192, 0, 2, 1, 0, 4, 192, 0, 2, 2};
     uint32_t outcome;
-    if (rrcache_offer_set(&shelf->cache, name, sizeof names[0], 1, RRCACHE_AUTHORITATIVE_ANSWER, TTL, data, sizeof data, MOMENT, line, &outcome) != RRCACHE_DONE)
+    if (rrcache_offer_set(&shelf->cache, name, sizeof names[0], 1, RRCACHE_AUTHORITATIVE_ANSWER,
+                          TTL, data, sizeof data, MOMENT, line, &outcome)
+        != RRCACHE_DONE)
         fail("a put was refused");
 }
 
@@ -61,7 +64,9 @@ static void ask(struct shelf *shelf, const uint8_t *name, uint64_t line)
 {
     struct rrcache_told told;
     uint8_t buffer[512];
-    if (rrcache_ask(&shelf->cache, name, sizeof names[0], 1, MOMENT, RRCACHE_QUESTION, RRCACHE_NO_STALE, line, &told, buffer, sizeof buffer) != RRCACHE_DONE
+    if (rrcache_ask(&shelf->cache, name, sizeof names[0], 1, MOMENT, RRCACHE_QUESTION,
+                    RRCACHE_NO_STALE, line, &told, buffer, sizeof buffer)
+            != RRCACHE_DONE
         || told.kind != RRCACHE_FRESH)
         fail("an ask found nothing fresh");
 }
@@ -74,7 +79,8 @@ static struct shelf *make_shelves(void)
     if (shelves == NULL)
         fail("no memory");
     for (int i = 0; i < SHELVES; i++)
-        if (pthread_mutex_init(&shelves[i].lock, NULL) != 0 || rrcache_make(&shelves[i].cache, NAMES, NAMES, 0, seed) != RRCACHE_DONE)
+        if (pthread_mutex_init(&shelves[i].lock, NULL) != 0
+            || rrcache_make(&shelves[i].cache, NAMES, NAMES, 0, seed) != RRCACHE_DONE)
             fail("a shelf was refused");
     for (unsigned i = 0; i < NAMES; i++)
         put(&shelves[parts[i]], names[i], i);
@@ -138,7 +144,11 @@ int main(int argc, char **argv)
     struct shelf *shared = is_shared ? make_shelves() : NULL;
     pthread_barrier_init(&start, NULL, threads + 1);
     for (unsigned i = 0; i < threads; i++) {
-        workers[i] = (struct worker){.shelves = shared, .calls = calls / threads, .seed = 88172645463325252 + i, .is_locked = is_shared, .puts = puts};
+        workers[i] = (struct worker){.shelves = shared,
+                                     .calls = calls / threads,
+                                     .seed = 88172645463325252 + i,
+                                     .is_locked = is_shared,
+                                     .puts = puts};
         if (pthread_create(&workers[i].thread, NULL, work, &workers[i]) != 0)
             fail("a thread was refused");
     }

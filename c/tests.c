@@ -1,9 +1,9 @@
-/* Tests of the library for C: each call on its happy path, each status that a caller can bring about, at each call that can answer it,
-   and what a refusal leaves. Two statuses are not met: RRCACHE_HISTORY_FULL asks for 2^62 events, and RRCACHE_WIDE for a datum that no
-   call takes.
+/* Tests of the library for C: each call on its happy path, each status that a caller can bring
+   about, at each call that can answer it, and what a refusal leaves. Two statuses are not met:
+   RRCACHE_HISTORY_FULL asks for 2^62 events, and RRCACHE_WIDE for a datum that no call takes.
 
-   The last line is 'N passed, M failed'. Where the program is linked with --wrap for malloc, realloc and free, each allocation is
-   refused in turn as well. */
+   The last line is 'N passed, M failed'. Where the program is linked with --wrap for malloc,
+   realloc and free, each allocation is refused in turn as well. */
 #include "rrcache.h"
 
 #include <stdio.h>
@@ -27,7 +27,7 @@ static void expect(bool holds, const char *what, int line)
 /* ---- What is offered and asked. */
 
 static const uint8_t SEED[16] = {3, 1, 4, 1, 5, 9, 2, 6, 5, 3, 5, 8, 9, 7, 9, 3};
-static const uint8_t NAME[] = "\3www\7example";     /* the last octet is the literal's own 0 */
+static const uint8_t NAME[] = "\3www\7example"; /* the last octet is the literal's own 0 */
 static const uint8_t UPPER[] = "\3WWW\7Example";
 static const uint8_t ZONE[] = "\7example";
 static const uint8_t OTHER[] = "\5other\7example";
@@ -38,14 +38,17 @@ static const uint64_t FIRST = 1000;
 
 enum { A = 1, CNAME = 5, SOA = 6, TXT = 16, OPT = 41, PARTS = 16 };
 
-/* A response to www.example A: two addresses of www.example for 300 seconds, authoritative (RFC 1035 section 4.1). */
+/* clang-format off */
+/* A response to www.example A: two addresses of www.example for 300 seconds, authoritative (RFC
+   1035 section 4.1). */
 static const uint8_t ANSWER[] = {
     0x12, 0x34, 0x84, 0x00, 0, 1, 0, 2, 0, 0, 0, 0,
     3, 'w', 'w', 'w', 7, 'e', 'x', 'a', 'm', 'p', 'l', 'e', 0, 0, 1, 0, 1,
     0xc0, 12, 0, 1, 0, 1, 0, 0, 1, 44, 0, 4, 192, 0, 2, 1,
     0xc0, 12, 0, 1, 0, 1, 0, 0, 1, 44, 0, 4, 192, 0, 2, 2,
 };
-/* A response to www.example A: that name is an alias of other.example, which has an address; both for 300 seconds. */
+/* A response to www.example A: that name is an alias of other.example, which has an address; both
+   for 300 seconds. */
 static const uint8_t ALIAS[] = {
     0x12, 0x34, 0x84, 0x00, 0, 1, 0, 2, 0, 0, 0, 0,
     3, 'w', 'w', 'w', 7, 'e', 'x', 'a', 'm', 'p', 'l', 'e', 0, 0, 1, 0, 1,
@@ -54,31 +57,41 @@ static const uint8_t ALIAS[] = {
 };
 /* The reply's octets: the owner, and each address behind its length. */
 static const uint8_t ADDRESSES[] = {
-    3, 'w', 'w', 'w', 7, 'e', 'x', 'a', 'm', 'p', 'l', 'e', 0, 0, 4, 192, 0, 2, 1, 0, 4, 192, 0, 2, 2,
+    3, 'w', 'w', 'w', 7, 'e', 'x', 'a', 'm', 'p', 'l', 'e', 0,
+    0, 4, 192, 0, 2, 1,
+    0, 4, 192, 0, 2, 2,
 };
+/* clang-format on */
 /* An address behind its length. */
 static const uint8_t ADDRESS[] = {0, 4, 192, 0, 2, 9};
 /* The data of a SOA record: two roots and five numbers, the last of them 60. */
-static const uint8_t SOA_DATA[] = {0, 0, 0, 0, 0, 1, 0, 0, 0, 2, 0, 0, 0, 3, 0, 0, 0, 4, 0, 0, 0, 60};
+static const uint8_t SOA_DATA[] = {0, 0, 0, 0, 0, 1, 0, 0, 0, 2, 0,
+                                   0, 0, 3, 0, 0, 0, 4, 0, 0, 0, 60};
 
 static uint32_t make(struct rrcache_shelf *shelf)
 {
     return rrcache_make(shelf, 100, 4, 3600, SEED);
 }
 
-static uint32_t offer_answer(struct rrcache_shelf *shelf, uint64_t moment, struct rrcache_counts *counts)
+static uint32_t offer_answer(struct rrcache_shelf *shelf, uint64_t moment,
+                             struct rrcache_counts *counts)
 {
-    return rrcache_offer_message(shelf, ANSWER, sizeof ANSWER, ZONE, sizeof ZONE, moment, &LIMITS, 1, counts);
+    return rrcache_offer_message(shelf, ANSWER, sizeof ANSWER, ZONE, sizeof ZONE, moment, &LIMITS,
+                                 1, counts);
 }
 
-static uint32_t ask(struct rrcache_shelf *shelf, uint64_t moment, struct rrcache_told *told, uint8_t *buffer, size_t size)
+static uint32_t ask(struct rrcache_shelf *shelf, uint64_t moment, struct rrcache_told *told,
+                    uint8_t *buffer, size_t size)
 {
-    return rrcache_ask(shelf, NAME, sizeof NAME, A, moment, RRCACHE_QUESTION, RRCACHE_NO_STALE, 2, told, buffer, size);
+    return rrcache_ask(shelf, NAME, sizeof NAME, A, moment, RRCACHE_QUESTION, RRCACHE_NO_STALE, 2,
+                       told, buffer, size);
 }
 
-static uint32_t peek(struct rrcache_shelf *shelf, uint64_t moment, struct rrcache_told *told, uint8_t *buffer, size_t size)
+static uint32_t peek(struct rrcache_shelf *shelf, uint64_t moment, struct rrcache_told *told,
+                     uint8_t *buffer, size_t size)
 {
-    return rrcache_peek(shelf, NAME, sizeof NAME, A, moment, RRCACHE_QUESTION, RRCACHE_NO_STALE, told, buffer, size);
+    return rrcache_peek(shelf, NAME, sizeof NAME, A, moment, RRCACHE_QUESTION, RRCACHE_NO_STALE,
+                        told, buffer, size);
 }
 
 static uint64_t events(struct rrcache_shelf *shelf)
@@ -95,16 +108,21 @@ static uint64_t keys(struct rrcache_shelf *shelf)
     return held;
 }
 
-static uint32_t offer_address(struct rrcache_shelf *shelf, const uint8_t *name, size_t size, uint32_t trust, uint32_t ttl)
+static uint32_t offer_address(struct rrcache_shelf *shelf, const uint8_t *name, size_t size,
+                              uint32_t trust, uint32_t ttl)
 {
     uint32_t outcome = 0;
-    EXPECT(rrcache_offer_set(shelf, name, size, A, trust, ttl, ADDRESS, sizeof ADDRESS, FIRST, 1, &outcome) == RRCACHE_DONE);
+    EXPECT(rrcache_offer_set(shelf, name, size, A, trust, ttl, ADDRESS, sizeof ADDRESS, FIRST, 1,
+                             &outcome)
+           == RRCACHE_DONE);
     return outcome;
 }
 
-static uint32_t offer_alias(struct rrcache_shelf *shelf, uint64_t parts, uint64_t part, uint64_t moment, struct rrcache_counts *counts)
+static uint32_t offer_alias(struct rrcache_shelf *shelf, uint64_t parts, uint64_t part,
+                            uint64_t moment, struct rrcache_counts *counts)
 {
-    return rrcache_offer_part(shelf, ALIAS, sizeof ALIAS, ZONE, sizeof ZONE, parts, part, moment, &LIMITS, 1, counts);
+    return rrcache_offer_part(shelf, ALIAS, sizeof ALIAS, ZONE, sizeof ZONE, parts, part, moment,
+                              &LIMITS, 1, counts);
 }
 
 static uint64_t part_of(const uint8_t *name, size_t size)
@@ -119,7 +137,8 @@ static uint64_t part_of(const uint8_t *name, size_t size)
 static void test_layout(void)
 {
     EXPECT(sizeof(struct rrcache_shelf) == 16 && offsetof(struct rrcache_shelf, is_live) == 8);
-    EXPECT(sizeof(struct rrcache_told) == 32 && sizeof(struct rrcache_counts) == 24 && sizeof(struct rrcache_limits) == 12);
+    EXPECT(sizeof(struct rrcache_told) == 32 && sizeof(struct rrcache_counts) == 24
+           && sizeof(struct rrcache_limits) == 12);
 }
 
 static void test_answers(void)
@@ -130,7 +149,8 @@ static void test_answers(void)
     uint8_t buffer[64];
     EXPECT(make(&shelf) == RRCACHE_DONE);
     EXPECT(ask(&shelf, FIRST, &told, NULL, 0) == RRCACHE_DONE);
-    EXPECT(told.kind == RRCACHE_MISS && told.left == 0 && told.owner_size == 0 && told.data_size == 0);
+    EXPECT(told.kind == RRCACHE_MISS && told.left == 0 && told.owner_size == 0
+           && told.data_size == 0);
     EXPECT(events(&shelf) == 1);
     EXPECT(offer_answer(&shelf, FIRST, &counts) == RRCACHE_DONE);
     EXPECT(counts.kept == 1 && counts.cleared == 0 && counts.refused == 0 && events(&shelf) == 2);
@@ -145,7 +165,9 @@ static void test_answers(void)
 
     /* The name is asked for in any case, and a buffer of just the size will do. */
     memset(buffer, 0xee, sizeof buffer);
-    EXPECT(rrcache_ask(&shelf, UPPER, sizeof UPPER, A, FIRST, 0, 0, 3, &told, buffer, sizeof ADDRESSES) == RRCACHE_DONE);
+    EXPECT(
+        rrcache_ask(&shelf, UPPER, sizeof UPPER, A, FIRST, 0, 0, 3, &told, buffer, sizeof ADDRESSES)
+        == RRCACHE_DONE);
     EXPECT(memcmp(buffer, ADDRESSES, sizeof ADDRESSES) == 0 && events(&shelf) == 4);
     EXPECT(rrcache_free(&shelf) == RRCACHE_DONE && shelf.at == NULL && !shelf.is_live);
 }
@@ -176,7 +198,8 @@ static void test_peek(void)
     uint8_t buffer[64];
     EXPECT(make(&shelf) == RRCACHE_DONE && offer_answer(&shelf, FIRST, &counts) == RRCACHE_DONE);
     EXPECT(peek(&shelf, FIRST + 1, &told, buffer, sizeof buffer) == RRCACHE_DONE);
-    EXPECT(told.kind == RRCACHE_FRESH && told.left == 299 && memcmp(buffer, ADDRESSES, sizeof ADDRESSES) == 0);
+    EXPECT(told.kind == RRCACHE_FRESH && told.left == 299
+           && memcmp(buffer, ADDRESSES, sizeof ADDRESSES) == 0);
     EXPECT(events(&shelf) == 1);
     EXPECT(rrcache_free(&shelf) == RRCACHE_DONE);
 }
@@ -188,30 +211,49 @@ static void test_offers(void)
     uint32_t outcome = 0;
     uint8_t buffer[64];
     EXPECT(make(&shelf) == RRCACHE_DONE);
-    EXPECT(rrcache_offer_set(&shelf, NAME, sizeof NAME, A, RRCACHE_AUTHORITATIVE_ANSWER, 60, ADDRESS, sizeof ADDRESS, FIRST, 1, &outcome)
+    EXPECT(rrcache_offer_set(&shelf, NAME, sizeof NAME, A, RRCACHE_AUTHORITATIVE_ANSWER, 60,
+                             ADDRESS, sizeof ADDRESS, FIRST, 1, &outcome)
            == RRCACHE_DONE);
     EXPECT(outcome == RRCACHE_KEPT);
-    EXPECT(rrcache_offer_set(&shelf, NAME, sizeof NAME, A, RRCACHE_ADDITIONAL, 60, ADDRESS, sizeof ADDRESS, FIRST, 2, &outcome) == RRCACHE_DONE);
+    EXPECT(rrcache_offer_set(&shelf, NAME, sizeof NAME, A, RRCACHE_ADDITIONAL, 60, ADDRESS,
+                             sizeof ADDRESS, FIRST, 2, &outcome)
+           == RRCACHE_DONE);
     EXPECT(outcome == RRCACHE_LESS_TRUSTED);
-    EXPECT(peek(&shelf, FIRST, &told, buffer, sizeof buffer) == RRCACHE_DONE && told.kind == RRCACHE_FRESH && told.left == 60);
-    EXPECT(told.data_size == sizeof ADDRESS && memcmp(buffer + told.owner_size, ADDRESS, sizeof ADDRESS) == 0);
-    EXPECT(rrcache_offer_set(&shelf, NAME, sizeof NAME, A, RRCACHE_AUTHORITATIVE_ANSWER, 0, ADDRESS, sizeof ADDRESS, FIRST, 3, &outcome)
+    EXPECT(peek(&shelf, FIRST, &told, buffer, sizeof buffer) == RRCACHE_DONE
+           && told.kind == RRCACHE_FRESH && told.left == 60);
+    EXPECT(told.data_size == sizeof ADDRESS
+           && memcmp(buffer + told.owner_size, ADDRESS, sizeof ADDRESS) == 0);
+    EXPECT(rrcache_offer_set(&shelf, NAME, sizeof NAME, A, RRCACHE_AUTHORITATIVE_ANSWER, 0, ADDRESS,
+                             sizeof ADDRESS, FIRST, 3, &outcome)
            == RRCACHE_DONE);
     EXPECT(outcome == RRCACHE_CLEARED);
 
-    EXPECT(rrcache_offer_negative(&shelf, NAME, sizeof NAME, A, RRCACHE_DENIES_TYPE, RRCACHE_AUTHORITY, 60, ZONE, sizeof ZONE, SOA_DATA,
-                                  sizeof SOA_DATA, FIRST, 4, &outcome) == RRCACHE_DONE && outcome == RRCACHE_KEPT);
-    EXPECT(peek(&shelf, FIRST + 1, &told, buffer, sizeof buffer) == RRCACHE_DONE && told.kind == RRCACHE_NO_DATA && told.left == 59);
-    EXPECT(told.owner_size == sizeof ZONE && memcmp(buffer, ZONE, sizeof ZONE) == 0 && told.data_size == sizeof SOA_DATA + 2);
-    EXPECT(buffer[sizeof ZONE + 1] == sizeof SOA_DATA && memcmp(buffer + sizeof ZONE + 2, SOA_DATA, sizeof SOA_DATA) == 0);
+    EXPECT(rrcache_offer_negative(&shelf, NAME, sizeof NAME, A, RRCACHE_DENIES_TYPE,
+                                  RRCACHE_AUTHORITY, 60, ZONE, sizeof ZONE, SOA_DATA,
+                                  sizeof SOA_DATA, FIRST, 4, &outcome)
+               == RRCACHE_DONE
+           && outcome == RRCACHE_KEPT);
+    EXPECT(peek(&shelf, FIRST + 1, &told, buffer, sizeof buffer) == RRCACHE_DONE
+           && told.kind == RRCACHE_NO_DATA && told.left == 59);
+    EXPECT(told.owner_size == sizeof ZONE && memcmp(buffer, ZONE, sizeof ZONE) == 0
+           && told.data_size == sizeof SOA_DATA + 2);
+    EXPECT(buffer[sizeof ZONE + 1] == sizeof SOA_DATA
+           && memcmp(buffer + sizeof ZONE + 2, SOA_DATA, sizeof SOA_DATA) == 0);
 
-    EXPECT(rrcache_offer_negative(&shelf, OTHER, sizeof OTHER, A, RRCACHE_DENIES_NAME, RRCACHE_AUTHORITY, 60, ZONE, sizeof ZONE, SOA_DATA,
-                                  sizeof SOA_DATA, FIRST, 5, &outcome) == RRCACHE_DONE);
-    EXPECT(rrcache_peek(&shelf, OTHER, sizeof OTHER, TXT, FIRST, 1, 0, &told, buffer, sizeof buffer) == RRCACHE_DONE);
+    EXPECT(rrcache_offer_negative(&shelf, OTHER, sizeof OTHER, A, RRCACHE_DENIES_NAME,
+                                  RRCACHE_AUTHORITY, 60, ZONE, sizeof ZONE, SOA_DATA,
+                                  sizeof SOA_DATA, FIRST, 5, &outcome)
+           == RRCACHE_DONE);
+    EXPECT(rrcache_peek(&shelf, OTHER, sizeof OTHER, TXT, FIRST, 1, 0, &told, buffer, sizeof buffer)
+           == RRCACHE_DONE);
     EXPECT(told.kind == RRCACHE_NO_NAME);
 
-    EXPECT(rrcache_offer_failure(&shelf, NAME, sizeof NAME, TXT, 30, FIRST, 6, &outcome) == RRCACHE_DONE && outcome == RRCACHE_KEPT);
-    EXPECT(rrcache_peek(&shelf, NAME, sizeof NAME, TXT, FIRST + 1, 1, 0, &told, buffer, sizeof buffer) == RRCACHE_DONE);
+    EXPECT(rrcache_offer_failure(&shelf, NAME, sizeof NAME, TXT, 30, FIRST, 6, &outcome)
+               == RRCACHE_DONE
+           && outcome == RRCACHE_KEPT);
+    EXPECT(
+        rrcache_peek(&shelf, NAME, sizeof NAME, TXT, FIRST + 1, 1, 0, &told, buffer, sizeof buffer)
+        == RRCACHE_DONE);
     EXPECT(told.kind == RRCACHE_MISS_FAILED && told.retry_from == FIRST + 30 && told.left == 0);
     EXPECT(rrcache_free(&shelf) == RRCACHE_DONE);
 }
@@ -224,9 +266,13 @@ static void test_stale(void)
     uint64_t removed = 9;
     uint8_t buffer[64];
     EXPECT(make(&shelf) == RRCACHE_DONE && offer_answer(&shelf, FIRST, &counts) == RRCACHE_DONE);
-    EXPECT(ask(&shelf, FIRST + 300, &told, buffer, sizeof buffer) == RRCACHE_DONE && told.kind == RRCACHE_MISS);
-    EXPECT(rrcache_ask(&shelf, NAME, sizeof NAME, A, FIRST + 300, 1, RRCACHE_STALE_NOW, 3, &told, buffer, sizeof buffer) == RRCACHE_DONE);
-    EXPECT(told.kind == RRCACHE_STALE && told.left == 30 && memcmp(buffer, ADDRESSES, sizeof ADDRESSES) == 0);
+    EXPECT(ask(&shelf, FIRST + 300, &told, buffer, sizeof buffer) == RRCACHE_DONE
+           && told.kind == RRCACHE_MISS);
+    EXPECT(rrcache_ask(&shelf, NAME, sizeof NAME, A, FIRST + 300, 1, RRCACHE_STALE_NOW, 3, &told,
+                       buffer, sizeof buffer)
+           == RRCACHE_DONE);
+    EXPECT(told.kind == RRCACHE_STALE && told.left == 30
+           && memcmp(buffer, ADDRESSES, sizeof ADDRESSES) == 0);
     EXPECT(rrcache_sweep(&shelf, FIRST + 300, 4, &removed) == RRCACHE_DONE && removed == 0);
     EXPECT(rrcache_sweep(&shelf, FIRST + 4000, 5, &removed) == RRCACHE_DONE && removed == 1);
     EXPECT(rrcache_free(&shelf) == RRCACHE_DONE);
@@ -244,9 +290,11 @@ static void test_chapters(void)
         EXPECT(ask(&shelf, FIRST, &told, buffer, sizeof buffer) == RRCACHE_DONE);
     /* Nine events in chapters of four. */
     EXPECT(events(&shelf) == 2001);
-    EXPECT(rrcache_drop_chapters(&shelf, &dropped) == RRCACHE_DONE && dropped == 2 && events(&shelf) == 1);
+    EXPECT(rrcache_drop_chapters(&shelf, &dropped) == RRCACHE_DONE && dropped == 2
+           && events(&shelf) == 1);
     EXPECT(rrcache_drop_chapters(&shelf, &dropped) == RRCACHE_DONE && dropped == 0);
-    EXPECT(peek(&shelf, FIRST, &told, buffer, sizeof buffer) == RRCACHE_DONE && told.kind == RRCACHE_FRESH);
+    EXPECT(peek(&shelf, FIRST, &told, buffer, sizeof buffer) == RRCACHE_DONE
+           && told.kind == RRCACHE_FRESH);
     EXPECT(rrcache_free(&shelf) == RRCACHE_DONE);
 }
 
@@ -263,29 +311,45 @@ static void test_keys(void)
     EXPECT(ask(&shelf, FIRST, &told, buffer, sizeof buffer) == RRCACHE_DONE && keys(&shelf) == 0);
     EXPECT(offer_answer(&shelf, FIRST, &counts) == RRCACHE_DONE && keys(&shelf) == 1);
     EXPECT(offer_address(&shelf, UPPER, sizeof UPPER, 4, 60) == RRCACHE_KEPT && keys(&shelf) == 1);
-    EXPECT(offer_address(&shelf, NAME, sizeof NAME, 1, 60) == RRCACHE_LESS_TRUSTED && keys(&shelf) == 1);
+    EXPECT(offer_address(&shelf, NAME, sizeof NAME, 1, 60) == RRCACHE_LESS_TRUSTED
+           && keys(&shelf) == 1);
     EXPECT(offer_address(&shelf, OTHER, sizeof OTHER, 4, 60) == RRCACHE_KEPT && keys(&shelf) == 2);
-    EXPECT(rrcache_offer_negative(&shelf, NAME, sizeof NAME, TXT, RRCACHE_DENIES_TYPE, 3, 60, ZONE, sizeof ZONE, SOA_DATA, sizeof SOA_DATA, FIRST,
-                                  1, &outcome) == RRCACHE_DONE && keys(&shelf) == 3);
-    EXPECT(ask(&shelf, FIRST, &told, buffer, sizeof buffer) == RRCACHE_DONE && told.kind == RRCACHE_FRESH && keys(&shelf) == 3);
+    EXPECT(rrcache_offer_negative(&shelf, NAME, sizeof NAME, TXT, RRCACHE_DENIES_TYPE, 3, 60, ZONE,
+                                  sizeof ZONE, SOA_DATA, sizeof SOA_DATA, FIRST, 1, &outcome)
+               == RRCACHE_DONE
+           && keys(&shelf) == 3);
+    EXPECT(ask(&shelf, FIRST, &told, buffer, sizeof buffer) == RRCACHE_DONE
+           && told.kind == RRCACHE_FRESH && keys(&shelf) == 3);
 
     /* There is room for three: the key touched least recently goes, which is that of OTHER. */
-    EXPECT(rrcache_offer_failure(&shelf, NAME, sizeof NAME, SOA, 30, FIRST, 1, &outcome) == RRCACHE_DONE && keys(&shelf) == 3);
-    EXPECT(rrcache_peek(&shelf, OTHER, sizeof OTHER, A, FIRST, 0, 0, &told, buffer, sizeof buffer) == RRCACHE_DONE && told.kind == RRCACHE_MISS);
-    EXPECT(rrcache_drop_chapters(&shelf, &number) == RRCACHE_DONE && number == 1 && keys(&shelf) == 3);
+    EXPECT(rrcache_offer_failure(&shelf, NAME, sizeof NAME, SOA, 30, FIRST, 1, &outcome)
+               == RRCACHE_DONE
+           && keys(&shelf) == 3);
+    EXPECT(rrcache_peek(&shelf, OTHER, sizeof OTHER, A, FIRST, 0, 0, &told, buffer, sizeof buffer)
+               == RRCACHE_DONE
+           && told.kind == RRCACHE_MISS);
+    EXPECT(rrcache_drop_chapters(&shelf, &number) == RRCACHE_DONE && number == 1
+           && keys(&shelf) == 3);
 
     /* A ttl of 0 clears the key; what is dead is counted until it is swept. */
-    EXPECT(offer_address(&shelf, THIRD, sizeof THIRD, 4, 0) == RRCACHE_CLEARED && keys(&shelf) == 3);
+    EXPECT(offer_address(&shelf, THIRD, sizeof THIRD, 4, 0) == RRCACHE_CLEARED
+           && keys(&shelf) == 3);
     EXPECT(offer_address(&shelf, NAME, sizeof NAME, 4, 0) == RRCACHE_CLEARED && keys(&shelf) == 2);
-    EXPECT(rrcache_sweep(&shelf, FIRST + 29, 1, &number) == RRCACHE_DONE && number == 0 && keys(&shelf) == 2);
-    EXPECT(rrcache_peek(&shelf, NAME, sizeof NAME, TXT, FIRST + 60, 0, 0, &told, buffer, sizeof buffer) == RRCACHE_DONE);
+    EXPECT(rrcache_sweep(&shelf, FIRST + 29, 1, &number) == RRCACHE_DONE && number == 0
+           && keys(&shelf) == 2);
+    EXPECT(
+        rrcache_peek(&shelf, NAME, sizeof NAME, TXT, FIRST + 60, 0, 0, &told, buffer, sizeof buffer)
+        == RRCACHE_DONE);
     EXPECT(told.kind == RRCACHE_MISS && keys(&shelf) == 2);
-    EXPECT(rrcache_sweep(&shelf, FIRST + 30, 1, &number) == RRCACHE_DONE && number == 1 && keys(&shelf) == 1);
-    EXPECT(rrcache_sweep(&shelf, FIRST + 60, 1, &number) == RRCACHE_DONE && number == 1 && keys(&shelf) == 0);
+    EXPECT(rrcache_sweep(&shelf, FIRST + 30, 1, &number) == RRCACHE_DONE && number == 1
+           && keys(&shelf) == 1);
+    EXPECT(rrcache_sweep(&shelf, FIRST + 60, 1, &number) == RRCACHE_DONE && number == 1
+           && keys(&shelf) == 0);
     EXPECT(rrcache_free(&shelf) == RRCACHE_DONE);
 }
 
-/* A message of two names, which lie in two of sixteen shelves: each is kept where its name is asked for, and nowhere else. */
+/* A message of two names, which lie in two of sixteen shelves: each is kept where its name is asked
+   for, and nowhere else. */
 static void test_parts(void)
 {
     struct rrcache_shelf shelves[PARTS], whole = {0};
@@ -297,34 +361,50 @@ static void test_parts(void)
     EXPECT(alias != target);
     for (uint64_t part = 0; part < PARTS; part++) {
         counts = (struct rrcache_counts){9, 9, 9};
-        EXPECT(make(&shelves[part]) == RRCACHE_DONE && offer_alias(&shelves[part], PARTS, part, FIRST, &counts) == RRCACHE_DONE);
+        EXPECT(make(&shelves[part]) == RRCACHE_DONE
+               && offer_alias(&shelves[part], PARTS, part, FIRST, &counts) == RRCACHE_DONE);
         uint64_t share = part == alias || part == target;
         EXPECT(counts.kept == share && counts.cleared == 0 && counts.refused == 0);
         EXPECT(keys(&shelves[part]) == share && events(&shelves[part]) == share);
         all.kept += counts.kept;
     }
-    EXPECT(rrcache_peek(&shelves[alias], NAME, sizeof NAME, CNAME, FIRST, 1, 0, &told, buffer, sizeof buffer) == RRCACHE_DONE);
-    EXPECT(told.kind == RRCACHE_FRESH && told.data_size == 2 + sizeof OTHER && memcmp(buffer + told.owner_size + 2, OTHER, sizeof OTHER) == 0);
-    EXPECT(rrcache_peek(&shelves[target], OTHER, sizeof OTHER, A, FIRST, 1, 0, &told, buffer, sizeof buffer) == RRCACHE_DONE);
-    EXPECT(told.kind == RRCACHE_FRESH && told.data_size == sizeof ADDRESS && memcmp(buffer + told.owner_size, ADDRESS, sizeof ADDRESS) == 0);
-    EXPECT(rrcache_peek(&shelves[alias], OTHER, sizeof OTHER, A, FIRST, 1, 0, &told, buffer, sizeof buffer) == RRCACHE_DONE);
+    EXPECT(rrcache_peek(&shelves[alias], NAME, sizeof NAME, CNAME, FIRST, 1, 0, &told, buffer,
+                        sizeof buffer)
+           == RRCACHE_DONE);
+    EXPECT(told.kind == RRCACHE_FRESH && told.data_size == 2 + sizeof OTHER
+           && memcmp(buffer + told.owner_size + 2, OTHER, sizeof OTHER) == 0);
+    EXPECT(rrcache_peek(&shelves[target], OTHER, sizeof OTHER, A, FIRST, 1, 0, &told, buffer,
+                        sizeof buffer)
+           == RRCACHE_DONE);
+    EXPECT(told.kind == RRCACHE_FRESH && told.data_size == sizeof ADDRESS
+           && memcmp(buffer + told.owner_size, ADDRESS, sizeof ADDRESS) == 0);
+    EXPECT(rrcache_peek(&shelves[alias], OTHER, sizeof OTHER, A, FIRST, 1, 0, &told, buffer,
+                        sizeof buffer)
+           == RRCACHE_DONE);
     EXPECT(told.kind == RRCACHE_MISS);
 
     /* All together is what the whole message offers, which is also the share of one part alone. */
     EXPECT(make(&whole) == RRCACHE_DONE);
-    EXPECT(rrcache_offer_message(&whole, ALIAS, sizeof ALIAS, ZONE, sizeof ZONE, FIRST, &LIMITS, 1, &counts) == RRCACHE_DONE);
+    EXPECT(rrcache_offer_message(&whole, ALIAS, sizeof ALIAS, ZONE, sizeof ZONE, FIRST, &LIMITS, 1,
+                                 &counts)
+           == RRCACHE_DONE);
     EXPECT(counts.kept == all.kept && keys(&whole) == 2 && events(&whole) == 2);
-    EXPECT(offer_alias(&whole, 1, 0, FIRST, &counts) == RRCACHE_DONE && counts.kept == 2 && keys(&whole) == 2 && events(&whole) == 4);
+    EXPECT(offer_alias(&whole, 1, 0, FIRST, &counts) == RRCACHE_DONE && counts.kept == 2
+           && keys(&whole) == 2 && events(&whole) == 4);
 
     /* What is refused or cleared is counted in the share that it is of. */
     EXPECT(offer_address(&shelves[target], OTHER, sizeof OTHER, 4, 60) == RRCACHE_KEPT);
     EXPECT(offer_alias(&shelves[target], PARTS, target, FIRST, &counts) == RRCACHE_DONE);
-    EXPECT(counts.kept == 0 && counts.cleared == 0 && counts.refused == 1 && keys(&shelves[target]) == 1);
+    EXPECT(counts.kept == 0 && counts.cleared == 0 && counts.refused == 1
+           && keys(&shelves[target]) == 1);
     uint8_t cleared[sizeof ALIAS];
     memcpy(cleared, ALIAS, sizeof cleared);
     memset(cleared + 35, 0, 4); /* the alias's ttl */
-    EXPECT(rrcache_offer_part(&shelves[alias], cleared, sizeof cleared, ZONE, sizeof ZONE, PARTS, alias, FIRST, &LIMITS, 1, &counts) == RRCACHE_DONE);
-    EXPECT(counts.kept == 0 && counts.cleared == 1 && counts.refused == 0 && keys(&shelves[alias]) == 0);
+    EXPECT(rrcache_offer_part(&shelves[alias], cleared, sizeof cleared, ZONE, sizeof ZONE, PARTS,
+                              alias, FIRST, &LIMITS, 1, &counts)
+           == RRCACHE_DONE);
+    EXPECT(counts.kept == 0 && counts.cleared == 1 && counts.refused == 0
+           && keys(&shelves[alias]) == 0);
     for (uint64_t part = 0; part < PARTS; part++)
         EXPECT(rrcache_free(&shelves[part]) == RRCACHE_DONE);
     EXPECT(rrcache_free(&whole) == RRCACHE_DONE);
@@ -344,7 +424,8 @@ static void test_octets(void)
     EXPECT(rrcache_part_of(NAME, sizeof NAME, 64, &part) == RRCACHE_DONE && part < 64);
     EXPECT(rrcache_part_of(UPPER, sizeof UPPER, 64, &other) == RRCACHE_DONE && other == part);
     EXPECT(rrcache_part_of(NAME, sizeof NAME, 1, &part) == RRCACHE_DONE && part == 0);
-    EXPECT(rrcache_part_of(NAME, sizeof NAME, 0, &part) == RRCACHE_BAD_RULES && rrcache_part_of(NAME, sizeof NAME, 65, &part) == RRCACHE_BAD_RULES);
+    EXPECT(rrcache_part_of(NAME, sizeof NAME, 0, &part) == RRCACHE_BAD_RULES
+           && rrcache_part_of(NAME, sizeof NAME, 65, &part) == RRCACHE_BAD_RULES);
     EXPECT(rrcache_part_of(NO_NAME, sizeof NO_NAME, 4, &part) == RRCACHE_BAD_NAME && part == 0);
 }
 
@@ -361,29 +442,42 @@ static void test_no_shelf(void)
     EXPECT(rrcache_free(&shelf) == RRCACHE_NO_SHELF);
     EXPECT(offer_alias(&shelf, PARTS, 0, FIRST, &counts) == RRCACHE_NO_SHELF && counts.kept == 7);
     EXPECT(offer_answer(&shelf, FIRST, &counts) == RRCACHE_NO_SHELF && counts.kept == 7);
-    EXPECT(rrcache_offer_set(&shelf, NAME, sizeof NAME, A, 4, 60, ADDRESS, sizeof ADDRESS, FIRST, 1, &outcome) == RRCACHE_NO_SHELF);
-    EXPECT(rrcache_offer_negative(&shelf, NAME, sizeof NAME, A, 0, 3, 60, ZONE, sizeof ZONE, SOA_DATA, sizeof SOA_DATA, FIRST, 4, &outcome)
+    EXPECT(rrcache_offer_set(&shelf, NAME, sizeof NAME, A, 4, 60, ADDRESS, sizeof ADDRESS, FIRST, 1,
+                             &outcome)
            == RRCACHE_NO_SHELF);
-    EXPECT(rrcache_offer_failure(&shelf, NAME, sizeof NAME, A, 30, FIRST, 6, &outcome) == RRCACHE_NO_SHELF && outcome == 7);
+    EXPECT(rrcache_offer_negative(&shelf, NAME, sizeof NAME, A, 0, 3, 60, ZONE, sizeof ZONE,
+                                  SOA_DATA, sizeof SOA_DATA, FIRST, 4, &outcome)
+           == RRCACHE_NO_SHELF);
+    EXPECT(rrcache_offer_failure(&shelf, NAME, sizeof NAME, A, 30, FIRST, 6, &outcome)
+               == RRCACHE_NO_SHELF
+           && outcome == 7);
     EXPECT(ask(&shelf, FIRST, &told, buffer, sizeof buffer) == RRCACHE_NO_SHELF);
-    EXPECT(peek(&shelf, FIRST, &told, buffer, sizeof buffer) == RRCACHE_NO_SHELF && told.kind == 7 && buffer[0] == 7);
-    EXPECT(rrcache_sweep(&shelf, FIRST, 1, &number) == RRCACHE_NO_SHELF && rrcache_drop_chapters(&shelf, &number) == RRCACHE_NO_SHELF);
-    EXPECT(rrcache_sizes(&shelf, &number, &other, &third) == RRCACHE_NO_SHELF && number == 7 && other == 7 && third == 7);
-    EXPECT(make(&shelf) == RRCACHE_DONE && rrcache_free(&shelf) == RRCACHE_DONE && rrcache_free(&shelf) == RRCACHE_NO_SHELF);
+    EXPECT(peek(&shelf, FIRST, &told, buffer, sizeof buffer) == RRCACHE_NO_SHELF && told.kind == 7
+           && buffer[0] == 7);
+    EXPECT(rrcache_sweep(&shelf, FIRST, 1, &number) == RRCACHE_NO_SHELF
+           && rrcache_drop_chapters(&shelf, &number) == RRCACHE_NO_SHELF);
+    EXPECT(rrcache_sizes(&shelf, &number, &other, &third) == RRCACHE_NO_SHELF && number == 7
+           && other == 7 && third == 7);
+    EXPECT(make(&shelf) == RRCACHE_DONE && rrcache_free(&shelf) == RRCACHE_DONE
+           && rrcache_free(&shelf) == RRCACHE_NO_SHELF);
 }
 
 static void test_making_refused(void)
 {
     struct rrcache_shelf shelf = {0};
-    EXPECT(rrcache_make(&shelf, 0, 4, 0, SEED) == RRCACHE_BAD_RULES && rrcache_make(&shelf, 65537, 4, 0, SEED) == RRCACHE_BAD_RULES);
-    EXPECT(rrcache_make(&shelf, 1, 0, 0, SEED) == RRCACHE_BAD_RULES && rrcache_make(&shelf, 1, 1048577, 0, SEED) == RRCACHE_BAD_RULES);
+    EXPECT(rrcache_make(&shelf, 0, 4, 0, SEED) == RRCACHE_BAD_RULES
+           && rrcache_make(&shelf, 65537, 4, 0, SEED) == RRCACHE_BAD_RULES);
+    EXPECT(rrcache_make(&shelf, 1, 0, 0, SEED) == RRCACHE_BAD_RULES
+           && rrcache_make(&shelf, 1, 1048577, 0, SEED) == RRCACHE_BAD_RULES);
     EXPECT(rrcache_make(&shelf, 1, 1, 604801, SEED) == RRCACHE_BAD_RULES);
-    EXPECT(rrc_make(&shelf, 1, 1, 0, SEED, 15) == RRCACHE_BAD_SEED && shelf.at == NULL && !shelf.is_live);
+    EXPECT(rrc_make(&shelf, 1, 1, 0, SEED, 15) == RRCACHE_BAD_SEED && shelf.at == NULL
+           && !shelf.is_live);
     EXPECT(rrcache_make(&shelf, 65536, 1048576, 604800, SEED) == RRCACHE_DONE);
     EXPECT(make(&shelf) == RRCACHE_HAS_SHELF && rrcache_free(&shelf) == RRCACHE_DONE);
 }
 
-/* Where the handle holds a shelf, that is told before any other refusal, and the shelf is as it was. */
+/* Where the handle holds a shelf, that is told before any other refusal, and the shelf is as it
+   was. */
 static void test_has_shelf(void)
 {
     struct rrcache_shelf shelf = {0}, before;
@@ -392,10 +486,12 @@ static void test_has_shelf(void)
     uint8_t buffer[64];
     EXPECT(make(&shelf) == RRCACHE_DONE && offer_answer(&shelf, FIRST, &counts) == RRCACHE_DONE);
     before = shelf;
-    EXPECT(make(&shelf) == RRCACHE_HAS_SHELF && rrcache_make(&shelf, 0, 0, 604801, SEED) == RRCACHE_HAS_SHELF);
+    EXPECT(make(&shelf) == RRCACHE_HAS_SHELF
+           && rrcache_make(&shelf, 0, 0, 604801, SEED) == RRCACHE_HAS_SHELF);
     EXPECT(rrc_make(&shelf, 1, 1, 0, SEED, 15) == RRCACHE_HAS_SHELF);
     EXPECT(shelf.at == before.at && shelf.is_live && events(&shelf) == 1 && keys(&shelf) == 1);
-    EXPECT(ask(&shelf, FIRST, &told, buffer, sizeof buffer) == RRCACHE_DONE && told.kind == RRCACHE_FRESH);
+    EXPECT(ask(&shelf, FIRST, &told, buffer, sizeof buffer) == RRCACHE_DONE
+           && told.kind == RRCACHE_FRESH);
     EXPECT(rrcache_free(&shelf) == RRCACHE_DONE);
 }
 
@@ -407,27 +503,49 @@ static void test_refused_counts(void)
     const struct rrcache_limits bad = {0, 3600, 30};
     const uint64_t late = (1ULL << 40) + 1;
     EXPECT(make(&shelf) == RRCACHE_DONE);
-#define REFUSES(call, status) \
-    (memset(&counts, 7, sizeof counts), (call) == (status) && counts.kept == 0 && counts.cleared == 0 && counts.refused == 0)
-    EXPECT(REFUSES(rrcache_offer_message(&shelf, ANSWER, sizeof ANSWER, ZONE, sizeof ZONE, FIRST, &bad, 1, &counts), RRCACHE_BAD_LIMITS));
-    EXPECT(REFUSES(rrcache_offer_message(&shelf, ANSWER, sizeof ANSWER, NO_NAME, sizeof NO_NAME, FIRST, &LIMITS, 1, &counts), RRCACHE_BAD_NAME));
-    EXPECT(REFUSES(rrcache_offer_message(&shelf, ANSWER, 30, ZONE, sizeof ZONE, FIRST, &LIMITS, 1, &counts), RRCACHE_BAD_MESSAGE));
+#define REFUSES(call, status)                                                                      \
+    (memset(&counts, 7, sizeof counts),                                                            \
+     (call) == (status) && counts.kept == 0 && counts.cleared == 0 && counts.refused == 0)
+    EXPECT(REFUSES(rrcache_offer_message(&shelf, ANSWER, sizeof ANSWER, ZONE, sizeof ZONE, FIRST,
+                                         &bad, 1, &counts),
+                   RRCACHE_BAD_LIMITS));
+    EXPECT(REFUSES(rrcache_offer_message(&shelf, ANSWER, sizeof ANSWER, NO_NAME, sizeof NO_NAME,
+                                         FIRST, &LIMITS, 1, &counts),
+                   RRCACHE_BAD_NAME));
+    EXPECT(REFUSES(
+        rrcache_offer_message(&shelf, ANSWER, 30, ZONE, sizeof ZONE, FIRST, &LIMITS, 1, &counts),
+        RRCACHE_BAD_MESSAGE));
     EXPECT(REFUSES(offer_answer(&shelf, late, &counts), RRCACHE_MOMENT_TOO_LARGE));
-    EXPECT(REFUSES(offer_alias(&shelf, 0, 0, FIRST, &counts), RRCACHE_BAD_RULES) && REFUSES(offer_alias(&shelf, 65, 0, FIRST, &counts), RRCACHE_BAD_RULES));
+    EXPECT(REFUSES(offer_alias(&shelf, 0, 0, FIRST, &counts), RRCACHE_BAD_RULES)
+           && REFUSES(offer_alias(&shelf, 65, 0, FIRST, &counts), RRCACHE_BAD_RULES));
     EXPECT(REFUSES(offer_alias(&shelf, PARTS, PARTS, FIRST, &counts), RRCACHE_BAD_RULES));
-    EXPECT(REFUSES(rrcache_offer_part(&shelf, ALIAS, sizeof ALIAS, ZONE, sizeof ZONE, 1, 0, FIRST, &bad, 1, &counts), RRCACHE_BAD_LIMITS));
-    EXPECT(REFUSES(rrcache_offer_part(&shelf, ALIAS, sizeof ALIAS, NO_NAME, sizeof NO_NAME, 1, 0, FIRST, &LIMITS, 1, &counts), RRCACHE_BAD_NAME));
-    EXPECT(REFUSES(rrcache_offer_part(&shelf, ALIAS, 30, ZONE, sizeof ZONE, 1, 0, FIRST, &LIMITS, 1, &counts), RRCACHE_BAD_MESSAGE));
+    EXPECT(REFUSES(rrcache_offer_part(&shelf, ALIAS, sizeof ALIAS, ZONE, sizeof ZONE, 1, 0, FIRST,
+                                      &bad, 1, &counts),
+                   RRCACHE_BAD_LIMITS));
+    EXPECT(REFUSES(rrcache_offer_part(&shelf, ALIAS, sizeof ALIAS, NO_NAME, sizeof NO_NAME, 1, 0,
+                                      FIRST, &LIMITS, 1, &counts),
+                   RRCACHE_BAD_NAME));
+    EXPECT(REFUSES(
+        rrcache_offer_part(&shelf, ALIAS, 30, ZONE, sizeof ZONE, 1, 0, FIRST, &LIMITS, 1, &counts),
+        RRCACHE_BAD_MESSAGE));
     EXPECT(REFUSES(offer_alias(&shelf, 1, 0, late, &counts), RRCACHE_MOMENT_TOO_LARGE));
-    /* Of more than one the first is told: the parts before the limits, these before the zone, and that before the message. */
-    EXPECT(REFUSES(rrcache_offer_part(&shelf, ALIAS, 30, NO_NAME, sizeof NO_NAME, 0, 0, late, &bad, 1, &counts), RRCACHE_BAD_RULES));
-    EXPECT(REFUSES(rrcache_offer_part(&shelf, ALIAS, 30, NO_NAME, sizeof NO_NAME, 1, 0, late, &bad, 1, &counts), RRCACHE_BAD_LIMITS));
-    EXPECT(REFUSES(rrcache_offer_part(&shelf, ALIAS, 30, NO_NAME, sizeof NO_NAME, 1, 0, late, &LIMITS, 1, &counts), RRCACHE_BAD_NAME));
+    /* Of more than one the first is told: the parts before the limits, these before the zone, and
+     * that before the message. */
+    EXPECT(REFUSES(rrcache_offer_part(&shelf, ALIAS, 30, NO_NAME, sizeof NO_NAME, 0, 0, late, &bad,
+                                      1, &counts),
+                   RRCACHE_BAD_RULES));
+    EXPECT(REFUSES(rrcache_offer_part(&shelf, ALIAS, 30, NO_NAME, sizeof NO_NAME, 1, 0, late, &bad,
+                                      1, &counts),
+                   RRCACHE_BAD_LIMITS));
+    EXPECT(REFUSES(rrcache_offer_part(&shelf, ALIAS, 30, NO_NAME, sizeof NO_NAME, 1, 0, late,
+                                      &LIMITS, 1, &counts),
+                   RRCACHE_BAD_NAME));
 #undef REFUSES
     EXPECT(events(&shelf) == 0 && rrcache_free(&shelf) == RRCACHE_DONE);
 }
 
-/* That a name does not exist has no type, so none is asked for; that it has no data of a type has one. */
+/* That a name does not exist has no type, so none is asked for; that it has no data of a type has
+   one. */
 static void test_denied_names(void)
 {
     struct rrcache_shelf shelf = {0};
@@ -435,13 +553,20 @@ static void test_denied_names(void)
     uint32_t outcome = 7;
     uint8_t buffer[64];
     EXPECT(make(&shelf) == RRCACHE_DONE);
-    EXPECT(rrcache_offer_negative(&shelf, NAME, sizeof NAME, OPT, RRCACHE_DENIES_TYPE, 3, 60, ZONE, sizeof ZONE, SOA_DATA, sizeof SOA_DATA, FIRST, 1,
-                                  &outcome) == RRCACHE_BAD_TYPE && outcome == 7);
-    EXPECT(rrcache_offer_negative(&shelf, NAME, sizeof NAME, OPT, RRCACHE_DENIES_NAME, 3, 60, ZONE, sizeof ZONE, SOA_DATA, sizeof SOA_DATA, FIRST, 1,
-                                  &outcome) == RRCACHE_DONE && outcome == RRCACHE_KEPT);
-    EXPECT(rrcache_offer_negative(&shelf, OTHER, sizeof OTHER, 0, RRCACHE_DENIES_NAME, 3, 60, ZONE, sizeof ZONE, SOA_DATA, sizeof SOA_DATA, FIRST, 2,
-                                  &outcome) == RRCACHE_DONE && outcome == RRCACHE_KEPT);
-    EXPECT(peek(&shelf, FIRST, &told, buffer, sizeof buffer) == RRCACHE_DONE && told.kind == RRCACHE_NO_NAME);
+    EXPECT(rrcache_offer_negative(&shelf, NAME, sizeof NAME, OPT, RRCACHE_DENIES_TYPE, 3, 60, ZONE,
+                                  sizeof ZONE, SOA_DATA, sizeof SOA_DATA, FIRST, 1, &outcome)
+               == RRCACHE_BAD_TYPE
+           && outcome == 7);
+    EXPECT(rrcache_offer_negative(&shelf, NAME, sizeof NAME, OPT, RRCACHE_DENIES_NAME, 3, 60, ZONE,
+                                  sizeof ZONE, SOA_DATA, sizeof SOA_DATA, FIRST, 1, &outcome)
+               == RRCACHE_DONE
+           && outcome == RRCACHE_KEPT);
+    EXPECT(rrcache_offer_negative(&shelf, OTHER, sizeof OTHER, 0, RRCACHE_DENIES_NAME, 3, 60, ZONE,
+                                  sizeof ZONE, SOA_DATA, sizeof SOA_DATA, FIRST, 2, &outcome)
+               == RRCACHE_DONE
+           && outcome == RRCACHE_KEPT);
+    EXPECT(peek(&shelf, FIRST, &told, buffer, sizeof buffer) == RRCACHE_DONE
+           && told.kind == RRCACHE_NO_NAME);
     EXPECT(rrcache_free(&shelf) == RRCACHE_DONE);
 }
 
@@ -457,61 +582,114 @@ static void test_refusals(void)
     const struct rrcache_limits bad = {86400, 3600, 301};
     EXPECT(make(&shelf) == RRCACHE_DONE);
 
-    EXPECT(rrcache_offer_message(&shelf, ANSWER, 30, ZONE, sizeof ZONE, FIRST, &LIMITS, 1, &counts) == RRCACHE_BAD_MESSAGE);
+    EXPECT(rrcache_offer_message(&shelf, ANSWER, 30, ZONE, sizeof ZONE, FIRST, &LIMITS, 1, &counts)
+           == RRCACHE_BAD_MESSAGE);
     EXPECT(counts.kept == 0 && counts.cleared == 0 && counts.refused == 0);
-    EXPECT(rrcache_offer_message(&shelf, ANSWER, sizeof ANSWER, ZONE, sizeof ZONE, FIRST, &bad, 1, &counts) == RRCACHE_BAD_LIMITS);
-    EXPECT(rrcache_offer_message(&shelf, ANSWER, sizeof ANSWER, NO_NAME, sizeof NO_NAME, FIRST, &LIMITS, 1, &counts) == RRCACHE_BAD_NAME);
+    EXPECT(rrcache_offer_message(&shelf, ANSWER, sizeof ANSWER, ZONE, sizeof ZONE, FIRST, &bad, 1,
+                                 &counts)
+           == RRCACHE_BAD_LIMITS);
+    EXPECT(rrcache_offer_message(&shelf, ANSWER, sizeof ANSWER, NO_NAME, sizeof NO_NAME, FIRST,
+                                 &LIMITS, 1, &counts)
+           == RRCACHE_BAD_NAME);
     EXPECT(offer_answer(&shelf, late, &counts) == RRCACHE_MOMENT_TOO_LARGE && counts.kept == 0);
 
     const uint64_t part = part_of(NAME, sizeof NAME);
     counts.kept = 7;
     EXPECT(offer_alias(&shelf, 0, 0, FIRST, &counts) == RRCACHE_BAD_RULES && counts.kept == 0);
-    EXPECT(offer_alias(&shelf, 65, 0, FIRST, &counts) == RRCACHE_BAD_RULES && offer_alias(&shelf, 1ULL << 32, 0, FIRST, &counts) == RRCACHE_BAD_RULES);
+    EXPECT(offer_alias(&shelf, 65, 0, FIRST, &counts) == RRCACHE_BAD_RULES
+           && offer_alias(&shelf, 1ULL << 32, 0, FIRST, &counts) == RRCACHE_BAD_RULES);
     EXPECT(offer_alias(&shelf, PARTS, PARTS, FIRST, &counts) == RRCACHE_BAD_RULES);
     EXPECT(offer_alias(&shelf, PARTS, (1ULL << 32) + part, FIRST, &counts) == RRCACHE_BAD_RULES);
-    EXPECT(offer_alias(&shelf, PARTS, part, late, &counts) == RRCACHE_MOMENT_TOO_LARGE && counts.kept == 0);
-    EXPECT(rrcache_offer_part(&shelf, ALIAS, 30, ZONE, sizeof ZONE, PARTS, part, FIRST, &LIMITS, 1, &counts) == RRCACHE_BAD_MESSAGE);
-    EXPECT(rrcache_offer_part(&shelf, ALIAS, sizeof ALIAS, ZONE, sizeof ZONE, PARTS, part, FIRST, &bad, 1, &counts) == RRCACHE_BAD_LIMITS);
-    EXPECT(rrcache_offer_part(&shelf, ALIAS, sizeof ALIAS, NO_NAME, sizeof NO_NAME, PARTS, part, FIRST, &LIMITS, 1, &counts) == RRCACHE_BAD_NAME);
+    EXPECT(offer_alias(&shelf, PARTS, part, late, &counts) == RRCACHE_MOMENT_TOO_LARGE
+           && counts.kept == 0);
+    EXPECT(rrcache_offer_part(&shelf, ALIAS, 30, ZONE, sizeof ZONE, PARTS, part, FIRST, &LIMITS, 1,
+                              &counts)
+           == RRCACHE_BAD_MESSAGE);
+    EXPECT(rrcache_offer_part(&shelf, ALIAS, sizeof ALIAS, ZONE, sizeof ZONE, PARTS, part, FIRST,
+                              &bad, 1, &counts)
+           == RRCACHE_BAD_LIMITS);
+    EXPECT(rrcache_offer_part(&shelf, ALIAS, sizeof ALIAS, NO_NAME, sizeof NO_NAME, PARTS, part,
+                              FIRST, &LIMITS, 1, &counts)
+           == RRCACHE_BAD_NAME);
 
     EXPECT(ask(&shelf, late, &told, buffer, sizeof buffer) == RRCACHE_MOMENT_TOO_LARGE);
-    EXPECT(rrcache_ask(&shelf, NO_NAME, sizeof NO_NAME, A, FIRST, 0, 0, 1, &told, buffer, sizeof buffer) == RRCACHE_BAD_NAME);
-    EXPECT(rrcache_ask(&shelf, NAME, sizeof NAME, A, FIRST, 2, 0, 1, &told, buffer, sizeof buffer) == RRCACHE_BAD_CHOICE);
-    EXPECT(rrcache_ask(&shelf, NAME, sizeof NAME, A, FIRST, 0, 3, 1, &told, buffer, sizeof buffer) == RRCACHE_BAD_CHOICE);
-    EXPECT(rrcache_peek(&shelf, NAME, sizeof NAME, A, FIRST, 0, 3, &told, buffer, sizeof buffer) == RRCACHE_BAD_CHOICE);
-    EXPECT(rrcache_peek(&shelf, NAME, sizeof NAME, A, FIRST, 2, 0, &told, buffer, sizeof buffer) == RRCACHE_BAD_CHOICE);
-    EXPECT(rrcache_peek(&shelf, NO_NAME, sizeof NO_NAME, A, FIRST, 0, 0, &told, buffer, sizeof buffer) == RRCACHE_BAD_NAME);
+    EXPECT(rrcache_ask(&shelf, NO_NAME, sizeof NO_NAME, A, FIRST, 0, 0, 1, &told, buffer,
+                       sizeof buffer)
+           == RRCACHE_BAD_NAME);
+    EXPECT(rrcache_ask(&shelf, NAME, sizeof NAME, A, FIRST, 2, 0, 1, &told, buffer, sizeof buffer)
+           == RRCACHE_BAD_CHOICE);
+    EXPECT(rrcache_ask(&shelf, NAME, sizeof NAME, A, FIRST, 0, 3, 1, &told, buffer, sizeof buffer)
+           == RRCACHE_BAD_CHOICE);
+    EXPECT(rrcache_peek(&shelf, NAME, sizeof NAME, A, FIRST, 0, 3, &told, buffer, sizeof buffer)
+           == RRCACHE_BAD_CHOICE);
+    EXPECT(rrcache_peek(&shelf, NAME, sizeof NAME, A, FIRST, 2, 0, &told, buffer, sizeof buffer)
+           == RRCACHE_BAD_CHOICE);
+    EXPECT(
+        rrcache_peek(&shelf, NO_NAME, sizeof NO_NAME, A, FIRST, 0, 0, &told, buffer, sizeof buffer)
+        == RRCACHE_BAD_NAME);
     EXPECT(told.kind == 7 && told.owner_size == 7 && buffer[0] == 7);
 
-    EXPECT(rrcache_offer_set(&shelf, NAME, sizeof NAME, A, 0, 60, ADDRESS, sizeof ADDRESS, FIRST, 1, &outcome) == RRCACHE_BAD_CHOICE);
-    EXPECT(rrcache_offer_set(&shelf, NAME, sizeof NAME, A, 5, 60, ADDRESS, sizeof ADDRESS, FIRST, 1, &outcome) == RRCACHE_BAD_CHOICE);
-    EXPECT(rrcache_offer_set(&shelf, NAME, sizeof NAME, OPT, 4, 60, ADDRESS, sizeof ADDRESS, FIRST, 1, &outcome) == RRCACHE_BAD_TYPE);
-    EXPECT(rrcache_offer_set(&shelf, NAME, sizeof NAME, A, 4, 60, ADDRESS, sizeof ADDRESS - 1, FIRST, 1, &outcome) == RRCACHE_BAD_DATA);
-    EXPECT(rrcache_offer_set(&shelf, NAME, sizeof NAME, A, 4, 60, ADDRESS, 1, FIRST, 1, &outcome) == RRCACHE_BAD_DATA);
-    EXPECT(rrcache_offer_set(&shelf, NAME, sizeof NAME, SOA, 4, 60, ADDRESS, sizeof ADDRESS, FIRST, 1, &outcome) == RRCACHE_BAD_DATA);
-    EXPECT(rrcache_offer_set(&shelf, NAME, sizeof NAME, A, 4, 60, NULL, 0, FIRST, 1, &outcome) == RRCACHE_WRONG_BODY);
-    EXPECT(rrcache_offer_set(&shelf, NAME, sizeof NAME, A, 4, 1u << 31, ADDRESS, sizeof ADDRESS, FIRST, 1, &outcome) == RRCACHE_WRONG_BODY);
-    EXPECT(rrcache_offer_set(&shelf, NO_NAME, sizeof NO_NAME, A, 4, 60, ADDRESS, sizeof ADDRESS, FIRST, 1, &outcome) == RRCACHE_BAD_NAME);
-    EXPECT(rrcache_offer_set(&shelf, NAME, sizeof NAME, A, 4, 60, ADDRESS, sizeof ADDRESS, late, 1, &outcome) == RRCACHE_MOMENT_TOO_LARGE);
-    EXPECT(rrcache_offer_negative(&shelf, NAME, sizeof NAME, A, 2, 3, 60, ZONE, sizeof ZONE, SOA_DATA, sizeof SOA_DATA, FIRST, 1, &outcome)
+    EXPECT(rrcache_offer_set(&shelf, NAME, sizeof NAME, A, 0, 60, ADDRESS, sizeof ADDRESS, FIRST, 1,
+                             &outcome)
            == RRCACHE_BAD_CHOICE);
-    EXPECT(rrcache_offer_negative(&shelf, NAME, sizeof NAME, A, 0, 3, 60, ZONE, sizeof ZONE, SOA_DATA, 21, FIRST, 1, &outcome) == RRCACHE_BAD_DATA);
-    EXPECT(rrcache_offer_negative(&shelf, NAME, sizeof NAME, A, 0, 5, 60, ZONE, sizeof ZONE, SOA_DATA, sizeof SOA_DATA, FIRST, 1, &outcome)
+    EXPECT(rrcache_offer_set(&shelf, NAME, sizeof NAME, A, 5, 60, ADDRESS, sizeof ADDRESS, FIRST, 1,
+                             &outcome)
            == RRCACHE_BAD_CHOICE);
-    EXPECT(rrcache_offer_negative(&shelf, NAME, sizeof NAME, OPT, 0, 3, 60, ZONE, sizeof ZONE, SOA_DATA, sizeof SOA_DATA, FIRST, 1, &outcome)
+    EXPECT(rrcache_offer_set(&shelf, NAME, sizeof NAME, OPT, 4, 60, ADDRESS, sizeof ADDRESS, FIRST,
+                             1, &outcome)
            == RRCACHE_BAD_TYPE);
-    EXPECT(rrcache_offer_negative(&shelf, NO_NAME, sizeof NO_NAME, A, 0, 3, 60, ZONE, sizeof ZONE, SOA_DATA, sizeof SOA_DATA, FIRST, 1, &outcome)
-           == RRCACHE_BAD_NAME);
-    EXPECT(rrcache_offer_negative(&shelf, NAME, sizeof NAME, A, 0, 3, 60, NO_NAME, sizeof NO_NAME, SOA_DATA, sizeof SOA_DATA, FIRST, 1, &outcome)
-           == RRCACHE_BAD_NAME);
-    EXPECT(rrcache_offer_negative(&shelf, NAME, sizeof NAME, A, 0, 3, 1u << 31, ZONE, sizeof ZONE, SOA_DATA, sizeof SOA_DATA, FIRST, 1, &outcome)
+    EXPECT(rrcache_offer_set(&shelf, NAME, sizeof NAME, A, 4, 60, ADDRESS, sizeof ADDRESS - 1,
+                             FIRST, 1, &outcome)
+           == RRCACHE_BAD_DATA);
+    EXPECT(rrcache_offer_set(&shelf, NAME, sizeof NAME, A, 4, 60, ADDRESS, 1, FIRST, 1, &outcome)
+           == RRCACHE_BAD_DATA);
+    EXPECT(rrcache_offer_set(&shelf, NAME, sizeof NAME, SOA, 4, 60, ADDRESS, sizeof ADDRESS, FIRST,
+                             1, &outcome)
+           == RRCACHE_BAD_DATA);
+    EXPECT(rrcache_offer_set(&shelf, NAME, sizeof NAME, A, 4, 60, NULL, 0, FIRST, 1, &outcome)
            == RRCACHE_WRONG_BODY);
-    EXPECT(rrcache_offer_negative(&shelf, NAME, sizeof NAME, A, 0, 3, 60, ZONE, sizeof ZONE, SOA_DATA, sizeof SOA_DATA, late, 1, &outcome)
+    EXPECT(rrcache_offer_set(&shelf, NAME, sizeof NAME, A, 4, 1u << 31, ADDRESS, sizeof ADDRESS,
+                             FIRST, 1, &outcome)
+           == RRCACHE_WRONG_BODY);
+    EXPECT(rrcache_offer_set(&shelf, NO_NAME, sizeof NO_NAME, A, 4, 60, ADDRESS, sizeof ADDRESS,
+                             FIRST, 1, &outcome)
+           == RRCACHE_BAD_NAME);
+    EXPECT(rrcache_offer_set(&shelf, NAME, sizeof NAME, A, 4, 60, ADDRESS, sizeof ADDRESS, late, 1,
+                             &outcome)
            == RRCACHE_MOMENT_TOO_LARGE);
-    EXPECT(rrcache_offer_failure(&shelf, NAME, sizeof NAME, OPT, 30, FIRST, 1, &outcome) == RRCACHE_BAD_TYPE);
-    EXPECT(rrcache_offer_failure(&shelf, NO_NAME, sizeof NO_NAME, A, 30, FIRST, 1, &outcome) == RRCACHE_BAD_NAME);
-    EXPECT(rrcache_offer_failure(&shelf, NAME, sizeof NAME, A, 30, late, 1, &outcome) == RRCACHE_MOMENT_TOO_LARGE);
-    EXPECT(rrcache_offer_failure(&shelf, NAME, sizeof NAME, A, 1u << 31, FIRST, 1, &outcome) == RRCACHE_WRONG_BODY && outcome == 7);
+    EXPECT(rrcache_offer_negative(&shelf, NAME, sizeof NAME, A, 2, 3, 60, ZONE, sizeof ZONE,
+                                  SOA_DATA, sizeof SOA_DATA, FIRST, 1, &outcome)
+           == RRCACHE_BAD_CHOICE);
+    EXPECT(rrcache_offer_negative(&shelf, NAME, sizeof NAME, A, 0, 3, 60, ZONE, sizeof ZONE,
+                                  SOA_DATA, 21, FIRST, 1, &outcome)
+           == RRCACHE_BAD_DATA);
+    EXPECT(rrcache_offer_negative(&shelf, NAME, sizeof NAME, A, 0, 5, 60, ZONE, sizeof ZONE,
+                                  SOA_DATA, sizeof SOA_DATA, FIRST, 1, &outcome)
+           == RRCACHE_BAD_CHOICE);
+    EXPECT(rrcache_offer_negative(&shelf, NAME, sizeof NAME, OPT, 0, 3, 60, ZONE, sizeof ZONE,
+                                  SOA_DATA, sizeof SOA_DATA, FIRST, 1, &outcome)
+           == RRCACHE_BAD_TYPE);
+    EXPECT(rrcache_offer_negative(&shelf, NO_NAME, sizeof NO_NAME, A, 0, 3, 60, ZONE, sizeof ZONE,
+                                  SOA_DATA, sizeof SOA_DATA, FIRST, 1, &outcome)
+           == RRCACHE_BAD_NAME);
+    EXPECT(rrcache_offer_negative(&shelf, NAME, sizeof NAME, A, 0, 3, 60, NO_NAME, sizeof NO_NAME,
+                                  SOA_DATA, sizeof SOA_DATA, FIRST, 1, &outcome)
+           == RRCACHE_BAD_NAME);
+    EXPECT(rrcache_offer_negative(&shelf, NAME, sizeof NAME, A, 0, 3, 1u << 31, ZONE, sizeof ZONE,
+                                  SOA_DATA, sizeof SOA_DATA, FIRST, 1, &outcome)
+           == RRCACHE_WRONG_BODY);
+    EXPECT(rrcache_offer_negative(&shelf, NAME, sizeof NAME, A, 0, 3, 60, ZONE, sizeof ZONE,
+                                  SOA_DATA, sizeof SOA_DATA, late, 1, &outcome)
+           == RRCACHE_MOMENT_TOO_LARGE);
+    EXPECT(rrcache_offer_failure(&shelf, NAME, sizeof NAME, OPT, 30, FIRST, 1, &outcome)
+           == RRCACHE_BAD_TYPE);
+    EXPECT(rrcache_offer_failure(&shelf, NO_NAME, sizeof NO_NAME, A, 30, FIRST, 1, &outcome)
+           == RRCACHE_BAD_NAME);
+    EXPECT(rrcache_offer_failure(&shelf, NAME, sizeof NAME, A, 30, late, 1, &outcome)
+           == RRCACHE_MOMENT_TOO_LARGE);
+    EXPECT(rrcache_offer_failure(&shelf, NAME, sizeof NAME, A, 1u << 31, FIRST, 1, &outcome)
+               == RRCACHE_WRONG_BODY
+           && outcome == 7);
     EXPECT(rrcache_sweep(&shelf, late, 1, &removed) == RRCACHE_MOMENT_TOO_LARGE && removed == 7);
 
     EXPECT(events(&shelf) == 0);
@@ -526,32 +704,53 @@ static void test_null(void)
     uint32_t number;
     uint64_t wide, other;
     uint8_t buffer[64] = {0};
-    EXPECT(rrcache_make(NULL, 1, 1, 0, SEED) == RRCACHE_NULL && rrcache_make(&shelf, 1, 1, 0, NULL) == RRCACHE_NULL);
+    EXPECT(rrcache_make(NULL, 1, 1, 0, SEED) == RRCACHE_NULL
+           && rrcache_make(&shelf, 1, 1, 0, NULL) == RRCACHE_NULL);
     EXPECT(rrcache_free(NULL) == RRCACHE_NULL && make(&shelf) == RRCACHE_DONE);
-    EXPECT(rrcache_offer_message(&shelf, NULL, 1, ZONE, sizeof ZONE, FIRST, &LIMITS, 1, &counts) == RRCACHE_NULL);
-    EXPECT(rrcache_offer_message(&shelf, ANSWER, sizeof ANSWER, ZONE, sizeof ZONE, FIRST, NULL, 1, &counts) == RRCACHE_NULL);
-    EXPECT(rrcache_offer_part(&shelf, ALIAS, sizeof ALIAS, NULL, 1, PARTS, 0, FIRST, &LIMITS, 1, &counts) == RRCACHE_NULL);
-    EXPECT(offer_alias(NULL, PARTS, 0, FIRST, &counts) == RRCACHE_NULL && offer_alias(&shelf, PARTS, 0, FIRST, NULL) == RRCACHE_NULL);
-    EXPECT(rrcache_offer_set(&shelf, NAME, sizeof NAME, A, 4, 60, ADDRESS, sizeof ADDRESS, FIRST, 1, NULL) == RRCACHE_NULL);
-    EXPECT(rrcache_offer_negative(&shelf, NAME, sizeof NAME, A, 0, 3, 60, NULL, 1, SOA_DATA, sizeof SOA_DATA, FIRST, 1, &number) == RRCACHE_NULL);
-    EXPECT(rrcache_offer_failure(NULL, NAME, sizeof NAME, A, 30, FIRST, 1, &number) == RRCACHE_NULL);
-    EXPECT(ask(&shelf, FIRST, NULL, buffer, sizeof buffer) == RRCACHE_NULL && ask(&shelf, FIRST, &told, NULL, 1) == RRCACHE_NULL);
+    EXPECT(rrcache_offer_message(&shelf, NULL, 1, ZONE, sizeof ZONE, FIRST, &LIMITS, 1, &counts)
+           == RRCACHE_NULL);
+    EXPECT(rrcache_offer_message(&shelf, ANSWER, sizeof ANSWER, ZONE, sizeof ZONE, FIRST, NULL, 1,
+                                 &counts)
+           == RRCACHE_NULL);
+    EXPECT(rrcache_offer_part(&shelf, ALIAS, sizeof ALIAS, NULL, 1, PARTS, 0, FIRST, &LIMITS, 1,
+                              &counts)
+           == RRCACHE_NULL);
+    EXPECT(offer_alias(NULL, PARTS, 0, FIRST, &counts) == RRCACHE_NULL
+           && offer_alias(&shelf, PARTS, 0, FIRST, NULL) == RRCACHE_NULL);
+    EXPECT(rrcache_offer_set(&shelf, NAME, sizeof NAME, A, 4, 60, ADDRESS, sizeof ADDRESS, FIRST, 1,
+                             NULL)
+           == RRCACHE_NULL);
+    EXPECT(rrcache_offer_negative(&shelf, NAME, sizeof NAME, A, 0, 3, 60, NULL, 1, SOA_DATA,
+                                  sizeof SOA_DATA, FIRST, 1, &number)
+           == RRCACHE_NULL);
+    EXPECT(rrcache_offer_failure(NULL, NAME, sizeof NAME, A, 30, FIRST, 1, &number)
+           == RRCACHE_NULL);
+    EXPECT(ask(&shelf, FIRST, NULL, buffer, sizeof buffer) == RRCACHE_NULL
+           && ask(&shelf, FIRST, &told, NULL, 1) == RRCACHE_NULL);
     EXPECT(peek(NULL, FIRST, &told, buffer, sizeof buffer) == RRCACHE_NULL);
-    EXPECT(rrcache_ask(&shelf, buffer, 13, A, FIRST, 0, 0, 1, &told, buffer, sizeof buffer) == RRCACHE_NULL);
+    EXPECT(rrcache_ask(&shelf, buffer, 13, A, FIRST, 0, 0, 1, &told, buffer, sizeof buffer)
+           == RRCACHE_NULL);
     EXPECT(rrcache_peek(&shelf, buffer + 8, 13, A, FIRST, 0, 0, &told, buffer, 9) == RRCACHE_NULL);
-    EXPECT(rrcache_sweep(&shelf, FIRST, 1, NULL) == RRCACHE_NULL && rrcache_drop_chapters(&shelf, NULL) == RRCACHE_NULL);
-    EXPECT(rrcache_sizes(NULL, &wide, &other, &other + 1) == RRCACHE_NULL && rrcache_sizes(&shelf, NULL, &wide, &other) == RRCACHE_NULL);
-    EXPECT(rrcache_sizes(&shelf, &wide, NULL, &other) == RRCACHE_NULL && rrcache_sizes(&shelf, &wide, &other, NULL) == RRCACHE_NULL);
-    EXPECT(rrcache_sizes(&shelf, &wide, &wide, &other) == RRCACHE_NULL && rrcache_sizes(&shelf, &wide, &other, &wide) == RRCACHE_NULL);
+    EXPECT(rrcache_sweep(&shelf, FIRST, 1, NULL) == RRCACHE_NULL
+           && rrcache_drop_chapters(&shelf, NULL) == RRCACHE_NULL);
+    EXPECT(rrcache_sizes(NULL, &wide, &other, &other + 1) == RRCACHE_NULL
+           && rrcache_sizes(&shelf, NULL, &wide, &other) == RRCACHE_NULL);
+    EXPECT(rrcache_sizes(&shelf, &wide, NULL, &other) == RRCACHE_NULL
+           && rrcache_sizes(&shelf, &wide, &other, NULL) == RRCACHE_NULL);
+    EXPECT(rrcache_sizes(&shelf, &wide, &wide, &other) == RRCACHE_NULL
+           && rrcache_sizes(&shelf, &wide, &other, &wide) == RRCACHE_NULL);
     EXPECT(rrcache_sizes(&shelf, &other, &wide, &wide) == RRCACHE_NULL);
-    EXPECT(rrcache_fault(NULL, 1, &number) == RRCACHE_NULL && rrcache_part_of(NAME, sizeof NAME, 1, NULL) == RRCACHE_NULL);
+    EXPECT(rrcache_fault(NULL, 1, &number) == RRCACHE_NULL
+           && rrcache_part_of(NAME, sizeof NAME, 1, NULL) == RRCACHE_NULL);
     EXPECT(events(&shelf) == 0 && rrcache_free(&shelf) == RRCACHE_DONE);
 }
 
-/* What a call writes, and what else it is handed, lie in one stretch of memory: each pair in turn overlaps by an octet. */
+/* What a call writes, and what else it is handed, lie in one stretch of memory: each pair in turn
+   overlaps by an octet. */
 static void test_overlaps(void)
 {
-    /* Places of 64 octets for the handle, a record and octets, so that any two can be made to overlap. */
+    /* Places of 64 octets for the handle, a record and octets, so that any two can be made to
+     * overlap. */
     union {
         uint8_t octets[512];
         uint64_t aligned;
@@ -566,7 +765,8 @@ static void test_overlaps(void)
     memset(&memory, 0, sizeof memory);
     memcpy(far, NAME, sizeof NAME);
 #define IS_NULL(call) EXPECT((call) == RRCACHE_NULL)
-    EXPECT(rrcache_make(shelf, 100, 4, 3600, end - 1) == RRCACHE_NULL && !shelf->is_live && rrcache_make(shelf, 100, 4, 3600, end) == RRCACHE_DONE);
+    EXPECT(rrcache_make(shelf, 100, 4, 3600, end - 1) == RRCACHE_NULL && !shelf->is_live
+           && rrcache_make(shelf, 100, 4, 3600, end) == RRCACHE_DONE);
     memcpy(&held, shelf, sizeof held);
 
     /* The handle with what else is written, and with what is read. */
@@ -584,43 +784,68 @@ static void test_overlaps(void)
     IS_NULL(offer_answer(shelf, FIRST, (struct rrcache_counts *)(void *)(memory.octets + 8)));
     IS_NULL(offer_alias(shelf, 1, 0, FIRST, (struct rrcache_counts *)(void *)(memory.octets + 8)));
     IS_NULL(rrcache_offer_message(shelf, end - 1, 8, ZONE, sizeof ZONE, FIRST, &LIMITS, 1, counts));
-    IS_NULL(rrcache_offer_message(shelf, ANSWER, sizeof ANSWER, end - 1, 8, FIRST, &LIMITS, 1, counts));
-    IS_NULL(rrcache_offer_message(shelf, ANSWER, sizeof ANSWER, ZONE, sizeof ZONE, FIRST, (struct rrcache_limits *)(void *)(memory.octets + 8), 1, counts));
-    IS_NULL(rrcache_offer_part(shelf, end - 1, 8, ZONE, sizeof ZONE, 1, 0, FIRST, &LIMITS, 1, counts));
-    IS_NULL(rrcache_offer_part(shelf, ALIAS, sizeof ALIAS, end - 1, 8, 1, 0, FIRST, &LIMITS, 1, counts));
-    IS_NULL(rrcache_offer_part(shelf, ALIAS, sizeof ALIAS, ZONE, sizeof ZONE, 1, 0, FIRST, (struct rrcache_limits *)(void *)(memory.octets + 8), 1, counts));
-    IS_NULL(rrcache_offer_set(shelf, end - 1, 8, A, 4, 60, ADDRESS, sizeof ADDRESS, FIRST, 1, number));
+    IS_NULL(
+        rrcache_offer_message(shelf, ANSWER, sizeof ANSWER, end - 1, 8, FIRST, &LIMITS, 1, counts));
+    IS_NULL(rrcache_offer_message(shelf, ANSWER, sizeof ANSWER, ZONE, sizeof ZONE, FIRST,
+                                  (struct rrcache_limits *)(void *)(memory.octets + 8), 1, counts));
+    IS_NULL(
+        rrcache_offer_part(shelf, end - 1, 8, ZONE, sizeof ZONE, 1, 0, FIRST, &LIMITS, 1, counts));
+    IS_NULL(rrcache_offer_part(shelf, ALIAS, sizeof ALIAS, end - 1, 8, 1, 0, FIRST, &LIMITS, 1,
+                               counts));
+    IS_NULL(rrcache_offer_part(shelf, ALIAS, sizeof ALIAS, ZONE, sizeof ZONE, 1, 0, FIRST,
+                               (struct rrcache_limits *)(void *)(memory.octets + 8), 1, counts));
+    IS_NULL(
+        rrcache_offer_set(shelf, end - 1, 8, A, 4, 60, ADDRESS, sizeof ADDRESS, FIRST, 1, number));
     IS_NULL(rrcache_offer_set(shelf, NAME, sizeof NAME, A, 4, 60, end - 1, 8, FIRST, 1, number));
-    IS_NULL(rrcache_offer_set(shelf, NAME, sizeof NAME, A, 4, 60, ADDRESS, sizeof ADDRESS, FIRST, 1, (uint32_t *)(void *)(memory.octets + 12)));
-    IS_NULL(rrcache_offer_negative(shelf, end - 1, 8, A, 0, 3, 60, ZONE, sizeof ZONE, SOA_DATA, sizeof SOA_DATA, FIRST, 1, number));
-    IS_NULL(rrcache_offer_negative(shelf, NAME, sizeof NAME, A, 0, 3, 60, end - 1, 8, SOA_DATA, sizeof SOA_DATA, FIRST, 1, number));
-    IS_NULL(rrcache_offer_negative(shelf, NAME, sizeof NAME, A, 0, 3, 60, ZONE, sizeof ZONE, end - 1, 8, FIRST, 1, number));
-    IS_NULL(rrcache_offer_negative(shelf, NAME, sizeof NAME, A, 0, 3, 60, ZONE, sizeof ZONE, SOA_DATA, sizeof SOA_DATA, FIRST, 1,
+    IS_NULL(rrcache_offer_set(shelf, NAME, sizeof NAME, A, 4, 60, ADDRESS, sizeof ADDRESS, FIRST, 1,
+                              (uint32_t *)(void *)(memory.octets + 12)));
+    IS_NULL(rrcache_offer_negative(shelf, end - 1, 8, A, 0, 3, 60, ZONE, sizeof ZONE, SOA_DATA,
+                                   sizeof SOA_DATA, FIRST, 1, number));
+    IS_NULL(rrcache_offer_negative(shelf, NAME, sizeof NAME, A, 0, 3, 60, end - 1, 8, SOA_DATA,
+                                   sizeof SOA_DATA, FIRST, 1, number));
+    IS_NULL(rrcache_offer_negative(shelf, NAME, sizeof NAME, A, 0, 3, 60, ZONE, sizeof ZONE,
+                                   end - 1, 8, FIRST, 1, number));
+    IS_NULL(rrcache_offer_negative(shelf, NAME, sizeof NAME, A, 0, 3, 60, ZONE, sizeof ZONE,
+                                   SOA_DATA, sizeof SOA_DATA, FIRST, 1,
                                    (uint32_t *)(void *)(memory.octets + 12)));
     IS_NULL(rrcache_offer_failure(shelf, end - 1, 8, A, 30, FIRST, 1, number));
-    IS_NULL(rrcache_offer_failure(shelf, NAME, sizeof NAME, A, 30, FIRST, 1, (uint32_t *)(void *)(memory.octets + 12)));
+    IS_NULL(rrcache_offer_failure(shelf, NAME, sizeof NAME, A, 30, FIRST, 1,
+                                  (uint32_t *)(void *)(memory.octets + 12)));
 
     /* What else is written, with itself and with what is read. */
     IS_NULL(ask(shelf, FIRST, told, apart + sizeof *told - 1, 64));
     IS_NULL(peek(shelf, FIRST, told, apart + sizeof *told - 1, 64));
     IS_NULL(rrcache_ask(shelf, apart + sizeof *told - 1, 8, A, FIRST, 0, 0, 1, told, far, 64));
     IS_NULL(rrcache_peek(shelf, apart + sizeof *told - 1, 8, A, FIRST, 0, 0, told, far, 64));
-    IS_NULL(rrcache_ask(shelf, far, sizeof NAME, A, FIRST, 0, 0, 1, told, far + sizeof NAME - 1, 64));
+    IS_NULL(
+        rrcache_ask(shelf, far, sizeof NAME, A, FIRST, 0, 0, 1, told, far + sizeof NAME - 1, 64));
     IS_NULL(rrcache_peek(shelf, far, sizeof NAME, A, FIRST, 0, 0, told, far + sizeof NAME - 1, 64));
     IS_NULL(rrcache_sizes(shelf, wide, wide, wide + 1));
     IS_NULL(rrcache_sizes(shelf, wide, wide + 1, wide));
     IS_NULL(rrcache_sizes(shelf, wide + 1, wide, wide));
-    IS_NULL(rrcache_offer_message(shelf, apart + sizeof *counts - 1, 8, ZONE, sizeof ZONE, FIRST, &LIMITS, 1, counts));
-    IS_NULL(rrcache_offer_message(shelf, ANSWER, sizeof ANSWER, apart + sizeof *counts - 1, 8, FIRST, &LIMITS, 1, counts));
-    IS_NULL(rrcache_offer_message(shelf, ANSWER, sizeof ANSWER, ZONE, sizeof ZONE, FIRST, (struct rrcache_limits *)(void *)(apart + sizeof *counts - 4), 1, counts));
-    IS_NULL(rrcache_offer_part(shelf, apart + sizeof *counts - 1, 8, ZONE, sizeof ZONE, 1, 0, FIRST, &LIMITS, 1, counts));
-    IS_NULL(rrcache_offer_part(shelf, ALIAS, sizeof ALIAS, apart + sizeof *counts - 1, 8, 1, 0, FIRST, &LIMITS, 1, counts));
-    IS_NULL(rrcache_offer_part(shelf, ALIAS, sizeof ALIAS, ZONE, sizeof ZONE, 1, 0, FIRST, (struct rrcache_limits *)(void *)(apart + sizeof *counts - 4), 1, counts));
-    IS_NULL(rrcache_offer_set(shelf, apart + 3, 8, A, 4, 60, ADDRESS, sizeof ADDRESS, FIRST, 1, number));
+    IS_NULL(rrcache_offer_message(shelf, apart + sizeof *counts - 1, 8, ZONE, sizeof ZONE, FIRST,
+                                  &LIMITS, 1, counts));
+    IS_NULL(rrcache_offer_message(shelf, ANSWER, sizeof ANSWER, apart + sizeof *counts - 1, 8,
+                                  FIRST, &LIMITS, 1, counts));
+    IS_NULL(rrcache_offer_message(shelf, ANSWER, sizeof ANSWER, ZONE, sizeof ZONE, FIRST,
+                                  (struct rrcache_limits *)(void *)(apart + sizeof *counts - 4), 1,
+                                  counts));
+    IS_NULL(rrcache_offer_part(shelf, apart + sizeof *counts - 1, 8, ZONE, sizeof ZONE, 1, 0, FIRST,
+                               &LIMITS, 1, counts));
+    IS_NULL(rrcache_offer_part(shelf, ALIAS, sizeof ALIAS, apart + sizeof *counts - 1, 8, 1, 0,
+                               FIRST, &LIMITS, 1, counts));
+    IS_NULL(rrcache_offer_part(shelf, ALIAS, sizeof ALIAS, ZONE, sizeof ZONE, 1, 0, FIRST,
+                               (struct rrcache_limits *)(void *)(apart + sizeof *counts - 4), 1,
+                               counts));
+    IS_NULL(rrcache_offer_set(shelf, apart + 3, 8, A, 4, 60, ADDRESS, sizeof ADDRESS, FIRST, 1,
+                              number));
     IS_NULL(rrcache_offer_set(shelf, NAME, sizeof NAME, A, 4, 60, apart + 3, 8, FIRST, 1, number));
-    IS_NULL(rrcache_offer_negative(shelf, apart + 3, 8, A, 0, 3, 60, ZONE, sizeof ZONE, SOA_DATA, sizeof SOA_DATA, FIRST, 1, number));
-    IS_NULL(rrcache_offer_negative(shelf, NAME, sizeof NAME, A, 0, 3, 60, apart + 3, 8, SOA_DATA, sizeof SOA_DATA, FIRST, 1, number));
-    IS_NULL(rrcache_offer_negative(shelf, NAME, sizeof NAME, A, 0, 3, 60, ZONE, sizeof ZONE, apart + 3, 8, FIRST, 1, number));
+    IS_NULL(rrcache_offer_negative(shelf, apart + 3, 8, A, 0, 3, 60, ZONE, sizeof ZONE, SOA_DATA,
+                                   sizeof SOA_DATA, FIRST, 1, number));
+    IS_NULL(rrcache_offer_negative(shelf, NAME, sizeof NAME, A, 0, 3, 60, apart + 3, 8, SOA_DATA,
+                                   sizeof SOA_DATA, FIRST, 1, number));
+    IS_NULL(rrcache_offer_negative(shelf, NAME, sizeof NAME, A, 0, 3, 60, ZONE, sizeof ZONE,
+                                   apart + 3, 8, FIRST, 1, number));
     IS_NULL(rrcache_offer_failure(shelf, apart + 3, 8, A, 30, FIRST, 1, number));
     IS_NULL(rrcache_fault(apart + 3, 8, number));
     IS_NULL(rrcache_part_of(apart + 7, 8, 1, wide));
@@ -628,10 +853,15 @@ static void test_overlaps(void)
 
     /* Nothing was written, and what lies side by side, or is only read, is no overlap. */
     EXPECT(memcmp(&held, shelf, sizeof held) == 0 && events(shelf) == 0);
-    EXPECT(rrcache_ask(shelf, far, sizeof NAME, A, FIRST, 0, 0, 1, told, far + sizeof NAME, 64) == RRCACHE_DONE);
-    EXPECT(ask(shelf, FIRST, told, apart + sizeof *told, 0) == RRCACHE_DONE && ask(shelf, FIRST, told, apart, 0) == RRCACHE_DONE);
-    EXPECT(rrcache_offer_negative(shelf, far, sizeof NAME, A, 0, 3, 60, far, sizeof NAME, SOA_DATA, sizeof SOA_DATA, FIRST, 1, number) == RRCACHE_DONE);
-    EXPECT(rrcache_sizes(shelf, wide, wide + 1, wide + 2) == RRCACHE_DONE && rrcache_free(shelf) == RRCACHE_DONE);
+    EXPECT(rrcache_ask(shelf, far, sizeof NAME, A, FIRST, 0, 0, 1, told, far + sizeof NAME, 64)
+           == RRCACHE_DONE);
+    EXPECT(ask(shelf, FIRST, told, apart + sizeof *told, 0) == RRCACHE_DONE
+           && ask(shelf, FIRST, told, apart, 0) == RRCACHE_DONE);
+    EXPECT(rrcache_offer_negative(shelf, far, sizeof NAME, A, 0, 3, 60, far, sizeof NAME, SOA_DATA,
+                                  sizeof SOA_DATA, FIRST, 1, number)
+           == RRCACHE_DONE);
+    EXPECT(rrcache_sizes(shelf, wide, wide + 1, wide + 2) == RRCACHE_DONE
+           && rrcache_free(shelf) == RRCACHE_DONE);
 }
 
 #ifdef REFUSE
@@ -685,7 +915,8 @@ static struct state state_of(struct rrcache_shelf *shelf)
     memset(&state, 0, sizeof state);
     uint64_t open = 0, chapters = 0;
     rrcache_sizes(shelf, &state.keys, &open, &chapters);
-    /* A chapter that was full may be closed by a call that is refused, so events are counted over all chapters of four. */
+    /* A chapter that was full may be closed by a call that is refused, so events are counted over
+     * all chapters of four. */
     state.events = open + 4 * chapters;
     state.status = peek(shelf, FIRST, &state.told, state.buffer, sizeof state.buffer);
     granted = before;
@@ -697,7 +928,8 @@ enum { CALLS = 10 };
 static const uint8_t LONG[] = "\46a-label-that-is-longer-than-most-names\7example";
 /* The part of OTHER. */
 static uint64_t target;
-/* Which of the calls have met a refusal of memory, and behind them whether the making of the shelf has. */
+/* Which of the calls have met a refusal of memory, and behind them whether the making of the shelf
+   has. */
 static bool met_refusal[CALLS + 1];
 
 static uint32_t call(int number, struct rrcache_shelf *shelf)
@@ -708,23 +940,36 @@ static uint32_t call(int number, struct rrcache_shelf *shelf)
     uint64_t removed;
     uint8_t buffer[64];
     switch (number) {
-    case 0: return offer_answer(shelf, FIRST, &counts);
-    case 1: return rrcache_ask(shelf, UPPER, sizeof UPPER, A, FIRST, 1, 0, 2, &told, buffer, sizeof buffer);
-    case 2: return rrcache_offer_set(shelf, OTHER, sizeof OTHER, A, 4, 60, ADDRESS, sizeof ADDRESS, FIRST, 3, &outcome);
-    case 3: return rrcache_offer_negative(shelf, OTHER, sizeof OTHER, TXT, 0, 3, 60, ZONE, sizeof ZONE, SOA_DATA, sizeof SOA_DATA, FIRST, 4, &outcome);
-    case 4: return rrcache_offer_failure(shelf, NAME, sizeof NAME, TXT, 30, FIRST, 5, &outcome);
-    case 5: return rrcache_sweep(shelf, FIRST + 10000, 6, &removed);
-    case 6: return rrcache_fault(ANSWER, sizeof ANSWER, &outcome);
-    case 7: return rrcache_peek(shelf, LONG, sizeof LONG, A, FIRST, 1, 0, &told, buffer, sizeof buffer);
-    case 8: return offer_alias(shelf, PARTS, target, FIRST, &counts);
-    default: return rrcache_part_of(LONG, sizeof LONG, PARTS, &removed);
+    case 0:
+        return offer_answer(shelf, FIRST, &counts);
+    case 1:
+        return rrcache_ask(shelf, UPPER, sizeof UPPER, A, FIRST, 1, 0, 2, &told, buffer,
+                           sizeof buffer);
+    case 2:
+        return rrcache_offer_set(shelf, OTHER, sizeof OTHER, A, 4, 60, ADDRESS, sizeof ADDRESS,
+                                 FIRST, 3, &outcome);
+    case 3:
+        return rrcache_offer_negative(shelf, OTHER, sizeof OTHER, TXT, 0, 3, 60, ZONE, sizeof ZONE,
+                                      SOA_DATA, sizeof SOA_DATA, FIRST, 4, &outcome);
+    case 4:
+        return rrcache_offer_failure(shelf, NAME, sizeof NAME, TXT, 30, FIRST, 5, &outcome);
+    case 5:
+        return rrcache_sweep(shelf, FIRST + 10000, 6, &removed);
+    case 6:
+        return rrcache_fault(ANSWER, sizeof ANSWER, &outcome);
+    case 7:
+        return rrcache_peek(shelf, LONG, sizeof LONG, A, FIRST, 1, 0, &told, buffer, sizeof buffer);
+    case 8:
+        return offer_alias(shelf, PARTS, target, FIRST, &counts);
+    default:
+        return rrcache_part_of(LONG, sizeof LONG, PARTS, &removed);
     }
 }
 
 /*
- * Makes the calls with one allocation refused, and answers whether all were made with none refused. A call that does without what it
- * was refused, as a note of what a chapter moved, is done like any other.
- */
+   * Makes the calls with one allocation refused, and answers whether all were made with none
+   refused. A call that does without what it * was refused, as a note of what a chapter moved, is
+   done like any other. */
 static bool run_refused(long refused)
 {
     struct rrcache_shelf shelf = {0};

@@ -1,43 +1,55 @@
 /* rrcache.h: the RRset cache of a recursive DNS resolver, for resolvers written in C.
 
-   A *shelf* is one part of the cache with its history. A resolver makes 16 to 64 of them, each with a lock beside it, and picks the
-   one for a name by `rrcache_part_of`: all that is known of a name lies in one part, in whatever case the name is written. With more
-   shelves fewer threads wait for one lock; one shelf with no lock will do where one thread asks.
+   A *shelf* is one part of the cache with its history. A resolver makes 16 to 64 of them, each with
+   a lock beside it, and picks the one for a name by `rrcache_part_of`: all that is known of a name
+   lies in one part, in whatever case the name is written. With more shelves fewer threads wait for
+   one lock; one shelf with no lock will do where one thread asks.
 
    Who owns what
-   - The caller owns the handle, the lock and each buffer, and no call keeps a pointer to any of them. What the library takes from
-     malloc it keeps, and gives back by `rrcache_free`: no pointer to it leaves the library.
-   - A handle begins as zeros, `struct rrcache_shelf shelf = {0};`, which holds no shelf. Nothing but the library writes into it
-     after that. It may be moved in memory while no call runs; there must be no copy of it that is used as well.
+   - The caller owns the handle, the lock and each buffer, and no call keeps a pointer to any of
+     them. What the library takes from malloc it keeps, and gives back by `rrcache_free`: no pointer
+     to it leaves the library.
+   - A handle begins as zeros, `struct rrcache_shelf shelf = {0};`, which holds no shelf. Nothing
+     but the library writes into it after that. It may be moved in memory while no call runs; there
+     must be no copy of it that is used as well.
 
    Which lock to hold
-   - That of the shelf, for the whole of every call that takes a handle, `rrcache_peek` and `rrcache_sizes` too, which also write
-     into the handle for a while. Two threads in one handle are a fault of the caller that nothing tests. A call takes one shelf,
-     so no second lock is ever needed beside it.
+   - That of the shelf, for the whole of every call that takes a handle, `rrcache_peek` and
+     `rrcache_sizes` too, which also write into the handle for a while. Two threads in one handle
+     are a fault of the caller that nothing tests. A call takes one shelf, so no second lock is ever
+     needed beside it.
    - `rrcache_fault` and `rrcache_part_of` take no handle and need no lock.
-   - No call waits, sleeps, takes a lock or calls back. None may be made in a signal handler, nor in the child of a process with
-     threads that forked.
+   - No call waits, sleeps, takes a lock or calls back. None may be made in a signal handler, nor in
+     the child of a process with threads that forked.
 
    Memory
-   - The library calls malloc, realloc and free and nothing else. Where malloc refuses, the call answers RRCACHE_MEMORY.
+   - The library calls malloc, realloc and free and nothing else. Where malloc refuses, the call
+     answers RRCACHE_MEMORY.
    - What a reply says is copied into the caller's buffer.
 
    What a refusal leaves
-   - Every call answers a status. RRCACHE_DONE is 0; each other one is a refusal, and nothing ends the process.
-   - A refusal leaves the shelf's history and its replies as they were; a chapter that was full may have been closed.
-     `rrcache_offer_message` and `rrcache_offer_part` alone may leave a part of their work: the offers of one message are made one
-     after another, and where one is refused, those before it stay. `counts` tells how many they are.
-     RRCACHE_NULL and RRCACHE_NO_SHELF alone leave `counts` as it was.
-   - What a call was to write for the caller is as it was after a refusal, but for `counts`, and for `told` after RRCACHE_SMALL.
+   - Every call answers a status. RRCACHE_DONE is 0; each other one is a refusal, and nothing ends
+     the process.
+   - A refusal leaves the shelf's history and its replies as they were; a chapter that was full may
+     have been closed. `rrcache_offer_message` and `rrcache_offer_part` alone may leave a part of
+     their work: the offers of one message are made one after another, and where one is refused,
+     those before it stay. `counts` tells how many they are. RRCACHE_NULL and RRCACHE_NO_SHELF alone
+     leave `counts` as it was.
+   - What a call was to write for the caller is as it was after a refusal, but for `counts`, and for
+     `told` after RRCACHE_SMALL.
 
    A message that has more than one name
-   - A response may tell of names that lie in other shelves than the one that was asked for: the target of an alias, a zone's SOA
-     record, the addresses of name servers. A resolver with so many shelves calls `rrcache_offer_part` once for each shelf that is to
-     have its share, with the number of shelves and that shelf's own, counted from 0, under that shelf's lock. Each call keeps what
-     the message says of names in that shelf and nothing else, so that all calls together keep all that it says, and each name's data
-     lie where `rrcache_part_of` leads. A shelf of whose names the message tells nothing gets no event.
-   - An alias is then followed from shelf to shelf: one `rrcache_ask` for each name, under the lock of that name's shelf.
-   - `rrcache_offer_message` keeps all in the one shelf that it is given. That will do where there is one shelf alone.
+   - A response may tell of names that lie in other shelves than the one that was asked for: the
+     target of an alias, a zone's SOA record, the addresses of name servers. A resolver with so many
+     shelves calls `rrcache_offer_part` once for each shelf that is to have its share, with the
+     number of shelves and that shelf's own, counted from 0, under that shelf's lock. Each call
+     keeps what the message says of names in that shelf and nothing else, so that all calls together
+     keep all that it says, and each name's data lie where `rrcache_part_of` leads. A shelf of whose
+     names the message tells nothing gets no event.
+   - An alias is then followed from shelf to shelf: one `rrcache_ask` for each name, under the lock
+     of that name's shelf.
+   - `rrcache_offer_message` keeps all in the one shelf that it is given. That will do where there
+     is one shelf alone.
 
    What may be offered
    - A message is read by itself. Whether it is the response to a query that the resolver sent, by
@@ -74,10 +86,11 @@
      and then does what it is to do: all within the call, and so under the lock. With a message that
      may come before any one of its offers. No reply depends on where chapters end.
    - To close a chapter takes a time that goes with the keys that the shelf holds, or held when the
-     chapter began. A place of 16 octets is written for each that it holds, and an entry of 56 octets
-     is copied for each that was touched since, or for all, as at the end of the first chapter and of
-     one with more touches and removals than keys at its beginning. No name and no data are copied,
-     and no event. A chapter should have about as many events as the shelf has keys.
+     chapter began. A place of 16 octets is written for each that it holds, and an entry of 56
+     octets is copied for each that was touched since, or for all, as at the end of the first
+     chapter and of one with more touches and removals than keys at its beginning. No name and no
+     data are copied, and no event. A chapter should have about as many events as the shelf has
+     keys.
    - Whoever needs no history drops the closed chapters from time to time. That frees each of their
      events, one by one, and each of the copied entries that nothing else holds. So its time goes
      with the events that were written since the last time, and it is spent under the lock as well:
@@ -106,8 +119,9 @@
    The functions of the library proper begin with `rrc_`, and need pointers that are not null and
    buffers that do not overlap. The inline functions below answer RRCACHE_NULL where a pointer is
    null that may not be, and where what the call writes, the handle too, overlaps anything else that
-   it is handed; what is only read may overlap. Else they call them. That a handle was made by zeros,
-   that no two threads are in it, and that buffers lie where they are said to, no test finds out. */
+   it is handed; what is only read may overlap. Else they call them. That a handle was made by
+   zeros, that no two threads are in it, and that buffers lie where they are said to, no test finds
+   out. */
 #ifndef RRCACHE_H
 #define RRCACHE_H
 
@@ -127,18 +141,25 @@ enum rrcache_status {
     RRCACHE_MEMORY = 3,           /* malloc refused */
     RRCACHE_HISTORY_FULL = 4,     /* the numbers of events or of chapters, 2^62 each, are spent */
     RRCACHE_MOMENT_TOO_LARGE = 5, /* the moment is above 2^40 */
-    RRCACHE_BAD_RULES = 6,        /* capacity, chapter, stale, the number of parts or the part is not in its range */
+    RRCACHE_BAD_RULES = 6,        /* capacity, chapter, stale, the number of parts or the part is
+                                     not in its range */
     RRCACHE_BAD_SEED = 7,         /* the seed has not 16 octets */
     RRCACHE_BAD_LIMITS = 8,       /* a number of `struct rrcache_limits` is not in its range */
     RRCACHE_BAD_NAME = 9,         /* octets are not the wire form of a name */
-    RRCACHE_BAD_MESSAGE = 10,     /* octets are no response that can be read: `rrcache_fault` tells why */
+    RRCACHE_BAD_MESSAGE = 10,     /* octets are no response that can be read: `rrcache_fault` tells
+                                     why */
     RRCACHE_BAD_CHOICE = 11,      /* no purpose, mode, denial or trust has this number */
-    RRCACHE_BAD_TYPE = 12,        /* data of this type are not kept, as those of OPT and of questions alone */
-    RRCACHE_BAD_DATA = 13,        /* data do not fill the layout of their type, or their lengths do not fit */
+    RRCACHE_BAD_TYPE = 12,        /* data of this type are not kept, as those of OPT and of
+                                     questions alone */
+    RRCACHE_BAD_DATA = 13,        /* data do not fill the layout of their type, or their lengths do
+                                     not fit */
     RRCACHE_WRONG_BODY = 14,      /* a set with no data, or a time to live above 2^31 - 1 */
-    RRCACHE_WIDE = 15,            /* a datum of the reply has more than 65,535 octets, which no response brings, or all have 2^64 */
-    RRCACHE_SMALL = 16,           /* the buffer is too small: `told` says what it needs, and no event was written */
-    RRCACHE_NULL = 17             /* a pointer is null, or what is written overlaps (told by the inline functions alone) */
+    RRCACHE_WIDE = 15,            /* a datum of the reply has more than 65,535 octets, which no
+                                     response brings, or all have 2^64 */
+    RRCACHE_SMALL = 16,           /* the buffer is too small: `told` says what it needs, and no
+                                     event was written */
+    RRCACHE_NULL = 17             /* a pointer is null, or what is written overlaps (told by the
+                                     inline functions alone) */
 };
 
 /* What a reply is. */
@@ -148,27 +169,33 @@ enum rrcache_kind {
     RRCACHE_NO_DATA = 3,    /* the name has no data of the type (RFC 2308 section 2.2) */
     RRCACHE_NO_NAME = 4,    /* the name does not exist (RFC 2308 section 2.1) */
     RRCACHE_MISS = 5,       /* nothing that will do */
-    RRCACHE_MISS_FAILED = 6 /* nothing that will do, and asking has lately failed: `retry_from` says when to try again */
+    RRCACHE_MISS_FAILED = 6 /* nothing that will do, and asking has lately failed: `retry_from` says
+                               when to try again */
 };
 
-/* What an answer is for: anything, where glue will do, or to answer a question, where it will not (RFC 2181 section 5.4.1). */
+/* What an answer is for: anything, where glue will do, or to answer a question, where it will not
+   (RFC 2181 section 5.4.1). */
 enum rrcache_purpose { RRCACHE_ANYTHING = 0, RRCACHE_QUESTION = 1 };
 
-/* Whether a stale answer will do (RFC 8767 section 5): no; where asking has lately failed; at once. */
+/* Whether a stale answer will do (RFC 8767 section 5): no; where asking has lately failed; at
+   once. */
 enum rrcache_mode { RRCACHE_NO_STALE = 0, RRCACHE_STALE_IF_FAILED = 1, RRCACHE_STALE_NOW = 2 };
 
 /* How far data are trusted (RFC 2181 section 5.4.1), from low to high. */
 enum rrcache_trust {
-    RRCACHE_ADDITIONAL = 1,               /* the additional section, or the authority section of a reply that is not authoritative */
+    RRCACHE_ADDITIONAL = 1,               /* the additional section, or the authority section of a
+                                             reply that is not authoritative */
     RRCACHE_NON_AUTHORITATIVE_ANSWER = 2, /* the answer section otherwise */
     RRCACHE_AUTHORITY = 3,                /* the authority section of an authoritative reply */
-    RRCACHE_AUTHORITATIVE_ANSWER = 4      /* the answer section of an authoritative reply, under the name that was asked for */
+    RRCACHE_AUTHORITATIVE_ANSWER = 4      /* the answer section of an authoritative reply, under the
+                                             name that was asked for */
 };
 
 /* What a negative answer denies: data of the type, or the name. */
 enum rrcache_denial { RRCACHE_DENIES_TYPE = 0, RRCACHE_DENIES_NAME = 1 };
 
-/* What became of an offer: it is kept; its ttl was 0, and the key holds nothing; the key holds what is trusted more. */
+/* What became of an offer: it is kept; its ttl was 0, and the key holds nothing; the key holds what
+   is trusted more. */
 enum rrcache_outcome { RRCACHE_KEPT = 1, RRCACHE_CLEARED = 2, RRCACHE_LESS_TRUSTED = 3 };
 
 /* A handle: zeros, or what `rrcache_make` made of it. */
@@ -177,9 +204,9 @@ struct rrcache_shelf {
     bool is_live;
 };
 
-/* A reply. Its buffer begins with `owner_size` octets, the owner's wire form as it was received, and behind them are `data_size`
-   octets: each datum of the set, or the SOA record's alone, behind its length of two octets, the high one first. A miss has
-   neither. */
+/* A reply. Its buffer begins with `owner_size` octets, the owner's wire form as it was received,
+   and behind them are `data_size` octets: each datum of the set, or the SOA record's alone, behind
+   its length of two octets, the high one first. A miss has neither. */
 struct rrcache_told {
     uint32_t kind;       /* enum rrcache_kind */
     uint32_t left;       /* for how many seconds the reply holds; 0 with a miss */
@@ -198,32 +225,43 @@ struct rrcache_counts {
 /* How long what a response says may be kept, in seconds. */
 struct rrcache_limits {
     uint32_t cap;          /* the most that data live: 1 to 604,800 (RFC 8767 section 4) */
-    uint32_t negative_cap; /* the most that a negative answer lives: 1 to 604,800 (RFC 2308 section 5) */
+    uint32_t negative_cap; /* the most that a negative answer lives: 1 to 604,800 (RFC 2308 section
+                              5) */
     uint32_t recheck;      /* how long a failure is remembered: 1 to 300 (RFC 2308 section 7) */
 };
 
 /* The functions of the library proper. A size stands behind its pointer. */
-uint32_t rrc_make(struct rrcache_shelf *shelf, uint64_t capacity, uint64_t chapter, uint64_t stale, const uint8_t *seed, size_t seed_size);
+uint32_t rrc_make(struct rrcache_shelf *shelf, uint64_t capacity, uint64_t chapter, uint64_t stale,
+                  const uint8_t *seed, size_t seed_size);
 uint32_t rrc_free(struct rrcache_shelf *shelf);
-uint32_t rrc_offer_message(struct rrcache_shelf *shelf, const uint8_t *octets, size_t size, const uint8_t *zone, size_t zone_size,
-                           uint64_t moment, const struct rrcache_limits *limits, uint64_t line, struct rrcache_counts *counts);
-uint32_t rrc_offer_part(struct rrcache_shelf *shelf, const uint8_t *octets, size_t size, const uint8_t *zone, size_t zone_size,
-                        uint64_t parts, uint64_t part, uint64_t moment, const struct rrcache_limits *limits, uint64_t line,
+uint32_t rrc_offer_message(struct rrcache_shelf *shelf, const uint8_t *octets, size_t size,
+                           const uint8_t *zone, size_t zone_size, uint64_t moment,
+                           const struct rrcache_limits *limits, uint64_t line,
+                           struct rrcache_counts *counts);
+uint32_t rrc_offer_part(struct rrcache_shelf *shelf, const uint8_t *octets, size_t size,
+                        const uint8_t *zone, size_t zone_size, uint64_t parts, uint64_t part,
+                        uint64_t moment, const struct rrcache_limits *limits, uint64_t line,
                         struct rrcache_counts *counts);
-uint32_t rrc_offer_set(struct rrcache_shelf *shelf, const uint8_t *owner, size_t owner_size, uint16_t rtype, uint32_t trust, uint32_t ttl,
-                       const uint8_t *data, size_t data_size, uint64_t moment, uint64_t line, uint32_t *outcome);
-uint32_t rrc_offer_negative(struct rrcache_shelf *shelf, const uint8_t *name, size_t name_size, uint16_t rtype, uint32_t denial,
-                            uint32_t trust, uint32_t ttl, const uint8_t *soa_owner, size_t soa_owner_size, const uint8_t *soa,
+uint32_t rrc_offer_set(struct rrcache_shelf *shelf, const uint8_t *owner, size_t owner_size,
+                       uint16_t rtype, uint32_t trust, uint32_t ttl, const uint8_t *data,
+                       size_t data_size, uint64_t moment, uint64_t line, uint32_t *outcome);
+uint32_t rrc_offer_negative(struct rrcache_shelf *shelf, const uint8_t *name, size_t name_size,
+                            uint16_t rtype, uint32_t denial, uint32_t trust, uint32_t ttl,
+                            const uint8_t *soa_owner, size_t soa_owner_size, const uint8_t *soa,
                             size_t soa_size, uint64_t moment, uint64_t line, uint32_t *outcome);
-uint32_t rrc_offer_failure(struct rrcache_shelf *shelf, const uint8_t *name, size_t name_size, uint16_t rtype, uint32_t ttl,
-                           uint64_t moment, uint64_t line, uint32_t *outcome);
-uint32_t rrc_ask(struct rrcache_shelf *shelf, const uint8_t *name, size_t name_size, uint16_t rtype, uint64_t moment, uint32_t purpose,
-                 uint32_t mode, uint64_t line, struct rrcache_told *told, uint8_t *buffer, size_t buffer_size);
-uint32_t rrc_peek(struct rrcache_shelf *shelf, const uint8_t *name, size_t name_size, uint16_t rtype, uint64_t moment, uint32_t purpose,
-                  uint32_t mode, struct rrcache_told *told, uint8_t *buffer, size_t buffer_size);
+uint32_t rrc_offer_failure(struct rrcache_shelf *shelf, const uint8_t *name, size_t name_size,
+                           uint16_t rtype, uint32_t ttl, uint64_t moment, uint64_t line,
+                           uint32_t *outcome);
+uint32_t rrc_ask(struct rrcache_shelf *shelf, const uint8_t *name, size_t name_size, uint16_t rtype,
+                 uint64_t moment, uint32_t purpose, uint32_t mode, uint64_t line,
+                 struct rrcache_told *told, uint8_t *buffer, size_t buffer_size);
+uint32_t rrc_peek(struct rrcache_shelf *shelf, const uint8_t *name, size_t name_size,
+                  uint16_t rtype, uint64_t moment, uint32_t purpose, uint32_t mode,
+                  struct rrcache_told *told, uint8_t *buffer, size_t buffer_size);
 uint32_t rrc_sweep(struct rrcache_shelf *shelf, uint64_t moment, uint64_t line, uint64_t *removed);
 uint32_t rrc_drop_chapters(struct rrcache_shelf *shelf, uint64_t *dropped);
-uint32_t rrc_sizes(struct rrcache_shelf *shelf, uint64_t *keys, uint64_t *events, uint64_t *chapters);
+uint32_t rrc_sizes(struct rrcache_shelf *shelf, uint64_t *keys, uint64_t *events,
+                   uint64_t *chapters);
 uint32_t rrc_fault(const uint8_t *octets, size_t size, uint32_t *fault);
 uint32_t rrc_part_of(const uint8_t *name, size_t name_size, uint64_t parts, uint64_t *part);
 
@@ -243,30 +281,37 @@ static inline bool rrcache_is_there(const void *octets, size_t size)
 }
 
 /* Whether two stretches of memory have an octet in common. */
-static inline bool rrcache_overlap(const void *one, size_t one_size, const void *other, size_t other_size)
+static inline bool rrcache_overlap(const void *one, size_t one_size, const void *other,
+                                   size_t other_size)
 {
     uintptr_t a = (uintptr_t)one, b = (uintptr_t)other;
     return one_size != 0 && other_size != 0 && (a < b ? b - a < one_size : a - b < other_size);
 }
 
-/* Whether one of two stretches of memory that a call writes has an octet in common with one that it reads. */
-static inline bool rrcache_touch(const void *one, size_t one_size, const void *other, size_t other_size, const void *read, size_t read_size)
+/* Whether one of two stretches of memory that a call writes has an octet in common with one that it
+   reads. */
+static inline bool rrcache_touch(const void *one, size_t one_size, const void *other,
+                                 size_t other_size, const void *read, size_t read_size)
 {
-    return rrcache_overlap(one, one_size, read, read_size) || rrcache_overlap(other, other_size, read, read_size);
+    return rrcache_overlap(one, one_size, read, read_size)
+           || rrcache_overlap(other, other_size, read, read_size);
 }
 
 /* Whether the numbers that a call of a shelf writes overlap the handle. */
-static inline bool rrcache_holds(const struct rrcache_shelf *shelf, const void *written, size_t size)
+static inline bool rrcache_holds(const struct rrcache_shelf *shelf, const void *written,
+                                 size_t size)
 {
     return rrcache_overlap(shelf, sizeof *shelf, written, size);
 }
 
-/* Makes an empty shelf for a handle that holds none: for 1 to 65,536 keys, with 1 to 1,048,576 events in a chapter, and sets that
-   may answer for 0 to 604,800 seconds past their time to live. Names are hashed by SipHash-1-3, whose
-   key is the seed of 16 octets. Let it be random and keep it secret: then nobody can pick names whose
-   hashes are alike, which would make calls slow. Where the handle holds a shelf RRCACHE_HAS_SHELF is
-   answered, whatever the rules are, and that shelf is as it was. */
-static inline uint32_t rrcache_make(struct rrcache_shelf *shelf, uint64_t capacity, uint64_t chapter, uint64_t stale, const uint8_t seed[16])
+/* Makes an empty shelf for a handle that holds none: for 1 to 65,536 keys, with 1 to 1,048,576
+   events in a chapter, and sets that may answer for 0 to 604,800 seconds past their time to live.
+   Names are hashed by SipHash-1-3, whose key is the seed of 16 octets. Let it be random and keep it
+   secret: then nobody can pick names whose hashes are alike, which would make calls slow. Where the
+   handle holds a shelf RRCACHE_HAS_SHELF is answered, whatever the rules are, and that shelf is as
+   it was. */
+static inline uint32_t rrcache_make(struct rrcache_shelf *shelf, uint64_t capacity,
+                                    uint64_t chapter, uint64_t stale, const uint8_t seed[16])
 {
     if (shelf == NULL || seed == NULL || rrcache_holds(shelf, seed, 16))
         return RRCACHE_NULL;
@@ -282,118 +327,146 @@ static inline uint32_t rrcache_free(struct rrcache_shelf *shelf)
     return rrc_free(shelf);
 }
 
-/* Offers all that a response from a server of this zone says: its RRsets at or below the zone, and its negative answer or that asking
-   failed. Keys of other names than this shelf's are offered as well; where there are other shelves `rrcache_offer_part` gives each
-   its share. It compares the response with no query, and one with TC set offers nothing: "What may
-   be offered" above tells more. */
-static inline uint32_t rrcache_offer_message(struct rrcache_shelf *shelf, const uint8_t *octets, size_t size, const uint8_t *zone,
-                                             size_t zone_size, uint64_t moment, const struct rrcache_limits *limits, uint64_t line,
-                                             struct rrcache_counts *counts)
+/* Offers all that a response from a server of this zone says: its RRsets at or below the zone, and
+   its negative answer or that asking failed. Keys of other names than this shelf's are offered as
+   well; where there are other shelves `rrcache_offer_part` gives each its share. It compares the
+   response with no query, and one with TC set offers nothing: "What may be offered" above tells
+   more. */
+static inline uint32_t rrcache_offer_message(struct rrcache_shelf *shelf, const uint8_t *octets,
+                                             size_t size, const uint8_t *zone, size_t zone_size,
+                                             uint64_t moment, const struct rrcache_limits *limits,
+                                             uint64_t line, struct rrcache_counts *counts)
 {
-    if (shelf == NULL || limits == NULL || counts == NULL || !rrcache_is_there(octets, size) || !rrcache_is_there(zone, zone_size)
-        || rrcache_holds(shelf, counts, sizeof *counts) || rrcache_touch(shelf, sizeof *shelf, counts, sizeof *counts, octets, size)
+    if (shelf == NULL || limits == NULL || counts == NULL || !rrcache_is_there(octets, size)
+        || !rrcache_is_there(zone, zone_size) || rrcache_holds(shelf, counts, sizeof *counts)
+        || rrcache_touch(shelf, sizeof *shelf, counts, sizeof *counts, octets, size)
         || rrcache_touch(shelf, sizeof *shelf, counts, sizeof *counts, zone, zone_size)
         || rrcache_touch(shelf, sizeof *shelf, counts, sizeof *counts, limits, sizeof *limits))
         return RRCACHE_NULL;
-    return rrc_offer_message(shelf, rrcache_octets(octets, size), size, rrcache_octets(zone, zone_size), zone_size, moment, limits, line, counts);
+    return rrc_offer_message(shelf, rrcache_octets(octets, size), size,
+                             rrcache_octets(zone, zone_size), zone_size, moment, limits, line,
+                             counts);
 }
 
-/* Offers what a response says of the names that lie in one of 1 to 64 parts, counted from 0 (`rrcache_part_of`): that of
-   `rrcache_offer_message`, but for what lies in other parts, which is neither offered nor counted. */
-static inline uint32_t rrcache_offer_part(struct rrcache_shelf *shelf, const uint8_t *octets, size_t size, const uint8_t *zone,
-                                          size_t zone_size, uint64_t parts, uint64_t part, uint64_t moment,
-                                          const struct rrcache_limits *limits, uint64_t line, struct rrcache_counts *counts)
+/* Offers what a response says of the names that lie in one of 1 to 64 parts, counted from 0
+   (`rrcache_part_of`): that of `rrcache_offer_message`, but for what lies in other parts, which is
+   neither offered nor counted. */
+static inline uint32_t rrcache_offer_part(struct rrcache_shelf *shelf, const uint8_t *octets,
+                                          size_t size, const uint8_t *zone, size_t zone_size,
+                                          uint64_t parts, uint64_t part, uint64_t moment,
+                                          const struct rrcache_limits *limits, uint64_t line,
+                                          struct rrcache_counts *counts)
 {
-    if (shelf == NULL || limits == NULL || counts == NULL || !rrcache_is_there(octets, size) || !rrcache_is_there(zone, zone_size)
-        || rrcache_holds(shelf, counts, sizeof *counts) || rrcache_touch(shelf, sizeof *shelf, counts, sizeof *counts, octets, size)
+    if (shelf == NULL || limits == NULL || counts == NULL || !rrcache_is_there(octets, size)
+        || !rrcache_is_there(zone, zone_size) || rrcache_holds(shelf, counts, sizeof *counts)
+        || rrcache_touch(shelf, sizeof *shelf, counts, sizeof *counts, octets, size)
         || rrcache_touch(shelf, sizeof *shelf, counts, sizeof *counts, zone, zone_size)
         || rrcache_touch(shelf, sizeof *shelf, counts, sizeof *counts, limits, sizeof *limits))
         return RRCACHE_NULL;
-    return rrc_offer_part(shelf, rrcache_octets(octets, size), size, rrcache_octets(zone, zone_size), zone_size, parts, part, moment, limits,
+    return rrc_offer_part(shelf, rrcache_octets(octets, size), size,
+                          rrcache_octets(zone, zone_size), zone_size, parts, part, moment, limits,
                           line, counts);
 }
 
-/* Offers one set under its owner. The data stand one behind another, each behind its length of two octets, with no name compressed. */
-static inline uint32_t rrcache_offer_set(struct rrcache_shelf *shelf, const uint8_t *owner, size_t owner_size, uint16_t rtype,
-                                         uint32_t trust, uint32_t ttl, const uint8_t *data, size_t data_size, uint64_t moment,
-                                         uint64_t line, uint32_t *outcome)
+/* Offers one set under its owner. The data stand one behind another, each behind its length of two
+   octets, with no name compressed. */
+static inline uint32_t rrcache_offer_set(struct rrcache_shelf *shelf, const uint8_t *owner,
+                                         size_t owner_size, uint16_t rtype, uint32_t trust,
+                                         uint32_t ttl, const uint8_t *data, size_t data_size,
+                                         uint64_t moment, uint64_t line, uint32_t *outcome)
 {
-    if (shelf == NULL || outcome == NULL || !rrcache_is_there(owner, owner_size) || !rrcache_is_there(data, data_size)
-        || rrcache_holds(shelf, outcome, sizeof *outcome) || rrcache_touch(shelf, sizeof *shelf, outcome, sizeof *outcome, owner, owner_size)
+    if (shelf == NULL || outcome == NULL || !rrcache_is_there(owner, owner_size)
+        || !rrcache_is_there(data, data_size) || rrcache_holds(shelf, outcome, sizeof *outcome)
+        || rrcache_touch(shelf, sizeof *shelf, outcome, sizeof *outcome, owner, owner_size)
         || rrcache_touch(shelf, sizeof *shelf, outcome, sizeof *outcome, data, data_size))
         return RRCACHE_NULL;
-    return rrc_offer_set(shelf, rrcache_octets(owner, owner_size), owner_size, rtype, trust, ttl, rrcache_octets(data, data_size),
-                         data_size, moment, line, outcome);
+    return rrc_offer_set(shelf, rrcache_octets(owner, owner_size), owner_size, rtype, trust, ttl,
+                         rrcache_octets(data, data_size), data_size, moment, line, outcome);
 }
 
-/* Offers that a name has no data of a type, or does not exist, with the SOA record that says so, its names not compressed. A name
-   that does not exist has no type: with RRCACHE_DENIES_NAME none is asked for, and `rtype` may be any number. */
-static inline uint32_t rrcache_offer_negative(struct rrcache_shelf *shelf, const uint8_t *name, size_t name_size, uint16_t rtype,
-                                              uint32_t denial, uint32_t trust, uint32_t ttl, const uint8_t *soa_owner,
-                                              size_t soa_owner_size, const uint8_t *soa, size_t soa_size, uint64_t moment,
+/* Offers that a name has no data of a type, or does not exist, with the SOA record that says so,
+   its names not compressed. A name that does not exist has no type: with RRCACHE_DENIES_NAME none
+   is asked for, and `rtype` may be any number. */
+static inline uint32_t rrcache_offer_negative(struct rrcache_shelf *shelf, const uint8_t *name,
+                                              size_t name_size, uint16_t rtype, uint32_t denial,
+                                              uint32_t trust, uint32_t ttl,
+                                              const uint8_t *soa_owner, size_t soa_owner_size,
+                                              const uint8_t *soa, size_t soa_size, uint64_t moment,
                                               uint64_t line, uint32_t *outcome)
 {
-    if (shelf == NULL || outcome == NULL || !rrcache_is_there(name, name_size) || !rrcache_is_there(soa_owner, soa_owner_size)
-        || !rrcache_is_there(soa, soa_size) || rrcache_holds(shelf, outcome, sizeof *outcome)
+    if (shelf == NULL || outcome == NULL || !rrcache_is_there(name, name_size)
+        || !rrcache_is_there(soa_owner, soa_owner_size) || !rrcache_is_there(soa, soa_size)
+        || rrcache_holds(shelf, outcome, sizeof *outcome)
         || rrcache_touch(shelf, sizeof *shelf, outcome, sizeof *outcome, name, name_size)
         || rrcache_touch(shelf, sizeof *shelf, outcome, sizeof *outcome, soa_owner, soa_owner_size)
         || rrcache_touch(shelf, sizeof *shelf, outcome, sizeof *outcome, soa, soa_size))
         return RRCACHE_NULL;
-    return rrc_offer_negative(shelf, rrcache_octets(name, name_size), name_size, rtype, denial, trust, ttl,
-                              rrcache_octets(soa_owner, soa_owner_size), soa_owner_size, rrcache_octets(soa, soa_size), soa_size,
-                              moment, line, outcome);
+    return rrc_offer_negative(shelf, rrcache_octets(name, name_size), name_size, rtype, denial,
+                              trust, ttl, rrcache_octets(soa_owner, soa_owner_size), soa_owner_size,
+                              rrcache_octets(soa, soa_size), soa_size, moment, line, outcome);
 }
 
 /* Offers that asking for data of a type failed, for `ttl` seconds. */
-static inline uint32_t rrcache_offer_failure(struct rrcache_shelf *shelf, const uint8_t *name, size_t name_size, uint16_t rtype,
-                                             uint32_t ttl, uint64_t moment, uint64_t line, uint32_t *outcome)
+static inline uint32_t rrcache_offer_failure(struct rrcache_shelf *shelf, const uint8_t *name,
+                                             size_t name_size, uint16_t rtype, uint32_t ttl,
+                                             uint64_t moment, uint64_t line, uint32_t *outcome)
 {
-    if (shelf == NULL || outcome == NULL || !rrcache_is_there(name, name_size) || rrcache_holds(shelf, outcome, sizeof *outcome)
+    if (shelf == NULL || outcome == NULL || !rrcache_is_there(name, name_size)
+        || rrcache_holds(shelf, outcome, sizeof *outcome)
         || rrcache_touch(shelf, sizeof *shelf, outcome, sizeof *outcome, name, name_size))
         return RRCACHE_NULL;
-    return rrc_offer_failure(shelf, rrcache_octets(name, name_size), name_size, rtype, ttl, moment, line, outcome);
+    return rrc_offer_failure(shelf, rrcache_octets(name, name_size), name_size, rtype, ttl, moment,
+                             line, outcome);
 }
 
 /* Whether a reply about a name may be told: what is needed is there, and nothing that is written
    overlaps anything else. */
-static inline bool rrcache_can_tell(const struct rrcache_shelf *shelf, const uint8_t *name, size_t name_size,
-                                    const struct rrcache_told *told, const uint8_t *buffer, size_t buffer_size)
+static inline bool rrcache_can_tell(const struct rrcache_shelf *shelf, const uint8_t *name,
+                                    size_t name_size, const struct rrcache_told *told,
+                                    const uint8_t *buffer, size_t buffer_size)
 {
-    return shelf != NULL && told != NULL && rrcache_is_there(name, name_size) && rrcache_is_there(buffer, buffer_size)
-        && !rrcache_holds(shelf, told, sizeof *told) && !rrcache_holds(shelf, buffer, buffer_size)
-        && !rrcache_holds(shelf, name, name_size) && !rrcache_overlap(buffer, buffer_size, told, sizeof *told)
-        && !rrcache_touch(told, sizeof *told, buffer, buffer_size, name, name_size);
+    return shelf != NULL && told != NULL && rrcache_is_there(name, name_size)
+           && rrcache_is_there(buffer, buffer_size) && !rrcache_holds(shelf, told, sizeof *told)
+           && !rrcache_holds(shelf, buffer, buffer_size) && !rrcache_holds(shelf, name, name_size)
+           && !rrcache_overlap(buffer, buffer_size, told, sizeof *told)
+           && !rrcache_touch(told, sizeof *told, buffer, buffer_size, name, name_size);
 }
 
-/* Asks, which is one event: the reply is told and written to the buffer. Where the buffer is too small RRCACHE_SMALL is answered,
-   `told` tells the reply and its sizes, and no event is written. A reply never takes more than 255 octets and those of its data.
-   RRCACHE_SMALL comes before RRCACHE_HISTORY_FULL and RRCACHE_MOMENT_TOO_LARGE, so that the call
-   with room enough may still be refused. */
-static inline uint32_t rrcache_ask(struct rrcache_shelf *shelf, const uint8_t *name, size_t name_size, uint16_t rtype, uint64_t moment,
-                                   uint32_t purpose, uint32_t mode, uint64_t line, struct rrcache_told *told, uint8_t *buffer,
-                                   size_t buffer_size)
+/* Asks, which is one event: the reply is told and written to the buffer. Where the buffer is too
+   small RRCACHE_SMALL is answered, `told` tells the reply and its sizes, and no event is written. A
+   reply never takes more than 255 octets and those of its data. RRCACHE_SMALL comes before
+   RRCACHE_HISTORY_FULL and RRCACHE_MOMENT_TOO_LARGE, so that the call with room enough may still be
+   refused. */
+static inline uint32_t rrcache_ask(struct rrcache_shelf *shelf, const uint8_t *name,
+                                   size_t name_size, uint16_t rtype, uint64_t moment,
+                                   uint32_t purpose, uint32_t mode, uint64_t line,
+                                   struct rrcache_told *told, uint8_t *buffer, size_t buffer_size)
 {
     uint8_t none;
     if (!rrcache_can_tell(shelf, name, name_size, told, buffer, buffer_size))
         return RRCACHE_NULL;
-    return rrc_ask(shelf, rrcache_octets(name, name_size), name_size, rtype, moment, purpose, mode, line, told,
-                   buffer_size == 0 ? &none : buffer, buffer_size);
+    return rrc_ask(shelf, rrcache_octets(name, name_size), name_size, rtype, moment, purpose, mode,
+                   line, told, buffer_size == 0 ? &none : buffer, buffer_size);
 }
 
 /* What `rrcache_ask` would answer. No event is written and no key touched. It is not refused for
    its moment, which may be above 2^40, nor where numbers are spent. */
-static inline uint32_t rrcache_peek(struct rrcache_shelf *shelf, const uint8_t *name, size_t name_size, uint16_t rtype, uint64_t moment,
-                                    uint32_t purpose, uint32_t mode, struct rrcache_told *told, uint8_t *buffer, size_t buffer_size)
+static inline uint32_t rrcache_peek(struct rrcache_shelf *shelf, const uint8_t *name,
+                                    size_t name_size, uint16_t rtype, uint64_t moment,
+                                    uint32_t purpose, uint32_t mode, struct rrcache_told *told,
+                                    uint8_t *buffer, size_t buffer_size)
 {
     uint8_t none;
     if (!rrcache_can_tell(shelf, name, name_size, told, buffer, buffer_size))
         return RRCACHE_NULL;
-    return rrc_peek(shelf, rrcache_octets(name, name_size), name_size, rtype, moment, purpose, mode, told,
-                    buffer_size == 0 ? &none : buffer, buffer_size);
+    return rrc_peek(shelf, rrcache_octets(name, name_size), name_size, rtype, moment, purpose, mode,
+                    told, buffer_size == 0 ? &none : buffer, buffer_size);
 }
 
-/* Removes the keys that can answer no more at a moment, which is one event, and tells how many they were. */
-static inline uint32_t rrcache_sweep(struct rrcache_shelf *shelf, uint64_t moment, uint64_t line, uint64_t *removed)
+/* Removes the keys that can answer no more at a moment, which is one event, and tells how many they
+   were. */
+static inline uint32_t rrcache_sweep(struct rrcache_shelf *shelf, uint64_t moment, uint64_t line,
+                                     uint64_t *removed)
 {
     if (shelf == NULL || removed == NULL || rrcache_holds(shelf, removed, sizeof *removed))
         return RRCACHE_NULL;
@@ -409,33 +482,39 @@ static inline uint32_t rrcache_drop_chapters(struct rrcache_shelf *shelf, uint64
     return rrc_drop_chapters(shelf, dropped);
 }
 
-/* Tells how many keys the shelf holds, those that are dead and not yet swept with them, how many events the open chapter has, and how
-   many chapters are closed. A key is a name with a type, with no type where the name does not exist, or with a type that asking
-   failed for. */
-static inline uint32_t rrcache_sizes(struct rrcache_shelf *shelf, uint64_t *keys, uint64_t *events, uint64_t *chapters)
+/* Tells how many keys the shelf holds, those that are dead and not yet swept with them, how many
+   events the open chapter has, and how many chapters are closed. A key is a name with a type, with
+   no type where the name does not exist, or with a type that asking failed for. */
+static inline uint32_t rrcache_sizes(struct rrcache_shelf *shelf, uint64_t *keys, uint64_t *events,
+                                     uint64_t *chapters)
 {
-    if (shelf == NULL || keys == NULL || events == NULL || chapters == NULL || rrcache_holds(shelf, keys, sizeof *keys)
-        || rrcache_holds(shelf, events, sizeof *events) || rrcache_holds(shelf, chapters, sizeof *chapters)
+    if (shelf == NULL || keys == NULL || events == NULL || chapters == NULL
+        || rrcache_holds(shelf, keys, sizeof *keys) || rrcache_holds(shelf, events, sizeof *events)
+        || rrcache_holds(shelf, chapters, sizeof *chapters)
         || rrcache_overlap(keys, sizeof *keys, events, sizeof *events)
         || rrcache_touch(keys, sizeof *keys, events, sizeof *events, chapters, sizeof *chapters))
         return RRCACHE_NULL;
     return rrc_sizes(shelf, keys, events, chapters);
 }
 
-/* Tells why octets are no response: 0 they are one, 1 they end too soon, 2 a length octet has reserved bits, 3 a pointer leads to no
-   lower place, 4 a name has more than 255 octets, 5 data do not fill their layout, 6 they are no response, 7 there is not one
-   question, 8 they are more than 65,535. */
+/* Tells why octets are no response: 0 they are one, 1 they end too soon, 2 a length octet has
+   reserved bits, 3 a pointer leads to no lower place, 4 a name has more than 255 octets, 5 data do
+   not fill their layout, 6 they are no response, 7 there is not one question, 8 they are more than
+   65,535. */
 static inline uint32_t rrcache_fault(const uint8_t *octets, size_t size, uint32_t *fault)
 {
-    if (fault == NULL || !rrcache_is_there(octets, size) || rrcache_overlap(fault, sizeof *fault, octets, size))
+    if (fault == NULL || !rrcache_is_there(octets, size)
+        || rrcache_overlap(fault, sizeof *fault, octets, size))
         return RRCACHE_NULL;
     return rrc_fault(rrcache_octets(octets, size), size, fault);
 }
 
 /* Tells in which of 1 to 64 parts all keys of a name lie, counted from 0. */
-static inline uint32_t rrcache_part_of(const uint8_t *name, size_t name_size, uint64_t parts, uint64_t *part)
+static inline uint32_t rrcache_part_of(const uint8_t *name, size_t name_size, uint64_t parts,
+                                       uint64_t *part)
 {
-    if (part == NULL || !rrcache_is_there(name, name_size) || rrcache_overlap(part, sizeof *part, name, name_size))
+    if (part == NULL || !rrcache_is_there(name, name_size)
+        || rrcache_overlap(part, sizeof *part, name, name_size))
         return RRCACHE_NULL;
     return rrc_part_of(rrcache_octets(name, name_size), name_size, parts, part);
 }

@@ -1,0 +1,57 @@
+#include "counters.h"
+
+#include <inttypes.h>
+#include <stdatomic.h>
+#include <stdio.h>
+
+static const char *const NAMES[COUNTERS] = {
+    [QUERIES] = "queries",   [FRESH] = "fresh",
+    [NEGATIVE] = "negative", [STALE] = "stale",
+    [FETCHED] = "fetched",   [FAILED] = "failed",
+    [CUT] = "truncated",     [TURNED_AWAY] = "turned-away",
+    [JOINED] = "joined",     [SENT] = "sent",
+    [UPGRADED] = "upgraded", [STRAYS] = "strays",
+    [FAILURES] = "failures", [DISPLACED] = "displaced",
+    [OCTETS] = "octets",     [CONNECTIONS] = "connections",
+    [SWEPT] = "swept",       [KEYS] = "keys",
+};
+
+static _Atomic uint64_t counters[COUNTERS];
+
+void count(enum counter which, uint64_t by)
+{
+    atomic_fetch_add_explicit(&counters[which], by, memory_order_relaxed);
+}
+
+void set_counter(enum counter which, uint64_t value)
+{
+    atomic_store_explicit(&counters[which], value, memory_order_relaxed);
+}
+
+uint64_t counted(enum counter which)
+{
+    return atomic_load_explicit(&counters[which], memory_order_relaxed);
+}
+
+void print_counters(void)
+{
+    for (int i = 0; i < COUNTERS; i++)
+        printf("%s %" PRIu64 "%c", NAMES[i], counted(i), i + 1 < COUNTERS ? ' ' : '\n');
+    fflush(stdout);
+}
+
+void log_counters(unsigned seconds)
+{
+    static uint64_t last[COUNTERS];
+    uint64_t since[COUNTERS];
+    for (int i = 0; i < COUNTERS; i++) {
+        uint64_t now = counted(i);
+        since[i] = now - last[i];
+        last[i] = now;
+    }
+    fprintf(stderr,
+            "forwarder: in %u s %" PRIu64 " queries, %" PRIu64 " hits, %" PRIu64 " stale, %" PRIu64
+            " failures, %" PRIu64 " octets sent; %" PRIu64 " keys\n",
+            seconds, since[QUERIES], since[FRESH] + since[NEGATIVE], since[STALE], since[FAILED],
+            since[OCTETS], last[KEYS]);
+}

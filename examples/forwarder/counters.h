@@ -1,0 +1,49 @@
+/* counters.h: what the forwarder did, counted by all threads, and the clock. */
+#ifndef COUNTERS_H
+#define COUNTERS_H
+
+#include <stdint.h>
+#include <time.h>
+
+/* How a query ended, each in one of the first nine ways after `QUERIES`, and what else was done. */
+enum counter {
+    QUERIES,     /* of clients, by UDP and by TCP */
+    FRESH,       /* were answered from the cache, */
+    NEGATIVE,    /* also that there is none, */
+    STALE,       /* or with what had expired (RFC 8767), */
+    FETCHED,     /* or as soon as it was fetched, */
+    FAILED,      /* or SERVFAIL, */
+    TURNED_AWAY, /* or refused for what they are */
+    CUT,         /* replies with TC set */
+    JOINED,      /* queries that wait for a fetch which was under way */
+    SENT,        /* queries to upstreams */
+    UPGRADED,    /* of them by TCP */
+    STRAYS,      /* messages from upstreams that belong to no query */
+    FAILURES,    /* fetches of which all tries failed */
+    DISPLACED,   /* fetches that gave way to others */
+    CONNECTIONS, /* of clients */
+    OCTETS,      /* sent to clients */
+    SWEPT,       /* keys that were dead */
+    KEYS,        /* that are held, at the last sweep */
+    COUNTERS
+};
+
+void count(enum counter which, uint64_t by);
+void set_counter(enum counter which, uint64_t value);
+uint64_t counted(enum counter which);
+
+/* Prints all counters in one line on standard output. */
+void print_counters(void);
+
+/* Prints on standard error what was done since the last call, in so many seconds. */
+void log_counters(unsigned seconds);
+
+/* Milliseconds of a clock that nobody sets. */
+static inline uint64_t milliseconds(void)
+{
+    struct timespec now;
+    clock_gettime(CLOCK_MONOTONIC, &now);
+    return (uint64_t)now.tv_sec * 1000 + (uint64_t)now.tv_nsec / 1000000;
+}
+
+#endif

@@ -1,0 +1,134 @@
+/* dns.h: DNS messages as octets (RFC 1035 section 4). Queries of clients are read, replies to them
+   are built, and responses of upstreams are looked at. Nothing here takes memory, waits, or knows
+   of sockets and of the cache.
+
+   Names are in wire form (RFC 1035 section 3.1), whole, at most 255 octets with the zero octet at
+   their end. */
+#ifndef DNS_H
+#define DNS_H
+
+#include <stdbool.h>
+#include <stddef.h>
+#include <stdint.h>
+
+/* How many octets these have: the first two just so many, the others at most. A query is one that
+   is sent upstream. */
+enum {
+    HEADER = 12,
+    OPT_RECORD = 11, /* with no options */
+    NAME = 255,
+    MESSAGE = 65535,
+    QUERY = HEADER + NAME + 4 + OPT_RECORD
+};
+
+/* How many octets fit in a datagram: for who sends no OPT record (RFC 1035 section 4.2.1), and
+   else, as many as no path of today takes apart. */
+enum { PLAIN_PAYLOAD = 512, PAYLOAD = 1232 };
+
+/* So many aliases are followed, one after another. */
+enum { MOST_ALIASES = 16 };
+
+enum rcode { NOERROR, FORMERR, SERVFAIL, NXDOMAIN, NOTIMP, REFUSED, BADVERS = 16 };
+enum type { CNAME = 5, SOA = 6, DNAME = 39, OPT = 41, META = 128, ANY = 255 };
+enum class { IN = 1 };
+
+struct question {
+    uint8_t name[NAME]; /* as it was spelled */
+    size_t size;        /* of the name; 0: there is no question */
+    uint16_t type, class;
+};
+
+/* What a client sent. */
+struct query {
+    uint8_t id[2], flags[2];
+    struct question question;
+    size_t payload; /* so many octets of a reply the client takes by UDP: 512 to 1,232 */
+    bool has_edns, is_dnssec_ok;
+};
+
+/* A reply to a question, for whoever asked it. `write_reply` makes its header, and adds an OPT
+   record where there is to be one, for which room is left. */
+struct reply {
+    uint8_t octets[MESSAGE - OPT_RECORD];
+    size_t size;
+    uint16_t answers, authority;
+    enum rcode rcode;
+    bool is_cut; /* not all of it fits in a message */
+};
+
+/* A query that is sent upstream. */
+struct upstream_query {
+    const struct question *question;
+    uint8_t id[2];
+    bool has_edns;
+};
+
+/* What came from an upstream's address, judged by the query that was sent there. */
+enum verdict {
+    STRAY,       /* no response to this query */
+    ANSWER,      /* a response with the RCODE NOERROR or NXDOMAIN */
+    TRUNCATED,   /* the same with TC set, which tells nothing */
+    WANTS_PLAIN, /* the upstream does not know OPT records (RFC 6891 section 7) */
+    FAILURE      /* any other RCODE, or octets that are no message */
+};
+
+/* A number of 16 bits, the high octet first. */
+static inline unsigned word_at(const uint8_t *octets)
+{
+    return octets[0] * 256u + octets[1];
+}
+
+/* ---- Names. */
+
+/* Whether two names are the same but for the case of letters (RFC 4343 section 3). */
+bool is_same_name(const uint8_t *one, size_t one_size, const uint8_t *other, size_t other_size);
+
+bool is_same_question(const struct question *one, const struct question *other);
+
+/* A number for a name, the same in whatever case it is spelled. With a seed that nobody knows it is
+   hard to find names of one number. */
+uint32_t hash_of(const uint8_t *name, size_t size, uint32_t seed);
+
+/* How many octets of a name stand before its last two labels, as `example.com`; 0 where it has no
+   more than these. */
+size_t domain_of(const uint8_t *name, size_t size);
+
+/* ---- Queries. */
+
+/* Reads what a client sent, a header and more. Answers NOERROR, or the RCODE of a refusal: FORMERR
+   where the octets are no query with one question, NOTIMP for other opcodes and
+   for types that are asked for by no query of this kind, BADVERS for a version of EDNS above 0 (RFC
+   6891 section 6.1.3), REFUSED for classes other than IN. */
+enum rcode read_query(const uint8_t *octets, size_t size, struct query *query);
+
+/* Writes a query for an upstream, with RD set, and answers its size: at most QUERY octets. */
+size_t write_query(const struct upstream_query *query, uint8_t *octets);
+
+/* ---- Replies. */
+
+/* Begins a reply to a question, which may be none. */
+void begin_reply(struct reply *reply, const struct question *question);
+
+/* Puts records of one owner, type and time to live, and answers how many. `data` has the data of
+   each behind their length of two octets. */
+uint16_t put_records(struct reply *reply, const uint8_t *owner, size_t owner_size, unsigned type,
+                     uint32_t ttl, const uint8_t *data, size_t size);
+
+/* A reply with no records. */
+void refuse(struct reply *reply, const struct question *question, enum rcode rcode);
+
+/* Makes a reply of the answer and the authority section of a response that was judged an ANSWER, in
+   which no time to live is above a cap. False where their aliases do not end. */
+bool relay(struct reply *reply, const struct question *question, const uint8_t *message,
+           size_t size, uint32_t cap);
+
+/* Writes a reply as one who asked gets it: under the id of the query, with the question as it was
+   spelled there, and with an OPT record where the query had one. Where it has more than `most`
+   octets it has no records, and TC is set (RFC 2181 section 9). Answers the size. */
+size_t write_reply(const struct reply *reply, const struct query *query, size_t most,
+                   uint8_t *octets);
+
+/* ---- Responses of upstreams. */
+enum verdict judge(const struct upstream_query *query, const uint8_t *message, size_t size);
+
+#endif

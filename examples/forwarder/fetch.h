@@ -1,0 +1,58 @@
+/* fetch.h: asking upstream. A question is fetched once at a time: who asks what is being fetched,
+   of whatever thread, waits for that fetch.
+
+   A fetch asks one upstream after another, the one that answered last first, TRIES times for TRY_MS
+   each, from a random port and with a random id. It asks by UDP, with an OPT record where the
+   upstream knows it, and over TCP what came back truncated. After LATE_MS whoever waits gets what
+   is stale, if there is something (the client response timer of RFC 8767 section 5). */
+#ifndef FETCH_H
+#define FETCH_H
+
+#include "clients.h"
+#include "dns.h"
+
+enum {
+    MOST_UPSTREAMS = 8,
+    TRIES = 4,
+    TRY_MS = 800,
+    LATE_MS = 1800,
+    MOST_ASKERS = 256, /* of a fetch */
+    PLAIN_MS = 900000, /* so long an upstream that wants no OPT record gets none */
+    DOMAINS = 256,
+    DOMAIN_SHARE = 4, /* with a fourth of all places, a domain has others give way no more */
+    GRACE_MS = 200    /* so long a fetch gives way to no domain that holds as much */
+};
+
+struct fetch;
+
+/* The fetches that a thread began. Of them so many are of names of each domain, as `example.com`;
+   domains are told apart by a hash. */
+struct fetcher {
+    struct fetch *fetches;
+    size_t places;
+    unsigned held[DOMAINS];
+};
+
+/* Adds an upstream to those of all threads, before the first of these begins. */
+bool add_upstream(const struct sockaddr_in *address);
+
+/* Draws what names are hashed under, before the first thread begins. */
+bool seed_fetches(void);
+
+bool make_fetcher(struct fetcher *fetcher, size_t places);
+
+/* Tells what to poll for, for each place. */
+void poll_fetches(const struct fetcher *fetcher, struct pollfd *polled);
+
+/* Goes on with the fetches: reads what came, and asks again where nothing did. */
+void tend_fetches(struct fetcher *fetcher, const struct pollfd *polled, uint64_t now);
+
+/* Has one who asked wait for the fetch of the question, which begins where none is under way. False
+   where nobody may wait: there is no place or no memory, too many wait, or the fetch is late,
+   unless that is said to do. */
+bool await_fetch(struct fetcher *fetcher, const struct asker *asker, bool though_late);
+
+/* Ends all fetches, with a failure for who waits. */
+void free_fetcher(struct fetcher *fetcher);
+
+#endif

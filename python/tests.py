@@ -1,0 +1,146 @@
+"""Tests of the library by ctypes (rrcache.py), which bin/test-forwarder runs: what it refuses, and
+the rows that it can be told, each of whose lines is compared with the row's report.
+"""
+import re
+import sys
+from pathlib import Path
+
+TOP = Path(__file__).resolve().parent.parent
+sys.path[:0] = [str(TOP / "examples" / "forwarder" / "tests"), str(TOP / "bin")]
+
+import rrcache
+from dns import A, CNAME, OPT, TXT, message, name_at, question, record, soa_data, wire
+from harness import Wrong, address, same, wanted
+
+MODES = {"none": 0, "failed": 1, "now": 2}
+OUTCOMES = {1: "kept", 2: "cleared", 3: "less"}
+# Fixed octets, and how many names stand behind them, of types whose data have names.
+LAYOUTS = {**dict.fromkeys((2, 3, 4, 5, 7, 8, 9, 12), (0, 1)), **dict.fromkeys((6, 14, 17), (0, 2)), **dict.fromkeys((15, 18, 21), (2, 1)), 26: (2, 2), 33: (6, 1)}
+
+
+def lowered(rtype, data):
+    """Data with the letters of their names lowered."""
+    fixed, names = LAYOUTS.get(rtype, (0, 0))
+    at = fixed
+    for _ in range(names):
+        at = name_at(data, at)[1]
+    return data[:fixed] + data[fixed:at].lower() + data[at:]
+
+
+def items_of(rtype, text):
+    items = {}
+    for it in text.split(","):
+        data = b"" if it == "-" else bytes.fromhex(it)
+        items.setdefault(lowered(rtype, data), data)
+    return list(items.values())
+
+
+def life(ttl):
+    return min(int(ttl), 604800)
+
+
+def answer_line(shelf, words):
+    """What a line of a trace answers, as a report tells it."""
+    if words[0] == "put":
+        moment, name, rtype, trust, ttl, items = words[1:]
+        offered = items_of(int(rtype), items)
+        return OUTCOMES[shelf.offer_set(wire(name), int(rtype), int(trust), life(ttl), offered, int(moment))]
+    if words[0] == "fail":
+        return OUTCOMES[shelf.offer_failure(wire(words[2]), int(words[3]), 30, int(words[1]))]
+    if words[0] == "sweep":
+        return str(shelf.sweep(int(words[1])))
+    if words[0] == "checkpoint":
+        return ""  # no call of the library closes a chapter, and where chapters end changes no answer
+    if words[0] == "response":
+        octets = b"" if words[3] == "-" else bytes.fromhex(words[3])
+        number = rrcache.fault(octets)
+        if number:
+            return f"refused {number}"
+        counts = shelf.offer_message(octets, wire(words[2]), int(words[1]))
+        return counted_text(counts.kept, counts.cleared, counts.refused)
+    question = (wire(words[2]), int(words[3]), int(words[1]), int(words[4] == "answer"), MODES[words[5]])
+    reply = shelf.peek(*question)
+    same(shelf.ask(*question), reply, "an ask after a peek")
+    if reply.kind >= rrcache.MISS:
+        return "miss" if reply.kind == rrcache.MISS else f"miss {reply.retry_from}"
+    kind = {1: "fresh", 2: "stale", 3: "nodata", 4: "nxdomain"}[reply.kind]
+    return f"{kind} {reply.left} {name_at(reply.owner, 0)[0]}. {','.join(it.hex() or '-' for it in reply.data)}"
+
+
+def counted_text(kept, cleared, less):
+    return " ".join([str(kept + cleared + less)] + ["cleared"] * cleared + ["kept"] * kept + ["less"] * less)
+
+
+def wanted_text(line):
+    """The answer of a report's line, as far as the library can tell it: no key that was evicted, and outcomes of a response in no order."""
+    _, word, *answer = re.sub(r" kept-out:\S+", " kept", line).split(" ")
+    if word == "response" and answer[0] != "refused":
+        return counted_text(*(answer.count(it) for it in ("kept", "cleared", "less")))
+    return " ".join(answer)
+
+
+def told_row(row):
+    """The lines of a row's trace and the arguments of its shelf, or None where the library cannot be told them."""
+    def content(name, default=""):
+        path = row / name
+        return path.read_bytes().decode("latin-1") if path.exists() else default
+    words = content("args").replace("=", "\n").split()
+    lines = [line.split() for line in (content("trace") * int(content("repeat", "1"))).splitlines()]
+    if content("status", "0").strip() != "0" or (row / "each").exists() or not set(words[::2]) <= {"--capacity", "--chapter", "--stale"}:
+        return None
+    if not lines or any(not it or it[0] not in ("put", "ask", "fail", "response", "sweep", "checkpoint") for it in lines):
+        return None
+    return lines, {word[2:]: int(value) for word, value in zip(words[::2], words[1::2])}, content("report").splitlines()
+
+
+def replay_row(row):
+    lines, arguments, report = told_row(row)
+    same(len(lines), len(report), "lines")
+    with rrcache.Shelf(**arguments) as shelf:
+        for number, (words, line) in enumerate(zip(lines, report)):
+            same(answer_line(shelf, words), wanted_text(line), f"line {number}")
+        shelf.drop_chapters()
+        same(shelf.sizes().chapters, 0, "closed chapters that are left")
+
+
+def test_refusals_by_python():
+    cases = [(5, lambda it: it.sweep(2 ** 40 + 1)), (9, lambda it: it.ask(b"\1", A, 1)), (10, lambda it: it.offer_message(b"x", b"\0", 1)),
+             (11, lambda it: it.ask(b"\0", A, 1, 2)), (12, lambda it: it.offer_set(b"\0", OPT, 4, 1, [b""], 1)),
+             (13, lambda it: it.offer_set(b"\0", CNAME, 4, 1, [b"\1"], 1)), (14, lambda it: it.offer_set(b"\0", A, 4, 1, [], 1)),
+             (8, lambda it: it.offer_message(b"x", b"\0", 1, recheck=0)), (6, lambda it: rrcache.Shelf(capacity=0)),
+             (7, lambda it: rrcache.Shelf(seed=b"x")), (6, lambda it: rrcache.part_of(b"\0", 65)),
+             (6, lambda it: it.offer_part(b"x", b"\0", 4, 4, 1)), (10, lambda it: it.offer_part(b"x", b"\0", 4, 3, 1))]
+    with rrcache.Shelf() as shelf:
+        for status, call in cases:
+            try:
+                call(shelf)
+            except rrcache.Refused as refused:
+                same(refused.status, status, "status")
+            else:
+                raise Wrong(f"no refusal with status {status}")
+        same(shelf.sizes(), (0, 0, 0), "keys, events and chapters")
+        data = soa_data("ns.example", "host.example", 0, 0, 0, 0, 0)
+        same(shelf.offer_negative(wire("a.example"), A, rrcache.DENIES_NAME, 4, 60, wire("example"), data, 100), rrcache.KEPT, "a negative offer")
+        reply = shelf.ask(wire("A.example"), TXT, 110)
+        same((reply.kind, reply.left, reply.owner, reply.data), (rrcache.NO_NAME, 50, wire("example"), [data]), "its reply")
+        same(shelf.offer_set(wire("b.example"), TXT, 4, 60, [bytes(60000)], 100), rrcache.KEPT, "a large datum")
+        same(shelf.ask(wire("b.example"), TXT, 110).data, [bytes(60000)], "the large datum")
+        same(shelf.sizes(), (2, 4, 0), "keys, events and chapters")
+    try:
+        shelf.sizes()
+    except rrcache.Refused as refused:
+        same(refused.status, 1, "status of a shelf that was closed")
+
+
+def test_parts_by_python():
+    names = [f"x{n}.example" for n in range(8)]
+    records = [record(one, CNAME, 60, wire(other)) for one, other in zip(names, names[1:])] + [record(names[-1], A, 60, address(9))]
+    octets = message(7, 0x8180, question(names[0], A), records)
+    parts = [rrcache.part_of(wire(it), 4) for it in names]
+    wanted(len(set(parts)) > 1, "names in more than one part")
+    for part in range(4):
+        with rrcache.Shelf() as shelf:
+            same(shelf.offer_part(octets, wire("example"), 4, part, 100), (parts.count(part), 0, 0), f"the share of part {part}")
+            same(shelf.sizes(), (parts.count(part), parts.count(part), 0), "keys, events and chapters")
+            for name, rtype, home in zip(names, [CNAME] * 7 + [A], parts):
+                same(shelf.peek(wire(name), rtype, 100).kind, rrcache.FRESH if home == part else rrcache.MISS, f"{name} in part {part}")
