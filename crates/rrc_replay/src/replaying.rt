@@ -104,11 +104,7 @@ fn first_fault(lines: usize, worked: &[Worked]) -> Option<ReplayFault>
 
 /// What each worker did, or the fault of the lowest line that was refused, of so many lines.
 #[tactic(auto, using(crate::proofs::StopLemmas::told))]
-fn done_by(
-    alloc: Global,
-    lines: usize,
-    worked: Vec<Worked>,
-) -> Result<Vec<Done>, ReplayFault>
+fn done_by(alloc: Global, lines: usize, worked: Vec<Worked>) -> Result<Vec<Done>, ReplayFault>
     ensures none { OnOk result (first_fault lines worked.items ≡ None) }
     ensures tells { IfErr result (Tells lines worked.items) }
     ensures err { IfErr result (IsOfReplay lines) }

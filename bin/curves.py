@@ -1,0 +1,102 @@
+"""Curves on one picture, as SVG: shares from 0 to 100 % over a setting."""
+import math
+from typing import NamedTuple
+from xml.sax.saxutils import escape
+
+WIDTH, HEIGHT = 720, 420
+LEFT, RIGHT, TOP, BOTTOM = 64, 190, 48, 60
+COLORS = ("#1b6ca8", "#c8553d", "#4f7f3a", "#8a4f9e", "#b8860b", "#3a3a3a", "#0b8a8a", "#a83279")
+DASHES = ("", "7 4", "2 3", "9 3 2 3")
+FONT = 'font-family="sans-serif" font-size="12" fill="#222"'
+GAP = 15
+
+
+class Curve(NamedTuple):
+    """A name, and points: the setting's value and a share from 0 to 1."""
+
+    name: str
+    points: list
+
+
+class Scale:
+    """Where the values of a setting stand: by their logarithm, where they span much."""
+
+    def __init__(self, values):
+        self.values = sorted(set(values))
+        low, high = self.values[0], self.values[-1]
+        self.is_log = low > 0 and high / low >= 8
+        self.low, self.high = self.of(low), self.of(high)
+
+    def of(self, value):
+        return math.log2(value) if self.is_log else value
+
+    def x(self, value):
+        span = self.high - self.low
+        part = (self.of(value) - self.low) / span if span else 0.5
+        return LEFT + part * (WIDTH - LEFT - RIGHT)
+
+
+def y(share):
+    return HEIGHT - BOTTOM - share * (HEIGHT - TOP - BOTTOM)
+
+
+def text(x, at, words, anchor="start", more=""):
+    return (f'<text x="{x:.1f}" y="{at:.1f}" text-anchor="{anchor}" {FONT}{more}>'
+            f'{escape(words)}</text>')
+
+
+def line(x1, y1, x2, y2, color):
+    return (f'<line x1="{x1:.1f}" y1="{y1:.1f}" x2="{x2:.1f}" y2="{y2:.1f}" '
+            f'stroke="{color}" stroke-width="1"/>')
+
+
+def axes(scale, setting):
+    """The lines and the words at both axes."""
+    right = WIDTH - RIGHT
+    for percent in range(0, 101, 20):
+        yield line(LEFT, y(percent / 100), right, y(percent / 100), "#ddd")
+        yield text(LEFT - 8, y(percent / 100) + 4, f"{percent} %", "end")
+    last = -math.inf
+    for value in scale.values:
+        x = scale.x(value)
+        yield line(x, y(0), x, y(0) + 5, "#444")
+        if x - last >= 34:
+            yield text(x, y(0) + 19, f"{value:,}", "middle")
+            last = x
+    yield line(LEFT, y(0), right, y(0), "#444")
+    yield text((LEFT + right) / 2, HEIGHT - 16, setting, "middle")
+
+
+def drawn(curve, number, scale):
+    """A curve: its points and the lines between."""
+    color, dash = COLORS[number % len(COLORS)], DASHES[number // len(COLORS) % len(DASHES)]
+    points = [(scale.x(value), y(share)) for value, share in curve.points]
+    path = " ".join(f"{x:.1f},{at:.1f}" for x, at in points)
+    dashed = f' stroke-dasharray="{dash}"' if dash else ""
+    yield f'<polyline points="{path}" fill="none" stroke="{color}" stroke-width="2"{dashed}/>'
+    yield from (f'<circle cx="{x:.1f}" cy="{at:.1f}" r="3" fill="{color}"/>' for x, at in points)
+
+
+def names(curves, scale):
+    """The curves' names at their right ends, moved apart where they would stand on each other."""
+    ends = sorted((y(it.points[-1][1]), number) for number, it in enumerate(curves))
+    last = -math.inf
+    for at, number in ends:
+        last = max(at, last + GAP)
+        color = COLORS[number % len(COLORS)]
+        x = scale.x(curves[number].points[-1][0])
+        yield line(x + 4, at, WIDTH - RIGHT + 14, last, "#bbb")
+        yield text(WIDTH - RIGHT + 18, last + 4, curves[number].name, more=f' style="fill:{color}"')
+
+
+def svg(title, setting, curves):
+    """The picture."""
+    scale = Scale([value for it in curves for value, _ in it.points])
+    inside = [f'<rect width="{WIDTH}" height="{HEIGHT}" fill="#fff"/>',
+              text(LEFT, 26, title, more=' font-weight="bold"'), *axes(scale, setting)]
+    for number, curve in enumerate(curves):
+        inside += drawn(curve, number, scale)
+    inside += names(curves, scale)
+    head = (f'<svg xmlns="http://www.w3.org/2000/svg" width="{WIDTH}" height="{HEIGHT}" '
+            f'viewBox="0 0 {WIDTH} {HEIGHT}">')
+    return "\n".join([head, *inside, "</svg>"]) + "\n"

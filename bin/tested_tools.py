@@ -1,0 +1,222 @@
+"""Tests of bin/why and bin/what-if: what they say of small traces follows from docs/RULES.md."""
+import csv
+import io
+import json
+import re
+import subprocess
+import sys
+import tempfile
+import xml.etree.ElementTree as xml
+from pathlib import Path
+
+from tested_model import PROGRAM
+from traces import Replay
+
+TOP = Path(__file__).resolve().parent.parent
+SHARES = ("fresh", "stale_answers", "negative_answers", "missed")
+# Question a.example., NXDOMAIN, and the SOA record of example.: a time of 3,600, a MINIMUM of 300.
+DENIED = ("123484030001000000010000" "0161076578616d706c650000010001"
+          "c00e0006000100000e100018c00ec00e0000000100000e100000025800093a80")
+DENIAL = DENIED + "0000012c"
+
+
+def ran(tool, *words):
+    return subprocess.run([sys.executable, TOP / "bin" / tool, *map(str, words)],
+                          capture_output=True, text=True, timeout=120)
+
+
+def trace_file(folder, lines):
+    path = Path(folder) / "trace"
+    path.write_text("".join(f"{it}\n" for it in lines))
+    return path
+
+
+# ---- bin/why
+
+PUT = "put 100 a.example. 1 4 60 c0000201"
+WHY = [
+    # the lines, which is asked about, options, and what has to be said
+    ([PUT], 0, [], ["rank 4 (authoritative answer), for 60 seconds", "answers until 159",
+                    "stale until 86559 (RFC 8767 section 4)"]),
+    ([PUT, "put 159 A.example. 1 3 60 c0000202"], 1, [],
+     ["Less:", "line 0 stored at 100", "until 159", "RFC 2181 section 5.4.1"]),
+    ([PUT, "put 160 a.example. 1 3 60 c0000202"], 1, [],
+     ["Kept: it replaces", "expired at 160", "RFC 2181 section 5"]),
+    ([PUT, "put 120 a.example. 1 4 60 c0000202"], 1, [],
+     ["unexpired until 159 but of the same rank"]),
+    ([PUT, "put 120 a.example. 1 4 0 c0000202", "ask 121 a.example. 1 any none"], 2, [],
+     ["line 0 stored it at 100 for 60 seconds, and line 1 cleared it by a time of 0"]),
+    ([PUT, "put 120 a.example. 1 3 0 c0000202"], 1, [], ["Less:"]),
+    ([PUT, "ask 159 a.example. 1 answer none"], 1, [], ["Fresh: of its 60 seconds 59 have passed"
+                                                       " at 159, which leaves 1"]),
+    ([PUT, "ask 160 a.example. 1 answer none"], 1, [],
+     ["expired at 160, 0 seconds before 160", "Miss: in the mode none no stale answer"]),
+    ([PUT, "ask 160 a.example. 1 answer failed"], 1, [], ["Miss:", "after a recent failure alone"]),
+    ([PUT, "fail 165 a.example. 1", "ask 170 a.example. 1 answer failed"], 2, [],
+     ["Stale: it is within the stale limit of 86,400 seconds and asking failed", "line 1 stored at"
+      " 165", "RFC 8767 sections 4 and 5"]),
+    ([PUT, "fail 165 a.example. 1", "ask 170 a.example. 1 answer none"], 2, [],
+     ["it may be tried again from 195 on"]),
+    ([PUT, "ask 170 a.example. 1 answer now"], 1, ["--stale=10"],
+     ["past the stale limit of 10 seconds", "good until 169"]),
+    (["put 100 a.example. 1 1 60 c0000201", "ask 110 a.example. 1 answer now"], 1, [],
+     ["Miss: it is glue, and glue answers no question (RFC 2181 section 5.4.1)"]),
+    ([PUT, "put 110 b.example. 1 4 60 c0000201", "ask 111 a.example. 1 any none"], 1,
+     ["--capacity=1"], ["held 1 key, as many as it may", "last by line 0", "that line 0 stored"]),
+    ([PUT, "ask 101 a.example. 1 any none", "put 110 b.example. 1 4 60 c0000201"], 2,
+     ["--capacity=1"], ["touched least recently, last by line 1"]),
+    ([PUT, "put 110 b.example. 1 4 60 c0000201", "ask 111 a.example. 1 any none"], 2,
+     ["--capacity=1"], ["line 1 put it out to make room", "No line before stored anything under"
+                        " a.example./nx"]),
+    ([PUT, f"response 110 example. {DENIAL}", "ask 120 a.example. 1 any none"], 2, [],
+     ["line 1 stored at 110 for 300 seconds", "Held is also the set a.example. A (1 record) that"
+      " line 0", "the later one governs", "No such name (RFC 2308 section 2.1)"]),
+    ([PUT, f"response 110 example. 123480{DENIAL[6:]}", "ask 120 a.example. 1 any none"], 2, [],
+     ["rank 2", "came later; but the earlier one is unexpired at 120 and of higher rank"]),
+    # stored later goes by the number of the event, not by the moment
+    ([PUT, f"response 90 example. {DENIAL}", "ask 120 a.example. 1 any none"], 2, [],
+     ["line 1 stored at 90", "the later one governs"]),
+    ([f"response 110 example. {DENIAL}"], 0, [],
+     ["RCODE 3", "the lower of the time and the MINIMUM", "for 300 seconds",
+      "no alias was followed", "RFC 2308 section 5"]),
+    ([f"response 110 other. {DENIAL}"], 0, [], ["offers nothing", "not at or below the zone"]),
+    ([f"response 110 example. {DENIAL[:-2]}"], 0, [], ["Refused 1", "ends too early"]),
+    (["fetch 100 a.example. 1 example. -", "fetch 110 a.example. 1 example. -"], 1, [],
+     ["Held: nothing is fetched before 130"]),
+    (["fetch 100 a.example. 1 example. -"], 0, [],
+     ["No message came", "the failure of a.example. A"]),
+    ([PUT, "put 100 b.example. 1 4 900000 c0000202", "sweep 86560"], 2, [],
+     ["past the stale limit, it has 1 ", "that line 0 stored"]),
+    (["checkpoint"], 0, [], ["no event"]),
+]
+
+
+def test_why_says_what_follows_from_the_rules():
+    with tempfile.TemporaryDirectory() as folder:
+        for lines, number, options, wanted in WHY:
+            run = ran("why", number, trace_file(folder, lines), *options)
+            text = re.sub(r"\s+", " ", run.stdout)
+            yield from (f"{lines}: not told: {it}; but: {text}{run.stderr}"
+                        for it in wanted if it not in text)
+
+
+def test_why_refuses_what_it_cannot_tell_of():
+    with tempfile.TemporaryDirectory() as folder:
+        for lines, words, status in (([PUT], [1], 1), (["put"], [0], 1), ([PUT], [-1], 1),
+                                     ([PUT], [0, "--workers=2"], 2)):
+            run = ran("why", "--", *words[:1], trace_file(folder, lines)) if len(words) == 1 else \
+                ran("why", words[0], trace_file(folder, lines), words[1])
+            if run.returncode != status or not run.stderr or run.stdout:
+                yield f"{lines} {words}: status {run.returncode}: {run.stdout}{run.stderr}"
+
+
+# ---- bin/what-if
+
+ASKED = [
+    "put 100 a. 1 4 60 01020304", "ask 110 a. 1 answer none",
+    "put 110 b. 1 4 60 01020304", "ask 120 a. 1 answer none", "ask 120 b. 1 answer none",
+    "ask 200 b. 1 answer now", f"response 200 example. {DENIAL}",
+    "ask 210 a.example. 1 answer none",
+]
+# capacity, stale, negative: fresh, stale, negative, missed, evictions, octets. A set of a. has 3
+# octets of name, 3 of owner, 4 of data; the SOA set 9, 9, 38; the denial of a.example. 11, 9, 38.
+COUNTED = {
+    (8, 86_400, 10_800): (3, 1, 1, 0, 0, 134), (1, 86_400, 10_800): (2, 1, 1, 1, 3, 58),
+    (8, 0, 10_800): (3, 0, 1, 1, 0, 134), (1, 0, 10_800): (2, 0, 1, 2, 3, 58),
+    (8, 86_400, 5): (3, 1, 0, 1, 0, 134), (1, 86_400, 5): (2, 1, 0, 2, 3, 58),
+    (8, 0, 5): (3, 0, 0, 2, 0, 134), (1, 0, 5): (2, 0, 0, 3, 3, 58),
+}
+VARIED = ["--capacity=1,8", "--stale=0,86400", "--negative=5,10800"]
+
+
+def what_if(path, *words):
+    run = ran("what-if", "--program", PROGRAM, *words, path)
+    if run.returncode:
+        raise RuntimeError(run.stderr)
+    return run.stdout
+
+
+def counted(result):
+    setting = tuple(int(result[it]) for it in ("capacity", "stale", "negative"))
+    return setting, tuple(int(result[it]) for it in (*SHARES, "evictions", "octets"))
+
+
+def test_what_if_counts_by_the_rules():
+    with tempfile.TemporaryDirectory() as folder:
+        path = trace_file(folder, ASKED)
+        results = json.loads(what_if(path, "--json", *VARIED))
+        if dict(map(counted, results)) != COUNTED:
+            yield f"{dict(map(counted, results))}"
+        rows = list(csv.DictReader(io.StringIO(what_if(path, "--csv", *VARIED))))
+        if [counted(it) for it in rows] != [counted(it) for it in results]:
+            yield f"as CSV: {rows}"
+        table = what_if(path, "--capacity=8").split()
+        if "60.0" not in table or "134" not in table:
+            yield f"the table: {table}"
+
+
+def test_what_if_counts_the_octets_that_are_held():
+    """What is outranked is not held, nor is what a sweep removed: a stale set is kept by it."""
+    put = "put 100 a. 1 4 60 01020304"
+    less = [put, "put 110 a. 1 3 60 0102030405060708"]
+    swept = [put, "sweep 200", "put 200 b. 1 4 9 01020304"]
+    with tempfile.TemporaryDirectory() as folder:
+        for lines, stale, octets in ((less, 0, 10), (swept, 0, 10), (swept, 86_400, 20)):
+            words = ["--json", "--capacity=8", f"--stale={stale}"]
+            result = json.loads(what_if(trace_file(folder, lines), *words))[0]
+            if result["octets"] != octets:
+                yield f"{lines}, stale {stale}: {result['octets']} and not {octets}"
+
+
+def test_what_if_draws_a_curve_for_each_share_or_setting():
+    with tempfile.TemporaryDirectory() as folder:
+        path, picture = trace_file(folder, ASKED), Path(folder) / "a.svg"
+        for words, curves, points in ((["--capacity=1,2,4,8"], 4, 4), (VARIED[:2], 2, 2),
+                                      (["--stale=5"], 4, 1)):
+            words = words if "stale=5" not in words[0] else ["--capacity=8", *words]
+            what_if(path, "--svg", picture, *words)
+            found = [it.get("points").split() for it in xml.parse(picture).iter()
+                     if it.tag.endswith("polyline")]
+            if len(found) != curves or any(len(it) != points for it in found):
+                yield f"{words}: {found}"
+
+
+def test_what_if_counts_a_fetch_as_an_ask():
+    lines = ["fetch 100 a.example. 1 example. -", "fetch 101 a.example. 1 example. -",
+             PUT, "fetch 110 a.example. 1 example. -", "sweep 90000",
+             "ask 110 a.example. 1 any none"]
+    with tempfile.TemporaryDirectory() as folder:
+        result = json.loads(what_if(trace_file(folder, lines), "--json", "--capacity=4"))[0]
+    # fetched and held: missed; hit: fresh; and at the sweep all is dead, so the ask is missed
+    if counted(result)[1][:4] != (1, 0, 0, 3):
+        yield f"{result}"
+
+
+def most_octets(lines, capacity):
+    """The most octets that the model's part holds behind any call."""
+    replay, most = Replay(capacity=capacity), 0
+    part = replay.parts[0]
+    offer = part.offer
+
+    def counting(it):
+        nonlocal most
+        outcome = offer(it)
+        most = max(most, sum(len(key.name) + len(entry.body.owner) + sum(map(len, entry.body.items))
+                             for key, entry in part.held.items()))
+        return outcome
+    part.offer = counting
+    for line in lines:
+        replay.line(line)
+    return most
+
+
+def test_what_if_refuses_what_it_cannot_replay():
+    with tempfile.TemporaryDirectory() as folder:
+        for words, status in ((["--capacity=0"], 2), (["--stale=604801"], 2), (["--parts=x"], 2),
+                              (["--negative=10801"], 2)):
+            run = ran("what-if", *words, trace_file(folder, ASKED))
+            if run.returncode != status or run.stdout:
+                yield f"{words}: status {run.returncode}: {run.stderr}"
+        run = ran("what-if", "--program", PROGRAM, trace_file(folder, ["ask"]))
+        if run.returncode != 1 or "line 0 is not a line of a trace" not in run.stderr:
+            yield f"a bad trace: status {run.returncode}: {run.stderr}"
