@@ -54,8 +54,9 @@ static void put(struct shelf *shelf, const uint8_t *name, uint64_t line)
 {
     static const uint8_t data[] = {0, 4, 192, 0, 2, 1, 0, 4, 192, 0, 2, 2};
     uint32_t outcome;
-    if (rrcache_offer_set(&shelf->cache, name, sizeof names[0], 1, RRCACHE_AUTHORITATIVE_ANSWER,
-                          TTL, data, sizeof data, MOMENT, line, &outcome)
+    if (rrcache_offer_set(&shelf->cache, name, sizeof names[0], 1, RRCACHE_IN,
+                          RRCACHE_AUTHORITATIVE_ANSWER, TTL, data, sizeof data, MOMENT, line,
+                          &outcome)
         != RRCACHE_DONE)
         fail("a put was refused");
 }
@@ -64,7 +65,7 @@ static void ask(struct shelf *shelf, const uint8_t *name, uint64_t line)
 {
     struct rrcache_told told;
     uint8_t buffer[512];
-    if (rrcache_ask(&shelf->cache, name, sizeof names[0], 1, MOMENT, RRCACHE_QUESTION,
+    if (rrcache_ask(&shelf->cache, name, sizeof names[0], 1, RRCACHE_IN, MOMENT, RRCACHE_QUESTION,
                     RRCACHE_NO_STALE, line, &told, buffer, sizeof buffer)
             != RRCACHE_DONE
         || told.kind != RRCACHE_FRESH)

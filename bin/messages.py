@@ -22,9 +22,11 @@ FAULTS = {
     TOO_LONG: "it has more than 65,535 octets",
 }
 MESSAGE_LEAST, MESSAGE_MOST = 12, 65_535
-IN, NS, CNAME, SOA, ANY = 1, 2, 5, 6, 255
+IN, CH, HS = 1, 3, 4
+A, NS, CNAME, SOA, ANY = 1, 2, 5, 6, 255
 NOERROR, NXDOMAIN = 0, 3
 ALIASES_MOST = 16
+KEPT_CLASSES = {IN, CH, HS}
 NOT_KEPT = {0, 24, 30, 35, 41, 46, *range(128, 256)}
 # Fixed octets, names, fixed octets of the data of a type.
 LAYOUTS = {
@@ -49,6 +51,7 @@ class Record(NamedTuple):
 
     owner: bytes
     rtype: int
+    rclass: int
     ttl: int
     data: bytes
     folded: bytes
@@ -80,8 +83,9 @@ class Message(NamedTuple):
         return self.flags & 15
 
 
-def is_kept(rtype):
-    return rtype not in NOT_KEPT
+def is_kept(rtype, rclass=IN):
+    """Whether records of a type are kept in a class; the data of A hold a name in CH."""
+    return rtype not in NOT_KEPT and rclass in KEPT_CLASSES and (rtype, rclass) != (A, CH)
 
 
 # ---- reading
@@ -156,9 +160,9 @@ def record_at(octets, at):
     end = at + size
     if end > len(octets):
         raise MessageFault(SHORT)
-    if rclass != IN or not is_kept(rtype):
+    if not is_kept(rtype, rclass):
         return LEFT_OUT, end
-    return Record(owner, rtype, ttl, *data_at(octets, at, end, rtype)), end
+    return Record(owner, rtype, rclass, ttl, *data_at(octets, at, end, rtype)), end
 
 
 def read(octets):
@@ -222,7 +226,8 @@ def set_offer(message, section, key, records, at):
         once.setdefault(record.folded, record.data)
     owner = records[0].owner
     life = min(min(it.ttl for it in records), CAP)
-    return positive(owner, key[1], once.values(), rank_of(message, section, owner), life, at)
+    rank = rank_of(message, section, owner)
+    return positive(owner, key[1], once.values(), rank, life, at, message.rclass)
 
 
 def final_name(message):
@@ -254,10 +259,10 @@ def negative_offer(message, zone, at):
         return None
     there = {it.rtype for it in message.sections[0] if fold(it.owner) == name}
     if message.rcode == NXDOMAIN:
-        key = None if there else Key(name, "nx", 0)
+        key = None if there else Key(name, "nx", 0, message.rclass)
     else:
-        is_there = message.rtype in there or not is_kept(message.rtype)
-        key = None if is_there else Key(name, "set", message.rtype)
+        is_there = message.rtype in there or not is_kept(message.rtype, message.rclass)
+        key = None if is_there else Key(name, "set", message.rtype, message.rclass)
     if key is None:
         return None
     life = min(soa.ttl, int.from_bytes(soa.data[-4:], "big"), NEGATIVE_CAP)
@@ -265,14 +270,22 @@ def negative_offer(message, zone, at):
     return negative(key, soa.owner, soa.data, rank, life, at)
 
 
+def in_own_class(message):
+    """The message without its records of other classes than its question's."""
+    sections = [tuple(it for it in records if it.rclass == message.rclass)
+                for records in message.sections]
+    return message._replace(sections=tuple(sections))
+
+
 def offers_of(message, zone, at):
     """What a response that was read offers for a zone at a moment, in order."""
-    if (message.is_truncated or message.opcode or message.rclass != IN
+    if (message.is_truncated or message.opcode or message.rclass not in KEPT_CLASSES
             or not is_at_or_below(message.name, zone)):
         return []
     if message.rcode not in (NOERROR, NXDOMAIN):
-        is_told = is_kept(message.rtype)
-        return [failure(fold(message.name), message.rtype, at)] if is_told else []
+        told = fold(message.name), message.rtype, at, message.rclass
+        return [failure(*told)] if is_kept(message.rtype, message.rclass) else []
+    message = in_own_class(message)
     found = []
     for section, records in enumerate(message.sections):
         for key, records_of_key in sets_of(records):
@@ -288,8 +301,8 @@ def why_nothing(message, zone):
         return "it is truncated (RFC 2181 section 9)"
     if message.opcode:
         return "its opcode is not that of a standard query"
-    if message.rclass != IN:
-        return "its question is of a class other than IN"
+    if message.rclass not in KEPT_CLASSES:
+        return "its question is of a class that is not kept (RFC 1035 section 3.2.4)"
     if not is_at_or_below(message.name, zone):
         return "its question is not at or below the zone"
     return None

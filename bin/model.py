@@ -11,18 +11,21 @@ from names import fold, to_text
 STALE, RECHECK, CAP, NEGATIVE_CAP = 86_400, 30, 604_800, 10_800
 STALE_SECONDS = 30
 GLUE = 1
+IN = 1
 
 
 class Key(NamedTuple):
-    """A folded name and a slot of it: `set` or `failed` with a type, or `nx` with 0."""
+    """A folded name, a class, and a slot of them: `set` or `failed` with a type, or `nx` with 0."""
 
     name: bytes
     slot: str
     rtype: int
+    rclass: int = IN
 
     def __str__(self):
         slot = {"set": str(self.rtype), "nx": "nx", "failed": f"failed{self.rtype}"}[self.slot]
-        return f"{to_text(self.name)}/{slot}"
+        text = f"{to_text(self.name)}/{slot}"
+        return text if self.rclass == IN else f"{text}/{self.rclass}"
 
 
 class Body(NamedTuple):
@@ -100,10 +103,10 @@ def items_text(items):
     return ",".join(item.hex() or "-" for item in items)
 
 
-def positive(owner, rtype, items, rank, ttl, at):
+def positive(owner, rtype, items, rank, ttl, at, rclass=IN):
     """The offer of an RRset."""
     body = Body("positive", owner, tuple(items), rank, ttl)
-    return Offer(Key(fold(owner), "set", rtype), body, at)
+    return Offer(Key(fold(owner), "set", rtype, rclass), body, at)
 
 
 def negative(key, owner, soa, rank, ttl, at):
@@ -111,9 +114,10 @@ def negative(key, owner, soa, rank, ttl, at):
     return Offer(key, Body("negative", owner, (soa,), rank, ttl), at)
 
 
-def failure(name, rtype, at):
+def failure(name, rtype, at, rclass=IN):
     """The offer of a failure."""
-    return Offer(Key(fold(name), "failed", rtype), Body("failure", b"", (), 0, RECHECK), at)
+    key = Key(fold(name), "failed", rtype, rclass)
+    return Offer(key, Body("failure", b"", (), 0, RECHECK), at)
 
 
 def part_of(name, parts):
@@ -154,32 +158,37 @@ class Part:
         self.held[key] = Entry(key, body, at, number)
         return Outcome("kept", old, evicted)
 
-    def governing(self, name, rtype, at):
+    def answering(self, name, rtype, rclass):
+        """What is held under the two keys that may answer."""
+        keys = (Key(name, "set", rtype, rclass), Key(name, "nx", 0, rclass))
+        return [self.held.get(it) for it in keys]
+
+    def governing(self, name, rtype, at, rclass=IN):
         """The entry that governs, and the other, of those under the two keys that may answer."""
-        found = [self.held.get(Key(name, "set", rtype)), self.held.get(Key(name, "nx", 0))]
+        found = self.answering(name, rtype, rclass)
         earlier, later = sorted(found, key=lambda it: it.number if it else -1)
         if earlier and earlier.is_unexpired(at) and earlier.body.rank > later.body.rank:
             return earlier, later
         return later, earlier
 
-    def recent_failure(self, name, rtype, at):
+    def recent_failure(self, name, rtype, at, rclass=IN):
         """The failure to ask, where it is unexpired and later than what is held."""
-        failed = self.held.get(Key(name, "failed", rtype))
+        failed = self.held.get(Key(name, "failed", rtype, rclass))
         if failed is None or not failed.is_unexpired(at):
             return None
-        others = (self.held.get(Key(name, "set", rtype)), self.held.get(Key(name, "nx", 0)))
+        others = self.answering(name, rtype, rclass)
         return failed if all(it is None or failed.number > it.number for it in others) else None
 
-    def ask(self, name, rtype, at, purpose, mode):
+    def ask(self, name, rtype, at, purpose, mode, rclass=IN):
         """An ask's reply ("What an ask answers")."""
         self.number += 1
         name = fold(name)
-        entry, other = self.governing(name, rtype, at)
-        failed = self.recent_failure(name, rtype, at)
+        entry, other = self.governing(name, rtype, at, rclass)
+        failed = self.recent_failure(name, rtype, at, rclass)
         word, left = self.word_of(entry, at, purpose, mode, failed)
         if word != "miss":
             self.held[entry.key] = self.held.pop(entry.key)
-        past = None if failed else self.held.get(Key(name, "failed", rtype))
+        past = None if failed else self.held.get(Key(name, "failed", rtype, rclass))
         return Reply(word, entry, other, failed, past, left)
 
     def word_of(self, entry, at, purpose, mode, failed):

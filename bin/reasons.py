@@ -7,7 +7,7 @@ from typing import NamedTuple
 
 from messages import (NXDOMAIN, SOA, MessageFault, final_name, is_at_or_below, read, set_offer,
                       sets_of, why_nothing)
-from model import (CAP, GLUE, NEGATIVE_CAP, RECHECK, STALE_SECONDS, Entry, Key, Offer,
+from model import (CAP, GLUE, IN, NEGATIVE_CAP, RECHECK, STALE_SECONDS, Entry, Key, Offer,
                    part_of)
 from names import fold, to_text
 from traces import Replay
@@ -46,16 +46,24 @@ def type_name(rtype):
     return TYPES.get(rtype, f"TYPE{rtype}")
 
 
+def kind_name(key):
+    """A key's type, and its class where that is not IN."""
+    name = type_name(key.rtype)
+    return name if key.rclass == IN else f"{name} of class {key.rclass}"
+
+
 def body_name(key, body):
     """What a key holds, in words."""
     name = to_text(key.name)
     if body.kind == "positive":
         records = f"{len(body.items)} record{'s' * (len(body.items) != 1)}"
-        return f"the set {name} {type_name(key.rtype)} ({records})"
+        return f"the set {name} {kind_name(key)} ({records})"
     if body.kind == "failure":
-        return f"the failure of {name} {type_name(key.rtype)}"
-    denied = "does not exist" if key.slot == "nx" else f"has no {type_name(key.rtype)}"
-    return f"the negative answer that {name} {denied}"
+        return f"the failure of {name} {kind_name(key)}"
+    if key.slot == "nx":
+        of_class = "" if key.rclass == IN else f" in class {key.rclass}"
+        return f"the negative answer that {name} does not exist{of_class}"
+    return f"the negative answer that {name} has no {kind_name(key)}"
 
 
 def seconds(count):
@@ -201,20 +209,20 @@ class Story:
 
     def ask(self, told):
         """Why an ask was answered so."""
-        name, rtype, at, purpose, mode = told.call
+        name, rtype, at, purpose, mode, rclass = told.call
         reply = told.answer
-        yield from self.governs(reply, fold(name), rtype, at)
+        yield from self.governs(reply, fold(name), rtype, at, rclass)
         entry = reply.governing
         if entry:
             yield from self.good(reply, at, purpose, mode)
         yield from self.failure(reply, at)
 
-    def governs(self, reply, name, rtype, at):
+    def governs(self, reply, name, rtype, at, rclass):
         """What is held under the two keys that may answer, and which of them governs."""
         entry, other = reply.governing, reply.other
         if entry is None:
-            yield self.empty(Key(name, "set", rtype))
-            yield self.empty(Key(name, "nx", 0))
+            yield self.empty(Key(name, "set", rtype, rclass))
+            yield self.empty(Key(name, "nx", 0, rclass))
             return
         yield f"Held is {self.stored(entry)}."
         if other is None:

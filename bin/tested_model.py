@@ -1,3 +1,4 @@
+# SPDX-License-Identifier: MIT
 """Tests of the model: on each row, whose reports are written by hand, and against the program."""
 import io
 import random
@@ -88,13 +89,16 @@ def data_of(rng, rtype):
     return bytes(rng.randrange(2) for _ in range(4 if rtype == 1 else rng.randrange(3)))
 
 
-def records_of(rng, most):
-    """Records of a section, of few owners and types, so that they make sets."""
+CLASSES = [*[1] * 12, 3, 3, 4, 2, 255]
+
+
+def records_of(rng, most, rclass=1):
+    """Records of a section, of few owners and types, so that they make sets, mostly of a class."""
     made = []
     for _ in range(rng.randrange(most)):
         rtype, ttl = rng.choice([1, 2, 5, 5, 6, 6, 16, 46]), rng.choice([60, 60, *TTLS])
-        rclass = rng.choice([1] * 9 + [3])
-        made.append(record(rng.choice(NAMES), rtype, ttl, data_of(rng, rtype), rclass))
+        own = rng.choice([rclass] * 9 + CLASSES)
+        made.append(record(rng.choice(NAMES), rtype, ttl, data_of(rng, rtype), own))
         if rng.random() < 0.2:
             made.append(rng.choice(made))
     return made
@@ -104,11 +108,13 @@ def message_of(rng):
     """A response, mostly a lawful one, at times with an octet changed or cut off."""
     flags = 0x8000 | rng.choice([0, 0x400, 0x400]) | rng.choice([0] * 9 + [0x200, 0x800])
     flags |= rng.choice([0, 0, 0, 3, 3, 2, 5])
-    sections = [records_of(rng, 4), records_of(rng, 3), records_of(rng, 3)]
+    rclass = rng.choice(CLASSES)
+    sections = [records_of(rng, most, rclass) for most in (4, 3, 3)]
     if rng.random() < 0.4:
-        soa = record(rng.choice(["example.", "example.", "."]), 6, 300, data_of(rng, 6))
-        sections[:2] = records_of(rng, 2), [soa]
-    asked = question(rng.choice(NAMES), rng.choice(TYPES), rng.choice([1] * 15 + [3]))
+        zone = rng.choice(["example.", "example.", "."])
+        soa = record(zone, 6, 300, data_of(rng, 6), rng.choice([rclass] * 9 + CLASSES))
+        sections[:2] = records_of(rng, 2, rclass), [soa]
+    asked = question(rng.choice(NAMES), rng.choice(TYPES), rclass)
     octets = bytearray(header(1, flags, 1, *map(len, sections)) + asked
                        + b"".join(it for section in sections for it in section))
     if rng.random() < 0.1:
@@ -121,23 +127,32 @@ def message_of(rng):
 WORDS = ["put", "put", *["ask"] * 5, "fail", *["response"] * 3, "fetch"]
 
 
+def kind_of(rng, rtype):
+    """A type, at times with a class; nearly always of such that are kept."""
+    rclass = rng.choice([1] * 10 + ([3, 3, 4] if rtype != 1 else [4]))
+    if rng.random() < 0.002:
+        rclass = rng.choice([0, 2, 3, 254, 255, 65_536])
+    return f"{rtype}/{rclass}" if rclass != 1 or rng.random() < 0.1 else f"{rtype}"
+
+
 def line_of(rng, at):
     """A line of a trace, drawn at random, at a moment."""
     name, rtype = rng.choice(NAMES), rng.choice([1, 1, 1, 16, 2, 5, 6])
+    kind = kind_of(rng, rtype)
     word = rng.choice(WORDS) if rng.random() < 0.97 else "sweep"
     if word == "put":
         items = ",".join(data_of(rng, rtype).hex() or "-" for _ in range(rng.randint(1, 3)))
-        return f"put {at} {name} {rtype} {rng.randint(1, 4)} {rng.choice(TTLS)} {items}"
+        return f"put {at} {name} {kind} {rng.randint(1, 4)} {rng.choice(TTLS)} {items}"
     if word == "ask":
         mode = rng.choice(["none", "failed", "now"])
-        return f"ask {at} {name} {rtype} {rng.choice(['any', 'answer'])} {mode}"
+        return f"ask {at} {name} {kind} {rng.choice(['any', 'answer'])} {mode}"
     zone = rng.choice(["example.", "example.", ".", "a.example."])
     if word == "response":
         return f"response {at} {zone} {message_of(rng).hex() or '-'}"
     if word == "fetch":
         message = message_of(rng).hex() if rng.random() < 0.8 else "-"
-        return f"fetch {at} {name} {rtype} {zone} {message or '-'}"
-    return f"sweep {at}" if word == "sweep" else f"fail {at} {name} {rtype}"
+        return f"fetch {at} {name} {kind} {zone} {message or '-'}"
+    return f"sweep {at}" if word == "sweep" else f"fail {at} {name} {kind}"
 
 
 def trace_of(rng):

@@ -2,7 +2,7 @@
 from typing import NamedTuple
 
 from messages import MessageFault, is_kept, offers_of, plain_item, read
-from model import CAP, Part, failure, part_of, positive
+from model import CAP, IN, Part, failure, part_of, positive
 from names import NameFault, fold, from_text
 
 LINES_MOST, LINE_MOST, MOMENT_MOST, TTL_MOST = 1_000_000, 140_000, 2**40, 2**32 - 1
@@ -19,14 +19,15 @@ class BadLine(ValueError):
 
 
 class Line(NamedTuple):
-    """A line: its word; its moment; its name and type, where it has them; and what else its word
-    has: an `Offer`, a purpose and a mode, or a zone and a message (None where no message came)."""
+    """A line: its word; its moment; its name, type and class, where it has them; and what else its
+    word has: an `Offer`, a purpose and a mode, or a zone and a message (None where none came)."""
 
     word: str
     at: int = 0
     name: bytes = b""
     rtype: int = 0
     rest: tuple = ()
+    rclass: int = IN
 
 
 # ---- fields
@@ -49,10 +50,12 @@ def name_of(field):
 
 
 def type_of(field):
-    rtype = number(field, 65_535)
-    if not is_kept(rtype):
+    """A type and a class, which is IN where none is written, of which records are kept."""
+    rtype, slash, rclass = field.partition(b"/")
+    rtype, rclass = number(rtype, 65_535), number(rclass, 65_535) if slash else IN
+    if not is_kept(rtype, rclass):
         raise BadLine
-    return rtype
+    return rtype, rclass
 
 
 def octets(field):
@@ -76,22 +79,23 @@ def item(field, rtype):
 
 
 def put(at, name, rtype, rank, ttl, items):
-    name, rtype, fields = name_of(name), type_of(rtype), items.split(b",")
+    name, (rtype, rclass), fields = name_of(name), type_of(rtype), items.split(b",")
     rank, ttl = number(rank, 4), number(ttl, TTL_MOST)
     if not rank or len(fields) > ITEMS_MOST:
         raise BadLine
     once = {}
     for folded, data in [item(it, rtype) for it in fields]:
         once.setdefault(folded, data)
-    offer = positive(name, rtype, once.values(), rank, min(ttl, CAP), number(at, MOMENT_MOST))
-    return Line("put", offer.at, name, rtype, (offer,))
+    at = number(at, MOMENT_MOST)
+    offer = positive(name, rtype, once.values(), rank, min(ttl, CAP), at, rclass)
+    return Line("put", at, name, rtype, (offer,), rclass)
 
 
 def ask(at, name, rtype, purpose, mode):
     if purpose not in PURPOSES or mode not in MODES:
         raise BadLine
-    words = (purpose.decode(), mode.decode())
-    return Line("ask", number(at, MOMENT_MOST), name_of(name), type_of(rtype), words)
+    (rtype, rclass), words = type_of(rtype), (purpose.decode(), mode.decode())
+    return Line("ask", number(at, MOMENT_MOST), name_of(name), rtype, words, rclass)
 
 
 def response(at, zone, message):
@@ -100,14 +104,15 @@ def response(at, zone, message):
 
 
 def fail(at, name, rtype):
-    offer = failure(name_of(name), type_of(rtype), number(at, MOMENT_MOST))
-    return Line("fail", offer.at, name_of(name), type_of(rtype), (offer,))
+    name, (rtype, rclass) = name_of(name), type_of(rtype)
+    offer = failure(name, rtype, number(at, MOMENT_MOST), rclass)
+    return Line("fail", offer.at, name, rtype, (offer,), rclass)
 
 
 def fetch(at, name, rtype, zone, message):
     message = None if message == b"-" else octets(message)
-    at = number(at, MOMENT_MOST)
-    return Line("fetch", at, name_of(name), type_of(rtype), (name_of(zone), message))
+    at, (rtype, rclass) = number(at, MOMENT_MOST), type_of(rtype)
+    return Line("fetch", at, name_of(name), rtype, (name_of(zone), message), rclass)
 
 
 def sweep(at):
@@ -151,7 +156,7 @@ def lines_in(stream):
                 raise TraceFault(f"the trace has more than {LINES_MOST} lines")
             line = line_of(text)
             if line.word == "fetch":
-                questions.add((fold(line.name), line.rtype))
+                questions.add((fold(line.name), line.rtype, line.rclass))
                 if len(questions) > QUESTIONS_MOST:
                     raise TraceFault(f"line {count} asks one question too many")
             yield line
@@ -210,7 +215,7 @@ class Replay:
     on_fail = on_put
 
     def on_ask(self, line):
-        told = self.ask(line.name, line.rtype, line.at, *line.rest)
+        told = self.ask(line.name, line.rtype, line.at, *line.rest, line.rclass)
         return [str(told.answer)], [told]
 
     def on_sweep(self, line):
@@ -228,7 +233,7 @@ class Replay:
         return [str(len(told)), *(str(it.answer) for it in told)], told
 
     def on_fetch(self, line):
-        first = self.ask(line.name, line.rtype, line.at, "answer", "failed")
+        first = self.ask(line.name, line.rtype, line.at, "answer", "failed", line.rclass)
         if first.answer.word != "miss":
             return ["hit", str(first.answer)], [first]
         if first.answer.failed:
@@ -236,8 +241,8 @@ class Replay:
         zone, message = line.rest
         offers, fault = offers_in(zone, message, line.at) if message is not None else ([], True)
         told = [self.offer(it) for it in
-                ([failure(line.name, line.rtype, line.at)] if fault else offers)]
-        last = self.ask(line.name, line.rtype, line.at, "answer", "now")
+                ([failure(line.name, line.rtype, line.at, line.rclass)] if fault else offers)]
+        last = self.ask(line.name, line.rtype, line.at, "answer", "now", line.rclass)
         words = [str(len(told)), *(str(it.answer) for it in told), str(last.answer)]
         return ["fetched", *words], [first, *told, last]
 

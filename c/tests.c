@@ -55,6 +55,12 @@ static const uint8_t ALIAS[] = {
     0xc0, 12, 0, 5, 0, 1, 0, 0, 1, 44, 0, 8, 5, 'o', 't', 'h', 'e', 'r', 0xc0, 16,
     0xc0, 41, 0, 1, 0, 1, 0, 0, 1, 44, 0, 4, 192, 0, 2, 9,
 };
+/* A response to a.example TXT of class CH with one record of 60 seconds. */
+static const uint8_t CHAOS[] = {
+    0x12, 0x34, 0x84, 0x00, 0, 1, 0, 1, 0, 0, 0, 0,
+    1, 'a', 7, 'e', 'x', 'a', 'm', 'p', 'l', 'e', 0, 0, 16, 0, 3,
+    0xc0, 12, 0, 16, 0, 3, 0, 0, 0, 60, 0, 2, 1, 'A',
+};
 /* The reply's octets: the owner, and each address behind its length. */
 static const uint8_t ADDRESSES[] = {
     3, 'w', 'w', 'w', 7, 'e', 'x', 'a', 'm', 'p', 'l', 'e', 0,
@@ -83,15 +89,15 @@ static uint32_t offer_answer(struct rrcache_shelf *shelf, uint64_t moment,
 static uint32_t ask(struct rrcache_shelf *shelf, uint64_t moment, struct rrcache_told *told,
                     uint8_t *buffer, size_t size)
 {
-    return rrcache_ask(shelf, NAME, sizeof NAME, A, moment, RRCACHE_QUESTION, RRCACHE_NO_STALE, 2,
-                       told, buffer, size);
+    return rrcache_ask(shelf, NAME, sizeof NAME, A, RRCACHE_IN, moment, RRCACHE_QUESTION,
+                       RRCACHE_NO_STALE, 2, told, buffer, size);
 }
 
 static uint32_t peek(struct rrcache_shelf *shelf, uint64_t moment, struct rrcache_told *told,
                      uint8_t *buffer, size_t size)
 {
-    return rrcache_peek(shelf, NAME, sizeof NAME, A, moment, RRCACHE_QUESTION, RRCACHE_NO_STALE,
-                        told, buffer, size);
+    return rrcache_peek(shelf, NAME, sizeof NAME, A, RRCACHE_IN, moment, RRCACHE_QUESTION,
+                        RRCACHE_NO_STALE, told, buffer, size);
 }
 
 static uint64_t events(struct rrcache_shelf *shelf)
@@ -112,8 +118,8 @@ static uint32_t offer_address(struct rrcache_shelf *shelf, const uint8_t *name, 
                               uint32_t trust, uint32_t ttl)
 {
     uint32_t outcome = 0;
-    EXPECT(rrcache_offer_set(shelf, name, size, A, trust, ttl, ADDRESS, sizeof ADDRESS, FIRST, 1,
-                             &outcome)
+    EXPECT(rrcache_offer_set(shelf, name, size, A, RRCACHE_IN, trust, ttl, ADDRESS, sizeof ADDRESS,
+                             FIRST, 1, &outcome)
            == RRCACHE_DONE);
     return outcome;
 }
@@ -165,9 +171,9 @@ static void test_answers(void)
 
     /* The name is asked for in any case, and a buffer of just the size will do. */
     memset(buffer, 0xee, sizeof buffer);
-    EXPECT(
-        rrcache_ask(&shelf, UPPER, sizeof UPPER, A, FIRST, 0, 0, 3, &told, buffer, sizeof ADDRESSES)
-        == RRCACHE_DONE);
+    EXPECT(rrcache_ask(&shelf, UPPER, sizeof UPPER, A, RRCACHE_IN, FIRST, 0, 0, 3, &told, buffer,
+                       sizeof ADDRESSES)
+           == RRCACHE_DONE);
     EXPECT(memcmp(buffer, ADDRESSES, sizeof ADDRESSES) == 0 && events(&shelf) == 4);
     EXPECT(rrcache_free(&shelf) == RRCACHE_DONE && shelf.at == NULL && !shelf.is_live);
 }
@@ -211,24 +217,24 @@ static void test_offers(void)
     uint32_t outcome = 0;
     uint8_t buffer[64];
     EXPECT(make(&shelf) == RRCACHE_DONE);
-    EXPECT(rrcache_offer_set(&shelf, NAME, sizeof NAME, A, RRCACHE_AUTHORITATIVE_ANSWER, 60,
-                             ADDRESS, sizeof ADDRESS, FIRST, 1, &outcome)
+    EXPECT(rrcache_offer_set(&shelf, NAME, sizeof NAME, A, RRCACHE_IN, RRCACHE_AUTHORITATIVE_ANSWER,
+                             60, ADDRESS, sizeof ADDRESS, FIRST, 1, &outcome)
            == RRCACHE_DONE);
     EXPECT(outcome == RRCACHE_KEPT);
-    EXPECT(rrcache_offer_set(&shelf, NAME, sizeof NAME, A, RRCACHE_ADDITIONAL, 60, ADDRESS,
-                             sizeof ADDRESS, FIRST, 2, &outcome)
+    EXPECT(rrcache_offer_set(&shelf, NAME, sizeof NAME, A, RRCACHE_IN, RRCACHE_ADDITIONAL, 60,
+                             ADDRESS, sizeof ADDRESS, FIRST, 2, &outcome)
            == RRCACHE_DONE);
     EXPECT(outcome == RRCACHE_LESS_TRUSTED);
     EXPECT(peek(&shelf, FIRST, &told, buffer, sizeof buffer) == RRCACHE_DONE
            && told.kind == RRCACHE_FRESH && told.left == 60);
     EXPECT(told.data_size == sizeof ADDRESS
            && memcmp(buffer + told.owner_size, ADDRESS, sizeof ADDRESS) == 0);
-    EXPECT(rrcache_offer_set(&shelf, NAME, sizeof NAME, A, RRCACHE_AUTHORITATIVE_ANSWER, 0, ADDRESS,
-                             sizeof ADDRESS, FIRST, 3, &outcome)
+    EXPECT(rrcache_offer_set(&shelf, NAME, sizeof NAME, A, RRCACHE_IN, RRCACHE_AUTHORITATIVE_ANSWER,
+                             0, ADDRESS, sizeof ADDRESS, FIRST, 3, &outcome)
            == RRCACHE_DONE);
     EXPECT(outcome == RRCACHE_CLEARED);
 
-    EXPECT(rrcache_offer_negative(&shelf, NAME, sizeof NAME, A, RRCACHE_DENIES_TYPE,
+    EXPECT(rrcache_offer_negative(&shelf, NAME, sizeof NAME, A, RRCACHE_IN, RRCACHE_DENIES_TYPE,
                                   RRCACHE_AUTHORITY, 60, ZONE, sizeof ZONE, SOA_DATA,
                                   sizeof SOA_DATA, FIRST, 4, &outcome)
                == RRCACHE_DONE
@@ -240,22 +246,113 @@ static void test_offers(void)
     EXPECT(buffer[sizeof ZONE + 1] == sizeof SOA_DATA
            && memcmp(buffer + sizeof ZONE + 2, SOA_DATA, sizeof SOA_DATA) == 0);
 
-    EXPECT(rrcache_offer_negative(&shelf, OTHER, sizeof OTHER, A, RRCACHE_DENIES_NAME,
+    EXPECT(rrcache_offer_negative(&shelf, OTHER, sizeof OTHER, A, RRCACHE_IN, RRCACHE_DENIES_NAME,
                                   RRCACHE_AUTHORITY, 60, ZONE, sizeof ZONE, SOA_DATA,
                                   sizeof SOA_DATA, FIRST, 5, &outcome)
            == RRCACHE_DONE);
-    EXPECT(rrcache_peek(&shelf, OTHER, sizeof OTHER, TXT, FIRST, 1, 0, &told, buffer, sizeof buffer)
+    EXPECT(rrcache_peek(&shelf, OTHER, sizeof OTHER, TXT, RRCACHE_IN, FIRST, 1, 0, &told, buffer,
+                        sizeof buffer)
            == RRCACHE_DONE);
     EXPECT(told.kind == RRCACHE_NO_NAME);
 
-    EXPECT(rrcache_offer_failure(&shelf, NAME, sizeof NAME, TXT, 30, FIRST, 6, &outcome)
+    EXPECT(rrcache_offer_failure(&shelf, NAME, sizeof NAME, TXT, RRCACHE_IN, 30, FIRST, 6, &outcome)
                == RRCACHE_DONE
            && outcome == RRCACHE_KEPT);
-    EXPECT(
-        rrcache_peek(&shelf, NAME, sizeof NAME, TXT, FIRST + 1, 1, 0, &told, buffer, sizeof buffer)
-        == RRCACHE_DONE);
+    EXPECT(rrcache_peek(&shelf, NAME, sizeof NAME, TXT, RRCACHE_IN, FIRST + 1, 1, 0, &told, buffer,
+                        sizeof buffer)
+           == RRCACHE_DONE);
     EXPECT(told.kind == RRCACHE_MISS_FAILED && told.retry_from == FIRST + 30 && told.left == 0);
     EXPECT(rrcache_free(&shelf) == RRCACHE_DONE);
+}
+
+/* What a name's text is in a class, where it has two letters. */
+static uint32_t text_in(struct rrcache_shelf *shelf, const uint8_t *name, size_t size,
+                        uint16_t rclass, char text[2])
+{
+    uint8_t buffer[64];
+    struct rrcache_told told;
+    EXPECT(rrcache_ask(shelf, name, size, TXT, rclass, FIRST, RRCACHE_QUESTION, RRCACHE_NO_STALE, 1,
+                       &told, buffer, sizeof buffer)
+           == RRCACHE_DONE);
+    if (told.kind == RRCACHE_FRESH)
+        memcpy(text, buffer + told.owner_size + 2, 2);
+    return told.kind;
+}
+
+/* Each class of a name has data of its own (RFC 1035 section 3.2.4). */
+static void test_classes(void)
+{
+    static const uint8_t IN_TEXT[] = {0, 2, 1, 'I'}, CH_TEXT[] = {0, 2, 1, 'C'};
+    struct rrcache_shelf shelf = {0};
+    uint32_t outcome = 0;
+    char text[2] = {0, 0};
+    EXPECT(make(&shelf) == RRCACHE_DONE);
+    EXPECT(rrcache_offer_set(&shelf, NAME, sizeof NAME, TXT, RRCACHE_IN, 4, 60, IN_TEXT, 4, FIRST,
+                             1, &outcome)
+           == RRCACHE_DONE);
+    EXPECT(rrcache_offer_set(&shelf, NAME, sizeof NAME, TXT, RRCACHE_CH, 4, 60, CH_TEXT, 4, FIRST,
+                             2, &outcome)
+           == RRCACHE_DONE);
+    EXPECT(keys(&shelf) == 2);
+    EXPECT(text_in(&shelf, NAME, sizeof NAME, RRCACHE_IN, text) == RRCACHE_FRESH && text[1] == 'I');
+    EXPECT(text_in(&shelf, NAME, sizeof NAME, RRCACHE_CH, text) == RRCACHE_FRESH && text[1] == 'C');
+    EXPECT(text_in(&shelf, NAME, sizeof NAME, RRCACHE_HS, text) == RRCACHE_MISS);
+    EXPECT(text_in(&shelf, NAME, sizeof NAME, 254, text) == RRCACHE_MISS);
+    EXPECT(rrcache_offer_negative(&shelf, NAME, sizeof NAME, 0, RRCACHE_CH, RRCACHE_DENIES_NAME, 4,
+                                  60, ZONE, sizeof ZONE, SOA_DATA, sizeof SOA_DATA, FIRST, 3,
+                                  &outcome)
+           == RRCACHE_DONE);
+    EXPECT(text_in(&shelf, NAME, sizeof NAME, RRCACHE_CH, text) == RRCACHE_NO_NAME);
+    EXPECT(text_in(&shelf, NAME, sizeof NAME, RRCACHE_IN, text) == RRCACHE_FRESH);
+    EXPECT(
+        rrcache_offer_failure(&shelf, OTHER, sizeof OTHER, TXT, RRCACHE_HS, 30, FIRST, 4, &outcome)
+        == RRCACHE_DONE);
+    EXPECT(text_in(&shelf, OTHER, sizeof OTHER, RRCACHE_HS, text) == RRCACHE_MISS_FAILED);
+    EXPECT(text_in(&shelf, OTHER, sizeof OTHER, RRCACHE_IN, text) == RRCACHE_MISS);
+    rrcache_free(&shelf);
+}
+
+/* A message's records count in its question's class. */
+static void test_message_of_another_class(void)
+{
+    static const uint8_t CHAOS_NAME[] = "\1a\7example";
+    struct rrcache_shelf shelf = {0};
+    struct rrcache_counts counts = {0, 0, 0};
+    char text[2] = {0, 0};
+    EXPECT(make(&shelf) == RRCACHE_DONE);
+    EXPECT(rrcache_offer_message(&shelf, CHAOS, sizeof CHAOS, ZONE, sizeof ZONE, FIRST, &LIMITS, 1,
+                                 &counts)
+           == RRCACHE_DONE);
+    EXPECT(counts.kept == 1 && counts.cleared == 0 && counts.refused == 0);
+    EXPECT(text_in(&shelf, CHAOS_NAME, sizeof CHAOS_NAME, RRCACHE_CH, text) == RRCACHE_FRESH);
+    EXPECT(text[1] == 'A');
+    EXPECT(text_in(&shelf, CHAOS_NAME, sizeof CHAOS_NAME, RRCACHE_IN, text) == RRCACHE_MISS);
+    rrcache_free(&shelf);
+}
+
+/* Classes that are not kept, and type A of CH, whose data begin with a name. */
+static void test_refused_classes(void)
+{
+    struct rrcache_shelf shelf = {0};
+    uint32_t outcome = 7;
+    EXPECT(make(&shelf) == RRCACHE_DONE);
+    EXPECT(rrcache_offer_set(&shelf, NAME, sizeof NAME, A, 2, 4, 60, ADDRESS, sizeof ADDRESS, FIRST,
+                             1, &outcome)
+           == RRCACHE_BAD_TYPE);
+    EXPECT(rrcache_offer_set(&shelf, NAME, sizeof NAME, A, RRCACHE_CH, 4, 60, ADDRESS,
+                             sizeof ADDRESS, FIRST, 1, &outcome)
+           == RRCACHE_BAD_TYPE);
+    EXPECT(rrcache_offer_failure(&shelf, NAME, sizeof NAME, A, RRCACHE_CH, 30, FIRST, 1, &outcome)
+           == RRCACHE_BAD_TYPE);
+    EXPECT(rrcache_offer_negative(&shelf, NAME, sizeof NAME, A, RRCACHE_CH, RRCACHE_DENIES_TYPE, 4,
+                                  60, ZONE, sizeof ZONE, SOA_DATA, sizeof SOA_DATA, FIRST, 1,
+                                  &outcome)
+           == RRCACHE_BAD_TYPE);
+    EXPECT(rrcache_offer_negative(&shelf, NAME, sizeof NAME, A, 254, RRCACHE_DENIES_NAME, 4, 60,
+                                  ZONE, sizeof ZONE, SOA_DATA, sizeof SOA_DATA, FIRST, 1, &outcome)
+           == RRCACHE_BAD_TYPE);
+    EXPECT(outcome == 7 && keys(&shelf) == 0 && events(&shelf) == 0);
+    rrcache_free(&shelf);
 }
 
 static void test_stale(void)
@@ -268,8 +365,8 @@ static void test_stale(void)
     EXPECT(make(&shelf) == RRCACHE_DONE && offer_answer(&shelf, FIRST, &counts) == RRCACHE_DONE);
     EXPECT(ask(&shelf, FIRST + 300, &told, buffer, sizeof buffer) == RRCACHE_DONE
            && told.kind == RRCACHE_MISS);
-    EXPECT(rrcache_ask(&shelf, NAME, sizeof NAME, A, FIRST + 300, 1, RRCACHE_STALE_NOW, 3, &told,
-                       buffer, sizeof buffer)
+    EXPECT(rrcache_ask(&shelf, NAME, sizeof NAME, A, RRCACHE_IN, FIRST + 300, 1, RRCACHE_STALE_NOW,
+                       3, &told, buffer, sizeof buffer)
            == RRCACHE_DONE);
     EXPECT(told.kind == RRCACHE_STALE && told.left == 30
            && memcmp(buffer, ADDRESSES, sizeof ADDRESSES) == 0);
@@ -314,18 +411,20 @@ static void test_keys(void)
     EXPECT(offer_address(&shelf, NAME, sizeof NAME, 1, 60) == RRCACHE_LESS_TRUSTED
            && keys(&shelf) == 1);
     EXPECT(offer_address(&shelf, OTHER, sizeof OTHER, 4, 60) == RRCACHE_KEPT && keys(&shelf) == 2);
-    EXPECT(rrcache_offer_negative(&shelf, NAME, sizeof NAME, TXT, RRCACHE_DENIES_TYPE, 3, 60, ZONE,
-                                  sizeof ZONE, SOA_DATA, sizeof SOA_DATA, FIRST, 1, &outcome)
+    EXPECT(rrcache_offer_negative(&shelf, NAME, sizeof NAME, TXT, RRCACHE_IN, RRCACHE_DENIES_TYPE,
+                                  3, 60, ZONE, sizeof ZONE, SOA_DATA, sizeof SOA_DATA, FIRST, 1,
+                                  &outcome)
                == RRCACHE_DONE
            && keys(&shelf) == 3);
     EXPECT(ask(&shelf, FIRST, &told, buffer, sizeof buffer) == RRCACHE_DONE
            && told.kind == RRCACHE_FRESH && keys(&shelf) == 3);
 
     /* There is room for three: the key touched least recently goes, which is that of OTHER. */
-    EXPECT(rrcache_offer_failure(&shelf, NAME, sizeof NAME, SOA, 30, FIRST, 1, &outcome)
+    EXPECT(rrcache_offer_failure(&shelf, NAME, sizeof NAME, SOA, RRCACHE_IN, 30, FIRST, 1, &outcome)
                == RRCACHE_DONE
            && keys(&shelf) == 3);
-    EXPECT(rrcache_peek(&shelf, OTHER, sizeof OTHER, A, FIRST, 0, 0, &told, buffer, sizeof buffer)
+    EXPECT(rrcache_peek(&shelf, OTHER, sizeof OTHER, A, RRCACHE_IN, FIRST, 0, 0, &told, buffer,
+                        sizeof buffer)
                == RRCACHE_DONE
            && told.kind == RRCACHE_MISS);
     EXPECT(rrcache_drop_chapters(&shelf, &number) == RRCACHE_DONE && number == 1
@@ -337,9 +436,9 @@ static void test_keys(void)
     EXPECT(offer_address(&shelf, NAME, sizeof NAME, 4, 0) == RRCACHE_CLEARED && keys(&shelf) == 2);
     EXPECT(rrcache_sweep(&shelf, FIRST + 29, 1, &number) == RRCACHE_DONE && number == 0
            && keys(&shelf) == 2);
-    EXPECT(
-        rrcache_peek(&shelf, NAME, sizeof NAME, TXT, FIRST + 60, 0, 0, &told, buffer, sizeof buffer)
-        == RRCACHE_DONE);
+    EXPECT(rrcache_peek(&shelf, NAME, sizeof NAME, TXT, RRCACHE_IN, FIRST + 60, 0, 0, &told, buffer,
+                        sizeof buffer)
+           == RRCACHE_DONE);
     EXPECT(told.kind == RRCACHE_MISS && keys(&shelf) == 2);
     EXPECT(rrcache_sweep(&shelf, FIRST + 30, 1, &number) == RRCACHE_DONE && number == 1
            && keys(&shelf) == 1);
@@ -368,18 +467,18 @@ static void test_parts(void)
         EXPECT(keys(&shelves[part]) == share && events(&shelves[part]) == share);
         all.kept += counts.kept;
     }
-    EXPECT(rrcache_peek(&shelves[alias], NAME, sizeof NAME, CNAME, FIRST, 1, 0, &told, buffer,
-                        sizeof buffer)
+    EXPECT(rrcache_peek(&shelves[alias], NAME, sizeof NAME, CNAME, RRCACHE_IN, FIRST, 1, 0, &told,
+                        buffer, sizeof buffer)
            == RRCACHE_DONE);
     EXPECT(told.kind == RRCACHE_FRESH && told.data_size == 2 + sizeof OTHER
            && memcmp(buffer + told.owner_size + 2, OTHER, sizeof OTHER) == 0);
-    EXPECT(rrcache_peek(&shelves[target], OTHER, sizeof OTHER, A, FIRST, 1, 0, &told, buffer,
-                        sizeof buffer)
+    EXPECT(rrcache_peek(&shelves[target], OTHER, sizeof OTHER, A, RRCACHE_IN, FIRST, 1, 0, &told,
+                        buffer, sizeof buffer)
            == RRCACHE_DONE);
     EXPECT(told.kind == RRCACHE_FRESH && told.data_size == sizeof ADDRESS
            && memcmp(buffer + told.owner_size, ADDRESS, sizeof ADDRESS) == 0);
-    EXPECT(rrcache_peek(&shelves[alias], OTHER, sizeof OTHER, A, FIRST, 1, 0, &told, buffer,
-                        sizeof buffer)
+    EXPECT(rrcache_peek(&shelves[alias], OTHER, sizeof OTHER, A, RRCACHE_IN, FIRST, 1, 0, &told,
+                        buffer, sizeof buffer)
            == RRCACHE_DONE);
     EXPECT(told.kind == RRCACHE_MISS);
 
@@ -442,13 +541,13 @@ static void test_no_shelf(void)
     EXPECT(rrcache_free(&shelf) == RRCACHE_NO_SHELF);
     EXPECT(offer_alias(&shelf, PARTS, 0, FIRST, &counts) == RRCACHE_NO_SHELF && counts.kept == 7);
     EXPECT(offer_answer(&shelf, FIRST, &counts) == RRCACHE_NO_SHELF && counts.kept == 7);
-    EXPECT(rrcache_offer_set(&shelf, NAME, sizeof NAME, A, 4, 60, ADDRESS, sizeof ADDRESS, FIRST, 1,
-                             &outcome)
+    EXPECT(rrcache_offer_set(&shelf, NAME, sizeof NAME, A, RRCACHE_IN, 4, 60, ADDRESS,
+                             sizeof ADDRESS, FIRST, 1, &outcome)
            == RRCACHE_NO_SHELF);
-    EXPECT(rrcache_offer_negative(&shelf, NAME, sizeof NAME, A, 0, 3, 60, ZONE, sizeof ZONE,
-                                  SOA_DATA, sizeof SOA_DATA, FIRST, 4, &outcome)
+    EXPECT(rrcache_offer_negative(&shelf, NAME, sizeof NAME, A, RRCACHE_IN, 0, 3, 60, ZONE,
+                                  sizeof ZONE, SOA_DATA, sizeof SOA_DATA, FIRST, 4, &outcome)
            == RRCACHE_NO_SHELF);
-    EXPECT(rrcache_offer_failure(&shelf, NAME, sizeof NAME, A, 30, FIRST, 6, &outcome)
+    EXPECT(rrcache_offer_failure(&shelf, NAME, sizeof NAME, A, RRCACHE_IN, 30, FIRST, 6, &outcome)
                == RRCACHE_NO_SHELF
            && outcome == 7);
     EXPECT(ask(&shelf, FIRST, &told, buffer, sizeof buffer) == RRCACHE_NO_SHELF);
@@ -553,16 +652,19 @@ static void test_denied_names(void)
     uint32_t outcome = 7;
     uint8_t buffer[64];
     EXPECT(make(&shelf) == RRCACHE_DONE);
-    EXPECT(rrcache_offer_negative(&shelf, NAME, sizeof NAME, OPT, RRCACHE_DENIES_TYPE, 3, 60, ZONE,
-                                  sizeof ZONE, SOA_DATA, sizeof SOA_DATA, FIRST, 1, &outcome)
+    EXPECT(rrcache_offer_negative(&shelf, NAME, sizeof NAME, OPT, RRCACHE_IN, RRCACHE_DENIES_TYPE,
+                                  3, 60, ZONE, sizeof ZONE, SOA_DATA, sizeof SOA_DATA, FIRST, 1,
+                                  &outcome)
                == RRCACHE_BAD_TYPE
            && outcome == 7);
-    EXPECT(rrcache_offer_negative(&shelf, NAME, sizeof NAME, OPT, RRCACHE_DENIES_NAME, 3, 60, ZONE,
-                                  sizeof ZONE, SOA_DATA, sizeof SOA_DATA, FIRST, 1, &outcome)
+    EXPECT(rrcache_offer_negative(&shelf, NAME, sizeof NAME, OPT, RRCACHE_IN, RRCACHE_DENIES_NAME,
+                                  3, 60, ZONE, sizeof ZONE, SOA_DATA, sizeof SOA_DATA, FIRST, 1,
+                                  &outcome)
                == RRCACHE_DONE
            && outcome == RRCACHE_KEPT);
-    EXPECT(rrcache_offer_negative(&shelf, OTHER, sizeof OTHER, 0, RRCACHE_DENIES_NAME, 3, 60, ZONE,
-                                  sizeof ZONE, SOA_DATA, sizeof SOA_DATA, FIRST, 2, &outcome)
+    EXPECT(rrcache_offer_negative(&shelf, OTHER, sizeof OTHER, 0, RRCACHE_IN, RRCACHE_DENIES_NAME,
+                                  3, 60, ZONE, sizeof ZONE, SOA_DATA, sizeof SOA_DATA, FIRST, 2,
+                                  &outcome)
                == RRCACHE_DONE
            && outcome == RRCACHE_KEPT);
     EXPECT(peek(&shelf, FIRST, &told, buffer, sizeof buffer) == RRCACHE_DONE
@@ -613,81 +715,89 @@ static void test_refusals(void)
            == RRCACHE_BAD_NAME);
 
     EXPECT(ask(&shelf, late, &told, buffer, sizeof buffer) == RRCACHE_MOMENT_TOO_LARGE);
-    EXPECT(rrcache_ask(&shelf, NO_NAME, sizeof NO_NAME, A, FIRST, 0, 0, 1, &told, buffer,
-                       sizeof buffer)
+    EXPECT(rrcache_ask(&shelf, NO_NAME, sizeof NO_NAME, A, RRCACHE_IN, FIRST, 0, 0, 1, &told,
+                       buffer, sizeof buffer)
            == RRCACHE_BAD_NAME);
-    EXPECT(rrcache_ask(&shelf, NAME, sizeof NAME, A, FIRST, 2, 0, 1, &told, buffer, sizeof buffer)
+    EXPECT(rrcache_ask(&shelf, NAME, sizeof NAME, A, RRCACHE_IN, FIRST, 2, 0, 1, &told, buffer,
+                       sizeof buffer)
            == RRCACHE_BAD_CHOICE);
-    EXPECT(rrcache_ask(&shelf, NAME, sizeof NAME, A, FIRST, 0, 3, 1, &told, buffer, sizeof buffer)
+    EXPECT(rrcache_ask(&shelf, NAME, sizeof NAME, A, RRCACHE_IN, FIRST, 0, 3, 1, &told, buffer,
+                       sizeof buffer)
            == RRCACHE_BAD_CHOICE);
-    EXPECT(rrcache_peek(&shelf, NAME, sizeof NAME, A, FIRST, 0, 3, &told, buffer, sizeof buffer)
+    EXPECT(rrcache_peek(&shelf, NAME, sizeof NAME, A, RRCACHE_IN, FIRST, 0, 3, &told, buffer,
+                        sizeof buffer)
            == RRCACHE_BAD_CHOICE);
-    EXPECT(rrcache_peek(&shelf, NAME, sizeof NAME, A, FIRST, 2, 0, &told, buffer, sizeof buffer)
+    EXPECT(rrcache_peek(&shelf, NAME, sizeof NAME, A, RRCACHE_IN, FIRST, 2, 0, &told, buffer,
+                        sizeof buffer)
            == RRCACHE_BAD_CHOICE);
-    EXPECT(
-        rrcache_peek(&shelf, NO_NAME, sizeof NO_NAME, A, FIRST, 0, 0, &told, buffer, sizeof buffer)
-        == RRCACHE_BAD_NAME);
+    EXPECT(rrcache_peek(&shelf, NO_NAME, sizeof NO_NAME, A, RRCACHE_IN, FIRST, 0, 0, &told, buffer,
+                        sizeof buffer)
+           == RRCACHE_BAD_NAME);
     EXPECT(told.kind == 7 && told.owner_size == 7 && buffer[0] == 7);
 
-    EXPECT(rrcache_offer_set(&shelf, NAME, sizeof NAME, A, 0, 60, ADDRESS, sizeof ADDRESS, FIRST, 1,
-                             &outcome)
+    EXPECT(rrcache_offer_set(&shelf, NAME, sizeof NAME, A, RRCACHE_IN, 0, 60, ADDRESS,
+                             sizeof ADDRESS, FIRST, 1, &outcome)
            == RRCACHE_BAD_CHOICE);
-    EXPECT(rrcache_offer_set(&shelf, NAME, sizeof NAME, A, 5, 60, ADDRESS, sizeof ADDRESS, FIRST, 1,
-                             &outcome)
+    EXPECT(rrcache_offer_set(&shelf, NAME, sizeof NAME, A, RRCACHE_IN, 5, 60, ADDRESS,
+                             sizeof ADDRESS, FIRST, 1, &outcome)
            == RRCACHE_BAD_CHOICE);
-    EXPECT(rrcache_offer_set(&shelf, NAME, sizeof NAME, OPT, 4, 60, ADDRESS, sizeof ADDRESS, FIRST,
-                             1, &outcome)
+    EXPECT(rrcache_offer_set(&shelf, NAME, sizeof NAME, OPT, RRCACHE_IN, 4, 60, ADDRESS,
+                             sizeof ADDRESS, FIRST, 1, &outcome)
            == RRCACHE_BAD_TYPE);
-    EXPECT(rrcache_offer_set(&shelf, NAME, sizeof NAME, A, 4, 60, ADDRESS, sizeof ADDRESS - 1,
-                             FIRST, 1, &outcome)
+    EXPECT(rrcache_offer_set(&shelf, NAME, sizeof NAME, A, RRCACHE_IN, 4, 60, ADDRESS,
+                             sizeof ADDRESS - 1, FIRST, 1, &outcome)
            == RRCACHE_BAD_DATA);
-    EXPECT(rrcache_offer_set(&shelf, NAME, sizeof NAME, A, 4, 60, ADDRESS, 1, FIRST, 1, &outcome)
-           == RRCACHE_BAD_DATA);
-    EXPECT(rrcache_offer_set(&shelf, NAME, sizeof NAME, SOA, 4, 60, ADDRESS, sizeof ADDRESS, FIRST,
-                             1, &outcome)
-           == RRCACHE_BAD_DATA);
-    EXPECT(rrcache_offer_set(&shelf, NAME, sizeof NAME, A, 4, 60, NULL, 0, FIRST, 1, &outcome)
-           == RRCACHE_WRONG_BODY);
-    EXPECT(rrcache_offer_set(&shelf, NAME, sizeof NAME, A, 4, 1u << 31, ADDRESS, sizeof ADDRESS,
-                             FIRST, 1, &outcome)
-           == RRCACHE_WRONG_BODY);
-    EXPECT(rrcache_offer_set(&shelf, NO_NAME, sizeof NO_NAME, A, 4, 60, ADDRESS, sizeof ADDRESS,
-                             FIRST, 1, &outcome)
-           == RRCACHE_BAD_NAME);
-    EXPECT(rrcache_offer_set(&shelf, NAME, sizeof NAME, A, 4, 60, ADDRESS, sizeof ADDRESS, late, 1,
+    EXPECT(rrcache_offer_set(&shelf, NAME, sizeof NAME, A, RRCACHE_IN, 4, 60, ADDRESS, 1, FIRST, 1,
                              &outcome)
-           == RRCACHE_MOMENT_TOO_LARGE);
-    EXPECT(rrcache_offer_negative(&shelf, NAME, sizeof NAME, A, 2, 3, 60, ZONE, sizeof ZONE,
-                                  SOA_DATA, sizeof SOA_DATA, FIRST, 1, &outcome)
-           == RRCACHE_BAD_CHOICE);
-    EXPECT(rrcache_offer_negative(&shelf, NAME, sizeof NAME, A, 0, 3, 60, ZONE, sizeof ZONE,
-                                  SOA_DATA, 21, FIRST, 1, &outcome)
            == RRCACHE_BAD_DATA);
-    EXPECT(rrcache_offer_negative(&shelf, NAME, sizeof NAME, A, 0, 5, 60, ZONE, sizeof ZONE,
-                                  SOA_DATA, sizeof SOA_DATA, FIRST, 1, &outcome)
-           == RRCACHE_BAD_CHOICE);
-    EXPECT(rrcache_offer_negative(&shelf, NAME, sizeof NAME, OPT, 0, 3, 60, ZONE, sizeof ZONE,
-                                  SOA_DATA, sizeof SOA_DATA, FIRST, 1, &outcome)
-           == RRCACHE_BAD_TYPE);
-    EXPECT(rrcache_offer_negative(&shelf, NO_NAME, sizeof NO_NAME, A, 0, 3, 60, ZONE, sizeof ZONE,
-                                  SOA_DATA, sizeof SOA_DATA, FIRST, 1, &outcome)
-           == RRCACHE_BAD_NAME);
-    EXPECT(rrcache_offer_negative(&shelf, NAME, sizeof NAME, A, 0, 3, 60, NO_NAME, sizeof NO_NAME,
-                                  SOA_DATA, sizeof SOA_DATA, FIRST, 1, &outcome)
-           == RRCACHE_BAD_NAME);
-    EXPECT(rrcache_offer_negative(&shelf, NAME, sizeof NAME, A, 0, 3, 1u << 31, ZONE, sizeof ZONE,
-                                  SOA_DATA, sizeof SOA_DATA, FIRST, 1, &outcome)
+    EXPECT(rrcache_offer_set(&shelf, NAME, sizeof NAME, SOA, RRCACHE_IN, 4, 60, ADDRESS,
+                             sizeof ADDRESS, FIRST, 1, &outcome)
+           == RRCACHE_BAD_DATA);
+    EXPECT(rrcache_offer_set(&shelf, NAME, sizeof NAME, A, RRCACHE_IN, 4, 60, NULL, 0, FIRST, 1,
+                             &outcome)
            == RRCACHE_WRONG_BODY);
-    EXPECT(rrcache_offer_negative(&shelf, NAME, sizeof NAME, A, 0, 3, 60, ZONE, sizeof ZONE,
-                                  SOA_DATA, sizeof SOA_DATA, late, 1, &outcome)
-           == RRCACHE_MOMENT_TOO_LARGE);
-    EXPECT(rrcache_offer_failure(&shelf, NAME, sizeof NAME, OPT, 30, FIRST, 1, &outcome)
-           == RRCACHE_BAD_TYPE);
-    EXPECT(rrcache_offer_failure(&shelf, NO_NAME, sizeof NO_NAME, A, 30, FIRST, 1, &outcome)
+    EXPECT(rrcache_offer_set(&shelf, NAME, sizeof NAME, A, RRCACHE_IN, 4, 1u << 31, ADDRESS,
+                             sizeof ADDRESS, FIRST, 1, &outcome)
+           == RRCACHE_WRONG_BODY);
+    EXPECT(rrcache_offer_set(&shelf, NO_NAME, sizeof NO_NAME, A, RRCACHE_IN, 4, 60, ADDRESS,
+                             sizeof ADDRESS, FIRST, 1, &outcome)
            == RRCACHE_BAD_NAME);
-    EXPECT(rrcache_offer_failure(&shelf, NAME, sizeof NAME, A, 30, late, 1, &outcome)
+    EXPECT(rrcache_offer_set(&shelf, NAME, sizeof NAME, A, RRCACHE_IN, 4, 60, ADDRESS,
+                             sizeof ADDRESS, late, 1, &outcome)
            == RRCACHE_MOMENT_TOO_LARGE);
-    EXPECT(rrcache_offer_failure(&shelf, NAME, sizeof NAME, A, 1u << 31, FIRST, 1, &outcome)
+    EXPECT(rrcache_offer_negative(&shelf, NAME, sizeof NAME, A, RRCACHE_IN, 2, 3, 60, ZONE,
+                                  sizeof ZONE, SOA_DATA, sizeof SOA_DATA, FIRST, 1, &outcome)
+           == RRCACHE_BAD_CHOICE);
+    EXPECT(rrcache_offer_negative(&shelf, NAME, sizeof NAME, A, RRCACHE_IN, 0, 3, 60, ZONE,
+                                  sizeof ZONE, SOA_DATA, 21, FIRST, 1, &outcome)
+           == RRCACHE_BAD_DATA);
+    EXPECT(rrcache_offer_negative(&shelf, NAME, sizeof NAME, A, RRCACHE_IN, 0, 5, 60, ZONE,
+                                  sizeof ZONE, SOA_DATA, sizeof SOA_DATA, FIRST, 1, &outcome)
+           == RRCACHE_BAD_CHOICE);
+    EXPECT(rrcache_offer_negative(&shelf, NAME, sizeof NAME, OPT, RRCACHE_IN, 0, 3, 60, ZONE,
+                                  sizeof ZONE, SOA_DATA, sizeof SOA_DATA, FIRST, 1, &outcome)
+           == RRCACHE_BAD_TYPE);
+    EXPECT(rrcache_offer_negative(&shelf, NO_NAME, sizeof NO_NAME, A, RRCACHE_IN, 0, 3, 60, ZONE,
+                                  sizeof ZONE, SOA_DATA, sizeof SOA_DATA, FIRST, 1, &outcome)
+           == RRCACHE_BAD_NAME);
+    EXPECT(rrcache_offer_negative(&shelf, NAME, sizeof NAME, A, RRCACHE_IN, 0, 3, 60, NO_NAME,
+                                  sizeof NO_NAME, SOA_DATA, sizeof SOA_DATA, FIRST, 1, &outcome)
+           == RRCACHE_BAD_NAME);
+    EXPECT(rrcache_offer_negative(&shelf, NAME, sizeof NAME, A, RRCACHE_IN, 0, 3, 1u << 31, ZONE,
+                                  sizeof ZONE, SOA_DATA, sizeof SOA_DATA, FIRST, 1, &outcome)
+           == RRCACHE_WRONG_BODY);
+    EXPECT(rrcache_offer_negative(&shelf, NAME, sizeof NAME, A, RRCACHE_IN, 0, 3, 60, ZONE,
+                                  sizeof ZONE, SOA_DATA, sizeof SOA_DATA, late, 1, &outcome)
+           == RRCACHE_MOMENT_TOO_LARGE);
+    EXPECT(rrcache_offer_failure(&shelf, NAME, sizeof NAME, OPT, RRCACHE_IN, 30, FIRST, 1, &outcome)
+           == RRCACHE_BAD_TYPE);
+    EXPECT(rrcache_offer_failure(&shelf, NO_NAME, sizeof NO_NAME, A, RRCACHE_IN, 30, FIRST, 1,
+                                 &outcome)
+           == RRCACHE_BAD_NAME);
+    EXPECT(rrcache_offer_failure(&shelf, NAME, sizeof NAME, A, RRCACHE_IN, 30, late, 1, &outcome)
+           == RRCACHE_MOMENT_TOO_LARGE);
+    EXPECT(rrcache_offer_failure(&shelf, NAME, sizeof NAME, A, RRCACHE_IN, 1u << 31, FIRST, 1,
+                                 &outcome)
                == RRCACHE_WRONG_BODY
            && outcome == 7);
     EXPECT(rrcache_sweep(&shelf, late, 1, &removed) == RRCACHE_MOMENT_TOO_LARGE && removed == 7);
@@ -717,20 +827,22 @@ static void test_null(void)
            == RRCACHE_NULL);
     EXPECT(offer_alias(NULL, PARTS, 0, FIRST, &counts) == RRCACHE_NULL
            && offer_alias(&shelf, PARTS, 0, FIRST, NULL) == RRCACHE_NULL);
-    EXPECT(rrcache_offer_set(&shelf, NAME, sizeof NAME, A, 4, 60, ADDRESS, sizeof ADDRESS, FIRST, 1,
-                             NULL)
+    EXPECT(rrcache_offer_set(&shelf, NAME, sizeof NAME, A, RRCACHE_IN, 4, 60, ADDRESS,
+                             sizeof ADDRESS, FIRST, 1, NULL)
            == RRCACHE_NULL);
-    EXPECT(rrcache_offer_negative(&shelf, NAME, sizeof NAME, A, 0, 3, 60, NULL, 1, SOA_DATA,
-                                  sizeof SOA_DATA, FIRST, 1, &number)
+    EXPECT(rrcache_offer_negative(&shelf, NAME, sizeof NAME, A, RRCACHE_IN, 0, 3, 60, NULL, 1,
+                                  SOA_DATA, sizeof SOA_DATA, FIRST, 1, &number)
            == RRCACHE_NULL);
-    EXPECT(rrcache_offer_failure(NULL, NAME, sizeof NAME, A, 30, FIRST, 1, &number)
+    EXPECT(rrcache_offer_failure(NULL, NAME, sizeof NAME, A, RRCACHE_IN, 30, FIRST, 1, &number)
            == RRCACHE_NULL);
     EXPECT(ask(&shelf, FIRST, NULL, buffer, sizeof buffer) == RRCACHE_NULL
            && ask(&shelf, FIRST, &told, NULL, 1) == RRCACHE_NULL);
     EXPECT(peek(NULL, FIRST, &told, buffer, sizeof buffer) == RRCACHE_NULL);
-    EXPECT(rrcache_ask(&shelf, buffer, 13, A, FIRST, 0, 0, 1, &told, buffer, sizeof buffer)
+    EXPECT(
+        rrcache_ask(&shelf, buffer, 13, A, RRCACHE_IN, FIRST, 0, 0, 1, &told, buffer, sizeof buffer)
+        == RRCACHE_NULL);
+    EXPECT(rrcache_peek(&shelf, buffer + 8, 13, A, RRCACHE_IN, FIRST, 0, 0, &told, buffer, 9)
            == RRCACHE_NULL);
-    EXPECT(rrcache_peek(&shelf, buffer + 8, 13, A, FIRST, 0, 0, &told, buffer, 9) == RRCACHE_NULL);
     EXPECT(rrcache_sweep(&shelf, FIRST, 1, NULL) == RRCACHE_NULL
            && rrcache_drop_chapters(&shelf, NULL) == RRCACHE_NULL);
     EXPECT(rrcache_sizes(NULL, &wide, &other, &other + 1) == RRCACHE_NULL
@@ -779,8 +891,8 @@ static void test_overlaps(void)
     IS_NULL(peek(shelf, FIRST, (struct rrcache_told *)(void *)(memory.octets + 8), far, 64));
     IS_NULL(ask(shelf, FIRST, told, end - 1, 8));
     IS_NULL(peek(shelf, FIRST, told, end - 1, 8));
-    IS_NULL(rrcache_ask(shelf, end - 1, 1, A, FIRST, 0, 0, 1, told, far, 64));
-    IS_NULL(rrcache_peek(shelf, end - 1, 1, A, FIRST, 0, 0, told, far, 64));
+    IS_NULL(rrcache_ask(shelf, end - 1, 1, A, RRCACHE_IN, FIRST, 0, 0, 1, told, far, 64));
+    IS_NULL(rrcache_peek(shelf, end - 1, 1, A, RRCACHE_IN, FIRST, 0, 0, told, far, 64));
     IS_NULL(offer_answer(shelf, FIRST, (struct rrcache_counts *)(void *)(memory.octets + 8)));
     IS_NULL(offer_alias(shelf, 1, 0, FIRST, (struct rrcache_counts *)(void *)(memory.octets + 8)));
     IS_NULL(rrcache_offer_message(shelf, end - 1, 8, ZONE, sizeof ZONE, FIRST, &LIMITS, 1, counts));
@@ -794,32 +906,36 @@ static void test_overlaps(void)
                                counts));
     IS_NULL(rrcache_offer_part(shelf, ALIAS, sizeof ALIAS, ZONE, sizeof ZONE, 1, 0, FIRST,
                                (struct rrcache_limits *)(void *)(memory.octets + 8), 1, counts));
-    IS_NULL(
-        rrcache_offer_set(shelf, end - 1, 8, A, 4, 60, ADDRESS, sizeof ADDRESS, FIRST, 1, number));
-    IS_NULL(rrcache_offer_set(shelf, NAME, sizeof NAME, A, 4, 60, end - 1, 8, FIRST, 1, number));
-    IS_NULL(rrcache_offer_set(shelf, NAME, sizeof NAME, A, 4, 60, ADDRESS, sizeof ADDRESS, FIRST, 1,
-                              (uint32_t *)(void *)(memory.octets + 12)));
-    IS_NULL(rrcache_offer_negative(shelf, end - 1, 8, A, 0, 3, 60, ZONE, sizeof ZONE, SOA_DATA,
-                                   sizeof SOA_DATA, FIRST, 1, number));
-    IS_NULL(rrcache_offer_negative(shelf, NAME, sizeof NAME, A, 0, 3, 60, end - 1, 8, SOA_DATA,
-                                   sizeof SOA_DATA, FIRST, 1, number));
-    IS_NULL(rrcache_offer_negative(shelf, NAME, sizeof NAME, A, 0, 3, 60, ZONE, sizeof ZONE,
-                                   end - 1, 8, FIRST, 1, number));
-    IS_NULL(rrcache_offer_negative(shelf, NAME, sizeof NAME, A, 0, 3, 60, ZONE, sizeof ZONE,
-                                   SOA_DATA, sizeof SOA_DATA, FIRST, 1,
+    IS_NULL(rrcache_offer_set(shelf, end - 1, 8, A, RRCACHE_IN, 4, 60, ADDRESS, sizeof ADDRESS,
+                              FIRST, 1, number));
+    IS_NULL(rrcache_offer_set(shelf, NAME, sizeof NAME, A, RRCACHE_IN, 4, 60, end - 1, 8, FIRST, 1,
+                              number));
+    IS_NULL(rrcache_offer_set(shelf, NAME, sizeof NAME, A, RRCACHE_IN, 4, 60, ADDRESS,
+                              sizeof ADDRESS, FIRST, 1, (uint32_t *)(void *)(memory.octets + 12)));
+    IS_NULL(rrcache_offer_negative(shelf, end - 1, 8, A, RRCACHE_IN, 0, 3, 60, ZONE, sizeof ZONE,
+                                   SOA_DATA, sizeof SOA_DATA, FIRST, 1, number));
+    IS_NULL(rrcache_offer_negative(shelf, NAME, sizeof NAME, A, RRCACHE_IN, 0, 3, 60, end - 1, 8,
+                                   SOA_DATA, sizeof SOA_DATA, FIRST, 1, number));
+    IS_NULL(rrcache_offer_negative(shelf, NAME, sizeof NAME, A, RRCACHE_IN, 0, 3, 60, ZONE,
+                                   sizeof ZONE, end - 1, 8, FIRST, 1, number));
+    IS_NULL(rrcache_offer_negative(shelf, NAME, sizeof NAME, A, RRCACHE_IN, 0, 3, 60, ZONE,
+                                   sizeof ZONE, SOA_DATA, sizeof SOA_DATA, FIRST, 1,
                                    (uint32_t *)(void *)(memory.octets + 12)));
-    IS_NULL(rrcache_offer_failure(shelf, end - 1, 8, A, 30, FIRST, 1, number));
-    IS_NULL(rrcache_offer_failure(shelf, NAME, sizeof NAME, A, 30, FIRST, 1,
+    IS_NULL(rrcache_offer_failure(shelf, end - 1, 8, A, RRCACHE_IN, 30, FIRST, 1, number));
+    IS_NULL(rrcache_offer_failure(shelf, NAME, sizeof NAME, A, RRCACHE_IN, 30, FIRST, 1,
                                   (uint32_t *)(void *)(memory.octets + 12)));
 
     /* What else is written, with itself and with what is read. */
     IS_NULL(ask(shelf, FIRST, told, apart + sizeof *told - 1, 64));
     IS_NULL(peek(shelf, FIRST, told, apart + sizeof *told - 1, 64));
-    IS_NULL(rrcache_ask(shelf, apart + sizeof *told - 1, 8, A, FIRST, 0, 0, 1, told, far, 64));
-    IS_NULL(rrcache_peek(shelf, apart + sizeof *told - 1, 8, A, FIRST, 0, 0, told, far, 64));
-    IS_NULL(
-        rrcache_ask(shelf, far, sizeof NAME, A, FIRST, 0, 0, 1, told, far + sizeof NAME - 1, 64));
-    IS_NULL(rrcache_peek(shelf, far, sizeof NAME, A, FIRST, 0, 0, told, far + sizeof NAME - 1, 64));
+    IS_NULL(rrcache_ask(shelf, apart + sizeof *told - 1, 8, A, RRCACHE_IN, FIRST, 0, 0, 1, told,
+                        far, 64));
+    IS_NULL(rrcache_peek(shelf, apart + sizeof *told - 1, 8, A, RRCACHE_IN, FIRST, 0, 0, told, far,
+                         64));
+    IS_NULL(rrcache_ask(shelf, far, sizeof NAME, A, RRCACHE_IN, FIRST, 0, 0, 1, told,
+                        far + sizeof NAME - 1, 64));
+    IS_NULL(rrcache_peek(shelf, far, sizeof NAME, A, RRCACHE_IN, FIRST, 0, 0, told,
+                         far + sizeof NAME - 1, 64));
     IS_NULL(rrcache_sizes(shelf, wide, wide, wide + 1));
     IS_NULL(rrcache_sizes(shelf, wide, wide + 1, wide));
     IS_NULL(rrcache_sizes(shelf, wide + 1, wide, wide));
@@ -837,28 +953,30 @@ static void test_overlaps(void)
     IS_NULL(rrcache_offer_part(shelf, ALIAS, sizeof ALIAS, ZONE, sizeof ZONE, 1, 0, FIRST,
                                (struct rrcache_limits *)(void *)(apart + sizeof *counts - 4), 1,
                                counts));
-    IS_NULL(rrcache_offer_set(shelf, apart + 3, 8, A, 4, 60, ADDRESS, sizeof ADDRESS, FIRST, 1,
-                              number));
-    IS_NULL(rrcache_offer_set(shelf, NAME, sizeof NAME, A, 4, 60, apart + 3, 8, FIRST, 1, number));
-    IS_NULL(rrcache_offer_negative(shelf, apart + 3, 8, A, 0, 3, 60, ZONE, sizeof ZONE, SOA_DATA,
-                                   sizeof SOA_DATA, FIRST, 1, number));
-    IS_NULL(rrcache_offer_negative(shelf, NAME, sizeof NAME, A, 0, 3, 60, apart + 3, 8, SOA_DATA,
-                                   sizeof SOA_DATA, FIRST, 1, number));
-    IS_NULL(rrcache_offer_negative(shelf, NAME, sizeof NAME, A, 0, 3, 60, ZONE, sizeof ZONE,
-                                   apart + 3, 8, FIRST, 1, number));
-    IS_NULL(rrcache_offer_failure(shelf, apart + 3, 8, A, 30, FIRST, 1, number));
+    IS_NULL(rrcache_offer_set(shelf, apart + 3, 8, A, RRCACHE_IN, 4, 60, ADDRESS, sizeof ADDRESS,
+                              FIRST, 1, number));
+    IS_NULL(rrcache_offer_set(shelf, NAME, sizeof NAME, A, RRCACHE_IN, 4, 60, apart + 3, 8, FIRST,
+                              1, number));
+    IS_NULL(rrcache_offer_negative(shelf, apart + 3, 8, A, RRCACHE_IN, 0, 3, 60, ZONE, sizeof ZONE,
+                                   SOA_DATA, sizeof SOA_DATA, FIRST, 1, number));
+    IS_NULL(rrcache_offer_negative(shelf, NAME, sizeof NAME, A, RRCACHE_IN, 0, 3, 60, apart + 3, 8,
+                                   SOA_DATA, sizeof SOA_DATA, FIRST, 1, number));
+    IS_NULL(rrcache_offer_negative(shelf, NAME, sizeof NAME, A, RRCACHE_IN, 0, 3, 60, ZONE,
+                                   sizeof ZONE, apart + 3, 8, FIRST, 1, number));
+    IS_NULL(rrcache_offer_failure(shelf, apart + 3, 8, A, RRCACHE_IN, 30, FIRST, 1, number));
     IS_NULL(rrcache_fault(apart + 3, 8, number));
     IS_NULL(rrcache_part_of(apart + 7, 8, 1, wide));
 #undef IS_NULL
 
     /* Nothing was written, and what lies side by side, or is only read, is no overlap. */
     EXPECT(memcmp(&held, shelf, sizeof held) == 0 && events(shelf) == 0);
-    EXPECT(rrcache_ask(shelf, far, sizeof NAME, A, FIRST, 0, 0, 1, told, far + sizeof NAME, 64)
+    EXPECT(rrcache_ask(shelf, far, sizeof NAME, A, RRCACHE_IN, FIRST, 0, 0, 1, told,
+                       far + sizeof NAME, 64)
            == RRCACHE_DONE);
     EXPECT(ask(shelf, FIRST, told, apart + sizeof *told, 0) == RRCACHE_DONE
            && ask(shelf, FIRST, told, apart, 0) == RRCACHE_DONE);
-    EXPECT(rrcache_offer_negative(shelf, far, sizeof NAME, A, 0, 3, 60, far, sizeof NAME, SOA_DATA,
-                                  sizeof SOA_DATA, FIRST, 1, number)
+    EXPECT(rrcache_offer_negative(shelf, far, sizeof NAME, A, RRCACHE_IN, 0, 3, 60, far,
+                                  sizeof NAME, SOA_DATA, sizeof SOA_DATA, FIRST, 1, number)
            == RRCACHE_DONE);
     EXPECT(rrcache_sizes(shelf, wide, wide + 1, wide + 2) == RRCACHE_DONE
            && rrcache_free(shelf) == RRCACHE_DONE);
@@ -943,22 +1061,24 @@ static uint32_t call(int number, struct rrcache_shelf *shelf)
     case 0:
         return offer_answer(shelf, FIRST, &counts);
     case 1:
-        return rrcache_ask(shelf, UPPER, sizeof UPPER, A, FIRST, 1, 0, 2, &told, buffer,
+        return rrcache_ask(shelf, UPPER, sizeof UPPER, A, RRCACHE_IN, FIRST, 1, 0, 2, &told, buffer,
                            sizeof buffer);
     case 2:
-        return rrcache_offer_set(shelf, OTHER, sizeof OTHER, A, 4, 60, ADDRESS, sizeof ADDRESS,
-                                 FIRST, 3, &outcome);
+        return rrcache_offer_set(shelf, OTHER, sizeof OTHER, A, RRCACHE_IN, 4, 60, ADDRESS,
+                                 sizeof ADDRESS, FIRST, 3, &outcome);
     case 3:
-        return rrcache_offer_negative(shelf, OTHER, sizeof OTHER, TXT, 0, 3, 60, ZONE, sizeof ZONE,
-                                      SOA_DATA, sizeof SOA_DATA, FIRST, 4, &outcome);
+        return rrcache_offer_negative(shelf, OTHER, sizeof OTHER, TXT, RRCACHE_IN, 0, 3, 60, ZONE,
+                                      sizeof ZONE, SOA_DATA, sizeof SOA_DATA, FIRST, 4, &outcome);
     case 4:
-        return rrcache_offer_failure(shelf, NAME, sizeof NAME, TXT, 30, FIRST, 5, &outcome);
+        return rrcache_offer_failure(shelf, NAME, sizeof NAME, TXT, RRCACHE_IN, 30, FIRST, 5,
+                                     &outcome);
     case 5:
         return rrcache_sweep(shelf, FIRST + 10000, 6, &removed);
     case 6:
         return rrcache_fault(ANSWER, sizeof ANSWER, &outcome);
     case 7:
-        return rrcache_peek(shelf, LONG, sizeof LONG, A, FIRST, 1, 0, &told, buffer, sizeof buffer);
+        return rrcache_peek(shelf, LONG, sizeof LONG, A, RRCACHE_IN, FIRST, 1, 0, &told, buffer,
+                            sizeof buffer);
     case 8:
         return offer_alias(shelf, PARTS, target, FIRST, &counts);
     default:
@@ -1023,6 +1143,9 @@ int main(void)
     test_small_buffers();
     test_peek();
     test_offers();
+    test_classes();
+    test_message_of_another_class();
+    test_refused_classes();
     test_stale();
     test_chapters();
     test_keys();

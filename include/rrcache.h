@@ -61,9 +61,11 @@
      the caller looks at TC first, and where it is set asks again over TCP. The two octets of the
      length that stand before a message there are no part of what is offered.
    - In the same way a message offers nothing whose opcode is not that of a standard query, or whose
-     question is of a class other than IN, or not at or below the zone.
-   - All that is kept is of class IN. Records of other classes are read over, and no call takes a
-     class: a question of another class is not to be asked here, since it would get what IN has.
+     question is of a class that is not kept, or not at or below the zone.
+   - What is kept is of class IN, CH or HS (RFC 1035 section 3.2.4), and each class of a name has
+     keys of its own. Of a message the records of its question's class count alone. Data of type A
+     of class CH are not kept, since they begin with a name. A question of a class that is not kept
+     may be asked, and is a miss.
 
    Moments
    - Moments are seconds, at most 2^40. The caller keeps them: no clock is read, and no call asks
@@ -149,8 +151,8 @@ enum rrcache_status {
     RRCACHE_BAD_MESSAGE = 10,     /* octets are no response that can be read: `rrcache_fault` tells
                                      why */
     RRCACHE_BAD_CHOICE = 11,      /* no purpose, mode, denial or trust has this number */
-    RRCACHE_BAD_TYPE = 12,        /* data of this type are not kept, as those of OPT and of
-                                     questions alone */
+    RRCACHE_BAD_TYPE = 12,        /* data of this type are not kept in this class, as those of OPT
+                                     and of questions alone, or nothing is kept in this class */
     RRCACHE_BAD_DATA = 13,        /* data do not fill the layout of their type, or their lengths do
                                      not fit */
     RRCACHE_WRONG_BODY = 14,      /* a set with no data, or a time to live above 2^31 - 1 */
@@ -172,6 +174,9 @@ enum rrcache_kind {
     RRCACHE_MISS_FAILED = 6 /* nothing that will do, and asking has lately failed: `retry_from` says
                                when to try again */
 };
+
+/* The classes of which data are kept (RFC 1035 section 3.2.4). */
+enum rrcache_class { RRCACHE_IN = 1, RRCACHE_CH = 3, RRCACHE_HS = 4 };
 
 /* What an answer is for: anything, where glue will do, or to answer a question, where it will not
    (RFC 2181 section 5.4.1). */
@@ -243,20 +248,22 @@ uint32_t rrc_offer_part(struct rrcache_shelf *shelf, const uint8_t *octets, size
                         uint64_t moment, const struct rrcache_limits *limits, uint64_t line,
                         struct rrcache_counts *counts);
 uint32_t rrc_offer_set(struct rrcache_shelf *shelf, const uint8_t *owner, size_t owner_size,
-                       uint16_t rtype, uint32_t trust, uint32_t ttl, const uint8_t *data,
-                       size_t data_size, uint64_t moment, uint64_t line, uint32_t *outcome);
+                       uint16_t rtype, uint16_t rclass, uint32_t trust, uint32_t ttl,
+                       const uint8_t *data, size_t data_size, uint64_t moment, uint64_t line,
+                       uint32_t *outcome);
 uint32_t rrc_offer_negative(struct rrcache_shelf *shelf, const uint8_t *name, size_t name_size,
-                            uint16_t rtype, uint32_t denial, uint32_t trust, uint32_t ttl,
-                            const uint8_t *soa_owner, size_t soa_owner_size, const uint8_t *soa,
-                            size_t soa_size, uint64_t moment, uint64_t line, uint32_t *outcome);
+                            uint16_t rtype, uint16_t rclass, uint32_t denial, uint32_t trust,
+                            uint32_t ttl, const uint8_t *soa_owner, size_t soa_owner_size,
+                            const uint8_t *soa, size_t soa_size, uint64_t moment, uint64_t line,
+                            uint32_t *outcome);
 uint32_t rrc_offer_failure(struct rrcache_shelf *shelf, const uint8_t *name, size_t name_size,
-                           uint16_t rtype, uint32_t ttl, uint64_t moment, uint64_t line,
-                           uint32_t *outcome);
+                           uint16_t rtype, uint16_t rclass, uint32_t ttl, uint64_t moment,
+                           uint64_t line, uint32_t *outcome);
 uint32_t rrc_ask(struct rrcache_shelf *shelf, const uint8_t *name, size_t name_size, uint16_t rtype,
-                 uint64_t moment, uint32_t purpose, uint32_t mode, uint64_t line,
+                 uint16_t rclass, uint64_t moment, uint32_t purpose, uint32_t mode, uint64_t line,
                  struct rrcache_told *told, uint8_t *buffer, size_t buffer_size);
 uint32_t rrc_peek(struct rrcache_shelf *shelf, const uint8_t *name, size_t name_size,
-                  uint16_t rtype, uint64_t moment, uint32_t purpose, uint32_t mode,
+                  uint16_t rtype, uint16_t rclass, uint64_t moment, uint32_t purpose, uint32_t mode,
                   struct rrcache_told *told, uint8_t *buffer, size_t buffer_size);
 uint32_t rrc_sweep(struct rrcache_shelf *shelf, uint64_t moment, uint64_t line, uint64_t *removed);
 uint32_t rrc_drop_chapters(struct rrcache_shelf *shelf, uint64_t *dropped);
@@ -371,25 +378,26 @@ static inline uint32_t rrcache_offer_part(struct rrcache_shelf *shelf, const uin
 /* Offers one set under its owner. The data stand one behind another, each behind its length of two
    octets, with no name compressed. */
 static inline uint32_t rrcache_offer_set(struct rrcache_shelf *shelf, const uint8_t *owner,
-                                         size_t owner_size, uint16_t rtype, uint32_t trust,
-                                         uint32_t ttl, const uint8_t *data, size_t data_size,
-                                         uint64_t moment, uint64_t line, uint32_t *outcome)
+                                         size_t owner_size, uint16_t rtype, uint16_t rclass,
+                                         uint32_t trust, uint32_t ttl, const uint8_t *data,
+                                         size_t data_size, uint64_t moment, uint64_t line,
+                                         uint32_t *outcome)
 {
     if (shelf == NULL || outcome == NULL || !rrcache_is_there(owner, owner_size)
         || !rrcache_is_there(data, data_size) || rrcache_holds(shelf, outcome, sizeof *outcome)
         || rrcache_touch(shelf, sizeof *shelf, outcome, sizeof *outcome, owner, owner_size)
         || rrcache_touch(shelf, sizeof *shelf, outcome, sizeof *outcome, data, data_size))
         return RRCACHE_NULL;
-    return rrc_offer_set(shelf, rrcache_octets(owner, owner_size), owner_size, rtype, trust, ttl,
-                         rrcache_octets(data, data_size), data_size, moment, line, outcome);
+    return rrc_offer_set(shelf, rrcache_octets(owner, owner_size), owner_size, rtype, rclass, trust,
+                         ttl, rrcache_octets(data, data_size), data_size, moment, line, outcome);
 }
 
 /* Offers that a name has no data of a type, or does not exist, with the SOA record that says so,
    its names not compressed. A name that does not exist has no type: with RRCACHE_DENIES_NAME none
-   is asked for, and `rtype` may be any number. */
+   is asked for, and `rtype` may be any number; its class has to be one that is kept. */
 static inline uint32_t rrcache_offer_negative(struct rrcache_shelf *shelf, const uint8_t *name,
-                                              size_t name_size, uint16_t rtype, uint32_t denial,
-                                              uint32_t trust, uint32_t ttl,
+                                              size_t name_size, uint16_t rtype, uint16_t rclass,
+                                              uint32_t denial, uint32_t trust, uint32_t ttl,
                                               const uint8_t *soa_owner, size_t soa_owner_size,
                                               const uint8_t *soa, size_t soa_size, uint64_t moment,
                                               uint64_t line, uint32_t *outcome)
@@ -401,22 +409,24 @@ static inline uint32_t rrcache_offer_negative(struct rrcache_shelf *shelf, const
         || rrcache_touch(shelf, sizeof *shelf, outcome, sizeof *outcome, soa_owner, soa_owner_size)
         || rrcache_touch(shelf, sizeof *shelf, outcome, sizeof *outcome, soa, soa_size))
         return RRCACHE_NULL;
-    return rrc_offer_negative(shelf, rrcache_octets(name, name_size), name_size, rtype, denial,
-                              trust, ttl, rrcache_octets(soa_owner, soa_owner_size), soa_owner_size,
-                              rrcache_octets(soa, soa_size), soa_size, moment, line, outcome);
+    return rrc_offer_negative(shelf, rrcache_octets(name, name_size), name_size, rtype, rclass,
+                              denial, trust, ttl, rrcache_octets(soa_owner, soa_owner_size),
+                              soa_owner_size, rrcache_octets(soa, soa_size), soa_size, moment, line,
+                              outcome);
 }
 
 /* Offers that asking for data of a type failed, for `ttl` seconds. */
 static inline uint32_t rrcache_offer_failure(struct rrcache_shelf *shelf, const uint8_t *name,
-                                             size_t name_size, uint16_t rtype, uint32_t ttl,
-                                             uint64_t moment, uint64_t line, uint32_t *outcome)
+                                             size_t name_size, uint16_t rtype, uint16_t rclass,
+                                             uint32_t ttl, uint64_t moment, uint64_t line,
+                                             uint32_t *outcome)
 {
     if (shelf == NULL || outcome == NULL || !rrcache_is_there(name, name_size)
         || rrcache_holds(shelf, outcome, sizeof *outcome)
         || rrcache_touch(shelf, sizeof *shelf, outcome, sizeof *outcome, name, name_size))
         return RRCACHE_NULL;
-    return rrc_offer_failure(shelf, rrcache_octets(name, name_size), name_size, rtype, ttl, moment,
-                             line, outcome);
+    return rrc_offer_failure(shelf, rrcache_octets(name, name_size), name_size, rtype, rclass, ttl,
+                             moment, line, outcome);
 }
 
 /* Whether a reply about a name may be told: what is needed is there, and nothing that is written
@@ -438,29 +448,29 @@ static inline bool rrcache_can_tell(const struct rrcache_shelf *shelf, const uin
    RRCACHE_HISTORY_FULL and RRCACHE_MOMENT_TOO_LARGE, so that the call with room enough may still be
    refused. */
 static inline uint32_t rrcache_ask(struct rrcache_shelf *shelf, const uint8_t *name,
-                                   size_t name_size, uint16_t rtype, uint64_t moment,
-                                   uint32_t purpose, uint32_t mode, uint64_t line,
+                                   size_t name_size, uint16_t rtype, uint16_t rclass,
+                                   uint64_t moment, uint32_t purpose, uint32_t mode, uint64_t line,
                                    struct rrcache_told *told, uint8_t *buffer, size_t buffer_size)
 {
     uint8_t none;
     if (!rrcache_can_tell(shelf, name, name_size, told, buffer, buffer_size))
         return RRCACHE_NULL;
-    return rrc_ask(shelf, rrcache_octets(name, name_size), name_size, rtype, moment, purpose, mode,
-                   line, told, buffer_size == 0 ? &none : buffer, buffer_size);
+    return rrc_ask(shelf, rrcache_octets(name, name_size), name_size, rtype, rclass, moment,
+                   purpose, mode, line, told, buffer_size == 0 ? &none : buffer, buffer_size);
 }
 
 /* What `rrcache_ask` would answer. No event is written and no key touched. It is not refused for
    its moment, which may be above 2^40, nor where numbers are spent. */
 static inline uint32_t rrcache_peek(struct rrcache_shelf *shelf, const uint8_t *name,
-                                    size_t name_size, uint16_t rtype, uint64_t moment,
-                                    uint32_t purpose, uint32_t mode, struct rrcache_told *told,
-                                    uint8_t *buffer, size_t buffer_size)
+                                    size_t name_size, uint16_t rtype, uint16_t rclass,
+                                    uint64_t moment, uint32_t purpose, uint32_t mode,
+                                    struct rrcache_told *told, uint8_t *buffer, size_t buffer_size)
 {
     uint8_t none;
     if (!rrcache_can_tell(shelf, name, name_size, told, buffer, buffer_size))
         return RRCACHE_NULL;
-    return rrc_peek(shelf, rrcache_octets(name, name_size), name_size, rtype, moment, purpose, mode,
-                    told, buffer_size == 0 ? &none : buffer, buffer_size);
+    return rrc_peek(shelf, rrcache_octets(name, name_size), name_size, rtype, rclass, moment,
+                    purpose, mode, told, buffer_size == 0 ? &none : buffer, buffer_size);
 }
 
 /* Removes the keys that can answer no more at a moment, which is one event, and tells how many they

@@ -15,6 +15,7 @@ ANYTHING, QUESTION = range(2)  # purposes
 NO_STALE, STALE_IF_FAILED, STALE_NOW = range(3)  # modes
 DENIES_TYPE, DENIES_NAME = range(2)  # denials
 KEPT, CLEARED, LESS_TRUSTED = range(1, 4)  # outcomes
+IN, CH, HS = 1, 3, 4  # classes
 
 # A reply: what it is, for how many seconds it holds, from when on to try again, the owner's octets and the data.
 Reply = namedtuple("Reply", "kind left retry_from owner data")
@@ -36,8 +37,8 @@ class _Told(Structure):
 
 # What calls take: p is a pointer, o octets and how many, t a type, n a number of 32 bits, m one of 64. What they answer fits an int.
 _TYPES = {"p": [c_void_p], "o": [c_void_p, c_size_t], "t": [c_uint16], "n": [c_uint32], "m": [c_uint64]}
-_CALLS = {"rrc_make": "pmmmo", "rrc_free": "p", "rrc_offer_message": "poompmp", "rrc_offer_part": "poommmpmp", "rrc_offer_set": "potnnommp",
-          "rrc_offer_negative": "potnnnoommp", "rrc_offer_failure": "potnmmp", "rrc_ask": "potmnnmpo", "rrc_peek": "potmnnpo",
+_CALLS = {"rrc_make": "pmmmo", "rrc_free": "p", "rrc_offer_message": "poompmp", "rrc_offer_part": "poommmpmp", "rrc_offer_set": "pottnnommp",
+          "rrc_offer_negative": "pottnnnoommp", "rrc_offer_failure": "pottnmmp", "rrc_ask": "pottmnnmpo", "rrc_peek": "pottmnnpo",
           "rrc_sweep": "pmmp", "rrc_drop_chapters": "pp", "rrc_sizes": "pppp", "rrc_fault": "op", "rrc_part_of": "omp"}
 _LIBRARY = CDLL(os.environ.get("RRCACHE_LIBRARY", os.path.join(os.path.dirname(os.path.realpath(__file__)), "..", "build", "librrcache.so")))
 for _name, _letters in _CALLS.items():
@@ -104,16 +105,16 @@ class Shelf:
         """The same of what a response says of the names that lie in one of so many parts."""
         return self._offer("rrc_offer_part", *_sized(message), *_sized(zone), parts, part, moment, (c_uint32 * 3)(cap, negative_cap, recheck), line)
 
-    def offer_set(self, owner, rtype, trust, ttl, data, moment, line=0):
+    def offer_set(self, owner, rtype, trust, ttl, data, moment, line=0, rclass=IN):
         octets = b"".join(len(it).to_bytes(2, "big") + it for it in data)
-        return _told("rrc_offer_set", c_uint32, self._handle, *_sized(owner), rtype, trust, ttl, *_sized(octets), moment, line)
+        return _told("rrc_offer_set", c_uint32, self._handle, *_sized(owner), rtype, rclass, trust, ttl, *_sized(octets), moment, line)
 
-    def offer_negative(self, name, rtype, denial, trust, ttl, soa_owner, soa, moment, line=0):
-        arguments = (*_sized(name), rtype, denial, trust, ttl, *_sized(soa_owner), *_sized(soa), moment, line)
+    def offer_negative(self, name, rtype, denial, trust, ttl, soa_owner, soa, moment, line=0, rclass=IN):
+        arguments = (*_sized(name), rtype, rclass, denial, trust, ttl, *_sized(soa_owner), *_sized(soa), moment, line)
         return _told("rrc_offer_negative", c_uint32, self._handle, *arguments)
 
-    def offer_failure(self, name, rtype, ttl, moment, line=0):
-        return _told("rrc_offer_failure", c_uint32, self._handle, *_sized(name), rtype, ttl, moment, line)
+    def offer_failure(self, name, rtype, ttl, moment, line=0, rclass=IN):
+        return _told("rrc_offer_failure", c_uint32, self._handle, *_sized(name), rtype, rclass, ttl, moment, line)
 
     def _reply(self, call, *arguments):
         told, buffer = _Told(), create_string_buffer(self._room)
@@ -127,13 +128,13 @@ class Shelf:
             at = behind
         return Reply(told.kind, told.left, told.retry_from, octets[:told.owner_size], data)
 
-    def ask(self, name, rtype, moment, purpose=QUESTION, mode=NO_STALE, line=0):
+    def ask(self, name, rtype, moment, purpose=QUESTION, mode=NO_STALE, line=0, rclass=IN):
         """Asks, which is one event."""
-        return self._reply("rrc_ask", *_sized(name), rtype, moment, purpose, mode, line)
+        return self._reply("rrc_ask", *_sized(name), rtype, rclass, moment, purpose, mode, line)
 
-    def peek(self, name, rtype, moment, purpose=QUESTION, mode=NO_STALE):
+    def peek(self, name, rtype, moment, purpose=QUESTION, mode=NO_STALE, rclass=IN):
         """What `ask` would answer."""
-        return self._reply("rrc_peek", *_sized(name), rtype, moment, purpose, mode)
+        return self._reply("rrc_peek", *_sized(name), rtype, rclass, moment, purpose, mode)
 
     def sweep(self, moment, line=0):
         """Removes the dead keys, and answers how many."""

@@ -39,14 +39,22 @@ def life(ttl):
     return min(int(ttl), 604800)
 
 
+def kind_of(field):
+    """A type and a class, as a trace spells them."""
+    rtype, _, rclass = field.partition("/")
+    return int(rtype), int(rclass or rrcache.IN)
+
+
 def answer_line(shelf, words):
     """What a line of a trace answers, as a report tells it."""
     if words[0] == "put":
-        moment, name, rtype, trust, ttl, items = words[1:]
-        offered = items_of(int(rtype), items)
-        return OUTCOMES[shelf.offer_set(wire(name), int(rtype), int(trust), life(ttl), offered, int(moment))]
+        moment, name, kind, trust, ttl, items = words[1:]
+        rtype, rclass = kind_of(kind)
+        offered = items_of(rtype, items)
+        return OUTCOMES[shelf.offer_set(wire(name), rtype, int(trust), life(ttl), offered, int(moment), rclass=rclass)]
     if words[0] == "fail":
-        return OUTCOMES[shelf.offer_failure(wire(words[2]), int(words[3]), 30, int(words[1]))]
+        rtype, rclass = kind_of(words[3])
+        return OUTCOMES[shelf.offer_failure(wire(words[2]), rtype, 30, int(words[1]), rclass=rclass)]
     if words[0] == "sweep":
         return str(shelf.sweep(int(words[1])))
     if words[0] == "checkpoint":
@@ -58,9 +66,10 @@ def answer_line(shelf, words):
             return f"refused {number}"
         counts = shelf.offer_message(octets, wire(words[2]), int(words[1]))
         return counted_text(counts.kept, counts.cleared, counts.refused)
-    question = (wire(words[2]), int(words[3]), int(words[1]), int(words[4] == "answer"), MODES[words[5]])
-    reply = shelf.peek(*question)
-    same(shelf.ask(*question), reply, "an ask after a peek")
+    rtype, rclass = kind_of(words[3])
+    question = (wire(words[2]), rtype, int(words[1]), int(words[4] == "answer"), MODES[words[5]])
+    reply = shelf.peek(*question, rclass=rclass)
+    same(shelf.ask(*question, rclass=rclass), reply, "an ask after a peek")
     if reply.kind >= rrcache.MISS:
         return "miss" if reply.kind == rrcache.MISS else f"miss {reply.retry_from}"
     kind = {1: "fresh", 2: "stale", 3: "nodata", 4: "nxdomain"}[reply.kind]

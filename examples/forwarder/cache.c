@@ -80,13 +80,14 @@ static uint32_t ask_shelf(struct shelf *shelf, const struct question *at, uint16
     uint32_t status = RRCACHE_MEMORY;
     pthread_mutex_lock(&shelf->lock);
     if (!walk->only_looks)
-        status = rrcache_ask(&shelf->cache, at->name, at->size, type, moment(), RRCACHE_QUESTION,
-                             walk->mode, shelf->calls++, &found->told, found->octets,
-                             sizeof found->octets);
+        status = rrcache_ask(&shelf->cache, at->name, at->size, type, RRCACHE_IN, moment(),
+                             RRCACHE_QUESTION, walk->mode, shelf->calls++, &found->told,
+                             found->octets, sizeof found->octets);
     if (status == RRCACHE_MEMORY) {
         rrcache_drop_chapters(&shelf->cache, &dropped);
-        status = rrcache_peek(&shelf->cache, at->name, at->size, type, moment(), RRCACHE_QUESTION,
-                              walk->mode, &found->told, found->octets, sizeof found->octets);
+        status = rrcache_peek(&shelf->cache, at->name, at->size, type, RRCACHE_IN, moment(),
+                              RRCACHE_QUESTION, walk->mode, &found->told, found->octets,
+                              sizeof found->octets);
     }
     pthread_mutex_unlock(&shelf->lock);
     return status;
@@ -304,7 +305,7 @@ void remember_failure(const struct question *question)
         return;
     struct shelf *shelf = &shelves[part];
     pthread_mutex_lock(&shelf->lock);
-    rrcache_offer_failure(&shelf->cache, question->name, question->size, question->type,
+    rrcache_offer_failure(&shelf->cache, question->name, question->size, question->type, RRCACHE_IN,
                           FAILURE_SECONDS, moment(), shelf->calls++, &outcome);
     pthread_mutex_unlock(&shelf->lock);
 }

@@ -54,7 +54,7 @@ fn body(alloc: Global, name: &Name, ttl: u32) -> Result<Body> {
 
 /// An offer of one address.
 pub fn offer(alloc: Global, name: &Name, moment: u64, ttl: u32) -> Result<Offer> {
-    let key = Key::of(name, Slot::Set(1))?;
+    let key = Key::of(name, 1, Slot::Set(1))?;
     let body = body(alloc, name, ttl)?;
     Ok(Offer::new(key, body, moment)?)
 }
@@ -105,9 +105,10 @@ pub fn filled(alloc: Global, parts: u32, keys: u32) -> Result<Vec<Part>> {
 
 /// A question for the address of a number.
 fn ask(alloc: Global, number: u64) -> Result<Ask> {
-    let key = Key::of(&name(alloc, number)?, Slot::Set(1))?;
+    let key = Key::of(&name(alloc, number)?, 1, Slot::Set(1))?;
     Ok(Ask {
         name: key.name().clone()?,
+        class: 1,
         rtype: 1,
         moment: 1,
         purpose: Purpose::Answer,

@@ -21,9 +21,9 @@ purpose_of number = if number == 0 then Any else Answer
 abbrev pub mode_of : ℕ → Mode
 mode_of number = if number == 0 then NoStale else (if number == 1 then Failed else Now)
 
--- a question about a name, in whatever case it is written
-abbrev pub asked : List ℕ → ℕ → ℕ → ℕ → ℕ → AskOf
-asked name rtype moment purpose mode = record { name = folded name; rtype = rtype; moment = moment; purpose = purpose_of purpose; mode = mode_of mode }
+-- a question about a name, in whatever case it is written, a type and a class
+abbrev pub asked : List ℕ → ℕ → ℕ → ℕ → ℕ → ℕ → AskOf
+asked name rtype class moment purpose mode = record { name = folded name; class = class; rtype = rtype; moment = moment; purpose = purpose_of purpose; mode = mode_of mode }
 
 -- the numbers are of a purpose and of a mode
 pub record AreChoices (purpose mode : ℕ) : Type 0 where

@@ -36,19 +36,19 @@ outcome_number Cleared = 2
 outcome_number LessTrusted = 3
 
 -- a set is offered, whose data stand in some octets each behind its length
-pub record IsSetOffer (owner : List ℕ) (rtype trust ttl : ℕ) (octets : List ℕ) (at : ℕ) (offer : OfferOf) : Type 0 where
+pub record IsSetOffer (owner : List ℕ) (rtype class trust ttl : ℕ) (octets : List ℕ) (at : ℕ) (offer : OfferOf) : Type 0 where
   pub items : List (List ℕ)
   pub stand : data_text items ≡ octets
-  pub is : offer ≡ record { key = record { name = folded owner; slot = Set rtype }; body = Positive (trust_of trust) ttl owner items; moment = at }
+  pub is : offer ≡ record { key = record { name = folded owner; class = class; slot = Set rtype }; body = Positive (trust_of trust) ttl owner items; moment = at }
 
 -- that a name has no data of a type, or does not exist, with the SOA record that says so
-abbrev pub denial_offer : List ℕ → ℕ → ℕ → ℕ → ℕ → List ℕ → List ℕ → ℕ → OfferOf
-denial_offer name rtype denial trust ttl soa_owner soa at =
-    record { key = record { name = folded name; slot = denied denial rtype }; body = Negative (trust_of trust) ttl soa_owner soa; moment = at }
+abbrev pub denial_offer : List ℕ → ℕ → ℕ → ℕ → ℕ → ℕ → List ℕ → List ℕ → ℕ → OfferOf
+denial_offer name rtype class denial trust ttl soa_owner soa at =
+    record { key = record { name = folded name; class = class; slot = denied denial rtype }; body = Negative (trust_of trust) ttl soa_owner soa; moment = at }
 
 -- that asking for data of a type failed
-abbrev pub failure_offer : List ℕ → ℕ → ℕ → ℕ → OfferOf
-failure_offer name rtype ttl at = record { key = record { name = folded name; slot = Failed rtype }; body = Failure ttl; moment = at }
+abbrev pub failure_offer : List ℕ → ℕ → ℕ → ℕ → ℕ → OfferOf
+failure_offer name rtype class ttl at = record { key = record { name = folded name; class = class; slot = Failed rtype }; body = Failure ttl; moment = at }
 
 -- an offer is written, which is one event, and what became of it is told by its number
 pub record TakesOne (line : ℕ) (offer : OfferOf) (number : ℕ) (old new : ShelfOf) : Type 0 where
@@ -57,9 +57,9 @@ pub record TakesOne (line : ℕ) (offer : OfferOf) (number : ℕ) (old new : She
   pub told : number ≡ outcome_number outcome
 
 -- the same of an offer of a set
-pub record TakesSet (line : ℕ) (owner : List ℕ) (rtype trust ttl : ℕ) (octets : List ℕ) (at number : ℕ) (old new : ShelfOf) : Type 0 where
+pub record TakesSet (line : ℕ) (owner : List ℕ) (rtype class trust ttl : ℕ) (octets : List ℕ) (at number : ℕ) (old new : ShelfOf) : Type 0 where
   pub offer : OfferOf
-  pub is_offer : IsSetOffer owner rtype trust ttl octets at offer
+  pub is_offer : IsSetOffer owner rtype class trust ttl octets at offer
   pub takes : TakesOne line offer number old new
 
 -- ---- a whole message

@@ -1,10 +1,10 @@
 -- Why calls are refused. A number is that of a status, and what is said of a refusal is a fact of the number.
-use Rattle.std.specs.Prelude.{◌≡◌, ℕ, ◌+◌, ◌*◌, ◌<◌, ◌≤◌, ◌⊎◌, List, [], ◌++◌, length, slice_index, true, false, Option, None, Some}
+use Rattle.std.specs.Prelude.{◌≡◌, ℕ, ◌+◌, ◌*◌, ◌<◌, ◌≤◌, ◌⊎◌, List, [], ◌++◌, length, slice_index, true, false, Option, None, Some, Bool, if◌then◌else◌, ◌==◌}
 use Rattle.std.specs.List.{AllByRecursion}
 use Rattle.rrc_name.specs.Wire.{IsWireForm}
 use Rattle.rrc_name.specs.WireFault.{IsFirstFaultOfWire}
 use Rattle.rrc_name.specs.declared.fault.WireNameFault.{WireNameFault}
-use Rattle.rrc_wire.specs.Layout.{is_kept}
+use Rattle.rrc_wire.specs.Layout.{is_kept_class, is_kept}
 use Rattle.rrc_wire.specs.Plain.{IsPlain}
 use Rattle.rrc_wire.specs.Message.{FirstFault}
 use Rattle.rrc_wire.specs.declared.fault.WireFault.{WireFault}
@@ -143,16 +143,16 @@ abbrev pub TellingThen : Reply → ℕ → (ℕ → Type 0) → ℕ → Type 0
 TellingThen reply room next = Then (ReplyRefused reply) (AreTellable (data_of reply)) (Then (IsSmall reply room) (HasRoomFor reply room) next)
 
 -- when a question is answered, and when that is refused with what
-abbrev pub AskDue : List ℕ → ℕ → ℕ → ℕ → ℕ → ℕ → ShelfOf → ℕ → Type 0
-AskDue name rtype at purpose mode room shelf =
+abbrev pub AskDue : List ℕ → ℕ → ℕ → ℕ → ℕ → ℕ → ℕ → ShelfOf → ℕ → Type 0
+AskDue name rtype class at purpose mode room shelf =
     Then (QuestionRefused name purpose mode) (IsQuestion name purpose mode)
-    (TellingThen (reply_of shelf (asked name rtype at purpose mode)) room (WriteDue shelf.part at))
+    (TellingThen (reply_of shelf (asked name rtype class at purpose mode)) room (WriteDue shelf.part at))
 
 -- when the reply to a question is told, and when that is refused with what
-abbrev pub PeekDue : List ℕ → ℕ → ℕ → ℕ → ℕ → ℕ → ShelfOf → ℕ → Type 0
-PeekDue name rtype at purpose mode room shelf =
+abbrev pub PeekDue : List ℕ → ℕ → ℕ → ℕ → ℕ → ℕ → ℕ → ShelfOf → ℕ → Type 0
+PeekDue name rtype class at purpose mode room shelf =
     Then (QuestionRefused name purpose mode) (IsQuestion name purpose mode)
-    (TellingThen (reply_of shelf (asked name rtype at purpose mode)) room (λ number. number ≡ 0))
+    (TellingThen (reply_of shelf (asked name rtype class at purpose mode)) room (λ number. number ≡ 0))
 
 -- ---- offering
 
@@ -166,78 +166,73 @@ abbrev pub IsNoTrust : ℕ → Type 0
 IsNoTrust number = (number < 1) ⊎ (4 < number)
 
 -- the set may be offered
-pub record IsSet (octets : List ℕ) (rtype trust ttl : ℕ) (text : List ℕ) : Type 0 where
+pub record IsSet (octets : List ℕ) (rtype class trust ttl : ℕ) (text : List ℕ) : Type 0 where
   pub trusted : IsTrust trust
-  pub type_kept : is_kept rtype ≡ true
+  pub type_kept : is_kept rtype class ≡ true
   pub owner : IsWireForm octets
   pub data_are : AreData rtype text
   pub some : text ≡ [] → ⊥
   pub lifetime : is_lifetime ttl ≡ true
 
-abbrev pub SetRefused : List ℕ → ℕ → ℕ → ℕ → List ℕ → ℕ → Type 0
-SetRefused owner rtype trust ttl octets =
+abbrev pub SetRefused : List ℕ → ℕ → ℕ → ℕ → ℕ → List ℕ → ℕ → Type 0
+SetRefused owner rtype class trust ttl octets =
     Then (Because BadChoice (IsNoTrust trust)) (IsTrust trust)
-    (Then (Because BadType (is_kept rtype ≡ false)) (is_kept rtype ≡ true)
+    (Then (Because BadType (is_kept rtype class ≡ false)) (is_kept rtype class ≡ true)
     (Then (NameRefused owner) (IsWireForm owner)
     (Then (DataRefused rtype octets) (AreData rtype octets)
     (Because WrongBody ((octets ≡ []) ⊎ (is_lifetime ttl ≡ false))))))
 
 -- when a set is offered, and when that is refused with what
-abbrev pub SetDue : List ℕ → ℕ → ℕ → ℕ → List ℕ → ℕ → ShelfOf → ℕ → Type 0
-SetDue owner rtype trust ttl octets at shelf =
-    Then (SetRefused owner rtype trust ttl octets) (IsSet owner rtype trust ttl octets) (WriteDue shelf.part at)
+abbrev pub SetDue : List ℕ → ℕ → ℕ → ℕ → ℕ → List ℕ → ℕ → ShelfOf → ℕ → Type 0
+SetDue owner rtype class trust ttl octets at shelf =
+    Then (SetRefused owner rtype class trust ttl octets) (IsSet owner rtype class trust ttl octets) (WriteDue shelf.part at)
 
 -- the type of SOA records (RFC 1035 3.2.2)
 abbrev pub SOA : ℕ
 SOA = 6
 
--- a denial denies data of a type that is not kept; that of a name has no type
-pub record DeniesOther (rtype denial : ℕ) : Type 0 where
-  pub of_type : denial ≡ 0
-  pub not_kept : is_kept rtype ≡ false
-
--- a denial denies data of a type that is kept, or a name
-abbrev pub DeniesKept : ℕ → ℕ → Type 0
-DeniesKept rtype denial = ((denial ≡ 0) × (is_kept rtype ≡ true)) ⊎ (denial ≡ 1)
+-- whether what a denial is of is kept: data of a type in a class, or names of a class
+unfoldable pub denies_kept : ℕ → ℕ → ℕ → Bool
+denies_kept rtype class denial = if denial == 0 then is_kept rtype class else is_kept_class class
 
 -- the negative answer may be offered
-pub record IsDenial (octets : List ℕ) (rtype denial trust ttl : ℕ) (soa_owner soa : List ℕ) : Type 0 where
+pub record IsDenial (octets : List ℕ) (rtype class denial trust ttl : ℕ) (soa_owner soa : List ℕ) : Type 0 where
   pub trusted : IsTrust trust
-  pub denies : DeniesKept rtype denial
+  pub denies : denies_kept rtype class denial ≡ true
   pub name : IsWireForm octets
   pub zone : IsWireForm soa_owner
   pub plain : IsPlain SOA soa
   pub lifetime : is_lifetime ttl ≡ true
 
-abbrev pub DenialRefused : List ℕ → ℕ → ℕ → ℕ → ℕ → List ℕ → List ℕ → ℕ → Type 0
-DenialRefused name rtype denial trust ttl soa_owner soa =
+abbrev pub DenialRefused : List ℕ → ℕ → ℕ → ℕ → ℕ → ℕ → List ℕ → List ℕ → ℕ → Type 0
+DenialRefused name rtype class denial trust ttl soa_owner soa =
     Then (Because BadChoice (IsNoTrust trust ⊎ (1 < denial))) (IsTrust trust × (denial ≤ 1))
-    (Then (Because BadType (DeniesOther rtype denial)) (DeniesKept rtype denial)
+    (Then (Because BadType (denies_kept rtype class denial ≡ false)) (denies_kept rtype class denial ≡ true)
     (Then (NameRefused name) (IsWireForm name)
     (Then (NameRefused soa_owner) (IsWireForm soa_owner)
     (Then (DatumRefused SOA soa) (IsPlain SOA soa)
     (Because WrongBody (is_lifetime ttl ≡ false))))))
 
 -- when a negative answer is offered, and when that is refused with what
-abbrev pub DenialDue : List ℕ → ℕ → ℕ → ℕ → ℕ → List ℕ → List ℕ → ℕ → ShelfOf → ℕ → Type 0
-DenialDue name rtype denial trust ttl soa_owner soa at shelf =
-    Then (DenialRefused name rtype denial trust ttl soa_owner soa) (IsDenial name rtype denial trust ttl soa_owner soa) (WriteDue shelf.part at)
+abbrev pub DenialDue : List ℕ → ℕ → ℕ → ℕ → ℕ → ℕ → List ℕ → List ℕ → ℕ → ShelfOf → ℕ → Type 0
+DenialDue name rtype class denial trust ttl soa_owner soa at shelf =
+    Then (DenialRefused name rtype class denial trust ttl soa_owner soa) (IsDenial name rtype class denial trust ttl soa_owner soa) (WriteDue shelf.part at)
 
 -- the failure may be offered
-pub record IsFailure (octets : List ℕ) (rtype ttl : ℕ) : Type 0 where
-  pub type_kept : is_kept rtype ≡ true
+pub record IsFailure (octets : List ℕ) (rtype class ttl : ℕ) : Type 0 where
+  pub type_kept : is_kept rtype class ≡ true
   pub name : IsWireForm octets
   pub lifetime : is_lifetime ttl ≡ true
 
-abbrev pub FailureRefused : List ℕ → ℕ → ℕ → ℕ → Type 0
-FailureRefused name rtype ttl =
-    Then (Because BadType (is_kept rtype ≡ false)) (is_kept rtype ≡ true)
+abbrev pub FailureRefused : List ℕ → ℕ → ℕ → ℕ → ℕ → Type 0
+FailureRefused name rtype class ttl =
+    Then (Because BadType (is_kept rtype class ≡ false)) (is_kept rtype class ≡ true)
     (Then (NameRefused name) (IsWireForm name)
     (Because WrongBody (is_lifetime ttl ≡ false)))
 
 -- when a failure is offered, and when that is refused with what
-abbrev pub FailureDue : List ℕ → ℕ → ℕ → ℕ → ShelfOf → ℕ → Type 0
-FailureDue name rtype ttl at shelf = Then (FailureRefused name rtype ttl) (IsFailure name rtype ttl) (WriteDue shelf.part at)
+abbrev pub FailureDue : List ℕ → ℕ → ℕ → ℕ → ℕ → ShelfOf → ℕ → Type 0
+FailureDue name rtype class ttl at shelf = Then (FailureRefused name rtype class ttl) (IsFailure name rtype class ttl) (WriteDue shelf.part at)
 
 -- ---- messages and parts
 

@@ -54,11 +54,12 @@ pub(crate) fn ask_of(
     alloc: Global,
     name: &[u8],
     rtype: u16,
+    class: u16,
     moment: u64,
     purpose: u32,
     mode: u32,
 ) -> Result<Ask, Status>
-    ensures ask { IfOk result (λ ask. ask ≡ asked name.now rtype moment purpose mode) }
+    ensures ask { IfOk result (λ ask. ask ≡ asked name.now rtype class moment purpose mode) }
     ensures fit { OnOk result (IsQuestion name.now purpose mode) }
     ensures refused { IfErr result (λ status. QuestionRefused name.now purpose mode (number_of status)) }
 {
@@ -67,6 +68,7 @@ pub(crate) fn ask_of(
     }
     Ok(Ask {
         name: name_of(alloc, name)?.folded()?,
+        class,
         rtype,
         moment,
         purpose: purpose_of(purpose),
@@ -150,6 +152,7 @@ pub(crate) fn ask_shelf(
     shelf: &mut Shelf,
     name: &[u8],
     rtype: u16,
+    class: u16,
     moment: u64,
     purpose: u32,
     mode: u32,
@@ -157,13 +160,13 @@ pub(crate) fn ask_shelf(
     told: &mut Told,
     buffer: &mut [u8],
 ) -> Result<bool, Status>
-    ensures ok { IfOk result (λ fits. AnswersOr fits (asked name.now rtype moment purpose mode) line told.new buffer.old buffer.new shelf.old shelf.new) }
+    ensures ok { IfOk result (λ fits. AnswersOr fits (asked name.now rtype class moment purpose mode) line told.new buffer.old buffer.new shelf.old shelf.new) }
     ensures err { OnErr result (AreKept told.old buffer.old told.new buffer.new) }
     ensures left { OnErr result (IsLeft shelf.old shelf.new) }
     ensures fit { OnOk result (IsQuestion name.now purpose mode) }
-    ensures due { AskDue name.now rtype moment purpose mode (length buffer.old) shelf.old (number_of_reply result) }
+    ensures due { AskDue name.now rtype class moment purpose mode (length buffer.old) shelf.old (number_of_reply result) }
 {
-    let ask = ask_of(alloc, name, rtype, moment, purpose, mode)?;
+    let ask = ask_of(alloc, name, rtype, class, moment, purpose, mode)?;
     answer(shelf, &ask, line, told, buffer)
 }
 
@@ -173,17 +176,18 @@ pub(crate) fn peek_at_shelf(
     shelf: &Shelf,
     name: &[u8],
     rtype: u16,
+    class: u16,
     moment: u64,
     purpose: u32,
     mode: u32,
     told: &mut Told,
     buffer: &mut [u8],
 ) -> Result<bool, Status>
-    ensures ok { IfOk result (λ fits. ShowsOr fits (asked name.now rtype moment purpose mode) told.new buffer.old buffer.new shelf.now shelf.now) }
+    ensures ok { IfOk result (λ fits. ShowsOr fits (asked name.now rtype class moment purpose mode) told.new buffer.old buffer.new shelf.now shelf.now) }
     ensures err { OnErr result (AreKept told.old buffer.old told.new buffer.new) }
     ensures fit { OnOk result (IsQuestion name.now purpose mode) }
-    ensures due { PeekDue name.now rtype moment purpose mode (length buffer.old) shelf.now (number_of_reply result) }
+    ensures due { PeekDue name.now rtype class moment purpose mode (length buffer.old) shelf.now (number_of_reply result) }
 {
-    let ask = ask_of(alloc, name, rtype, moment, purpose, mode)?;
+    let ask = ask_of(alloc, name, rtype, class, moment, purpose, mode)?;
     show(shelf, &ask, told, buffer)
 }

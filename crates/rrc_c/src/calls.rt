@@ -37,6 +37,7 @@ pub extern "C" fn rrc_ask(
     handle: &mut Handle,
     name: &[u8],
     rtype: u16,
+    class: u16,
     moment: u64,
     purpose: u32,
     mode: u32,
@@ -45,19 +46,19 @@ pub extern "C" fn rrc_ask(
     buffer: &mut [u8],
 ) -> u32
     ensures none { TellsNone handle.old.seal.shelf result }
-    ensures done { OnDone result (BothHold handle.old.seal.shelf handle.new.seal.shelf (Answers (asked name.now rtype moment purpose mode) line told.new buffer.old buffer.new)) }
-    ensures small { OnSmall result (BothHold handle.old.seal.shelf handle.new.seal.shelf (TellsSizeAlone (asked name.now rtype moment purpose mode) told.new buffer.old buffer.new)) }
+    ensures done { OnDone result (BothHold handle.old.seal.shelf handle.new.seal.shelf (Answers (asked name.now rtype class moment purpose mode) line told.new buffer.old buffer.new)) }
+    ensures small { OnSmall result (BothHold handle.old.seal.shelf handle.new.seal.shelf (TellsSizeAlone (asked name.now rtype class moment purpose mode) told.new buffer.old buffer.new)) }
     ensures refused { OnRefused result (IsKept handle.old.seal.shelf handle.new.seal.shelf) }
     ensures buffer { OnRefused result (buffer.new ≡ buffer.old) }
     ensures told { OnUntold result (told.new ≡ told.old) }
     ensures fit { OnDone result (IsQuestion name.now purpose mode) }
-    ensures due { IfHeld handle.old.seal.shelf (λ shelf. AskDue name.now rtype moment purpose mode (length buffer.old) shelf result) }
+    ensures due { IfHeld handle.old.seal.shelf (λ shelf. AskDue name.now rtype class moment purpose mode (length buffer.old) shelf result) }
 {
     let Some(mut shelf) = handle.take(alloc) else {
         return NO_SHELF;
     };
     let fits = ask_shelf(
-        alloc, &mut shelf, name, rtype, moment, purpose, mode, line, told, buffer,
+        alloc, &mut shelf, name, rtype, class, moment, purpose, mode, line, told, buffer,
     );
     handle.put(shelf);
     number_of_reply(fits)
@@ -70,6 +71,7 @@ pub extern "C" fn rrc_peek(
     handle: &mut Handle,
     name: &[u8],
     rtype: u16,
+    class: u16,
     moment: u64,
     purpose: u32,
     mode: u32,
@@ -77,19 +79,19 @@ pub extern "C" fn rrc_peek(
     buffer: &mut [u8],
 ) -> u32
     ensures none { TellsNone handle.old.seal.shelf result }
-    ensures done { OnDone result (BothHold handle.old.seal.shelf handle.new.seal.shelf (Shows (asked name.now rtype moment purpose mode) told.new buffer.old buffer.new)) }
-    ensures small { OnSmall result (BothHold handle.old.seal.shelf handle.new.seal.shelf (TellsSizeAlone (asked name.now rtype moment purpose mode) told.new buffer.old buffer.new)) }
+    ensures done { OnDone result (BothHold handle.old.seal.shelf handle.new.seal.shelf (Shows (asked name.now rtype class moment purpose mode) told.new buffer.old buffer.new)) }
+    ensures small { OnSmall result (BothHold handle.old.seal.shelf handle.new.seal.shelf (TellsSizeAlone (asked name.now rtype class moment purpose mode) told.new buffer.old buffer.new)) }
     ensures kept { handle.new.seal.shelf ≡ handle.old.seal.shelf }
     ensures buffer { OnRefused result (buffer.new ≡ buffer.old) }
     ensures told { OnUntold result (told.new ≡ told.old) }
     ensures fit { OnDone result (IsQuestion name.now purpose mode) }
-    ensures due { IfHeld handle.old.seal.shelf (λ shelf. PeekDue name.now rtype moment purpose mode (length buffer.old) shelf result) }
+    ensures due { IfHeld handle.old.seal.shelf (λ shelf. PeekDue name.now rtype class moment purpose mode (length buffer.old) shelf result) }
 {
     let Some(shelf) = handle.take(alloc) else {
         return NO_SHELF;
     };
     let fits = peek_at_shelf(
-        alloc, &shelf, name, rtype, moment, purpose, mode, told, buffer,
+        alloc, &shelf, name, rtype, class, moment, purpose, mode, told, buffer,
     );
     handle.put(shelf);
     number_of_reply(fits)
@@ -202,6 +204,7 @@ pub extern "C" fn rrc_offer_set(
     handle: &mut Handle,
     owner: &[u8],
     rtype: u16,
+    class: u16,
     trust: u32,
     ttl: u32,
     octets: &[u8],
@@ -210,17 +213,17 @@ pub extern "C" fn rrc_offer_set(
     outcome: &mut u32,
 ) -> u32
     ensures none { TellsNone handle.old.seal.shelf result }
-    ensures done { OnDone result (BothHold handle.old.seal.shelf handle.new.seal.shelf (TakesSet line owner.now rtype trust ttl octets.now moment outcome.new)) }
+    ensures done { OnDone result (BothHold handle.old.seal.shelf handle.new.seal.shelf (TakesSet line owner.now rtype class trust ttl octets.now moment outcome.new)) }
     ensures refused { OnRefused result (IsKept handle.old.seal.shelf handle.new.seal.shelf) }
     ensures outcome { OnRefused result (outcome.new ≡ outcome.old) }
-    ensures fit { OnDone result (IsSet owner.now rtype trust ttl octets.now) }
-    ensures due { IfHeld handle.old.seal.shelf (λ shelf. SetDue owner.now rtype trust ttl octets.now moment shelf result) }
+    ensures fit { OnDone result (IsSet owner.now rtype class trust ttl octets.now) }
+    ensures due { IfHeld handle.old.seal.shelf (λ shelf. SetDue owner.now rtype class trust ttl octets.now moment shelf result) }
 {
     let Some(mut shelf) = handle.take(alloc) else {
         return NO_SHELF;
     };
     let done = take_set(
-        alloc, &mut shelf, owner, rtype, trust, ttl, octets, moment, line,
+        alloc, &mut shelf, owner, rtype, class, trust, ttl, octets, moment, line,
     );
     handle.put(shelf);
     number_of_u32(done, outcome)
@@ -233,6 +236,7 @@ pub extern "C" fn rrc_offer_negative(
     handle: &mut Handle,
     name: &[u8],
     rtype: u16,
+    class: u16,
     denial: u32,
     trust: u32,
     ttl: u32,
@@ -243,17 +247,17 @@ pub extern "C" fn rrc_offer_negative(
     outcome: &mut u32,
 ) -> u32
     ensures none { TellsNone handle.old.seal.shelf result }
-    ensures done { OnDone result (BothHold handle.old.seal.shelf handle.new.seal.shelf (TakesOne line (denial_offer name.now rtype denial trust ttl soa_owner.now soa.now moment) outcome.new)) }
+    ensures done { OnDone result (BothHold handle.old.seal.shelf handle.new.seal.shelf (TakesOne line (denial_offer name.now rtype class denial trust ttl soa_owner.now soa.now moment) outcome.new)) }
     ensures refused { OnRefused result (IsKept handle.old.seal.shelf handle.new.seal.shelf) }
     ensures outcome { OnRefused result (outcome.new ≡ outcome.old) }
-    ensures fit { OnDone result (IsDenial name.now rtype denial trust ttl soa_owner.now soa.now) }
-    ensures due { IfHeld handle.old.seal.shelf (λ shelf. DenialDue name.now rtype denial trust ttl soa_owner.now soa.now moment shelf result) }
+    ensures fit { OnDone result (IsDenial name.now rtype class denial trust ttl soa_owner.now soa.now) }
+    ensures due { IfHeld handle.old.seal.shelf (λ shelf. DenialDue name.now rtype class denial trust ttl soa_owner.now soa.now moment shelf result) }
 {
     let Some(mut shelf) = handle.take(alloc) else {
         return NO_SHELF;
     };
     let done = take_negative(
-        alloc, &mut shelf, name, rtype, denial, trust, ttl, soa_owner, soa, moment, line,
+        alloc, &mut shelf, name, rtype, class, denial, trust, ttl, soa_owner, soa, moment, line,
     );
     handle.put(shelf);
     number_of_u32(done, outcome)
@@ -266,22 +270,23 @@ pub extern "C" fn rrc_offer_failure(
     handle: &mut Handle,
     name: &[u8],
     rtype: u16,
+    class: u16,
     ttl: u32,
     moment: u64,
     line: u64,
     outcome: &mut u32,
 ) -> u32
     ensures none { TellsNone handle.old.seal.shelf result }
-    ensures done { OnDone result (BothHold handle.old.seal.shelf handle.new.seal.shelf (TakesOne line (failure_offer name.now rtype ttl moment) outcome.new)) }
+    ensures done { OnDone result (BothHold handle.old.seal.shelf handle.new.seal.shelf (TakesOne line (failure_offer name.now rtype class ttl moment) outcome.new)) }
     ensures refused { OnRefused result (IsKept handle.old.seal.shelf handle.new.seal.shelf) }
     ensures outcome { OnRefused result (outcome.new ≡ outcome.old) }
-    ensures fit { OnDone result (IsFailure name.now rtype ttl) }
-    ensures due { IfHeld handle.old.seal.shelf (λ shelf. FailureDue name.now rtype ttl moment shelf result) }
+    ensures fit { OnDone result (IsFailure name.now rtype class ttl) }
+    ensures due { IfHeld handle.old.seal.shelf (λ shelf. FailureDue name.now rtype class ttl moment shelf result) }
 {
     let Some(mut shelf) = handle.take(alloc) else {
         return NO_SHELF;
     };
-    let done = take_failure(alloc, &mut shelf, name, rtype, ttl, moment, line);
+    let done = take_failure(alloc, &mut shelf, name, rtype, class, ttl, moment, line);
     handle.put(shelf);
     number_of_u32(done, outcome)
 }

@@ -3,7 +3,7 @@ ghost use Rattle.std.specs.List.{AllByRecursion};
 ghost use Rattle.rrc_c.specs.Told.{datum, data_text};
 ghost use Rattle.rrc_c.specs.Offered.{trust_of, denied, denial_offer, failure_offer, outcome_number, count_more, counts_of, AreAt, AreOffered, IsSetOffer, TakesOne, TakesAll, TakesFirst, TakesMessage, TakesSet, TakesSome, total};
 ghost use Rattle.rrc_c.specs.Parted.{lying_in, IsPart, TakesPart, TakesSomeOfPart};
-ghost use Rattle.rrc_c.specs.Refusals.{AreLimits, AreData, Because, DataRefused, DatumRefused, DenialDue, DenialRefused, FailureDue, FailureRefused, IsCutOff, IsDenial, IsFailure, IsSet, MessageRefused, OffersRefused, SetDue, SetRefused, WriteDue};
+ghost use Rattle.rrc_c.specs.Refusals.{AreLimits, AreData, Because, DataRefused, DatumRefused, DenialDue, DenialRefused, FailureDue, FailureRefused, IsCutOff, IsDenial, IsFailure, IsSet, MessageRefused, OffersRefused, SetDue, SetRefused, WriteDue, denies_kept};
 ghost use Rattle.rrc_c.specs.Statuses.{number_of, number_of_call};
 ghost use Rattle.rrc_history.specs.Fits.{fits};
 ghost use Rattle.rrc_sets.specs.Limits.{Are};
@@ -18,7 +18,7 @@ use rrc_history::{Body, Offer, Outcome, Tag, Trust};
 use rrc_name::{Key, Name, Octets, Sequence, Shared, Slot, part_of};
 use rrc_sets::Limits;
 use rrc_share::{Shelf, on_shelf_offer};
-use rrc_wire::{WireFault, is_kept, plain_rdata};
+use rrc_wire::{WireFault, is_kept, is_kept_class, plain_rdata};
 use std::alloc::Global;
 
 /// The type of SOA records (RFC 1035 section 3.2.2).
@@ -109,23 +109,24 @@ fn set_offer(
     alloc: Global,
     owner: &[u8],
     rtype: u16,
+    class: u16,
     trust: u32,
     ttl: u32,
     octets: &[u8],
     moment: u64,
 ) -> Result<Offer, Status>
-    ensures offer { IfOk result (IsSetOffer owner.now rtype trust ttl octets.now moment) }
-    ensures fit { OnOk result (IsSet owner.now rtype trust ttl octets.now) }
-    ensures refused { IfErr result (λ status. SetRefused owner.now rtype trust ttl octets.now (number_of status)) }
+    ensures offer { IfOk result (IsSetOffer owner.now rtype class trust ttl octets.now moment) }
+    ensures fit { OnOk result (IsSet owner.now rtype class trust ttl octets.now) }
+    ensures refused { IfErr result (λ status. SetRefused owner.now rtype class trust ttl octets.now (number_of status)) }
 {
     if !(1..=4).contains(&trust) {
         return Err(Status::BadChoice);
     }
-    if !is_kept(rtype) {
+    if !is_kept(rtype, class) {
         return Err(Status::BadType);
     }
     let owner = name_of(alloc, owner)?;
-    let key = Key::of(&owner, Slot::Set(rtype))?;
+    let key = Key::of(&owner, class, Slot::Set(rtype))?;
     let body = Body::Positive {
         owner,
         items: Shared::new(alloc, items_in(alloc, rtype, octets)?)?,
@@ -135,11 +136,24 @@ fn set_offer(
     offer_of(key, body, moment)
 }
 
+/// Whether what a denial is of is kept: data of a type in a class, or names of a class.
+#[tactic(auto, unfolding(crate::specs::Refusals::denies_kept))]
+fn denies_kept(rtype: u16, class: u16, denial: u32) -> bool
+    ensures { result ≡ denies_kept rtype class denial }
+{
+    if denial == 0 {
+        is_kept(rtype, class)
+    } else {
+        is_kept_class(class)
+    }
+}
+
 /// The offer of a negative answer.
 fn negative_offer(
     alloc: Global,
     name: &[u8],
     rtype: u16,
+    class: u16,
     denial: u32,
     trust: u32,
     ttl: u32,
@@ -147,17 +161,17 @@ fn negative_offer(
     soa: &[u8],
     moment: u64,
 ) -> Result<Offer, Status>
-    ensures offer { IfOk result (λ offer. offer ≡ denial_offer name.now rtype denial trust ttl soa_owner.now soa.now moment) }
-    ensures fit { OnOk result (IsDenial name.now rtype denial trust ttl soa_owner.now soa.now) }
-    ensures refused { IfErr result (λ status. DenialRefused name.now rtype denial trust ttl soa_owner.now soa.now (number_of status)) }
+    ensures offer { IfOk result (λ offer. offer ≡ denial_offer name.now rtype class denial trust ttl soa_owner.now soa.now moment) }
+    ensures fit { OnOk result (IsDenial name.now rtype class denial trust ttl soa_owner.now soa.now) }
+    ensures refused { IfErr result (λ status. DenialRefused name.now rtype class denial trust ttl soa_owner.now soa.now (number_of status)) }
 {
     if !(1..=4).contains(&trust) || denial > 1 {
         return Err(Status::BadChoice);
     }
-    if denial == 0 && !is_kept(rtype) {
+    if !denies_kept(rtype, class, denial) {
         return Err(Status::BadType);
     }
-    let key = Key::of(&name_of(alloc, name)?, denied(denial, rtype))?;
+    let key = Key::of(&name_of(alloc, name)?, class, denied(denial, rtype))?;
     let body = Body::Negative {
         soa_owner: name_of(alloc, soa_owner)?,
         soa: Shared::new(alloc, data_in(alloc, SOA, soa)?)?,
@@ -172,17 +186,18 @@ fn failure_offer(
     alloc: Global,
     name: &[u8],
     rtype: u16,
+    class: u16,
     ttl: u32,
     moment: u64,
 ) -> Result<Offer, Status>
-    ensures offer { IfOk result (λ offer. offer ≡ failure_offer name.now rtype ttl moment) }
-    ensures fit { OnOk result (IsFailure name.now rtype ttl) }
-    ensures refused { IfErr result (λ status. FailureRefused name.now rtype ttl (number_of status)) }
+    ensures offer { IfOk result (λ offer. offer ≡ failure_offer name.now rtype class ttl moment) }
+    ensures fit { OnOk result (IsFailure name.now rtype class ttl) }
+    ensures refused { IfErr result (λ status. FailureRefused name.now rtype class ttl (number_of status)) }
 {
-    if !is_kept(rtype) {
+    if !is_kept(rtype, class) {
         return Err(Status::BadType);
     }
-    let key = Key::of(&name_of(alloc, name)?, Slot::Failed(rtype))?;
+    let key = Key::of(&name_of(alloc, name)?, class, Slot::Failed(rtype))?;
     offer_of(key, Body::Failure { ttl }, moment)
 }
 
@@ -365,18 +380,19 @@ pub(crate) fn take_set(
     shelf: &mut Shelf,
     owner: &[u8],
     rtype: u16,
+    class: u16,
     trust: u32,
     ttl: u32,
     octets: &[u8],
     moment: u64,
     line: u64,
 ) -> Result<u32, Status>
-    ensures ok { IfOk result (λ number. TakesSet line owner.now rtype trust ttl octets.now moment number shelf.old shelf.new) }
+    ensures ok { IfOk result (λ number. TakesSet line owner.now rtype class trust ttl octets.now moment number shelf.old shelf.new) }
     ensures left { OnErr result (IsLeft shelf.old shelf.new) }
-    ensures fit { OnOk result (IsSet owner.now rtype trust ttl octets.now) }
-    ensures due { SetDue owner.now rtype trust ttl octets.now moment shelf.old (number_of_call result) }
+    ensures fit { OnOk result (IsSet owner.now rtype class trust ttl octets.now) }
+    ensures due { SetDue owner.now rtype class trust ttl octets.now moment shelf.old (number_of_call result) }
 {
-    let offer = set_offer(alloc, owner, rtype, trust, ttl, octets, moment)?;
+    let offer = set_offer(alloc, owner, rtype, class, trust, ttl, octets, moment)?;
     make_offer(shelf, line, offer)
 }
 
@@ -386,6 +402,7 @@ pub(crate) fn take_negative(
     shelf: &mut Shelf,
     name: &[u8],
     rtype: u16,
+    class: u16,
     denial: u32,
     trust: u32,
     ttl: u32,
@@ -394,13 +411,13 @@ pub(crate) fn take_negative(
     moment: u64,
     line: u64,
 ) -> Result<u32, Status>
-    ensures ok { IfOk result (λ number. TakesOne line (denial_offer name.now rtype denial trust ttl soa_owner.now soa.now moment) number shelf.old shelf.new) }
+    ensures ok { IfOk result (λ number. TakesOne line (denial_offer name.now rtype class denial trust ttl soa_owner.now soa.now moment) number shelf.old shelf.new) }
     ensures left { OnErr result (IsLeft shelf.old shelf.new) }
-    ensures fit { OnOk result (IsDenial name.now rtype denial trust ttl soa_owner.now soa.now) }
-    ensures due { DenialDue name.now rtype denial trust ttl soa_owner.now soa.now moment shelf.old (number_of_call result) }
+    ensures fit { OnOk result (IsDenial name.now rtype class denial trust ttl soa_owner.now soa.now) }
+    ensures due { DenialDue name.now rtype class denial trust ttl soa_owner.now soa.now moment shelf.old (number_of_call result) }
 {
     let offer = negative_offer(
-        alloc, name, rtype, denial, trust, ttl, soa_owner, soa, moment,
+        alloc, name, rtype, class, denial, trust, ttl, soa_owner, soa, moment,
     )?;
     make_offer(shelf, line, offer)
 }
@@ -411,15 +428,16 @@ pub(crate) fn take_failure(
     shelf: &mut Shelf,
     name: &[u8],
     rtype: u16,
+    class: u16,
     ttl: u32,
     moment: u64,
     line: u64,
 ) -> Result<u32, Status>
-    ensures ok { IfOk result (λ number. TakesOne line (failure_offer name.now rtype ttl moment) number shelf.old shelf.new) }
+    ensures ok { IfOk result (λ number. TakesOne line (failure_offer name.now rtype class ttl moment) number shelf.old shelf.new) }
     ensures left { OnErr result (IsLeft shelf.old shelf.new) }
-    ensures fit { OnOk result (IsFailure name.now rtype ttl) }
-    ensures due { FailureDue name.now rtype ttl moment shelf.old (number_of_call result) }
+    ensures fit { OnOk result (IsFailure name.now rtype class ttl) }
+    ensures due { FailureDue name.now rtype class ttl moment shelf.old (number_of_call result) }
 {
-    let offer = failure_offer(alloc, name, rtype, ttl, moment)?;
+    let offer = failure_offer(alloc, name, rtype, class, ttl, moment)?;
     make_offer(shelf, line, offer)
 }

@@ -23,7 +23,7 @@ use Rattle.rrc_history.specs.lemmas.OfferLaws.{length-staying_found}
 use Rattle.rrc_history.specs.lemmas.AskLaws.{found-contents, ask_contents}
 use Rattle.rrc_history.specs.Lives.{LAST_MOMENT}
 use Rattle.rrc_cache.specs.Calls.{Leaves}
-use Rattle.rrc_cache.specs.Taken.{HasName, IsAnswered, slot_of}
+use Rattle.rrc_cache.specs.Taken.{HasName, HasClass, IsAnswered, slot_of}
 use Rattle.rrc_cache.proofs.Leaving.{right_leaves}
 use Rattle.rrc_cache.proofs.Sound.{made_of, made_answered_from}
 
@@ -81,19 +81,29 @@ answering-named entries ask reply (Some entry) is =
       | inr at ↦ ap (λ (k : KeyOf). k.name) (sym (entry_at-key (key_at ask Nx) entries entry at))
     ]
 
--- so its key is that of the ask's name and its slot
-pub answering-keyed : (ask : AskOf) (a : Option Entry) → IfSome a (HasName ask.name) → option_map (λ (entry : Entry). key_at ask entry.key.slot) a ≡ key_in a
-answering-keyed ask None named = refl
-answering-keyed ask (Some entry) named =
-    let keyed : List ℕ → Option KeyOf = λ name. Some (record { name = name; slot = entry.key.slot }) in
-    ap keyed (sym named)
+-- and its class
+answering-classed : (entries : List Entry) (ask : AskOf) (reply : Reply) (a : Option Entry) → a ≡ answering (found_among entries ask) ask reply → IfSome a (HasClass ask.class)
+answering-classed entries ask reply None is = tt
+answering-classed entries ask reply (Some entry) is =
+    elim (answering-held entries ask reply entry (sym is)) [
+      | inl at ↦ ap (λ (k : KeyOf). k.class) (sym (entry_at-key (key_at ask (Set ask.rtype)) entries entry at))
+      | inr at ↦ ap (λ (k : KeyOf). k.class) (sym (entry_at-key (key_at ask Nx) entries entry at))
+    ]
+
+-- so its key is that of the ask's name and class and its slot
+answering-keyed : (ask : AskOf) (a : Option Entry) → IfSome a (HasName ask.name) → IfSome a (HasClass ask.class) → option_map (λ (entry : Entry). key_at ask entry.key.slot) a ≡ key_in a
+answering-keyed ask None named classed = refl
+answering-keyed ask (Some entry) named classed =
+    let names : ask.name ≡ entry.key.name = sym named in
+    let classes : ask.class ≡ entry.key.class = sym classed in
+    λ i. Some (record { name = names i; class = classes i; slot = entry.key.slot })
 
 -- the answer, and the slot of the entry that gave it
 pub answered_at : (stale : ℕ) (ask : AskOf) (entries : List Entry) (reply : Reply) (a : Option Entry) (slot : Option Slot) → reply ≡ reply_by stale (found_among entries ask) ask
     → a ≡ answering (found_among entries ask) ask reply → slot ≡ slot_of a → IsAnswered stale ask entries reply slot
 answered_at stale ask entries reply a slot answered gave is = record {
   answered = answered;
-  from = ap (option_map (key_at ask)) is ∙ (mapped a ∙ (answering-keyed ask a (answering-named entries ask reply a gave) ∙ ap key_in gave));
+  from = ap (option_map (key_at ask)) is ∙ (mapped a ∙ (answering-keyed ask a (answering-named entries ask reply a gave) (answering-classed entries ask reply a gave) ∙ ap key_in gave));
 }
   where
     mapped : (a' : Option Entry) → option_map (key_at ask) (slot_of a') ≡ option_map (λ (entry : Entry). key_at ask entry.key.slot) a'

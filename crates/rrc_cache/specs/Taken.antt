@@ -31,7 +31,11 @@ pub record IsTaken (capacity number : ℕ) (offer : OfferOf) (before : List Entr
 abbrev pub HasName : List ℕ → Entry → Type 0
 HasName name entry = entry.key.name ≡ name
 
--- an ask was answered by what its keys held, from the entry of a slot of its name, if from any
+-- the entry is of the class
+abbrev pub HasClass : ℕ → Entry → Type 0
+HasClass class entry = entry.key.class ≡ class
+
+-- an ask was answered by what its keys held, from the entry of a slot of its name and class, if from any
 pub record IsAnswered (stale : ℕ) (ask : AskOf) (entries : List Entry) (reply : Reply) (slot : Option Slot) : Type 0 where
   pub answered : reply ≡ reply_by stale (found_among entries ask) ask
   pub from : option_map (key_at ask) slot ≡ key_in (answering (found_among entries ask) ask reply)

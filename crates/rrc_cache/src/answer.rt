@@ -25,6 +25,7 @@ fn kept_ask(ask: &Ask, answering: Option<Held<'_>>) -> Result<Ask, AllocError>
             let key = held.key;
             Ok(Ask {
                 name: key.name.clone()?,
+                class: ask.class,
                 rtype: ask.rtype,
                 moment: ask.moment,
                 purpose: ask.purpose,

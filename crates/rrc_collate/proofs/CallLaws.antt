@@ -62,20 +62,24 @@ offer_eq-same o p h =
 
 ask_eq-itself : (ask : AskOf) → ask_eq ask ask ≡ true
 ask_eq-itself a =
-    and_from (a.moment == a.moment) (a.rtype == a.rtype && (purpose_eq a.purpose a.purpose && (mode_eq a.mode a.mode && pointwise nat_eq a.name a.name)))
-    ((Decides-eqb a.moment a.moment).1 refl)
+    let behind = a.rtype == a.rtype && (purpose_eq a.purpose a.purpose && (mode_eq a.mode a.mode && pointwise nat_eq a.name a.name)) in
+    and_from (a.moment == a.moment) (a.class == a.class && behind) ((Decides-eqb a.moment a.moment).1 refl)
+    (and_from (a.class == a.class) behind ((Decides-eqb a.class a.class).1 refl)
     (and_from (a.rtype == a.rtype) (purpose_eq a.purpose a.purpose && (mode_eq a.mode a.mode && pointwise nat_eq a.name a.name)) ((Decides-eqb a.rtype a.rtype).1 refl)
     (and_from (purpose_eq a.purpose a.purpose) (mode_eq a.mode a.mode && pointwise nat_eq a.name a.name) (purpose_eq-itself a.purpose)
-    (and_from (mode_eq a.mode a.mode) (pointwise nat_eq a.name a.name) (mode_eq-itself a.mode) ((bytes_decides a.name a.name).1 refl))))
+    (and_from (mode_eq a.mode a.mode) (pointwise nat_eq a.name a.name) (mode_eq-itself a.mode) ((bytes_decides a.name a.name).1 refl)))))
 
 ask_eq-same : (ask other : AskOf) → ask_eq ask other ≡ true → ask ≡ other
 ask_eq-same a b h =
-    let p = and_parts (a.moment == b.moment) (a.rtype == b.rtype && (purpose_eq a.purpose b.purpose && (mode_eq a.mode b.mode && pointwise nat_eq a.name b.name))) h in
-    let q = and_parts (a.rtype == b.rtype) (purpose_eq a.purpose b.purpose && (mode_eq a.mode b.mode && pointwise nat_eq a.name b.name)) p.1 in
+    let behind = a.rtype == b.rtype && (purpose_eq a.purpose b.purpose && (mode_eq a.mode b.mode && pointwise nat_eq a.name b.name)) in
+    let p = and_parts (a.moment == b.moment) (a.class == b.class && behind) h in
+    let c = and_parts (a.class == b.class) behind p.1 in
+    let q = and_parts (a.rtype == b.rtype) (purpose_eq a.purpose b.purpose && (mode_eq a.mode b.mode && pointwise nat_eq a.name b.name)) c.1 in
     let r = and_parts (purpose_eq a.purpose b.purpose) (mode_eq a.mode b.mode && pointwise nat_eq a.name b.name) q.1 in
     let s = and_parts (mode_eq a.mode b.mode) (pointwise nat_eq a.name b.name) r.1 in
     λ i. record {
       name = (bytes_decides a.name b.name).0 s.1 i;
+      class = (Decides-eqb a.class b.class).0 c.0 i;
       rtype = (Decides-eqb a.rtype b.rtype).0 q.0 i;
       moment = (Decides-eqb a.moment b.moment).0 p.0 i;
       purpose = purpose_eq-same a.purpose b.purpose r.0 i;

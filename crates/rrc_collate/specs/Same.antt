@@ -29,7 +29,8 @@ offer_eq offer other = offer.moment == other.moment && (key_eq offer.key other.k
 abbrev pub ask_eq : AskOf → AskOf → Bool
 ask_eq ask other =
     ask.moment == other.moment
-    && (ask.rtype == other.rtype && (purpose_eq ask.purpose other.purpose && (mode_eq ask.mode other.mode && pointwise nat_eq ask.name other.name)))
+    && (ask.class == other.class
+    && (ask.rtype == other.rtype && (purpose_eq ask.purpose other.purpose && (mode_eq ask.mode other.mode && pointwise nat_eq ask.name other.name))))
 
 abbrev pub call_eq : Call → Call → Bool
 call_eq (Offer offer) (Offer other) = offer_eq offer other

@@ -30,6 +30,7 @@ fn is_same_ask(ask: &Ask, other: &Ask) -> bool
     ensures { result ≡ ask_eq ask.now other.now }
 {
     ask.moment == other.moment
+        && ask.class == other.class
         && ask.rtype == other.rtype
         && ask.purpose == other.purpose
         && ask.mode == other.mode

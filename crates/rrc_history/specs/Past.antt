@@ -55,9 +55,9 @@ held snapshot (Offered outcome tag offer evicted ∷ past) key =
 held snapshot (Asked tag ask reply ∷ past) key = held snapshot past key
 held snapshot (Swept tag moment gone ∷ past) key = if is_among key gone then None else held snapshot past key
 
--- a key of the name that an ask is about
+-- a key of the name and class that an ask is about
 abbrev pub key_at : AskOf → Slot → KeyOf
-key_at ask slot = record { name = ask.name; slot = slot }
+key_at ask slot = record { name = ask.name; class = ask.class; slot = slot }
 
 -- what the keys of an ask hold
 abbrev pub found : Snapshot → List Event → AskOf → Found

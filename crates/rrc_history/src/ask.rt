@@ -26,6 +26,7 @@ pub enum Mode {
 #[derive(Debug, Drop)]
 pub struct Ask {
     pub name: Name,
+    pub class: u16,
     pub rtype: u16,
     pub moment: u64,
     pub purpose: Purpose,
@@ -38,11 +39,11 @@ impl Model for Ask {
 
     ghost Value = { AskOf };
 
-    ghost view = { λ a. record { name = a.name; rtype = a.rtype; moment = a.moment; purpose = a.purpose; mode = a.mode } };
+    ghost view = { λ a. record { name = a.name; class = a.class; rtype = a.rtype; moment = a.moment; purpose = a.purpose; mode = a.mode } };
 
     ghost invariant = { λ a. IsFolded a.name };
 
-    ghost inverse = { λ a. record { name = a.name; rtype = a.rtype; moment = a.moment; purpose = a.purpose; mode = a.mode } };
+    ghost inverse = { λ a. record { name = a.name; class = a.class; rtype = a.rtype; moment = a.moment; purpose = a.purpose; mode = a.mode } };
 }
 
 impl Ask {
@@ -50,12 +51,13 @@ impl Ask {
     ghost use Rattle.rrc_name.specs.KeyRef.{key_of};
     ghost use Rattle.rrc_history.specs.Past.{key_at};
 
-    /// The key of a slot of the name, to look up with.
+    /// The key of a slot of the name in the class, to look up with.
     pub fn key_at(&self, slot: Slot) -> KeyRef<'_>
         ensures { key_of result ≡ key_at self.now slot }
     {
         KeyRef {
             name: &self.name,
+            class: self.class,
             slot,
         }
     }
@@ -69,6 +71,7 @@ impl Clone for Ask {
     fn clone(&self) -> Result<Ask, AllocError> {
         Ok(Ask {
             name: self.name.clone()?,
+            class: self.class,
             rtype: self.rtype,
             moment: self.moment,
             purpose: self.purpose,

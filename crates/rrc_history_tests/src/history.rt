@@ -71,7 +71,7 @@ fn came_back(offer: Result<Offer, OfferFault>) -> (Option<u8>, Key, Body) {
 
 fn key_of(alloc: Global, owner: &str, slot: Slot) -> Result<Key, NameFault> {
     let name = Name::from_text(alloc, owner)?;
-    Ok(Key::of(&name, slot)?)
+    Ok(Key::of(&name, 1, slot)?)
 }
 
 /// The key of `a.example.` under a slot.
@@ -258,6 +258,7 @@ fn clones_an_offer(rt: HostRuntime) -> Result<(), Fail> {
 fn ask(alloc: Global) -> Result<Ask, NameFault> {
     Ok(Ask {
         name: key(alloc, Slot::Nx)?.name().clone()?,
+        class: 3,
         rtype: 28,
         moment: 159,
         purpose: Purpose::Any,
@@ -269,6 +270,7 @@ fn ask(alloc: Global) -> Result<Ask, NameFault> {
 fn is_same_ask(copy: &Ask, ask: &Ask) -> bool {
     let is_same_name = copy.name == ask.name;
     is_same_name
+        && copy.class == 3
         && copy.rtype == 28
         && copy.moment == 159
         && copy.purpose == Purpose::Any

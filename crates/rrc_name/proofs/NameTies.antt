@@ -9,7 +9,7 @@ use Rattle.std.specs.Prelude.{nat_eq}
 use Rattle.std.proofs.lemmas.Cmp.{nat_list_cmp_total, tied_itself}
 use Rattle.std.proofs.lemmas.List.{reverse-append, reverse-reverse, map-append}
 use Rattle.rrc_name.specs.Wire.{labels_of, IsWireForm, IsSameName, folded}
-use Rattle.rrc_name.specs.Key.{KeyOf, IsFolded, slot_order, key_order}
+use Rattle.rrc_name.specs.Key.{KeyOf, IsFolded, order_in_name, key_order}
 use Rattle.rrc_name.specs.Order.{label_order, canonical_order, folded_labels}
 use Rattle.rrc_name.proofs.LabelOrder.{folded-from_labels, labels-from_folded}
 
@@ -65,8 +65,8 @@ then-tied Less behind rest h = refl
 then-tied Greater behind rest h = refl
 then-tied Equal behind rest h = ap (λ o. ordering_then o rest) (sym (h refl))
 
--- of keys, the names' canonical order and the slots' are enough
+-- of keys, the names' canonical order, the classes' and the slots' are enough
 pub key_order-folded : (a b : KeyOf) → IsWireForm a.name → IsWireForm b.name → IsFolded a.name → IsFolded b.name
-    → ordering_then (canonical_order a.name b.name) (slot_order a.slot b.slot) ≡ key_order a b
+    → ordering_then (canonical_order a.name b.name) (order_in_name a b) ≡ key_order a b
 key_order-folded a b is is_b low low_b =
-    then-tied (canonical_order a.name b.name) (slice_cmp nat_cmp a.name b.name) (slot_order a.slot b.slot) (octets_tie a.name b.name is is_b low low_b)
+    then-tied (canonical_order a.name b.name) (slice_cmp nat_cmp a.name b.name) (order_in_name a b) (octets_tie a.name b.name is is_b low low_b)

@@ -1,4 +1,4 @@
--- The keys of a cache: a folded name, and what of it is kept.
+-- The keys of a cache: a folded name, a class, and what of them is kept.
 use Rattle.std.specs.Prelude.{◌≡◌, ℕ, ◌/◌, List, ◌∷◌, ◌++◌, Bool, true, false, ◌&&◌, ◌==◌, nat_eq}
 use Rattle.std.specs.declared.cmp.Ordering.{Ordering}
 use Rattle.std.specs.Ordering.{nat_cmp, ordering_then}
@@ -10,9 +10,10 @@ use Rattle.rrc_name.specs.declared.slot.Slot.TheVariants.{Set, Nx, Failed}
 use Rattle.rrc_name.specs.Wire.{folded}
 use Rattle.rrc_name.specs.Order.{canonical_order}
 
--- what a key is: the wire form of a name, and a slot of it
+-- what a key is: the wire form of a name, a class (RFC 1035 section 3.2.4), and a slot of them
 pub record KeyOf : Type 0 where
   pub name : List ℕ
+  pub class : ℕ
   pub slot : Slot
 
 -- the name of a key has no letter A to Z
@@ -42,15 +43,22 @@ type_of (Failed rtype) = rtype
 abbrev pub slot_order : Slot → Slot → Ordering
 slot_order a b = ordering_then (nat_cmp (kind_place a) (kind_place b)) (nat_cmp (type_of a) (type_of b))
 
+-- whether keys of one name are the same
+abbrev pub eq_in_name : KeyOf → KeyOf → Bool
+eq_in_name wanted key = wanted.class == key.class && slot_eq wanted.slot key.slot
+
+-- keys of one name by class, and then by slot
+abbrev pub order_in_name : KeyOf → KeyOf → Ordering
+order_in_name a b = ordering_then (nat_cmp a.class b.class) (slot_order a.slot b.slot)
+
 -- whether the keys are the same, the wanted key first: the one word by which keys are compared
 abbrev pub key_eq : KeyOf → KeyOf → Bool
-key_eq wanted key = pointwise nat_eq wanted.name key.name && slot_eq wanted.slot key.slot
+key_eq wanted key = pointwise nat_eq wanted.name key.name && eq_in_name wanted key
 
--- keys by the canonical order of their names, and then by slot, which is all between folded names; other names that tie go by
--- their octets before the slot: the one word by which keys are ordered
+-- keys by the canonical order of their names, then by class and by slot, which is all between folded names; other names that tie
+-- go by their octets before the class: the one word by which keys are ordered
 abbrev pub key_order : KeyOf → KeyOf → Ordering
-key_order a b =
-    ordering_then (canonical_order a.name b.name) (ordering_then (slice_cmp nat_cmp a.name b.name) (slot_order a.slot b.slot))
+key_order a b = ordering_then (canonical_order a.name b.name) (ordering_then (slice_cmp nat_cmp a.name b.name) (order_in_name a b))
 
 -- what slots are hashed by: the kind's place and the type
 abbrev pub slot_hash : Slot → HashWrites

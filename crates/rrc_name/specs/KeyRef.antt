@@ -4,4 +4,4 @@ use Rattle.rrc_name.specs.declared.key_ref.KeyRef.{KeyRef}
 
 -- the key that is looked up
 abbrev pub key_of : KeyRef → KeyOf
-key_of wanted = record { name = wanted.name.now; slot = wanted.slot }
+key_of wanted = record { name = wanted.name.now; class = wanted.class; slot = wanted.slot }

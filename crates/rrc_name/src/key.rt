@@ -8,10 +8,11 @@ use std::cmp::Ordering;
 use std::hash::{Hash, Hasher};
 use std::marker::Model;
 
-/// A folded name, and what of it is kept.
+/// A folded name, a class (RFC 1035 section 3.2.4), and what of them is kept.
 #[derive(Debug, Drop)]
 pub struct Key {
     pub name: Name,
+    pub class: u16,
     pub slot: Slot,
 }
 
@@ -20,22 +21,23 @@ impl Model for Key {
 
     ghost Value = { KeyOf };
 
-    ghost view = { λ k. record { name = k.name; slot = k.slot } };
+    ghost view = { λ k. record { name = k.name; class = k.class; slot = k.slot } };
 
     ghost invariant = { λ k. IsFolded k.name };
 
-    ghost inverse = { λ k. record { name = k.name; slot = k.slot } };
+    ghost inverse = { λ k. record { name = k.name; class = k.class; slot = k.slot } };
 }
 
 impl Key {
     ghost use Rattle.rrc_name.specs.Key.{IsFolded};
 
-    /// The key of a name, in whatever case it is written, and a slot.
-    pub fn of(name: &Name, slot: Slot) -> Result<Key, AllocError>
-        ensures { IfOk result (λ key. key ≡ record { name = folded name.now; slot = slot }) }
+    /// The key of a name, in whatever case it is written, a class and a slot.
+    pub fn of(name: &Name, class: u16, slot: Slot) -> Result<Key, AllocError>
+        ensures { IfOk result (λ key. key ≡ record { name = folded name.now; class = class; slot = slot }) }
     {
         Ok(Key {
             name: name.folded()?,
+            class,
             slot,
         })
     }
@@ -58,6 +60,7 @@ impl Clone for Key {
     fn clone(&self) -> Result<Key, AllocError> {
         Ok(Key {
             name: self.name.clone()?,
+            class: self.class,
             slot: self.slot,
         })
     }
@@ -73,7 +76,7 @@ impl PartialEq for Key {
     ghost laws = { partial_equiv_from_equiv key_eq-laws };
 
     fn eq(&self, other: &Key) -> bool {
-        self.slot == other.slot && self.name == other.name
+        self.slot == other.slot && self.class == other.class && self.name == other.name
     }
 }
 
@@ -91,8 +94,8 @@ impl Hash for Key {
 
     ghost respects_eq = { key_hash-alike.fed };
 
-    // The slots of a block have one hash, so in a map they lie side by side: at most 65 keys of a name, and those that one ask
-    // looks for mostly among them.
+    // The slots of a block have one hash, so in a map they lie side by side: at most 65 keys of a name in each class, and those that
+    // one ask looks for mostly among them.
     fn hash<H: Hasher>(&self, state: &mut H) {
         self.name.hash(state);
         self.slot.block().hash(state);
@@ -112,10 +115,12 @@ impl Ord for Key {
 
     ghost matches_eq = { key_order-ties };
 
-    // Names that are folded and tie in canonical order are one name, so the slots are all that is left to compare.
+    // Names that are folded and tie in canonical order are one name, so classes and slots are all that is left to compare.
     fn cmp(&self, other: &Key) -> Ordering {
         let names = self.name().canonical_cmp(other.name());
-        names.then(self.slot.cmp(&other.slot))
+        let classes = self.class.cmp(&other.class);
+        let slots = self.slot.cmp(&other.slot);
+        names.then(classes.then(slots))
     }
 }
 

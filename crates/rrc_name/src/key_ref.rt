@@ -5,11 +5,12 @@ use std::alloc::AllocError;
 use std::collections::hash_map::Equivalent;
 use std::hash::{Hash, Hasher};
 
-/// A key that is looked up: a folded name that belongs to somebody else, and a slot of it. It finds what is kept under the
+/// A key that is looked up: a folded name that belongs to somebody else, a class, and a slot of them. It finds what is kept under the
 /// key in a map, without a key of its own.
 #[derive(Debug)]
 pub struct KeyRef<'a> {
     pub name: &'a Name,
+    pub class: u16,
     pub slot: Slot,
 }
 
@@ -23,6 +24,7 @@ impl<'a> KeyRef<'a> {
     {
         KeyRef {
             name: &key.name,
+            class: key.class,
             slot: key.slot,
         }
     }
@@ -53,7 +55,7 @@ impl PartialEq for KeyRef<'_> {
     ghost laws = { partial_equiv_from_equiv (on_equiv key_of key_eq-laws) };
 
     fn eq(&self, other: &Self) -> bool {
-        self.slot == other.slot && *self.name == *other.name
+        self.slot == other.slot && self.class == other.class && *self.name == *other.name
     }
 }
 
@@ -92,6 +94,6 @@ impl Equivalent<Key> for KeyRef<'_> {
     ghost respects_eq = { λ wanted a b. key_eq-laws.congr (key_of wanted) a b };
 
     fn equivalent(&self, key: &Key) -> bool {
-        self.slot == key.slot && *self.name == key.name
+        self.slot == key.slot && self.class == key.class && *self.name == key.name
     }
 }

@@ -151,7 +151,13 @@ pub(crate) fn answer<R: Wait, G: Gate>(
         Line::Put(put) => Ok(Answer::Put(tell(rt, cache, first, offer_at(put, limits)?)?)),
         Line::Ask(ask) => Ok(Answer::Ask(reply(rt, cache, first, ask)?)),
         Line::Fail(failed) => {
-            let offer = failure_at(failed.moment, &failed.name, failed.rtype, limits)?;
+            let offer = failure_at(
+                failed.moment,
+                &failed.name,
+                failed.class,
+                failed.rtype,
+                limits,
+            )?;
             Ok(Answer::Fail(tell(rt, cache, first, offer)?))
         }
         Line::Response(response) => respond(rt, alloc, common, number, response),

@@ -200,7 +200,7 @@ of_ask config questions ask answer script has = absurd has
 
 -- what a line offers that tells of a failure
 abbrev failed_offer : Config → Failed → OfferOf
-failed_offer config failed = failure_of config.limits failed.moment failed.name failed.rtype
+failed_offer config failed = failure_of config.limits failed.moment failed.name failed.class failed.rtype
 
 of_fail : (config : Config) (questions : List KeyOf) (failed : Failed) (answer : Answer) (script : Script) → HasScript config questions (lines.Fail failed) answer script
     → IsMade Told answers.Fail answer script.operations (offering config.parts (failed_offer config failed) ∷ [])

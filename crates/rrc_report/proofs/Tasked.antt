@@ -102,7 +102,7 @@ script_below config questions (lines.Ask ask) (answers.Ask reply) script some is
     of_same config.parts script _ is (one_below config.parts (asking config.parts ask) (part_below ask.name config.parts some))
 script_below config questions (lines.Fail failed) (answers.Fail told) script some is =
     of_same config.parts script _ is
-    (one_below config.parts (offering config.parts (failure_of config.limits failed.moment failed.name failed.rtype))
+    (one_below config.parts (offering config.parts (failure_of config.limits failed.moment failed.name failed.class failed.rtype))
     (part_below (folded failed.name) config.parts some))
 script_below config questions (lines.Response response) (answers.Response told) script some is =
     of_same config.parts script _ is.is (offers_below config.parts is.offers some)

@@ -32,7 +32,7 @@ type Place = (u64, u64, usize);
 fn offer_of(line: &Line) -> Result<Offer, Fail> {
     match line {
         Line::Put(put) => {
-            let key = Key::of(&put.name, Slot::Set(put.rtype))?;
+            let key = Key::of(&put.name, put.class, Slot::Set(put.rtype))?;
             let body = Body::Positive {
                 owner: put.name.clone()?,
                 items: put.items.clone()?,
@@ -42,7 +42,7 @@ fn offer_of(line: &Line) -> Result<Offer, Fail> {
             Ok(Offer::new(key, body, put.moment)?)
         }
         Line::Fail(failed) => {
-            let key = Key::of(&failed.name, Slot::Failed(failed.rtype))?;
+            let key = Key::of(&failed.name, failed.class, Slot::Failed(failed.rtype))?;
             Ok(Offer::new(key, Body::Failure { ttl: 30 }, failed.moment)?)
         }
         _ => Err("no offer")?,
@@ -118,7 +118,7 @@ fn told(outcome: Outcome) -> Told {
 fn evicting(alloc: Global) -> Result<Told, Fail> {
     Ok(Told {
         outcome: Outcome::Kept,
-        evicted: Some(Key::of(&Name::from_text(alloc, "b.example.")?, Slot::Set(1))?),
+        evicted: Some(Key::of(&Name::from_text(alloc, "b.example.")?, 1, Slot::Set(1))?),
     })
 }
 

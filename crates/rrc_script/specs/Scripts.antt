@@ -34,23 +34,23 @@ use Rattle.rrc_script.specs.declared.script.Script.{Script}
 abbrev pub offer_of : Limits → Put → OfferOf
 offer_of limits put =
     record {
-      key = record { name = folded put.name; slot = slots.Set put.rtype };
+      key = record { name = folded put.name; class = put.class; slot = slots.Set put.rtype };
       body = Positive put.trust (life put.ttl limits) put.name put.items;
       moment = put.moment;
     }
 
 -- the offer that a question could not be answered (RFC 8767 5)
-abbrev pub failure_of : Limits → ℕ → List ℕ → ℕ → OfferOf
-failure_of limits moment name rtype =
+abbrev pub failure_of : Limits → ℕ → List ℕ → ℕ → ℕ → OfferOf
+failure_of limits moment name class rtype =
     record {
-      key = record { name = folded name; slot = slots.Failed rtype };
+      key = record { name = folded name; class = class; slot = slots.Failed rtype };
       body = Failure limits.recheck;
       moment = moment;
     }
 
 -- the offer of a fetch that got no message
 abbrev pub failure_by : Limits → Fetch → OfferOf
-failure_by limits fetch = failure_of limits fetch.moment fetch.name fetch.rtype
+failure_by limits fetch = failure_of limits fetch.moment fetch.name fetch.class fetch.rtype
 
 -- what the octets that were fetched offer: where they are no message a failure
 abbrev pub BringsOctets : Limits → Fetch → Option (List ℕ) → List OfferOf → Type 0
@@ -64,7 +64,15 @@ Fetches limits fetch offers = BringsOctets limits fetch fetch.octets offers
 
 -- what a fetch asks for its question
 abbrev pub ask_of : Fetch → Mode → AskOf
-ask_of fetch mode = record { name = folded fetch.name; rtype = fetch.rtype; moment = fetch.moment; purpose = purposes.Answer; mode = mode }
+ask_of fetch mode =
+    record {
+      name = folded fetch.name;
+      class = fetch.class;
+      rtype = fetch.rtype;
+      moment = fetch.moment;
+      purpose = purposes.Answer;
+      mode = mode;
+    }
 
 -- ---- operations, each on the part that its name lies in
 
@@ -122,7 +130,7 @@ abbrev pub HasScript : Config → List KeyOf → Line → Answer → Script → 
 HasScript config questions (lines.Put put) (answers.Put told) script = script ≡ plain (offering config.parts (offer_of config.limits put) ∷ [])
 HasScript config questions (lines.Ask ask) (answers.Ask reply) script = script ≡ plain (asking config.parts ask ∷ [])
 HasScript config questions (lines.Fail failed) (answers.Fail told) script =
-    script ≡ plain (offering config.parts (failure_of config.limits failed.moment failed.name failed.rtype) ∷ [])
+    script ≡ plain (offering config.parts (failure_of config.limits failed.moment failed.name failed.class failed.rtype) ∷ [])
 HasScript config questions (lines.Response response) (answers.Response told) script = Responds config response.octets response.zone response.moment script
 HasScript config questions (lines.Response response) (answers.Refused fault) script = FirstFault response.octets fault × (script ≡ plain [])
 HasScript config questions (lines.Fetch fetch) (answers.Hit reply) script = script ≡ plain (first_ask config.parts fetch ∷ [])

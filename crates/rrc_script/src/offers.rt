@@ -14,7 +14,7 @@ pub fn offer_at(put: &Put, limits: &Limits) -> Result<Offer, AllocError>
     requires { has_items put.now.items ≡ true }
     ensures { IfOk result (λ offer. offer ≡ offer_of limits.now put.now) }
 {
-    let key = Key::of(&put.name, Slot::Set(put.rtype))?;
+    let key = Key::of(&put.name, put.class, Slot::Set(put.rtype))?;
     let body = Body::Positive {
         owner: put.name.clone()?,
         items: put.items.clone()?,
@@ -31,12 +31,13 @@ pub fn offer_at(put: &Put, limits: &Limits) -> Result<Offer, AllocError>
 pub fn failure_at(
     moment: u64,
     name: &Name,
+    class: u16,
     rtype: u16,
     limits: &Limits,
 ) -> Result<Offer, AllocError>
-    ensures { IfOk result (λ offer. offer ≡ failure_of limits.now moment name.now rtype) }
+    ensures { IfOk result (λ offer. offer ≡ failure_of limits.now moment name.now class rtype) }
 {
-    let key = Key::of(name, Slot::Failed(rtype))?;
+    let key = Key::of(name, class, Slot::Failed(rtype))?;
     let body = Body::Failure {
         ttl: limits.recheck,
     };
@@ -51,7 +52,8 @@ fn failure_alone(alloc: Global, fetch: &Fetch, limits: &Limits) -> Result<Vec<Of
     ensures { IfOk result (λ offers. offers.items ≡ failure_by limits.now fetch.now ∷ []) }
 {
     let mut offers = Vec::with_capacity(alloc, 1)?;
-    offers.push(failure_at(fetch.moment, &fetch.name, fetch.rtype, limits)?)?;
+    let failure = failure_at(fetch.moment, &fetch.name, fetch.class, fetch.rtype, limits)?;
+    offers.push(failure)?;
     Ok(offers)
 }
 
@@ -80,6 +82,7 @@ pub fn ask_at(fetch: &Fetch, mode: Mode) -> Result<Ask, AllocError>
 {
     Ok(Ask {
         name: fetch.name.folded()?,
+        class: fetch.class,
         rtype: fetch.rtype,
         moment: fetch.moment,
         purpose: Purpose::Answer,

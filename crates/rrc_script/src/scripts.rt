@@ -175,7 +175,13 @@ pub fn script_of(
             Ok(Some(plain(Operations::alone(asking(config, ask.clone()?)))))
         }
         (Line::Fail(failed), Answer::Fail(_)) => {
-            let offer = failure_at(failed.moment, &failed.name, failed.rtype, limits)?;
+            let offer = failure_at(
+                failed.moment,
+                &failed.name,
+                failed.class,
+                failed.rtype,
+                limits,
+            )?;
             Ok(Some(plain(Operations::alone(offering(config, offer)))))
         }
         (Line::Response(response), Answer::Response(_)) => response_script(alloc, config, response),

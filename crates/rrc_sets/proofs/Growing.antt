@@ -110,6 +110,7 @@ made : Rr → List Rr → SetOf
 unfolding set_of
 made first own = record {
   owner = first.owner;
+  class = first.class;
   rtype = first.rtype;
   items = uniques (same_rdata first.rtype) (map (λ rr. rr.rdata) own);
   ttls = map (λ rr. rr.ttl) own;
@@ -121,7 +122,7 @@ made-push first own rr =
     let data_are : map (λ (r : Rr). r.rdata) (own ++ rr ∷ []) ≡ map (λ (r : Rr). r.rdata) own ++ rr.rdata ∷ [] = map-append (λ (r : Rr). r.rdata) own (rr ∷ []) in
     let items_are = ap (uniques (same_rdata first.rtype)) data_are ∙ uniques-push (same_rdata first.rtype) (same_rdata-equiv first.rtype) (map (λ (r : Rr). r.rdata) own) rr.rdata in
     let ttls_are : map (λ (r : Rr). r.ttl) (own ++ rr ∷ []) ≡ map (λ (r : Rr). r.ttl) own ++ rr.ttl ∷ [] = map-append (λ (r : Rr). r.ttl) own (rr ∷ []) in
-    λ i. record { owner = first.owner; rtype = first.rtype; items = items_are i; ttls = ttls_are i }
+    λ i. record { owner = first.owner; class = first.class; rtype = first.rtype; items = items_are i; ttls = ttls_are i }
 
 module _ (records : List Rr) (rr : Rr) where
   more : List Rr

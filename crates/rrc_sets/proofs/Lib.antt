@@ -4,5 +4,6 @@ pub mod Finding
 pub mod Chains
 pub mod Fitting
 pub mod Records
+pub mod Classes
 pub mod Moments
 pub mod Unaliased

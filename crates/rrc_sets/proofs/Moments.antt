@@ -13,6 +13,7 @@ use Rattle.rrc_sets.specs.Life.{set_life}
 use Rattle.rrc_sets.specs.Sets.{SetOf, sets_of}
 use Rattle.rrc_sets.specs.Aliases.{final_name}
 use Rattle.rrc_sets.specs.Denials.{denied, soa_of, negative_offer}
+use Rattle.rrc_sets.specs.Classes.{in_own_class}
 use Rattle.rrc_sets.specs.Offers.{living_offer, set_offer, records_of, section_offers, answer_offers, failure_offers, is_silent, offers_of}
 
 -- the offer is of this moment
@@ -79,15 +80,15 @@ of_answer message zone moment limits =
 
 of_failure : (message : Message) (moment : ℕ) (limits : Limits) → All (IsAt moment) (failure_offers message moment limits)
 of_failure message moment limits =
-    chosen_list (IsAt moment) (is_kept message.question.qtype) _ [] (All-cons (IsAt moment) _ [] refl (All-nil (IsAt moment))) (All-nil (IsAt moment))
+    chosen_list (IsAt moment) (is_kept message.question.qtype message.question.qclass) _ [] (All-cons (IsAt moment) _ [] refl (All-nil (IsAt moment))) (All-nil (IsAt moment))
 
 -- all offers of a message are of the moment at which it came
 pub of_message : (message : Message) (zone : List ℕ) (moment : ℕ) (limits : Limits) → All (IsAt moment) (offers_of message zone moment limits)
 unfolding offers_of
 of_message message zone moment limits =
     chosen_list (IsAt moment) (is_silent message zone) [] _ (All-nil (IsAt moment))
-    (chosen_list (IsAt moment) (message.rcode == 0 || message.rcode == 3) (answer_offers message zone moment limits) (failure_offers message moment limits)
-    (of_answer message zone moment limits) (of_failure message moment limits))
+    (chosen_list (IsAt moment) (message.rcode == 0 || message.rcode == 3) (answer_offers (in_own_class message) zone moment limits) (failure_offers message moment limits)
+    (of_answer (in_own_class message) zone moment limits) (of_failure message moment limits))
 
 -- so are offers that are those of a message
 pub of_one_moment : (message : Message) (zone : List ℕ) (moment : ℕ) (limits : Limits) (offers : List OfferOf) → offers ≡ offers_of message zone moment limits → All (λ offer. offer.moment ≡ moment) offers

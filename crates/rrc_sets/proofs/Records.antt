@@ -44,21 +44,25 @@ soa_is_long rtype rdata is plain =
 slot_is : (a b : Slot) → Some a ≡ Some b → a ≡ b
 slot_is a b e = cc
 
-name_kept : (owned : Bool) (slot : Slot) → cond owned None (Some Nx) ≡ Some slot → HasKeptType slot
-name_kept true slot is = absurd cc
-name_kept false slot is = subst HasKeptType (slot_is Nx slot is) tt
+name_kept : (class : ℕ) (owned : Bool) (slot : Slot) → cond owned None (Some Nx) ≡ Some slot → HasKeptType class slot
+name_kept class true slot is = absurd cc
+name_kept class false slot is = subst (HasKeptType class) (slot_is Nx slot is) tt
 
-type_kept : (rtype : ℕ) (kept none : Bool) (slot : Slot) → is_kept rtype ≡ kept → cond (kept && none) (Some (Set rtype)) None ≡ Some slot → HasKeptType slot
-type_kept rtype true true slot kept is = subst HasKeptType (slot_is (Set rtype) slot is) kept
-type_kept rtype true false slot kept is = absurd cc
-type_kept rtype false none slot kept is = absurd cc
+type_kept : (rtype class : ℕ) (kept none : Bool) (slot : Slot) → is_kept rtype class ≡ kept → cond (kept && none) (Some (Set rtype)) None ≡ Some slot
+    → HasKeptType class slot
+type_kept rtype class true true slot kept is = subst (HasKeptType class) (slot_is (Set rtype) slot is) kept
+type_kept rtype class true false slot kept is = absurd cc
+type_kept rtype class false none slot kept is = absurd cc
 
 -- a type that is denied is kept
-pub denied_kept_type : (message : Message) (name : List ℕ) (slot : Slot) → denied message name ≡ Some slot → HasKeptType slot
+pub denied_kept_type : (message : Message) (name : List ℕ) (slot : Slot) → denied message name ≡ Some slot → HasKeptType message.question.qclass slot
 denied_kept_type message name slot = by (message.rcode == 3)
   where
     rtype : ℕ
     rtype = message.question.qtype
+
+    class : ℕ
+    class = message.question.qclass
 
     owned : Bool
     owned = list_any (λ rr. same_name rr.owner name) message.answer
@@ -66,6 +70,6 @@ denied_kept_type message name slot = by (message.rcode == 3)
     none : Bool
     none = not (list_any (is_of rtype name) message.answer)
 
-    by : (nx : Bool) → cond nx (cond owned None (Some Nx)) (cond (is_kept rtype && none) (Some (Set rtype)) None) ≡ Some slot → HasKeptType slot
-    by true is = name_kept owned slot is
-    by false is = type_kept rtype (is_kept rtype) none slot refl is
+    by : (nx : Bool) → cond nx (cond owned None (Some Nx)) (cond (is_kept rtype class && none) (Some (Set rtype)) None) ≡ Some slot → HasKeptType class slot
+    by true is = name_kept class owned slot is
+    by false is = type_kept rtype class (is_kept rtype class) none slot refl is

@@ -22,11 +22,11 @@ use Rattle.rrc_sets.specs.Aliases.{is_of, final_name}
 abbrev pub denied_name : Message → List ℕ → Option Slot
 denied_name message name = if list_any (λ rr. same_name rr.owner name) message.answer then None else Some Nx
 
--- NODATA: the answer has no record of the final name with the question's type, which is one that is kept (RFC 2308 2.2)
+-- NODATA: the answer has no record of the final name with the question's type, which is one that is kept in its class (RFC 2308 2.2)
 abbrev pub denied_type : Message → List ℕ → Option Slot
 denied_type message name =
     let rtype = message.question.qtype in
-    if is_kept rtype && not (list_any (is_of rtype name) message.answer) then Some (Set rtype) else None
+    if is_kept rtype message.question.qclass && not (list_any (is_of rtype name) message.answer) then Some (Set rtype) else None
 
 -- what a reply denies of the final name
 abbrev pub denied : Message → List ℕ → Option Slot
@@ -60,4 +60,8 @@ negative_offer message zone moment limits = do
   name ← final_name message
   slot ← denied message name
   soa ← soa_of message zone name
-  Some (record { key = record { name = folded name; slot = slot }; body = denial message limits name soa; moment = moment })
+  Some (record {
+    key = record { name = folded name; class = message.question.qclass; slot = slot };
+    body = denial message limits name soa;
+    moment = moment;
+  })

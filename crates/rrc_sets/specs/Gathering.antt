@@ -12,7 +12,7 @@ holds set rr = set.rtype == rr.rtype && same_name set.owner rr.owner
 
 -- the set of one record
 abbrev pub alone : Rr → SetOf
-alone rr = record { owner = rr.owner; rtype = rr.rtype; items = rr.rdata ∷ []; ttls = rr.ttl ∷ [] }
+alone rr = record { owner = rr.owner; class = rr.class; rtype = rr.rtype; items = rr.rdata ∷ []; ttls = rr.ttl ∷ [] }
 
 -- some values and one more, where none is the same
 abbrev pub with_value : {A : Type 0} → (A → A → Bool) → List A → A → List A
@@ -23,6 +23,7 @@ abbrev pub grown : SetOf → Rr → SetOf
 grown set rr =
     record {
       owner = set.owner;
+      class = set.class;
       rtype = set.rtype;
       items = with_value (same_rdata set.rtype) set.items rr.rdata;
       ttls = set.ttls ++ rr.ttl ∷ [];

@@ -9,17 +9,17 @@ use Rattle.rrc_history.specs.declared.body.Body.{Body}
 use Rattle.rrc_history.specs.declared.body.Body.TheVariants.{Positive, Negative, Failure}
 use Rattle.rrc_history.specs.Fits.{OfferOf, has_items}
 
--- the data of an RRset: one at least (RFC 2181 5), all plain data of its type, which is one that is kept
-pub record AreOfSet (rtype : ℕ) (items : List (List ℕ)) : Type 0 where
+-- the data of an RRset: one at least (RFC 2181 5), all plain data of its type, which is one that is kept in its class
+pub record AreOfSet (rtype class : ℕ) (items : List (List ℕ)) : Type 0 where
   pub some : has_items items ≡ true
-  pub kept : is_kept rtype ≡ true
+  pub kept : is_kept rtype class ≡ true
   pub plain : AllByRecursion (IsPlain rtype) items
 
--- the type that a slot names, if it names one, is kept
-abbrev pub HasKeptType : Slot → Type 0
-HasKeptType (Set rtype) = is_kept rtype ≡ true
-HasKeptType Nx = Unit {0}
-HasKeptType (Failed rtype) = is_kept rtype ≡ true
+-- the type that a slot names, if it names one, is kept in a class
+abbrev pub HasKeptType : ℕ → Slot → Type 0
+HasKeptType class (Set rtype) = is_kept rtype class ≡ true
+HasKeptType class Nx = Unit {0}
+HasKeptType class (Failed rtype) = is_kept rtype class ≡ true
 
 -- octets are plain data of the type of a set
 abbrev pub IsPlainIn : Slot → List ℕ → Type 0
@@ -32,7 +32,7 @@ HasPlainData slot (Positive trust ttl owner items) = AllByRecursion (IsPlainIn s
 HasPlainData slot (Negative trust ttl soa_owner soa) = IsPlain 6 soa
 HasPlainData slot (Failure ttl) = Unit {0}
 
--- an offer is of a kept type, with plain data
+-- an offer is of a type that is kept in its class, with plain data
 pub record IsOfRecords (offer : OfferOf) : Type 0 where
-  pub kept_type : HasKeptType offer.key.slot
+  pub kept_type : HasKeptType offer.key.class offer.key.slot
   pub plain_data : HasPlainData offer.key.slot offer.body

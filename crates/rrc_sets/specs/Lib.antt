@@ -4,6 +4,7 @@ pub mod Uniques
 pub mod Sets
 pub mod Kept
 pub mod Ranks
+pub mod Classes
 pub mod Aliases
 pub mod Denials
 pub mod Offers

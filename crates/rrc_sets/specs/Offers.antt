@@ -7,7 +7,7 @@ use Rattle.rrc_name.specs.Wire.{folded, same_name}
 use Rattle.rrc_name.specs.Order.{is_at_or_below}
 use Rattle.rrc_wire.specs.declared.record.Rr.{Rr}
 use Rattle.rrc_wire.specs.declared.message.Message.{Message}
-use Rattle.rrc_wire.specs.Layout.{is_kept}
+use Rattle.rrc_wire.specs.Layout.{is_kept_class, is_kept}
 use Rattle.rrc_history.specs.declared.body.Body.TheVariants.{Positive, Failure}
 use Rattle.rrc_history.specs.Fits.{OfferOf}
 use Rattle.rrc_sets.specs.declared.limits.Limits.{Limits}
@@ -17,12 +17,13 @@ use Rattle.rrc_sets.specs.Life.{set_life}
 use Rattle.rrc_sets.specs.Ranks.{rank_of}
 use Rattle.rrc_sets.specs.Sets.{SetOf, sets_of}
 use Rattle.rrc_sets.specs.Denials.{negative_offer}
+use Rattle.rrc_sets.specs.Classes.{in_own_class}
 
 -- the offer of a set that has a life
 abbrev pub living_offer : Section → Message → ℕ → SetOf → ℕ → OfferOf
 living_offer section message moment set ttl =
     record {
-      key = record { name = folded set.owner; slot = slots.Set set.rtype };
+      key = record { name = folded set.owner; class = set.class; slot = slots.Set set.rtype };
       body = Positive (rank_of section message.aa (same_name set.owner message.question.name)) ttl set.owner set.items;
       moment = moment;
     }
@@ -55,18 +56,23 @@ answer_offers message zone moment limits =
 abbrev pub failure_offers : Message → ℕ → Limits → List OfferOf
 failure_offers message moment limits =
     let question = message.question in
-    if is_kept question.qtype
-    then record { key = record { name = folded question.name; slot = slots.Failed question.qtype }; body = Failure limits.recheck; moment = moment } ∷ []
+    if is_kept question.qtype question.qclass
+    then record {
+      key = record { name = folded question.name; class = question.qclass; slot = slots.Failed question.qtype };
+      body = Failure limits.recheck;
+      moment = moment;
+    } ∷ []
     else []
 
--- whether a message offers nothing: it is truncated, no standard query, or its question is of another class or outside the zone (ours)
+-- whether a message offers nothing: it is truncated, no standard query, or its question is of a class that is not kept or outside the
+-- zone (ours)
 abbrev pub is_silent : Message → List ℕ → Bool
 is_silent message zone =
-    message.tc || (not (message.opcode == 0) || (not (message.question.qclass == 1) || not (is_at_or_below message.question.name zone)))
+    message.tc || (not (message.opcode == 0) || (not (is_kept_class message.question.qclass) || not (is_at_or_below message.question.name zone)))
 
 -- what a message offers for a zone at a moment
 unfoldable pub offers_of : Message → List ℕ → ℕ → Limits → List OfferOf
 offers_of message zone moment limits =
     if is_silent message zone then []
-    else if message.rcode == 0 || message.rcode == 3 then answer_offers message zone moment limits
+    else if message.rcode == 0 || message.rcode == 3 then answer_offers (in_own_class message) zone moment limits
     else failure_offers message moment limits

@@ -48,12 +48,14 @@ fn denied_name(message: &Message, name: &Name) -> Option<Slot>
     }
 }
 
-/// That the name has no record of the question's type, where that type is kept and the answer has none (RFC 2308 section 2.2).
+/// That the name has no record of the question's type, where that type is kept in its class and the answer has none (RFC 2308 section 2.2).
 fn denied_type(message: &Message, name: &Name) -> Option<Slot>
     ensures { result ≡ denied_type message.now name.now }
 {
     let rtype = message.question.qtype;
-    if is_kept(rtype) && !owns_type(message.answer.as_slice(), rtype, name.wire.as_slice()) {
+    if is_kept(rtype, message.question.qclass)
+        && !owns_type(message.answer.as_slice(), rtype, name.wire.as_slice())
+    {
         Some(Slot::Set(rtype))
     } else {
         None
@@ -137,7 +139,7 @@ pub(crate) fn negative_offer(
     let Some(soa) = soa_of(message, zone, &name) else {
         return Ok(None);
     };
-    let key = Key::of(&name, slot)?;
+    let key = Key::of(&name, message.question.qclass, slot)?;
     let body = denial(message, limits, &name, soa)?;
     Ok(Some(Offer { key, body, moment }))
 }

@@ -2,6 +2,7 @@
 #![tactic(auto)]
 
 mod alias;
+mod class;
 mod denial;
 mod fault;
 mod limits;

@@ -2,8 +2,10 @@ ghost use Rattle.std.specs.Prelude.{◌≡◌, ◌++◌, IfOk, IfErr, OnOk, IfSo
 ghost use Rattle.std.specs.Option.{option_to_list};
 ghost use Rattle.std.specs.List.{All};
 ghost use Rattle.rrc_sets.specs.Offers.{set_offer, records_of, section_offers, answer_offers, failure_offers, is_silent, offers_of};
+ghost use Rattle.rrc_sets.specs.Classes.{in_own_class};
 ghost use Rattle.rrc_sets.specs.Kept.{IsOfRecords};
 
+use crate::class::{has_one_class, in_own_class};
 use crate::denial::negative_offer;
 use crate::fault::SetsFault;
 use crate::limits::Limits;
@@ -13,14 +15,11 @@ use crate::set::Set;
 use crate::times::set_life;
 use rrc_history::{Body, Offer};
 use rrc_name::{Key, Name, Shared, Slot};
-use rrc_wire::{Message, Rr, is_kept};
+use rrc_wire::{Message, Rr, is_kept, is_kept_class};
 use std::alloc::{AllocError, Global};
 
 /// The opcode of a standard query.
 const QUERY: u8 = 0;
-
-/// The class of the Internet.
-const IN: u16 = 1;
 
 /// The RCODEs of replies that answer.
 const NOERROR: u8 = 0;
@@ -46,7 +45,7 @@ fn set_offer(
     let Some(ttl) = set_life(set.ttls.as_slice(), message.aa, limits) else {
         return Ok(None);
     };
-    let key = Key::of(&set.owner, Slot::Set(set.rtype))?;
+    let key = Key::of(&set.owner, set.class, Slot::Set(set.rtype))?;
     let asked = set.owner.same(&message.question.name);
     let body = Body::Positive {
         owner: set.owner,
@@ -139,6 +138,24 @@ fn answer_offers(
     Ok(offers)
 }
 
+/// The offers of a reply that answers, by its records of its question's class. Most replies have no others, and are not copied.
+fn own_offers(
+    alloc: Global,
+    message: &Message,
+    zone: &Name,
+    moment: u64,
+    limits: &Limits,
+) -> Result<Vec<Offer>, AllocError>
+    ensures value { IfOk result (λ offers. offers.items ≡ answer_offers (in_own_class message.now) zone.now moment limits.now) }
+    ensures kept { IfOk result (λ offers. All IsOfRecords offers.items) }
+{
+    if has_one_class(message) {
+        return answer_offers(alloc, message, zone, moment, limits);
+    }
+    let own = in_own_class(alloc, message)?;
+    answer_offers(alloc, &own, zone, moment, limits)
+}
+
 /// The offer of a reply that failed (RFC 8767 section 5).
 fn failure_offers(
     alloc: Global,
@@ -151,8 +168,9 @@ fn failure_offers(
 {
     let question = &message.question;
     let mut offers = Vec::new(alloc);
-    if is_kept(question.qtype) {
-        let key = Key::of(&question.name, Slot::Failed(question.qtype))?;
+    if is_kept(question.qtype, question.qclass) {
+        let slot = Slot::Failed(question.qtype);
+        let key = Key::of(&question.name, question.qclass, slot)?;
         let body = Body::Failure {
             ttl: limits.recheck,
         };
@@ -167,7 +185,7 @@ fn is_silent(message: &Message, zone: &Name) -> bool
 {
     message.tc
         || message.opcode != QUERY
-        || message.question.qclass != IN
+        || !is_kept_class(message.question.qclass)
         || !message.question.name.is_at_or_below(zone)
 }
 
@@ -187,7 +205,7 @@ fn offers_of(
         return Ok(Vec::new(alloc));
     }
     if message.rcode == NOERROR || message.rcode == NXDOMAIN {
-        answer_offers(alloc, message, zone, moment, limits)
+        own_offers(alloc, message, zone, moment, limits)
     } else {
         failure_offers(alloc, message, moment, limits)
     }
@@ -195,8 +213,9 @@ fn offers_of(
 
 /// What a response offers to a cache for a zone, at a moment in seconds: its RRsets from the zone, section by section, each ranked by
 /// where it stood (RFC 2181 sections 5 and 8), and its negative answer (RFC 2308); or that asking failed (RFC 8767 section 5). A
-/// message that is truncated, is no standard query, or whose question is of a class other than IN or outside the zone, offers
-/// nothing. All that is offered is of types that are kept, with plain data, and of that moment.
+/// message that is truncated, is no standard query, or whose question is of a class that is not kept (RFC 1035 section 3.2.4) or outside
+/// the zone, offers nothing, and records of another class than the question's count for nothing. All that is offered is of the
+/// question's class, of types that are kept in it, with plain data, and of that moment.
 pub fn offers(
     alloc: Global,
     message: &Message,

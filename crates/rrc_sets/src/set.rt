@@ -10,11 +10,12 @@ use std::alloc::{AllocError, Global};
 use std::marker::Model;
 
 /// An RRset of a section (RFC 2181 section 5): its owner as its first record spells it, its data without
-/// repeats, one at least and all plain data of its type, which is kept, and the times to live of all its
+/// repeats, one at least and all plain data of its type, which is kept in its class, and the times to live of all its
 /// records.
 #[derive(Debug, Drop)]
 pub(crate) struct Set {
     pub(crate) owner: Name,
+    pub(crate) class: u16,
     pub(crate) rtype: u16,
     pub(crate) items: Sequence<Octets>,
     /// Those of most sets take no memory beside the set.
@@ -27,9 +28,9 @@ impl Model for Set {
 
     ghost Value = { SetOf };
 
-    ghost view = { λ s. record { owner = s.owner; rtype = s.rtype; items = s.items; ttls = s.ttls.items } };
+    ghost view = { λ s. record { owner = s.owner; class = s.class; rtype = s.rtype; items = s.items; ttls = s.ttls.items } };
 
-    ghost invariant = { λ s. AreOfSet s.rtype s.items };
+    ghost invariant = { λ s. AreOfSet s.rtype s.class s.items };
 }
 
 impl Set {
@@ -43,13 +44,14 @@ impl Set {
         ttls.push(rr.ttl)?;
         Ok(Set {
             owner: rr.owner.clone()?,
+            class: rr.class,
             rtype: rr.rtype,
             items,
             ttls,
         })
     }
 
-    /// Whether a record is one of the set.
+    /// Whether a record of its class is one of the set.
     pub(crate) fn holds(&self, rr: &Rr) -> bool
         ensures { result ≡ holds self.now rr.now }
     {

@@ -37,7 +37,7 @@ fn part(alloc: Global, capacity: u64, chapter: u64) -> Result<Part, Fail> {
 
 fn key(alloc: Global, name: &str, slot: Slot) -> Result<Key, NameFault> {
     let name = Name::from_text(alloc, name)?;
-    Ok(Key::of(&name, slot)?)
+    Ok(Key::of(&name, 1, slot)?)
 }
 
 /// The one address 192.0.2.`host`.
@@ -137,6 +137,7 @@ fn question_of(key: &Key, asked: Question<'_>) -> Result<Ask, AllocError> {
     let (moment, _, rtype, purpose, mode) = asked;
     Ok(Ask {
         name: key.name().clone()?,
+        class: 1,
         rtype,
         moment,
         purpose,

@@ -17,7 +17,7 @@ fn rules(chapter: u64) -> Result<Rules, Fail> {
 
 fn key(alloc: Global, name: &str, slot: Slot) -> Result<Key, NameFault> {
     let name = Name::from_text(alloc, name)?;
-    Ok(Key::of(&name, slot)?)
+    Ok(Key::of(&name, 1, slot)?)
 }
 
 /// That asking for the addresses of a name failed, at a moment, for 30 seconds.
@@ -50,6 +50,7 @@ fn question(alloc: Global, name: &str, moment: u64) -> Result<Ask, NameFault> {
 fn question_of(key: &Key, moment: u64) -> Result<Ask, AllocError> {
     Ok(Ask {
         name: key.name().clone()?,
+        class: 1,
         rtype: 1,
         moment,
         purpose: Purpose::Any,

@@ -15,6 +15,7 @@ use Rattle.rrc_trace.specs.Numbers.{moment_of, ttl_of, trust_of, rtype_of}
 use Rattle.rrc_trace.specs.Words.{form_of, purpose_of, mode_of}
 use Rattle.rrc_trace.specs.Items.{items_of}
 use Rattle.rrc_trace.specs.Octets.{message_of, fetched_of}
+use Rattle.rrc_trace.specs.declared.number.Kind.{Kind}
 use Rattle.rrc_trace.specs.Lines.{ended, question_at, kept_of, put_of, manner_of, ask_of, fail_of, response_of, sent_of, fetch_of, sweep_of, said_as, line_of}
 use Rattle.rrc_trace.specs.Grammar.{IsMoment, IsRtype, IsTrust, IsTtl, AreItems, SpellsFetched, purpose_word, mode_word, FieldsOf, put, ask, response, fail, fetch, sweep, checkpoint, HasFields}
 use Rattle.rrc_trace.proofs.FieldLemmas.{says_first, first_said, says_last, last_said}
@@ -29,28 +30,28 @@ record IsForm (word octets : List ℕ) (line : Line) : Type 0 where
   stand : HasFields octets fields
   says : FieldsOf (word ∷ fields) line
 
--- the moment, the name and the type of a question stand in front of octets
-record IsQuestionAt (octets : List ℕ) (moment : ℕ) (name : List ℕ) (rtype : ℕ) (behind : List ℕ) : Type 0 where
+-- the moment, the name, and the type and class of a question stand in front of octets
+record IsQuestionAt (octets : List ℕ) (moment : ℕ) (name : List ℕ) (kind : Kind) (behind : List ℕ) : Type 0 where
   moment_field : List ℕ
   name_field : List ℕ
   rtype_field : List ℕ
   is_moment : IsMoment moment_field moment
   spells : Spells name_field name
-  is_rtype : IsRtype rtype_field rtype
+  is_rtype : IsRtype rtype_field kind.rtype kind.class
   before : (fields : List (List ℕ)) → HasFields behind fields → HasFields octets (moment_field ∷ name_field ∷ rtype_field ∷ fields)
 
-question-says : (octets : List ℕ) (moment : ℕ) (name : List ℕ) (rtype : ℕ) (behind : List ℕ) → question_at octets ≡ Some (moment, name, rtype, behind)
-    → IsQuestionAt octets moment name rtype behind
+question-says : (octets : List ℕ) (moment : ℕ) (name : List ℕ) (kind : Kind) (behind : List ℕ) → question_at octets ≡ Some (moment, name, kind, behind)
+    → IsQuestionAt octets moment name kind behind
 unfolding question_at
-question-says octets moment name rtype behind is =
-    let dated = said_first (said_at moment_of octets) _ (moment, name, rtype, behind) is in
-    let named = said_first (said_at name_of dated.0.1) _ (moment, name, rtype, behind) dated.1.1 in
-    let typed = said_first (said_at rtype_of named.0.1) _ (moment, name, rtype, behind) named.1.1 in
-    let same : (dated.0.0, named.0.0, typed.0.0, typed.0.1) ≡ (moment, name, rtype, behind) = said_last typed.1.1 in
+question-says octets moment name kind behind is =
+    let dated = said_first (said_at moment_of octets) _ (moment, name, kind, behind) is in
+    let named = said_first (said_at name_of dated.0.1) _ (moment, name, kind, behind) dated.1.1 in
+    let typed = said_first (said_at rtype_of named.0.1) _ (moment, name, kind, behind) named.1.1 in
+    let same : (dated.0.0, named.0.0, typed.0.0, typed.0.1) ≡ (moment, name, kind, behind) = said_last typed.1.1 in
     let first = says_first moment_of octets dated.0.0 dated.0.1 dated.1.0 in
     let second = says_first name_of dated.0.1 named.0.0 named.0.1 named.1.0 in
     let third = says_first rtype_of named.0.1 typed.0.0 typed.0.1 typed.1.0 in
-    subst (λ (found : ℕ × List ℕ × ℕ × List ℕ). IsQuestionAt octets found.0 found.1 found.2 found.3) same (record {
+    subst (λ (found : ℕ × List ℕ × Kind × List ℕ). IsQuestionAt octets found.0 found.1 found.2 found.3) same (record {
       moment_field = first.field;
       name_field = second.field;
       rtype_field = third.field;
@@ -61,19 +62,19 @@ question-says octets moment name rtype behind is =
     })
 
 -- a question in front of octets is read
-record IsQuestionRead (octets : List ℕ) (fields : List (List ℕ)) (moment : ℕ) (name : List ℕ) (rtype : ℕ) : Type 0 where
+record IsQuestionRead (octets : List ℕ) (fields : List (List ℕ)) (moment : ℕ) (name : List ℕ) (kind : Kind) : Type 0 where
   behind : List ℕ
   others : HasFields behind fields
-  read : question_at octets ≡ Some (moment, name, rtype, behind)
+  read : question_at octets ≡ Some (moment, name, kind, behind)
 
-question-read : (octets moment_field name_field rtype_field : List ℕ) (fields : List (List ℕ)) (moment : ℕ) (name : List ℕ) (rtype : ℕ)
-    → HasFields octets (moment_field ∷ name_field ∷ rtype_field ∷ fields) → IsMoment moment_field moment → Spells name_field name → IsRtype rtype_field rtype
-    → IsQuestionRead octets fields moment name rtype
+question-read : (octets moment_field name_field rtype_field : List ℕ) (fields : List (List ℕ)) (moment : ℕ) (name : List ℕ) (kind : Kind)
+    → HasFields octets (moment_field ∷ name_field ∷ rtype_field ∷ fields) → IsMoment moment_field moment → Spells name_field name
+    → IsRtype rtype_field kind.rtype kind.class → IsQuestionRead octets fields moment name kind
 unfolding question_at
-question-read octets moment_field name_field rtype_field fields moment name rtype stand is_moment spells is_rtype =
+question-read octets moment_field name_field rtype_field fields moment name kind stand is_moment spells is_rtype =
     let first = first_said moment_of octets moment_field (name_field ∷ rtype_field ∷ fields) moment stand (says_moment moment_field moment is_moment) in
     let second = first_said name_of first.behind name_field (rtype_field ∷ fields) name first.others ((says_what_is_spelled name_field name).1 spells) in
-    let third = first_said rtype_of second.behind rtype_field fields rtype second.others (says_rtype rtype_field rtype is_rtype) in
+    let third = first_said rtype_of second.behind rtype_field fields kind second.others (says_rtype rtype_field kind is_rtype) in
     record { behind = third.behind; others = third.others; read = rw (first.said_here, second.said_here, third.said_here) refl }
 
 -- the trust, the time to live and the data of a put
@@ -121,9 +122,9 @@ put-says : (octets : List ℕ) (line : Line) → put_of octets ≡ Some line →
 unfolding put_of
 put-says octets line is =
     let found = said_first (question_at octets) _ line is in
-    let kept = said_first (kept_of found.0.2 found.0.3) _ line found.1.1 in
+    let kept = said_first (kept_of found.0.2.rtype found.0.3) _ line found.1.1 in
     let question = question-says octets found.0.0 found.0.1 found.0.2 found.0.3 found.1.0 in
-    let behind = kept-says found.0.2 found.0.3 kept.0.0 kept.0.1 kept.0.2 kept.1.0 in
+    let behind = kept-says found.0.2.rtype found.0.3 kept.0.0 kept.0.1 kept.0.2 kept.1.0 in
     subst (IsForm (codes "put") octets) (said_last kept.1.1) (record {
       fields = question.moment_field ∷ question.name_field ∷ question.rtype_field ∷ behind.trust_field ∷ behind.ttl_field ∷ behind.items_field ∷ [];
       stand = question.before (behind.trust_field ∷ behind.ttl_field ∷ behind.items_field ∷ []) behind.stand;
@@ -297,12 +298,12 @@ pub line-read : (octets : List ℕ) (fields : List (List ℕ)) (line : Line) →
 unfolding put_of ask_of fail_of response_of fetch_of sweep_of
 line-read octets fields line stand (put {moment = moment} {name = name} {rtype = rtype} {trust = trust} {ttl = ttl} {items = items} {line = offer} is_moment spells is_rtype is_trust is_ttl are_items) =
     read_as forms.Put octets (moment ∷ name ∷ rtype ∷ trust ∷ ttl ∷ items ∷ []) line refl stand (λ behind others.
-    let question = question-read behind moment name rtype (trust ∷ ttl ∷ items ∷ []) offer.moment offer.name offer.rtype others is_moment spells is_rtype in
+    let question = question-read behind moment name rtype (trust ∷ ttl ∷ items ∷ []) offer.moment offer.name (record { rtype = offer.rtype; class = offer.class }) others is_moment spells is_rtype in
     let kept = kept-read offer.rtype question.behind trust ttl items offer.trust offer.ttl offer.items question.others is_trust is_ttl are_items in
     rw (question.read, kept) refl)
 line-read octets fields line stand (ask {moment = moment} {name = name} {rtype = rtype} {spelled = spelled} {line = asked} is_moment spells is_folded is_rtype) =
     read_as forms.Ask octets (moment ∷ name ∷ rtype ∷ purpose_word asked.purpose ∷ mode_word asked.mode ∷ []) line refl stand (λ behind others.
-    let question = question-read behind moment name rtype (purpose_word asked.purpose ∷ mode_word asked.mode ∷ []) asked.moment spelled asked.rtype others is_moment spells is_rtype in
+    let question = question-read behind moment name rtype (purpose_word asked.purpose ∷ mode_word asked.mode ∷ []) asked.moment spelled (record { rtype = asked.rtype; class = asked.class }) others is_moment spells is_rtype in
     let manner = manner-read question.behind asked.purpose asked.mode question.others in
     rw (question.read, manner, is_folded) refl)
 line-read octets fields line stand (response {moment = moment} {zone = zone} {message = message} {line = sent} is_moment spells is_message) =
@@ -313,11 +314,11 @@ line-read octets fields line stand (response {moment = moment} {zone = zone} {me
     rw (first.said_here, second.said_here, third.said_here) (last_said third.behind (lines.Response sent) third.others))
 line-read octets fields line stand (fail {moment = moment} {name = name} {rtype = rtype} {line = failed} is_moment spells is_rtype) =
     read_as forms.Fail octets (moment ∷ name ∷ rtype ∷ []) line refl stand (λ behind others.
-    let question = question-read behind moment name rtype [] failed.moment failed.name failed.rtype others is_moment spells is_rtype in
+    let question = question-read behind moment name rtype [] failed.moment failed.name (record { rtype = failed.rtype; class = failed.class }) others is_moment spells is_rtype in
     rw question.read (last_said question.behind (lines.Fail failed) question.others))
 line-read octets fields line stand (fetch {moment = moment} {name = name} {rtype = rtype} {zone = zone} {message = message} {line = fetched} is_moment spells is_rtype spells_zone is_message) =
     read_as forms.Fetch octets (moment ∷ name ∷ rtype ∷ zone ∷ message ∷ []) line refl stand (λ behind others.
-    let question = question-read behind moment name rtype (zone ∷ message ∷ []) fetched.moment fetched.name fetched.rtype others is_moment spells is_rtype in
+    let question = question-read behind moment name rtype (zone ∷ message ∷ []) fetched.moment fetched.name (record { rtype = fetched.rtype; class = fetched.class }) others is_moment spells is_rtype in
     let sent = sent-read question.behind zone message fetched.zone fetched.octets question.others spells_zone is_message in
     rw (question.read, sent) refl)
 line-read octets fields line stand (sweep {field = field} {moment = moment} is_moment) =

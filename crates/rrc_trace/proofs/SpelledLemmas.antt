@@ -1,6 +1,7 @@
 -- What a field says as it is read is what it says by the grammar: numbers and words.
-use Rattle.std.proofs.Common.{◌≡◌, ◌⊎◌, ◌==◌, ◌≤◌, ◌^◌, ℕ, ◌+◌, ◌-◌, ◌*◌, List, [], ◌∷◌, ◌++◌, Option, Some, None, Bool, true, false, cond, option_and_then, refl, sym, ap, subst, ◌∙◌, arith, inl, inr, nat_le, bytes_eq, codes, if◌then◌else◌, append-nil, append_assoc, eqb-true, leb-true, le-leb}
+use Rattle.std.proofs.Common.{◌≡◌, ◌≢◌, ◌⊎◌, ◌==◌, ◌≤◌, ◌^◌, ℕ, suc, ◌+◌, ◌-◌, ◌*◌, List, [], ◌∷◌, ◌++◌, Option, Some, None, Bool, true, false, cond, option_and_then, refl, sym, ap, subst, ◌∙◌, arith, inl, inr, nat_le, bytes_eq, codes, if◌then◌else◌, length, take, drop, option_map, append-nil, append_assoc, eqb-true, ne_eqb, leb-true, le-leb}
 use Rattle.std.specs.Char.{is_ascii_digit}
+use Rattle.std.specs.List.{AllByRecursion}
 use Rattle.std.proofs.lemmas.Bool.{and_parts, and_from}
 use Rattle.std.proofs.lemmas.Slice.Eq.{bytes_eq-Decides}
 use Rattle.rrc_history.specs.Lives.{rank as rank_of_trust, LAST_MOMENT}
@@ -13,10 +14,12 @@ use Rattle.rrc_history.specs.declared.body.Trust.TheVariants.{Additional, NonAut
 use Rattle.rrc_wire.specs.Layout.{is_kept}
 use Rattle.rrc_trace.specs.declared.word.Form.{Form}
 use Rattle.rrc_trace.specs.declared.word.Form.TheVariants as forms
-use Rattle.rrc_trace.specs.Numbers.{number_behind, number_of, at_most, moment_of, ttl_of, kept_type, rtype_of, rank, trust_of}
+use Rattle.rrc_trace.specs.Numbers.{number_behind, number_of, at_most, moment_of, ttl_of, word_of, slash_in, kind_at, kind_of, kept_kind, rtype_of, rank, trust_of}
 use Rattle.rrc_trace.specs.Words.{form_of, purpose_of, mode_of}
-use Rattle.rrc_trace.specs.Grammar.{SpellsNumber, one_digit, digit_more, IsMoment, IsRtype, IsTrust, IsTtl, purpose_word, mode_word}
+use Rattle.rrc_trace.specs.Grammar.{SpellsNumber, one_digit, digit_more, IsMoment, IsWord, SpellsRtype, in_alone, with_class, IsRtype, IsTrust, IsTtl, purpose_word, mode_word}
+use Rattle.rrc_trace.specs.declared.number.Kind.{Kind}
 use Rattle.rrc_trace.proofs.SaidLemmas.{said_first, said_last}
+use Rattle.rrc_trace.proofs.SearchLemmas.{position-cons}
 
 -- a decimal digit has a value of at most 9
 record HasValue (digit : ℕ) : Type 0 where
@@ -122,31 +125,119 @@ ttl-says field ttl is =
 pub says_ttl : (field : List ℕ) (ttl : ℕ) → IsTtl field ttl → ttl_of field ≡ Some ttl
 says_ttl field ttl is = within-is (2 ^ 32 - 1) (number_of field) ttl (spelled-number field ttl is.digits) is.few
 
-record IsKeptAs (number rtype : ℕ) : Type 0 where
-  same : number ≡ rtype
-  kept : is_kept rtype ≡ true
+word-says : (field : List ℕ) (number : ℕ) → word_of field ≡ Some number → IsWord field number
+word-says field number is =
+    let within = at_most-says (2 ^ 16 - 1) (number_of field) number is in
+    record { digits = number-spells field number within.is; few = within.few }
 
-kept_type-says : (number rtype : ℕ) → kept_type number ≡ Some rtype → IsKeptAs number rtype
-kept_type-says number rtype is = by (is_kept number) refl
+says_word : (field : List ℕ) (number : ℕ) → IsWord field number → word_of field ≡ Some number
+says_word field number is = within-is (2 ^ 16 - 1) (number_of field) number (spelled-number field number is.digits) is.few
+
+-- no digit is a slash
+unslashed-append : (front behind : List ℕ) → AllByRecursion (λ octet. octet ≢ 47) front → AllByRecursion (λ octet. octet ≢ 47) behind
+    → AllByRecursion (λ octet. octet ≢ 47) (front ++ behind)
+unslashed-append [] behind none are = are
+unslashed-append (octet ∷ front) behind none are = (none.0, unslashed-append front behind none.1 are)
+
+no_slash : (value : ℕ) → AllByRecursion (λ octet. octet ≢ 47) ((48 + value) ∷ [])
+no_slash value = (λ is. absurd (omega (arith, is)), tt)
+
+unslashed : (digits : List ℕ) (number : ℕ) → SpellsNumber digits number → AllByRecursion (λ octet. octet ≢ 47) digits
+unslashed digits number (one_digit {value = value} small) = no_slash value
+unslashed digits number (digit_more {digits = front} {number = before} {value = value} spells small) =
+    unslashed-append front ((48 + value) ∷ []) (unslashed front before spells) (no_slash value)
+
+-- how a field is cut at its first slash
+abbrev slash_from : ℕ → List ℕ → Bool → Option ℕ
+slash_from octet octets is = cond is (Some 0) (option_map suc (slash_in octets))
+
+slash-cons : (octet : ℕ) (octets : List ℕ) → slash_in (octet ∷ octets) ≡ slash_from octet octets (octet == 47)
+slash-cons octet octets = position-cons (λ other. other == 47) octet octets
+
+slash-none : (octets : List ℕ) → AllByRecursion (λ octet. octet ≢ 47) octets → slash_in octets ≡ None
+slash-none [] none = refl
+slash-none (octet ∷ octets) none =
+    slash-cons octet octets ∙ (ap (slash_from octet octets) (ne_eqb octet 47 none.0) ∙ ap (option_map suc) (slash-none octets none.1))
+
+slash-behind : (front behind : List ℕ) → AllByRecursion (λ octet. octet ≢ 47) front → slash_in (front ++ 47 ∷ behind) ≡ Some (length front)
+slash-behind [] behind none = slash-cons 47 behind
+slash-behind (octet ∷ front) behind none =
+    slash-cons octet (front ++ 47 ∷ behind)
+    ∙ (ap (slash_from octet (front ++ 47 ∷ behind)) (ne_eqb octet 47 none.0) ∙ ap (option_map suc) (slash-behind front behind none.1))
+
+take-front : (front behind : List ℕ) → take (length front) (front ++ behind) ≡ front
+take-front [] behind = refl
+take-front (octet ∷ front) behind = ap (λ octets. octet ∷ octets) (take-front front behind)
+
+one_more : (n : ℕ) → suc (n + 1) ≡ suc n + 1
+one_more n = omega arith
+
+drop-front : (front behind : List ℕ) (octet : ℕ) → drop (length front + 1) (front ++ octet ∷ behind) ≡ behind
+drop-front [] behind octet = refl
+drop-front (first ∷ front) behind octet =
+    ap (λ (n : ℕ). drop n (first ∷ (front ++ octet ∷ behind))) (sym (one_more (length front))) ∙ drop-front front behind octet
+
+slash-cut : (field : List ℕ) (place : ℕ) → slash_in field ≡ Some place → field ≡ take place field ++ 47 ∷ drop (place + 1) field
+slash-cut [] place is = absurd cc
+slash-cut (octet ∷ octets) place is = by (octet == 47) refl (slash_in octets) refl (slash-cut octets)
   where
-    by : (kept : Bool) → is_kept number ≡ kept → IsKeptAs number rtype
+    by : (slash : Bool) → (octet == 47) ≡ slash → (later : Option ℕ) → slash_in octets ≡ later
+        → ((other : ℕ) → slash_in octets ≡ Some other → octets ≡ take other octets ++ 47 ∷ drop (other + 1) octets)
+        → octet ∷ octets ≡ take place (octet ∷ octets) ++ 47 ∷ drop (place + 1) (octet ∷ octets)
+    by true slash later at rest =
+        let zero_is : 0 ≡ place = said_last (sym (ap (slash_from octet octets) slash) ∙ (sym (slash-cons octet octets) ∙ is)) in
+        subst (λ (p : ℕ). octet ∷ octets ≡ take p (octet ∷ octets) ++ 47 ∷ drop (p + 1) (octet ∷ octets)) zero_is
+        (ap (λ (o : ℕ). o ∷ octets) (eqb-true octet 47 slash))
+    by false other None at rest =
+        let never : None ≡ Some place = sym (ap (option_map suc) at) ∙ (sym (ap (slash_from octet octets) other) ∙ (sym (slash-cons octet octets) ∙ is)) in absurd cc
+    by false other (Some before) at rest =
+        let next : suc before ≡ place =
+        said_last (sym (ap (option_map suc) at) ∙ (sym (ap (slash_from octet octets) other) ∙ (sym (slash-cons octet octets) ∙ is))) in
+        subst (λ (p : ℕ). octet ∷ octets ≡ take p (octet ∷ octets) ++ 47 ∷ drop (p + 1) (octet ∷ octets)) next
+        (subst (λ (n : ℕ). octet ∷ octets ≡ take (suc before) (octet ∷ octets) ++ 47 ∷ drop n (octet ∷ octets)) (one_more before)
+        (ap (λ (o : List ℕ). octet ∷ o) (rest before at)))
+
+kind_at-says : (field : List ℕ) (place : Option ℕ) (kind : Kind) → slash_in field ≡ place → kind_at field place ≡ Some kind → SpellsRtype field kind.rtype kind.class
+kind_at-says field None kind at is =
+    let rtype = said_first (word_of field) _ kind is in
+    subst (λ (k : Kind). SpellsRtype field k.rtype k.class) (said_last rtype.1.1) (in_alone (word-says field rtype.0 rtype.1.0))
+kind_at-says field (Some place) kind at is =
+    let rtype = said_first (word_of (take place field)) _ kind is in
+    let class = said_first (word_of (drop (place + 1) field)) _ kind rtype.1.1 in
+    subst (λ (k : Kind). SpellsRtype field k.rtype k.class) (said_last class.1.1)
+    (subst (λ (text : List ℕ). SpellsRtype text rtype.0 class.0) (sym (slash-cut field place at))
+    (with_class (word-says (take place field) rtype.0 rtype.1.0) (word-says (drop (place + 1) field) class.0 class.1.0)))
+
+says_kind : (field : List ℕ) (rtype class : ℕ) → SpellsRtype field rtype class → kind_of field ≡ Some (record { rtype = rtype; class = class })
+says_kind field rtype class (in_alone is) =
+    ap (kind_at field) (slash-none field (unslashed field rtype is.digits)) ∙ rw (says_word field rtype is) refl
+says_kind field rtype class (with_class {front = front} {behind = behind} is is_class) =
+    let at : slash_in (front ++ 47 ∷ behind) ≡ Some (length front) = slash-behind front behind (unslashed front rtype is.digits) in
+    let first : word_of (take (length front) (front ++ 47 ∷ behind)) ≡ Some rtype = ap word_of (take-front front (47 ∷ behind)) ∙ says_word front rtype is in
+    let last : word_of (drop (length front + 1) (front ++ 47 ∷ behind)) ≡ Some class = ap word_of (drop-front front behind 47) ∙ says_word behind class is_class in
+    ap (kind_at (front ++ 47 ∷ behind)) at ∙ rw (first, last) refl
+
+record IsKeptAs (number kind : Kind) : Type 0 where
+  same : number ≡ kind
+  kept : is_kept kind.rtype kind.class ≡ true
+
+kept_kind-says : (number kind : Kind) → kept_kind number ≡ Some kind → IsKeptAs number kind
+kept_kind-says number kind is = by (is_kept number.rtype number.class) refl
+  where
+    by : (kept : Bool) → is_kept number.rtype number.class ≡ kept → IsKeptAs number kind
     by true kept =
-        let same : number ≡ rtype = said_last (rw kept at is) in
-        record { same = same; kept = subst (λ n. is_kept n ≡ true) same kept }
-    by false kept = let never : None ≡ Some rtype = rw kept at is in absurd cc
+        let same : number ≡ kind = said_last (rw kept at is) in
+        record { same = same; kept = subst (λ (k : Kind). is_kept k.rtype k.class ≡ true) same kept }
+    by false kept = let never : None ≡ Some kind = rw kept at is in absurd cc
 
-pub rtype-says : (field : List ℕ) (rtype : ℕ) → rtype_of field ≡ Some rtype → IsRtype field rtype
-rtype-says field rtype is =
-    let number = said_first (at_most (2 ^ 16 - 1) (number_of field)) kept_type rtype is in
-    let kept = kept_type-says number.0 rtype number.1.1 in
-    let within = at_most-says (2 ^ 16 - 1) (number_of field) rtype (number.1.0 ∙ ap Some kept.same) in
-    record { digits = number-spells field rtype within.is; few = within.few; kept = kept.kept }
+pub rtype-says : (field : List ℕ) (kind : Kind) → rtype_of field ≡ Some kind → IsRtype field kind.rtype kind.class
+rtype-says field kind is =
+    let found = said_first (kind_of field) kept_kind kind is in
+    let kept = kept_kind-says found.0 kind found.1.1 in
+    record { spelled = kind_at-says field (slash_in field) kind refl (found.1.0 ∙ ap Some kept.same); kept = kept.kept }
 
-pub says_rtype : (field : List ℕ) (rtype : ℕ) → IsRtype field rtype → rtype_of field ≡ Some rtype
-says_rtype field rtype is =
-    let number : at_most (2 ^ 16 - 1) (number_of field) ≡ Some rtype =
-    within-is (2 ^ 16 - 1) (number_of field) rtype (spelled-number field rtype is.digits) is.few in
-    ap (option_and_then kept_type) number ∙ rw is.kept refl
+pub says_rtype : (field : List ℕ) (kind : Kind) → IsRtype field kind.rtype kind.class → rtype_of field ≡ Some kind
+says_rtype field kind is = ap (option_and_then kept_kind) (says_kind field kind.rtype kind.class is.spelled) ∙ rw is.kept refl
 
 -- the first of some choices, or one of those behind it
 choice : {X : Type 0} (first : Bool) (here : X) (others : Option X) (value : X) → cond first (Some here) others ≡ Some value

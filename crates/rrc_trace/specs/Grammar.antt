@@ -32,11 +32,21 @@ pub record IsMoment (field : List ℕ) (moment : ℕ) : Type 0 where
   pub digits : SpellsNumber field moment
   pub few : moment ≤ LAST_MOMENT
 
--- TYPE: a type whose records are kept
-pub record IsRtype (field : List ℕ) (rtype : ℕ) : Type 0 where
-  pub digits : SpellsNumber field rtype
-  pub few : rtype ≤ 65535
-  pub kept : is_kept rtype ≡ true
+-- a number of 16 bits
+pub record IsWord (field : List ℕ) (number : ℕ) : Type 0 where
+  pub digits : SpellsNumber field number
+  pub few : number ≤ 65535
+
+-- a type alone, which is of class IN, or a type, a slash and a class (RFC 1035 3.2)
+pub data SpellsRtype : List ℕ → ℕ → ℕ → Type 0 where
+  in_alone : {field : List ℕ} {rtype : ℕ} → IsWord field rtype → SpellsRtype field rtype 1
+  with_class : {front behind : List ℕ} {rtype class : ℕ} → IsWord front rtype → IsWord behind class
+      → SpellsRtype (front ++ 47 ∷ behind) rtype class
+
+-- TYPE: a type whose records are kept in its class
+pub record IsRtype (field : List ℕ) (rtype class : ℕ) : Type 0 where
+  pub spelled : SpellsRtype field rtype class
+  pub kept : is_kept rtype class ≡ true
 
 -- TRUST: the rank, 1 to 4 (RFC 2181 5.4.1)
 abbrev pub IsTrust : List ℕ → Trust → Type 0
@@ -93,13 +103,13 @@ mode_word Now = codes "now"
 -- fields are a line of one of these forms: the form's word, and behind it what it says, in order
 pub data FieldsOf : List (List ℕ) → Line → Type 0 where
   put : {moment name rtype trust ttl items : List ℕ} {line : PutLine}
-      → IsMoment moment line.moment → Spells name line.name → IsRtype rtype line.rtype
+      → IsMoment moment line.moment → Spells name line.name → IsRtype rtype line.rtype line.class
       → IsTrust trust line.trust → IsTtl ttl line.ttl → AreItems line.rtype items line.items
       → FieldsOf (codes "put" ∷ moment ∷ name ∷ rtype ∷ trust ∷ ttl ∷ items ∷ []) (lines.Put line)
   -- the name of an ask is folded
   ask : {moment name rtype spelled : List ℕ} {line : AskOf}
       → IsMoment moment line.moment → Spells name spelled → line.name ≡ folded spelled
-      → IsRtype rtype line.rtype
+      → IsRtype rtype line.rtype line.class
       → FieldsOf
       (codes "ask" ∷ moment ∷ name ∷ rtype ∷ purpose_word line.purpose ∷ mode_word line.mode ∷ [])
       (lines.Ask line)
@@ -107,10 +117,10 @@ pub data FieldsOf : List (List ℕ) → Line → Type 0 where
       → IsMoment moment line.moment → Spells zone line.zone → SpellsOctets message line.octets
       → FieldsOf (codes "response" ∷ moment ∷ zone ∷ message ∷ []) (lines.Response line)
   fail : {moment name rtype : List ℕ} {line : FailedLine}
-      → IsMoment moment line.moment → Spells name line.name → IsRtype rtype line.rtype
+      → IsMoment moment line.moment → Spells name line.name → IsRtype rtype line.rtype line.class
       → FieldsOf (codes "fail" ∷ moment ∷ name ∷ rtype ∷ []) (lines.Fail line)
   fetch : {moment name rtype zone message : List ℕ} {line : FetchLine}
-      → IsMoment moment line.moment → Spells name line.name → IsRtype rtype line.rtype
+      → IsMoment moment line.moment → Spells name line.name → IsRtype rtype line.rtype line.class
       → Spells zone line.zone → SpellsFetched message line.octets
       → FieldsOf (codes "fetch" ∷ moment ∷ name ∷ rtype ∷ zone ∷ message ∷ []) (lines.Fetch line)
   sweep : {field : List ℕ} {moment : ℕ} → IsMoment field moment

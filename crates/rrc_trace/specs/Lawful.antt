@@ -11,14 +11,14 @@ use Rattle.rrc_trace.specs.declared.line.Line.TheVariants.{Put, Ask, Fail, Respo
 use Rattle.rrc_trace.specs.declared.line.Put.{Put as PutLine}
 use Rattle.rrc_trace.specs.Trace.{MOST_LINES, HaveFewQuestions}
 
--- a question is about a type that is kept, at a moment that a part takes
-pub record IsTimelyQuestion (moment rtype : ℕ) : Type 0 where
+-- a question is about a type that is kept in its class, at a moment that a part takes
+pub record IsTimelyQuestion (moment rtype class : ℕ) : Type 0 where
   pub timely : moment ≤ LAST_MOMENT
-  pub kept : is_kept rtype ≡ true
+  pub kept : is_kept rtype class ≡ true
 
 -- a put has 1 to 256 items, each of them plain data of its type, and no two of them the same (RFC 2181 5)
 pub record IsLawfulPut (put : PutLine) : Type 0 where
-  pub question : IsTimelyQuestion put.moment put.rtype
+  pub question : IsTimelyQuestion put.moment put.rtype put.class
   pub some : has_items put.items ≡ true
   pub few : length put.items ≤ 256
   pub plain : All (IsPlain put.rtype) put.items
@@ -26,10 +26,10 @@ pub record IsLawfulPut (put : PutLine) : Type 0 where
 
 abbrev pub IsLawful : Line → Type 0
 IsLawful (Put put) = IsLawfulPut put
-IsLawful (Ask ask) = IsTimelyQuestion ask.moment ask.rtype
-IsLawful (Fail failed) = IsTimelyQuestion failed.moment failed.rtype
+IsLawful (Ask ask) = IsTimelyQuestion ask.moment ask.rtype ask.class
+IsLawful (Fail failed) = IsTimelyQuestion failed.moment failed.rtype failed.class
 IsLawful (Response response) = response.moment ≤ LAST_MOMENT
-IsLawful (Fetch fetch) = IsTimelyQuestion fetch.moment fetch.rtype
+IsLawful (Fetch fetch) = IsTimelyQuestion fetch.moment fetch.rtype fetch.class
 IsLawful (Sweep moment) = moment ≤ LAST_MOMENT
 IsLawful Checkpoint = Unit {0}
 

@@ -6,6 +6,7 @@ use Rattle.rrc_history.specs.declared.ask.Purpose.{Purpose}
 use Rattle.rrc_history.specs.declared.body.Trust.{Trust}
 use Rattle.rrc_trace.specs.declared.line.Line.{Line}
 use Rattle.rrc_trace.specs.declared.line.Line.TheVariants as lines
+use Rattle.rrc_trace.specs.declared.number.Kind.{Kind}
 use Rattle.rrc_trace.specs.declared.word.Form.{Form}
 use Rattle.rrc_trace.specs.declared.word.Form.TheVariants as forms
 use Rattle.rrc_trace.specs.Gives.{◌>>=◌}
@@ -20,8 +21,8 @@ use Rattle.rrc_trace.specs.Words.{form_of, purpose_of, mode_of}
 abbrev pub ended : {X : Type 0} → List ℕ → X → Option X
 ended octets said = if has_field octets then None else Some said
 
--- the moment, the name and the type of a question, and the octets behind them
-unfoldable pub question_at : List ℕ → Option (ℕ × List ℕ × ℕ × List ℕ)
+-- the moment, the name, and the type and class of a question, and the octets behind them
+unfoldable pub question_at : List ℕ → Option (ℕ × List ℕ × Kind × List ℕ)
 question_at octets = do
   moment ← said_at moment_of octets
   name ← said_at name_of moment.1
@@ -36,12 +37,20 @@ kept_of rtype octets = do
   items ← said_at (items_of rtype) ttl.1
   ended items.1 (trust.0, ttl.0, items.0)
 
--- the fields of a put: its moment, name, type, trust, time to live and data
+-- the fields of a put: its moment, name, type with its class, trust, time to live and data
 unfoldable pub put_of : List ℕ → Option Line
 put_of octets = do
   question ← question_at octets
-  kept ← kept_of question.2 question.3
-  Some (lines.Put (record { moment = question.0; name = question.1; rtype = question.2; trust = kept.0; ttl = kept.1; items = kept.2 }))
+  kept ← kept_of question.2.rtype question.3
+  Some (lines.Put (record {
+    moment = question.0;
+    name = question.1;
+    class = question.2.class;
+    rtype = question.2.rtype;
+    trust = kept.0;
+    ttl = kept.1;
+    items = kept.2;
+  }))
 
 -- the fields of an ask behind its type: its purpose and mode
 unfoldable pub manner_of : List ℕ → Option (Purpose × Mode)
@@ -50,18 +59,25 @@ manner_of octets = do
   mode ← said_at mode_of purpose.1
   ended mode.1 (purpose.0, mode.0)
 
--- the fields of an ask: its moment, name, type, purpose and mode
+-- the fields of an ask: its moment, name, type with its class, purpose and mode
 unfoldable pub ask_of : List ℕ → Option Line
 ask_of octets = do
   question ← question_at octets
   manner ← manner_of question.3
-  Some (lines.Ask (record { name = folded question.1; rtype = question.2; moment = question.0; purpose = manner.0; mode = manner.1 }))
+  Some (lines.Ask (record {
+    name = folded question.1;
+    class = question.2.class;
+    rtype = question.2.rtype;
+    moment = question.0;
+    purpose = manner.0;
+    mode = manner.1;
+  }))
 
--- the fields of a failure: its moment, name and type
+-- the fields of a failure: its moment, name and type with its class
 unfoldable pub fail_of : List ℕ → Option Line
 fail_of octets = do
   question ← question_at octets
-  ended question.3 (lines.Fail (record { moment = question.0; name = question.1; rtype = question.2 }))
+  ended question.3 (lines.Fail (record { moment = question.0; name = question.1; class = question.2.class; rtype = question.2.rtype }))
 
 -- the fields of a response: its moment, zone and message
 unfoldable pub response_of : List ℕ → Option Line
@@ -78,12 +94,19 @@ sent_of octets = do
   message ← said_at fetched_of zone.1
   ended message.1 (zone.0, message.0)
 
--- the fields of a fetch: its moment, name, type, zone and message
+-- the fields of a fetch: its moment, name, type with its class, zone and message
 unfoldable pub fetch_of : List ℕ → Option Line
 fetch_of octets = do
   question ← question_at octets
   sent ← sent_of question.3
-  Some (lines.Fetch (record { moment = question.0; name = question.1; rtype = question.2; zone = sent.0; octets = sent.1 }))
+  Some (lines.Fetch (record {
+    moment = question.0;
+    name = question.1;
+    class = question.2.class;
+    rtype = question.2.rtype;
+    zone = sent.0;
+    octets = sent.1;
+  }))
 
 -- the field of a sweep: its moment
 unfoldable pub sweep_of : List ℕ → Option Line

@@ -1,8 +1,10 @@
 -- How the numbers of a line are read, digit by digit: what private contracts say. What digits spell stands in Grammar.
-use Rattle.std.specs.Prelude.{ℕ, ◌+◌, ◌-◌, ◌*◌, ◌^◌, List, [], ◌∷◌, Option, Some, None, option_and_then, ◌==◌, nat_le, if◌then◌else◌}
+use Rattle.std.specs.Prelude.{ℕ, ◌+◌, ◌-◌, ◌*◌, ◌^◌, List, [], ◌∷◌, take, drop, position, Option, Some, None, option_and_then, ◌==◌, nat_le, if◌then◌else◌}
 use Rattle.std.specs.Char.{is_ascii_digit}
 use Rattle.rrc_history.specs.Lives.{LAST_MOMENT}
 use Rattle.rrc_wire.specs.Layout.{is_kept}
+use Rattle.rrc_trace.specs.declared.number.Kind.{Kind}
+use Rattle.rrc_trace.specs.Gives.{◌>>=◌}
 use Rattle.rrc_history.specs.declared.body.Trust.{Trust}
 use Rattle.rrc_history.specs.declared.body.Trust.TheVariants.{Additional, NonAuthoritativeAnswer, Authority, AuthoritativeAnswer}
 
@@ -27,12 +29,33 @@ moment_of field = at_most LAST_MOMENT (number_of field)
 abbrev pub ttl_of : List ℕ → Option ℕ
 ttl_of field = at_most (2 ^ 32 - 1) (number_of field)
 
--- a type whose data are kept
-abbrev pub kept_type : ℕ → Option ℕ
-kept_type rtype = if is_kept rtype then Some rtype else None
+-- a number of 16 bits
+abbrev pub word_of : List ℕ → Option ℕ
+word_of field = at_most (2 ^ 16 - 1) (number_of field)
 
-abbrev pub rtype_of : List ℕ → Option ℕ
-rtype_of field = option_and_then kept_type (at_most (2 ^ 16 - 1) (number_of field))
+-- the place of the first slash
+abbrev pub slash_in : List ℕ → Option ℕ
+slash_in field = position (λ octet. octet == 47) field
+
+-- a type, and its class behind a slash at this place, or IN
+abbrev pub kind_at : List ℕ → Option ℕ → Option Kind
+kind_at field None = do
+  rtype ← word_of field
+  Some (record { rtype = rtype; class = 1 })
+kind_at field (Some place) = do
+  rtype ← word_of (take place field)
+  class ← word_of (drop (place + 1) field)
+  Some (record { rtype = rtype; class = class })
+
+abbrev pub kind_of : List ℕ → Option Kind
+kind_of field = kind_at field (slash_in field)
+
+-- a type and a class whose data are kept
+abbrev pub kept_kind : Kind → Option Kind
+kept_kind kind = if is_kept kind.rtype kind.class then Some kind else None
+
+abbrev pub rtype_of : List ℕ → Option Kind
+rtype_of field = kind_of field >>= kept_kind
 
 -- the ranks of trust, from low to high (RFC 2181 5.4.1)
 abbrev pub rank : ℕ → Option Trust

@@ -9,9 +9,9 @@ use Rattle.rrc_trace.specs.declared.line.Fetch.{Fetch as FetchLine}
 use Rattle.rrc_trace.specs.declared.line.Line.{Line}
 use Rattle.rrc_trace.specs.declared.line.Line.TheVariants.{Put, Ask, Fail, Response, Fetch, Sweep, Checkpoint}
 
--- the question of a fetch: its name, folded, and its type
+-- the question of a fetch: its name, folded, its class and its type
 abbrev pub question_of : FetchLine → KeyOf
-question_of fetch = record { name = folded fetch.name; slot = slots.Set fetch.rtype }
+question_of fetch = record { name = folded fetch.name; class = fetch.class; slot = slots.Set fetch.rtype }
 
 -- the question that a line fetches, if it fetches one
 abbrev pub fetched_by : Line → Option KeyOf

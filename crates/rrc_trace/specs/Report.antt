@@ -1,5 +1,5 @@
 -- The text of a report: one line for each line of the trace.
-use Rattle.std.specs.Prelude.{ℕ, ◌+◌, List, [], ◌∷◌, ◌++◌, length, Option, Some, None, codes}
+use Rattle.std.specs.Prelude.{ℕ, ◌+◌, List, [], ◌∷◌, ◌++◌, length, Option, Some, None, codes, ◌==◌, if◌then◌else◌}
 use Rattle.std.specs.Fmt.{decimal}
 use Rattle.hex.specs.Hex.{encode_lower}
 use Rattle.rrc_name.specs.Text.{text_of}
@@ -28,9 +28,13 @@ slot_text (Set rtype) = decimal rtype
 slot_text Nx = codes "nx"
 slot_text (Failed rtype) = codes "failed" ++ decimal rtype
 
--- a key: its name and its slot
+-- the class of a key, where it is another one than IN
+abbrev pub class_text : ℕ → List ℕ
+class_text class = if class == 1 then [] else 47 ∷ decimal class
+
+-- a key: its name, its slot, and its class
 abbrev pub key_text : KeyOf → List ℕ
-key_text key = text_of key.name ++ (47 ∷ slot_text key.slot)
+key_text key = text_of key.name ++ (47 ∷ (slot_text key.slot ++ class_text key.class))
 
 -- what became of an offer, and the key that it evicted
 abbrev pub told_of : Outcome → Option KeyOf → List ℕ

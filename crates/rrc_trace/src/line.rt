@@ -6,7 +6,7 @@ use crate::field::has_field;
 use crate::item::items_at;
 use crate::line_fault::LineFault;
 use crate::names::{Names, name_at};
-use crate::number::{moment_at, rtype_at, trust_at, ttl_at};
+use crate::number::{Kind, moment_at, rtype_at, trust_at, ttl_at};
 use crate::octets::{fetched_at, message_at};
 use crate::word::{Form, form_at, mode_at, purpose_at};
 use rrc_history::{Ask, Mode, Purpose, Trust};
@@ -22,6 +22,8 @@ pub struct Put {
     pub moment: u64,
     /// The owner, in the spelling of the line.
     pub name: Name,
+    /// The class (RFC 1035 section 3.2.4).
+    pub class: u16,
     pub rtype: u16,
     pub trust: Trust,
     /// The time to live as written, in seconds.
@@ -36,6 +38,8 @@ pub struct Failed {
     pub moment: u64,
     /// The name, in the spelling of the line.
     pub name: Name,
+    /// The class (RFC 1035 section 3.2.4).
+    pub class: u16,
     pub rtype: u16,
 }
 
@@ -55,6 +59,8 @@ pub struct Fetch {
     pub moment: u64,
     /// The name, in the spelling of the line.
     pub name: Name,
+    /// The class (RFC 1035 section 3.2.4).
+    pub class: u16,
     pub rtype: u16,
     /// The zone, in the spelling of the line.
     pub zone: Name,
@@ -76,19 +82,19 @@ pub enum Line {
     Checkpoint,
 }
 
-/// The moment, the name and the type of a question, and the octets behind them.
+/// The moment, the name, and the type and class of a question, and the octets behind them.
 #[tactic(auto, unfolding(crate::specs::Lines::question_at))]
 fn question_at<'a>(
     alloc: Global,
     names: &mut Names,
     octets: &'a [u8],
-) -> Result<(u64, Name, u16, &'a [u8]), LineFault>
+) -> Result<(u64, Name, Kind, &'a [u8]), LineFault>
     ensures { Gives (λ found. (found.0, found.1, found.2, found.3.now)) result (question_at octets.now) }
 {
     let (moment, rest) = moment_at(octets)?;
     let (name, rest) = name_at(alloc, names, rest)?;
-    let (rtype, rest) = rtype_at(rest)?;
-    Ok((moment, name, rtype, rest))
+    let (kind, rest) = rtype_at(rest)?;
+    Ok((moment, name, kind, rest))
 }
 
 /// What a put says behind its type, to its end: its trust, its time to live and its data.
@@ -114,12 +120,13 @@ fn kept_in(
 fn put_in(alloc: Global, names: &mut Names, octets: &[u8]) -> Result<Line, LineFault>
     ensures { Gives (λ line. line) result (put_of octets.now) }
 {
-    let (moment, name, rtype, rest) = question_at(alloc, names, octets)?;
-    let (trust, ttl, items) = kept_in(alloc, rtype, rest)?;
+    let (moment, name, kind, rest) = question_at(alloc, names, octets)?;
+    let (trust, ttl, items) = kept_in(alloc, kind.rtype, rest)?;
     Ok(Line::Put(Put {
         moment,
         name,
-        rtype,
+        class: kind.class,
+        rtype: kind.rtype,
         trust,
         ttl,
         items,
@@ -144,11 +151,12 @@ fn manner_in(octets: &[u8]) -> Result<(Purpose, Mode), LineFault>
 fn ask_in(alloc: Global, names: &mut Names, octets: &[u8]) -> Result<Line, LineFault>
     ensures { Gives (λ line. line) result (ask_of octets.now) }
 {
-    let (moment, name, rtype, rest) = question_at(alloc, names, octets)?;
+    let (moment, name, kind, rest) = question_at(alloc, names, octets)?;
     let (purpose, mode) = manner_in(rest)?;
     Ok(Line::Ask(Ask {
         name: name.folded()?,
-        rtype,
+        class: kind.class,
+        rtype: kind.rtype,
         moment,
         purpose,
         mode,
@@ -160,14 +168,15 @@ fn ask_in(alloc: Global, names: &mut Names, octets: &[u8]) -> Result<Line, LineF
 fn fail_in(alloc: Global, names: &mut Names, octets: &[u8]) -> Result<Line, LineFault>
     ensures { Gives (λ line. line) result (fail_of octets.now) }
 {
-    let (moment, name, rtype, rest) = question_at(alloc, names, octets)?;
+    let (moment, name, kind, rest) = question_at(alloc, names, octets)?;
     if has_field(rest) {
         return Err(LineFault::NotOne);
     }
     Ok(Line::Fail(Failed {
         moment,
         name,
-        rtype,
+        class: kind.class,
+        rtype: kind.rtype,
     }))
 }
 
@@ -211,12 +220,13 @@ fn sent_in(
 fn fetch_in(alloc: Global, names: &mut Names, octets: &[u8]) -> Result<Line, LineFault>
     ensures { Gives (λ line. line) result (fetch_of octets.now) }
 {
-    let (moment, name, rtype, rest) = question_at(alloc, names, octets)?;
+    let (moment, name, kind, rest) = question_at(alloc, names, octets)?;
     let (zone, octets) = sent_in(alloc, names, rest)?;
     Ok(Line::Fetch(Fetch {
         moment,
         name,
-        rtype,
+        class: kind.class,
+        rtype: kind.rtype,
         zone,
         octets,
     }))

@@ -1,12 +1,23 @@
-ghost use Rattle.std.specs.Prelude.{◌≡◌, ◌<◌, ◌^◌};
+ghost use Rattle.std.specs.Prelude.{◌≡◌, ◌<◌, ◌^◌, length, IfSome};
 ghost use Rattle.rrc_trace.specs.Fields.{said_at};
 ghost use Rattle.rrc_trace.specs.Gives.{Gives};
-ghost use Rattle.rrc_trace.specs.Numbers.{number_of, at_most, moment_of, ttl_of, rtype_of, trust_of};
+ghost use Rattle.rrc_trace.specs.Numbers.{number_of, at_most, moment_of, ttl_of, word_of, slash_in, kind_of, rtype_of, trust_of};
 
 use crate::field::field_at;
 use crate::line_fault::LineFault;
+use memchr::memchr;
 use rrc_history::{LAST_MOMENT, Trust};
 use rrc_wire::is_kept;
+
+/// The class of the Internet (RFC 1035 section 3.2.4).
+pub(crate) const IN: u16 = 1;
+
+/// A type and a class of records (RFC 1035 section 3.2).
+#[derive(Clone, Copy, Debug)]
+pub(crate) struct Kind {
+    pub(crate) rtype: u16,
+    pub(crate) class: u16,
+}
 
 /// The number that decimal digits spell, where it is at most `most`. Zeros may stand in front.
 fn number_in(digits: &[u8], most: u64) -> Result<u64, LineFault>
@@ -48,14 +59,50 @@ pub(crate) fn ttl_at(octets: &[u8]) -> Result<(u32, &[u8]), LineFault>
     }
 }
 
-/// A type whose data are kept.
-pub(crate) fn rtype_at(octets: &[u8]) -> Result<(u16, &[u8]), LineFault>
+/// A number of 16 bits.
+fn word_in(digits: &[u8]) -> Result<u16, LineFault>
+    ensures { Gives (λ word. word) result (word_of digits.now) }
+{
+    match u16::try_from(number_in(digits, u64::from(u16::MAX))?) {
+        Ok(word) => Ok(word),
+        Err(_) => Err(LineFault::NotOne),
+    }
+}
+
+fn first_slash(field: &[u8]) -> Option<usize>
+    ensures place { result ≡ slash_in field.now }
+    ensures inside { IfSome result (λ place. place < length field.now) }
+{
+    memchr(b'/', field)
+}
+
+/// The type that a field says, and the class behind a slash, or IN.
+fn kind_in(field: &[u8]) -> Result<Kind, LineFault>
+    ensures { Gives (λ kind. kind) result (kind_of field.now) }
+{
+    match first_slash(field) {
+        Some(place) => {
+            let rtype = word_in(&field[..place])?;
+            let class = word_in(&field[place + 1..])?;
+            Ok(Kind { rtype, class })
+        }
+        None => {
+            let rtype = word_in(field)?;
+            Ok(Kind { rtype, class: IN })
+        }
+    }
+}
+
+/// A type whose data are kept in its class.
+pub(crate) fn rtype_at(octets: &[u8]) -> Result<(Kind, &[u8]), LineFault>
     ensures { Gives (λ found. (found.0, found.1.now)) result (said_at rtype_of octets.now) }
 {
     let (field, rest) = field_at(octets)?;
-    match u16::try_from(number_in(field, u64::from(u16::MAX))?) {
-        Ok(rtype) if is_kept(rtype) => Ok((rtype, rest)),
-        _ => Err(LineFault::NotOne),
+    let kind = kind_in(field)?;
+    if is_kept(kind.rtype, kind.class) {
+        Ok((kind, rest))
+    } else {
+        Err(LineFault::NotOne)
     }
 }
 

@@ -8,7 +8,7 @@ use std::collections::BTreeMap;
 use std::marker::Model;
 
 /// The questions that lines fetch, each once, in the order in which they stand first. A question is a name, in whatever case it is
-/// written, and a type, and its number is its place. Contracts see the list of the questions.
+/// written, a class and a type, and its number is its place. Contracts see the list of the questions.
 #[derive(Debug, Drop)]
 pub struct Questions {
     keys: Vec<Key>,
@@ -32,7 +32,7 @@ impl Model for Questions {
 fn question_of(fetch: &Fetch) -> Result<Key, AllocError>
     ensures { IfOk result (λ key. key ≡ question_of fetch.now) }
 {
-    Key::of(&fetch.name, Slot::Set(fetch.rtype))
+    Key::of(&fetch.name, fetch.class, Slot::Set(fetch.rtype))
 }
 
 impl Questions {

@@ -2,11 +2,12 @@ ghost use Rattle.std.specs.Prelude.{◌≡◌, ◌∷◌, ◌++◌, OnOk, IfErr,
 ghost use Rattle.std.specs.Io.KnownBytes.{Appends};
 ghost use Rattle.rrc_trace.specs.Output.{Puts};
 ghost use Rattle.rrc_trace.specs.Writing.{LeavesText};
-ghost use Rattle.rrc_trace.specs.Report.{outcome_text, item_text, items_text, set_text, soa_text, slot_text, key_text, told_text, outcomes_text, offers_text, counts_text, reply_text, answer_text, line_text, lines_text, report_text};
+ghost use Rattle.rrc_trace.specs.Report.{outcome_text, item_text, items_text, set_text, soa_text, slot_text, class_text, key_text, told_text, outcomes_text, offers_text, counts_text, reply_text, answer_text, line_text, lines_text, report_text};
 
 use crate::answer::{Answer, Told};
 use crate::buffer::Buffer;
 use crate::fault::ReplayFault;
+use crate::number::IN;
 use crate::output::Output;
 use crate::pieces::{put_name, put_number, put_octets, put_word};
 use rrc_history::{Outcome, Reply, RrSet, Soa};
@@ -37,13 +38,24 @@ fn put_slot<W: Write>(output: &mut Output<'_, W>, slot: Slot)
     }
 }
 
-/// A key: its name and its slot.
+/// The class of a key, where it is another one than IN.
+fn put_class<W: Write>(output: &mut Output<'_, W>, class: u16)
+    ensures { Puts W.contents output.old output.new (class_text class) }
+{
+    if class != IN {
+        put_word(output, "/");
+        put_number(output, u64::from(class));
+    }
+}
+
+/// A key: its name, its slot, and its class.
 fn put_key<W: Write>(output: &mut Output<'_, W>, key: &Key)
     ensures { Puts W.contents output.old output.new (key_text key.now) }
 {
     put_name(output, &key.name);
     put_word(output, "/");
     put_slot(output, key.slot);
+    put_class(output, key.class);
 }
 
 /// What became of an offer, and the key that it evicted.

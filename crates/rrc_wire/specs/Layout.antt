@@ -27,5 +27,13 @@ layout_of rtype =
     else None
 
 -- every type is kept but 0, SIG, NXT, NAPTR, OPT, RRSIG, and those of questions and messages
-abbrev pub is_kept : ℕ → Bool
-is_kept rtype = not (is_one rtype (0 ∷ 24 ∷ 30 ∷ 35 ∷ 41 ∷ 46 ∷ []) || (nat_le 128 rtype && nat_le rtype 255))
+abbrev pub is_kept_type : ℕ → Bool
+is_kept_type rtype = not (is_one rtype (0 ∷ 24 ∷ 30 ∷ 35 ∷ 41 ∷ 46 ∷ []) || (nat_le 128 rtype && nat_le rtype 255))
+
+-- the classes that are kept: IN, CH and HS (RFC 1035 3.2.4)
+abbrev pub is_kept_class : ℕ → Bool
+is_kept_class class = is_one class (1 ∷ 3 ∷ 4 ∷ [])
+
+-- the data of type A begin with a name in CH (RFC 1035 3.4.1 is of IN alone), so they are not kept
+abbrev pub is_kept : ℕ → ℕ → Bool
+is_kept rtype class = is_kept_type rtype && (is_kept_class class && not (rtype == 1 && class == 3))

@@ -1,5 +1,5 @@
 -- Reading a record, and a section of records (RFC 1035 4.1.3).
-use Rattle.std.specs.Prelude.{ℕ, ◌+◌, ◌==◌, Bool, ◌&&◌, List, [], ◌∷◌, if◌then◌else◌, Result, Ok}
+use Rattle.std.specs.Prelude.{ℕ, ◌+◌, Bool, List, [], ◌∷◌, if◌then◌else◌, Result, Ok}
 use Rattle.rrc_wire.specs.declared.fault.WireFault.{WireFault}
 use Rattle.rrc_wire.specs.declared.record.Rr.{Rr}
 use Rattle.rrc_wire.specs.Reading.{◌>>=◌, word_at, long_at, within, times}
@@ -8,14 +8,20 @@ use Rattle.rrc_wire.specs.Item.{to_end}
 use Rattle.rrc_wire.specs.Name.{name_at}
 use Rattle.rrc_wire.specs.Data.{data_at}
 
--- whether the record whose fixed fields stand at a place is kept: its type is, and its class is IN
+-- whether the record whose fixed fields stand at a place is kept: its type is, in its class
 abbrev pub keeps : List ℕ → ℕ → Bool
-keeps message fields = is_kept (word_at message fields) && word_at message (fields + 2) == 1
+keeps message fields = is_kept (word_at message fields) (word_at message (fields + 2))
 
 -- the record of an owner, with the fixed fields that stand at a place
 abbrev pub rr_of : List ℕ → List ℕ → ℕ → List ℕ → Rr
 rr_of message owner fields rdata =
-    record { owner = owner; rtype = word_at message fields; ttl = long_at message (fields + 4); rdata = rdata }
+    record {
+      owner = owner;
+      class = word_at message (fields + 2);
+      rtype = word_at message fields;
+      ttl = long_at message (fields + 4);
+      rdata = rdata;
+    }
 
 -- the record of an owner, where it is kept; its data end at `end`
 abbrev pub kept_at : List ℕ → List ℕ → ℕ → ℕ → Result (List Rr) WireFault

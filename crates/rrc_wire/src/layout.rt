@@ -1,7 +1,13 @@
 ghost use Rattle.std.specs.Prelude.{◌≡◌};
 ghost use Rattle.std.specs.Option.{option_map};
 ghost use Rattle.rrc_wire.specs.Shown.{as_layout};
-ghost use Rattle.rrc_wire.specs.Layout.{layout_of, is_kept};
+ghost use Rattle.rrc_wire.specs.Layout.{layout_of, is_kept_type, is_kept_class, is_kept};
+
+/// The type of addresses.
+const A: u16 = 1;
+
+/// The class of Chaosnet.
+const CH: u16 = 3;
 
 /// How the data of a type stand in a message: fixed octets, names, fixed octets.
 #[derive(Clone, Copy, Debug, PartialEq, Eq)]
@@ -44,10 +50,25 @@ pub(crate) fn layout_of(rtype: u16) -> Option<Layout>
     }
 }
 
-/// Whether records of a type are kept: every type but 0, SIG (24), NXT (30), NAPTR (35), OPT (41), RRSIG (46), and the types
-/// 128 to 255 of questions and of messages. It takes no memory.
-pub fn is_kept(rtype: u16) -> bool
-    ensures { result ≡ is_kept rtype }
+/// Whether records of a type are kept in some class.
+fn is_kept_type(rtype: u16) -> bool
+    ensures { result ≡ is_kept_type rtype }
 {
     !matches!(rtype, 0 | 24 | 30 | 35 | 41 | 46 | 128..=255)
+}
+
+/// Whether records of a class are kept: IN (1), CH (3) and HS (4) (RFC 1035 section 3.2.4). It takes no memory.
+pub fn is_kept_class(class: u16) -> bool
+    ensures { result ≡ is_kept_class class }
+{
+    matches!(class, 1 | 3 | 4)
+}
+
+/// Whether records of a type are kept in a class: in IN (1) and HS (4) every type but 0, SIG (24), NXT (30), NAPTR (35), OPT (41),
+/// RRSIG (46), and the types 128 to 255 of questions and of messages; in CH (3) the same but A (1), whose data hold a name there. It
+/// takes no memory.
+pub fn is_kept(rtype: u16, class: u16) -> bool
+    ensures { result ≡ is_kept rtype class }
+{
+    is_kept_type(rtype) && is_kept_class(class) && !(rtype == A && class == CH)
 }

@@ -33,9 +33,9 @@ pub struct Message {
     pub additional: Sequence<Rr>,
 }
 
-/// The message that some octets begin with; those behind its last record are ignored. Records of a class other than IN, or of a
-/// type that is not kept, are read over. The time is in proportion to the octets of the message and to those that its names expand
-/// to; chains of pointers cost no more.
+/// The message that some octets begin with; those behind its last record are ignored. Records of a type that is not kept in their
+/// class are read over. The time is in proportion to the octets of the message and to those that its names expand to; chains of
+/// pointers cost no more.
 ///
 /// The first fault in the order of reading is answered, or `Memory` where memory was refused before it.
 pub fn read_message(alloc: Global, octets: &[u8]) -> Result<Message, WireFault>

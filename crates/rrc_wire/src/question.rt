@@ -7,6 +7,7 @@ use crate::field::{within, word_at};
 use crate::name::read_name;
 use crate::source::Source;
 use rrc_name::Name;
+use std::alloc::AllocError;
 
 /// What a message answers (RFC 1035 section 4.1.2).
 #[derive(Debug, Drop, PartialEq, Eq)]
@@ -14,6 +15,20 @@ pub struct Question {
     pub name: Name,
     pub qtype: u16,
     pub qclass: u16,
+}
+
+impl Clone for Question {
+    ghost use Rattle.std.specs.Prelude.{◌≡◌};
+
+    ghost is_clone = { λ a b. b ≡ a };
+
+    fn clone(&self) -> Result<Question, AllocError> {
+        Ok(Question {
+            name: self.name.clone()?,
+            qtype: self.qtype,
+            qclass: self.qclass,
+        })
+    }
 }
 
 /// The question at a place, and the place behind it.

@@ -10,13 +10,15 @@ use crate::layout::is_kept;
 use crate::name::read_name;
 use crate::source::Source;
 use rrc_name::{Name, Octets, Sequence};
+use std::alloc::AllocError;
 use std::marker::Model;
 
-/// A kept record of class IN (RFC 1035 section 4.1.3): its type is one that is kept, and its data are
+/// A kept record (RFC 1035 section 4.1.3): its type is one that is kept in its class, and its data are
 /// plain data of that type, since the names in them are expanded.
 #[derive(Debug, Drop, PartialEq, Eq)]
 pub struct Rr {
     pub owner: Name,
+    pub class: u16,
     pub rtype: u16,
     /// As it is written, in seconds, all 32 bits (RFC 2181 section 8).
     pub ttl: u32,
@@ -28,15 +30,28 @@ impl Model for Rr {
 
     ghost Value = { RrOf };
 
-    ghost view = { λ r. record { owner = r.owner; rtype = r.rtype; ttl = r.ttl; rdata = r.rdata } };
+    ghost view = { λ r. record { owner = r.owner; class = r.class; rtype = r.rtype; ttl = r.ttl; rdata = r.rdata } };
 
-    ghost invariant = { λ r. AreKept r.rtype r.rdata };
+    ghost invariant = { λ r. AreKept r.rtype r.class r.rdata };
 
-    ghost inverse = { λ r. record { owner = r.owner; rtype = r.rtype; ttl = r.ttl; rdata = r.rdata } };
+    ghost inverse = { λ r. record { owner = r.owner; class = r.class; rtype = r.rtype; ttl = r.ttl; rdata = r.rdata } };
 }
 
-/// The class of the Internet.
-const IN: u16 = 1;
+impl Clone for Rr {
+    ghost use Rattle.std.specs.Prelude.{◌≡◌};
+
+    ghost is_clone = { λ a b. b ≡ a };
+
+    fn clone(&self) -> Result<Rr, AllocError> {
+        Ok(Rr {
+            owner: self.owner.clone()?,
+            class: self.class,
+            rtype: self.rtype,
+            ttl: self.ttl,
+            rdata: self.rdata.clone()?,
+        })
+    }
+}
 
 /// The record at a place, where it is kept, and the place behind it.
 fn read_record(source: &mut Source<'_>, place: usize) -> Result<(Option<Rr>, usize), WireFault>
@@ -48,11 +63,13 @@ fn read_record(source: &mut Source<'_>, place: usize) -> Result<(Option<Rr>, usi
     let data = within(message, fields, 10)?;
     let end = within(message, data, usize::from(word_at(message, fields + 8)))?;
     let rtype = word_at(message, fields);
-    if !is_kept(rtype) || word_at(message, fields + 2) != IN {
+    let class = word_at(message, fields + 2);
+    if !is_kept(rtype, class) {
         return Ok((None, end));
     }
     let rr = Rr {
         owner,
+        class,
         rtype,
         ttl: long_at(message, fields + 4),
         rdata: read_data(source, rtype, data, end)?,

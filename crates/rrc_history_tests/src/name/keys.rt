@@ -6,12 +6,21 @@ use std::collections::BTreeSet;
 use std::num::NonZeroUsize;
 use std::test::Fail;
 
-/// The name and the slot of a key.
+/// The classes IN and CH (RFC 1035 section 3.2.4).
+const IN: u16 = 1;
+
+const CH: u16 = 3;
+
+/// The name and the slot of a key of class IN.
 type Of<'a> = (&'a str, Slot);
 
-fn key(alloc: Global, (text, slot): Of<'_>) -> Result<Key, Fail> {
+fn key_in(alloc: Global, (text, slot): Of<'_>, class: u16) -> Result<Key, Fail> {
     let name = Name::from_text(alloc, text)?;
-    Ok(Key::of(&name, slot)?)
+    Ok(Key::of(&name, class, slot)?)
+}
+
+fn key(alloc: Global, of: Of<'_>) -> Result<Key, Fail> {
+    key_in(alloc, of, IN)
 }
 
 #[test]
@@ -46,6 +55,27 @@ fn go_by_name_and_slot(rt: HostRuntime) -> Result<(), Fail> {
             assert!(rt; go(rt.alloc(), *low, *high, i.cmp(&j))?, "{i} against {j}");
         }
     }
+    Ok(())
+}
+
+#[test]
+fn go_by_class_before_slot(rt: HostRuntime) -> Result<(), Fail> {
+    let of_in = key_in(rt.alloc(), ("a.example", Slot::Failed(28)), IN)?;
+    let of_ch = key_in(rt.alloc(), ("A.example", Slot::Set(1)), CH)?;
+    assert!(rt; of_in < of_ch);
+    assert!(rt; of_ch < key(rt.alloc(), ("b.example", Slot::Set(1)))?);
+    Ok(())
+}
+
+#[test]
+fn of_two_classes_are_two(rt: HostRuntime) -> Result<(), Fail> {
+    let of = ("a.example", Slot::Set(16));
+    let key = key_in(rt.alloc(), of, CH)?;
+    let mut cache = room_for_two(rt.alloc())?;
+    cache.put(key.clone()?, 3)?;
+    assert!(rt; peek(&cache, rt.alloc(), of)? == None);
+    assert!(rt; held(&cache, rt.alloc(), of)? == None);
+    assert!(rt; cache.peek(KeyRef::of(&key)).copied() == Some(3));
     Ok(())
 }
 
@@ -96,7 +126,8 @@ fn are_kept_by_recency(rt: HostRuntime) -> Result<(), Fail> {
 /// What a map holds under a borrowed key.
 fn held(cache: &Cache, alloc: Global, (text, slot): Of<'_>) -> Result<Option<u8>, Fail> {
     let name = &Name::from_text(alloc, text)?;
-    Ok(cache.peek(KeyRef { name, slot }).copied())
+    let class = IN;
+    Ok(cache.peek(KeyRef { name, class, slot }).copied())
 }
 
 /// What a map that holds 1 under a key alone holds under its borrowed form.

@@ -1,5 +1,5 @@
 -- The keys' comparison is an equivalence, equal keys are one, and the keys' order is total and ties where they are equal.
-use Rattle.std.specs.Prelude.{◌≡◌, ℕ, List, true, reverse, nat_eq}
+use Rattle.std.specs.Prelude.{◌≡◌, ℕ, List, true, ◌==◌, reverse, nat_eq}
 use Rattle.std.specs.Cmp.{first_so, second_so, IsEquivalence, IsTotalOrder, nat_eq_equiv, nat_cmp_total, on_equiv, on_total, then_total, both_tied, unsigned_ties}
 use Rattle.std.specs.Cmp.Lexicographic.{lists_equiv, lists_total, lists_ties, pointwise, slice_cmp, bytes_decides}
 use Rattle.std.specs.Ordering.{nat_cmp, ordering_then, is_eq}
@@ -11,7 +11,7 @@ use Rattle.std.specs.declared.cmp.Ordering.TheVariants.{Less, Equal, Greater}
 use Rattle.std.specs.Hash.{Alike}
 use Rattle.rrc_name.specs.declared.slot.Slot.{Slot}
 use Rattle.rrc_name.specs.declared.slot.Slot.TheVariants.{Set, Nx, Failed}
-use Rattle.rrc_name.specs.Key.{KeyOf, slot_eq, key_eq, kind_place, type_of, slot_order, key_order, slot_hash, key_hash}
+use Rattle.rrc_name.specs.Key.{KeyOf, slot_eq, eq_in_name, key_eq, kind_place, type_of, slot_order, order_in_name, key_order, slot_hash, key_hash}
 use Rattle.rrc_name.specs.Wire.{labels_of, folded}
 use Rattle.rrc_name.specs.Order.{label_order, canonical_order}
 
@@ -50,7 +50,9 @@ slot_eq-laws = record { refl = itself; symm = mirrored; congr = along }
     along (Failed a) (Failed b) (Failed c) h = nat_eq_equiv.congr a b c h
 
 pub key_eq-laws : IsEquivalence key_eq
-key_eq-laws = and_equiv (on_equiv (λ (k : KeyOf). k.name) (lists_equiv nat_eq_equiv)) (on_equiv (λ (k : KeyOf). k.slot) slot_eq-laws)
+key_eq-laws =
+    and_equiv (on_equiv (λ (k : KeyOf). k.name) (lists_equiv nat_eq_equiv))
+    (and_equiv (on_equiv (λ (k : KeyOf). k.class) nat_eq_equiv) (on_equiv (λ (k : KeyOf). k.slot) slot_eq-laws))
 
 -- equal slots are one
 pub slot_eq-same : (a b : Slot) → slot_eq a b ≡ true → a ≡ b
@@ -67,9 +69,11 @@ slot_eq-same (Failed a) (Failed b) h = ap Failed ((Decides-eqb a b).0 h)
 -- equal keys are one
 pub key_eq-same : (a b : KeyOf) → key_eq a b ≡ true → a ≡ b
 key_eq-same a b h =
-    let names : a.name ≡ b.name = (bytes_decides a.name b.name).0 (first_so (pointwise nat_eq a.name b.name) (slot_eq a.slot b.slot) h) in
-    let slots : a.slot ≡ b.slot = slot_eq-same a.slot b.slot (second_so (pointwise nat_eq a.name b.name) (slot_eq a.slot b.slot) h) in
-    λ i. record { name = names i; slot = slots i }
+    let in_name : eq_in_name a b ≡ true = second_so (pointwise nat_eq a.name b.name) (eq_in_name a b) h in
+    let names : a.name ≡ b.name = (bytes_decides a.name b.name).0 (first_so (pointwise nat_eq a.name b.name) (eq_in_name a b) h) in
+    let classes : a.class ≡ b.class = (Decides-eqb a.class b.class).0 (first_so (a.class == b.class) (slot_eq a.slot b.slot) in_name) in
+    let slots : a.slot ≡ b.slot = slot_eq-same a.slot b.slot (second_so (a.class == b.class) (slot_eq a.slot b.slot) in_name) in
+    λ i. record { name = names i; class = classes i; slot = slots i }
 
 pub slot_order-total : IsTotalOrder slot_order
 slot_order-total = then_total (on_total kind_place nat_cmp_total) (on_total type_of nat_cmp_total)
@@ -91,10 +95,13 @@ label_order-total = on_total folded nat_list_cmp_total
 pub canonical_order-total : IsTotalOrder canonical_order
 canonical_order-total = on_total (λ (name : List ℕ). reverse (labels_of name)) (lists_total label_order-total)
 
+pub order_in_name-total : IsTotalOrder order_in_name
+order_in_name-total = then_total (on_total (λ (k : KeyOf). k.class) nat_cmp_total) (on_total (λ (k : KeyOf). k.slot) slot_order-total)
+
 pub key_order-total : IsTotalOrder key_order
 key_order-total =
     then_total (on_total (λ (k : KeyOf). k.name) canonical_order-total)
-    (then_total (on_total (λ (k : KeyOf). k.name) nat_list_cmp_total) (on_total (λ (k : KeyOf). k.slot) slot_order-total))
+    (then_total (on_total (λ (k : KeyOf). k.name) nat_list_cmp_total) order_in_name-total)
 
 -- an order in front of another changes no tie where it ties with it
 then-ties : (order behind : Ordering) → (is_eq behind ≡ true → order ≡ Equal) → is_eq behind ≡ is_eq (ordering_then order behind)
@@ -106,13 +113,17 @@ then-ties Greater Less h = refl
 then-ties Greater Equal h = absurd (let e : Greater ≡ Equal = h refl in cc)
 then-ties Greater Greater h = refl
 
+order_in_name-ties : (a b : KeyOf) → eq_in_name a b ≡ is_eq (order_in_name a b)
+order_in_name-ties a b =
+    both_tied (a.class == b.class) (slot_eq a.slot b.slot) (nat_cmp a.class b.class) (slot_order a.slot b.slot) (unsigned_ties a.class b.class) (slot_order-ties a.slot b.slot)
+
 -- the order ties exactly where the keys are equal
 pub key_order-ties : (a b : KeyOf) → key_eq a b ≡ is_eq (key_order a b)
 key_order-ties a b =
     let octets : pointwise nat_eq a.name b.name ≡ is_eq (slice_cmp nat_cmp a.name b.name) = lists_ties nat_cmp unsigned_ties a.name b.name in
-    let behind = ordering_then (slice_cmp nat_cmp a.name b.name) (slot_order a.slot b.slot) in
+    let behind = ordering_then (slice_cmp nat_cmp a.name b.name) (order_in_name a b) in
     let tied : key_eq a b ≡ is_eq behind =
-    both_tied (pointwise nat_eq a.name b.name) (slot_eq a.slot b.slot) (slice_cmp nat_cmp a.name b.name) (slot_order a.slot b.slot) octets (slot_order-ties a.slot b.slot) in
+    both_tied (pointwise nat_eq a.name b.name) (eq_in_name a b) (slice_cmp nat_cmp a.name b.name) (order_in_name a b) octets (order_in_name-ties a b) in
     tied ∙ then-ties (canonical_order a.name b.name) behind
     (λ h. ap (λ (k : KeyOf). canonical_order a.name k.name) (sym (key_eq-same a b (tied ∙ h))) ∙ tied_itself canonical_order-total a.name)
 

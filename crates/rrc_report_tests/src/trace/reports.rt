@@ -27,7 +27,7 @@ fn test_report(
 /// A key of `B.example.`.
 fn key(alloc: Global, slot: Slot) -> Result<Key, Fail> {
     let name = Name::from_text(alloc, "B.example.")?;
-    Ok(Key::of(&name, slot)?)
+    Ok(Key::of(&name, 1, slot)?)
 }
 
 /// Failures that were kept, and evicted a key of each kind of slot.

@@ -1,7 +1,7 @@
 ghost use Rattle.std.specs.Prelude.{◌≤◌};
 
 use super::{octets_of, push_octets};
-use rrc_wire::{Octets, WireFault, is_kept, read_message};
+use rrc_wire::{Octets, WireFault, is_kept, is_kept_class, read_message};
 use std::alloc::{AllocError, Global};
 use std::process::Abort;
 use std::test::Fail;
@@ -121,9 +121,24 @@ const KEPT: [u16; 12] = [1, 2, 5, 6, 16, 28, 33, 43, 48, 127, 256, 65535];
 #[test]
 fn kept_types(rt: HostRuntime) {
     for rtype in NOT_KEPT {
-        assert!(rt; !is_kept(rtype), "{rtype}");
+        assert!(rt; !is_kept(rtype, 1), "{rtype}");
     }
     for rtype in KEPT {
-        assert!(rt; is_kept(rtype), "{rtype}");
+        assert!(rt; is_kept(rtype, 1), "{rtype}");
     }
+}
+
+/// The classes that are kept are IN, CH and HS (RFC 1035 section 3.2.4).
+#[test]
+fn kept_classes(rt: HostRuntime) {
+    for class in 0..=5 {
+        let wanted = matches!(class, 1 | 3 | 4);
+        assert!(rt; is_kept_class(class) == wanted, "{class}");
+        assert!(rt; is_kept(16, class) == wanted, "{class}");
+    }
+    assert!(rt; !is_kept_class(254) && !is_kept_class(255));
+    // An address of CH begins with a name.
+    assert!(rt; !is_kept(1, 3));
+    assert!(rt; is_kept(1, 4));
+    assert!(rt; !is_kept(41, 3));
 }

@@ -8,7 +8,7 @@ use std::process::Abort;
 use std::test::Fail;
 
 /// Each message by its name: its octets in hexadecimal, with Q and S, and what it reads as. A name
-/// is shown with a dot for each length octet.
+/// is shown with a dot for each length octet, a type of another class than IN with that class.
 const NAMED: &str = "
 one_address: 1234 8400 0001 0001 0000 0000 Q c00c000100010000003c0004c0000201 = 1234 aa rcode 0, .a.example. 1 1, an .a.example. 1 60 c0000201
 two_addresses: 1234 8400 0001 0002 0000 0000 Q c00c000100010000003c0004c0000201 c00c000100010000001e0004c0000202 = 1234 aa rcode 0, .a.example. 1 1, an .a.example. 1 60 c0000201, an .a.example. 1 30 c0000202
@@ -22,7 +22,7 @@ ttl_of_all_ones: 1234 8400 0001 0001 0000 0000 Q c00c00010001ffffffff0004c000020
 truncated: 1234 8600 0001 0001 0000 0000 Q c00c000100010000003c0004c0000201 = 1234 aa tc rcode 0, .a.example. 1 1, an .a.example. 1 60 c0000201
 server_failure: 1234 8182 0001 0000 0000 0000 Q = 1234 rd ra rcode 2, .a.example. 1 1
 referral: 1234 8000 0001 0000 0001 0001 Q c00e0002000100000e100005026e73c00e c027000100010000003c0004c0000209 = 1234 rcode 0, .a.example. 1 1, ns .example. 2 3600 026e73076578616d706c6500, ar .ns.example. 1 60 c0000209
-chaos_text: 1234 8400 0001 0001 0000 0000 0161076578616d706c650000100003 c00c001000030000003c00020141 = 1234 aa rcode 0, .a.example. 16 3
+chaos_text: 1234 8400 0001 0001 0000 0000 0161076578616d706c650000100003 c00c001000030000003c00020141 = 1234 aa rcode 0, .a.example. 16 3, an .a.example. 16/3 60 0141
 ";
 
 /// The data of S with their names expanded, for which Z stands in what a message reads as.
@@ -57,7 +57,9 @@ owners that are two names by turns: 1234 8400 0001 0006 0000 0000 Q 0162c00e0001
 a chain of pointers from one that leads forward: 1234 8400 0001 0002 0000 0000 Q c00c001000010000003c0004c02bc027 c029000100010000003c0004c0000201 = BadPointer
 OPT: 1234 8400 0001 0000 0000 0002 Q 0000291000000000000000 c00c000100010000003c0004c0000201 = 1234 aa rcode 0, .a.example. 1 1, ar .a.example. 1 60 c0000201
 RRSIG: 1234 8400 0001 0000 0000 0002 Q c00c002e00010000003c00024040 c00c000100010000003c0004c0000201 = 1234 aa rcode 0, .a.example. 1 1, ar .a.example. 1 60 c0000201
-class 3: 1234 8400 0001 0000 0000 0002 Q c00c000200030000003c000140 c00c000100010000003c0004c0000201 = 1234 aa rcode 0, .a.example. 1 1, ar .a.example. 1 60 c0000201
+class 2: 1234 8400 0001 0000 0000 0002 Q c00c000200020000003c000140 c00c000100010000003c0004c0000201 = 1234 aa rcode 0, .a.example. 1 1, ar .a.example. 1 60 c0000201
+class 3: 1234 8400 0001 0000 0000 0002 Q c00c000200030000003c000140 c00c000100010000003c0004c0000201 = ReservedLabel
+an address of class 3: 1234 8400 0001 0000 0000 0002 Q c00c000100030000003c000140 c00c000100010000003c0004c0000201 = 1234 aa rcode 0, .a.example. 1 1, ar .a.example. 1 60 c0000201
 the owner of a record read over: 1234 8400 0001 0001 0000 0000 Q c01b002e00010000003c0000 = BadPointer
 the data of a record read over: 1234 8400 0001 0001 0000 0000 Q c00c002e00010000003c0001 = Short
 ";
@@ -82,7 +84,11 @@ fn push_records(
     for rr in records.iter() {
         write!(text, ", {section} ")?;
         push_name(text, &rr.owner.wire)?;
-        write!(text, " {} {} ", rr.rtype, rr.ttl)?;
+        write!(text, " {}", rr.rtype)?;
+        if rr.class != 1 {
+            write!(text, "/{}", rr.class)?;
+        }
+        write!(text, " {} ", rr.ttl)?;
         for octet in rr.rdata.as_slice() {
             write!(text, "{octet:02x}")?;
         }

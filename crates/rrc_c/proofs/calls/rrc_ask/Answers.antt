@@ -8,5 +8,5 @@ use Rattle.rrc_c.proofs.calls.rrc_ask.Goals as goal
 pub returns-clause-due : goal.returns-clause-due
 returns-clause-due c =
     told_of_held c.args.handle.now.seal.shelf c.deref_mut.result.now c.number_of_reply.result (number_of_reply c.ask_shelf-fits.result)
-    (AskDue c.args.name.now c.args.rtype c.args.moment c.args.purpose c.args.mode (length c.args.buffer.now)) (ap (λ (shelf : ShelfOf). Some shelf) c.deref_mut.ensures.value ∙ c.in-Some.ensures.taken)
+    (AskDue c.args.name.now c.args.rtype c.args.class c.args.moment c.args.purpose c.args.mode (length c.args.buffer.now)) (ap (λ (shelf : ShelfOf). Some shelf) c.deref_mut.ensures.value ∙ c.in-Some.ensures.taken)
     c.number_of_reply.ensures.value c.ask_shelf-fits.ensures.due

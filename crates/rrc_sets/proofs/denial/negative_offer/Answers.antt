@@ -17,6 +17,6 @@ pub returns-clause-kept : goal.returns-clause-kept
 returns-clause-kept c =
     let slot = c.in-Some-denied.slot in
     record {
-      kept_type = subst HasKeptType (sym (ap (λ (k : KeyOf). k.slot) c.in_ok-key.ensures)) (denied_kept_type c.args.message.now c.in-Some.name slot (sym c.in-Some-denied.ensures));
+      kept_type = subst (λ (k : KeyOf). HasKeptType k.class k.slot) (sym c.in_ok-key.ensures) (denied_kept_type c.args.message.now c.in-Some.name slot (sym c.in-Some-denied.ensures));
       plain_data = subst (HasPlainData c.in_ok-key.key.slot) (sym c.in_ok-body.ensures.value) c.in_ok-body.ensures.plain;
     }
