@@ -1,4 +1,5 @@
 #!/usr/bin/env python3
+# SPDX-License-Identifier: MIT
 """Counts how often memory is asked for by the calls that are to take none, and by the others beside them.
 
 Build the programs first, by `rt run` in crates/bench_cache and crates/bench_marks. Each is run twice, and the second run makes MORE calls more

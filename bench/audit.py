@@ -1,4 +1,5 @@
 #!/usr/bin/env python3
+# SPDX-License-Identifier: MIT
 """Times how long it takes to find that a history is legal: audits, which look up what was written, and rechecks, which make each call again.
 
 Build the program first, by `rt run` in crates/bench_cache. Each number is the median of RUNS runs, in nanoseconds of processor time an

@@ -1,4 +1,5 @@
 #!/usr/bin/env python3
+# SPDX-License-Identifier: MIT
 """Times the library for C: asks and puts by threads of C on shelves of their own and on shared ones under locks, and asks through Python.
 
 It takes the library as bin/build-c made it and compiles bench/c_threads.c. Each number is the best of RUNS runs of CALLS calls on 16 shelves

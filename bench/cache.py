@@ -1,4 +1,5 @@
 #!/usr/bin/env python3
+# SPDX-License-Identifier: MIT
 """Times the calls of parts of the cache: asks that hit and that miss, what would be answered, puts that replace and that evict, and
 sweeps of a tenth of the keys.
 

@@ -1,4 +1,5 @@
 #!/usr/bin/env python3
+# SPDX-License-Identifier: MIT
 """Times the program on one trace in one chapter and in chapters of 4,096 events, and shows that a shelf whose closed chapters are
 let go stays as small as it was.
 

@@ -1,4 +1,5 @@
 #!/usr/bin/env python3
+# SPDX-License-Identifier: MIT
 """Times the program on names that were picked to have hashes alike under the kit's fast hasher, and on other names as long.
 
 Build the program first, by `bin/build`. `FoldHasher` folds each 16 octets as the product of two words of 8: the lower one mixed with

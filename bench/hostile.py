@@ -1,4 +1,5 @@
 #!/usr/bin/env python3
+# SPDX-License-Identifier: MIT
 """Tells what hostile messages, names and traces cost: octets of memory, and time.
 
 Build the library for C first, by `bin/build-c`, or name it in RRCACHE_LIBRARY, and for traces the

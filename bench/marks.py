@@ -1,4 +1,5 @@
 #!/usr/bin/env python3
+# SPDX-License-Identifier: MIT
 """Times the table of marks: draws, pairs of begin and finish, and of split and join, a second on 1, 2 and 4 threads.
 
 Build the program first, by `rt run` in crates/bench_marks. Each thread draws COUNT numbers of one table, begins and finishes

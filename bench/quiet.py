@@ -1,3 +1,4 @@
+# SPDX-License-Identifier: MIT
 """Runs that nothing disturbs, for the scripts beside this one."""
 import time
 

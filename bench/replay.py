@@ -1,4 +1,5 @@
 #!/usr/bin/env python3
+# SPDX-License-Identifier: MIT
 """Times the program on traces: lines that put addresses, and responses that bring the same ones.
 
 Build the program first, by `rt run` in crates/rrcache. Each number is the least of RUNS runs, in seconds of processor time of the whole program, for LINES

@@ -1,4 +1,5 @@
 #!/usr/bin/env python3
+# SPDX-License-Identifier: MIT
 """Times what a message offers: usual messages, and hostile ones of growing size, whose sets and data are made to be sought for long.
 
 Build the program first, by `rt run` in crates/bench_sets. Each number is the least of RUNS runs, since all else that runs only adds to it, in

@@ -1,4 +1,5 @@
 #!/usr/bin/env python3
+# SPDX-License-Identifier: MIT
 """Times a shared cache by several threads, and replays by several workers, and writes docs/PERFORMANCE.md with its picture.
 
 Build the programs first, by `rt run` in crates/bench_cache and `bin/rrcache < rows/first-trace/trace`. Each number is the median of RUNS runs, in

@@ -1,4 +1,5 @@
 #!/usr/bin/env python3
+# SPDX-License-Identifier: MIT
 """Times the message reader on responses of 43 and of 512 octets, a message of many small records, a chain of pointers, a message whose
 names all go through a chain, and one whose names expand most; and tells how much longer the last but one takes than the last.
 

@@ -1,3 +1,4 @@
+# SPDX-License-Identifier: MIT
 """Curves on one picture, as SVG: shares from 0 to 100 % over a setting."""
 import math
 from typing import NamedTuple

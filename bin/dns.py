@@ -1,3 +1,4 @@
+# SPDX-License-Identifier: MIT
 """DNS messages as octets (RFC 1035 section 4), for the scripts beside this file and in bench/.
 
 A name is given as a text (docs/FORMATS.md), of which the last dot may be left out, or as octets,

@@ -1,3 +1,4 @@
+# SPDX-License-Identifier: MIT
 """Messages in dnstap files: protobuf records in frame streams, as resolvers write them.
 
 Debian has libraries for neither in Python but for protobuf itself, which wants the schema compiled;

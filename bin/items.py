@@ -1,3 +1,4 @@
+# SPDX-License-Identifier: MIT
 """Which item of a crate's source a line stands in, in the words in which the prover names functions."""
 import re
 from dataclasses import dataclass

@@ -1,3 +1,4 @@
+# SPDX-License-Identifier: MIT
 """Tasks side by side: as many as processors and memory hold, each once those that it waits for have ended."""
 from concurrent.futures import FIRST_COMPLETED, ThreadPoolExecutor, wait
 from dataclasses import dataclass

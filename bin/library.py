@@ -1,3 +1,4 @@
+# SPDX-License-Identifier: MIT
 """Libraries of Debian's, which apt-get installs for Debian's own Python alone."""
 import importlib.util
 import os

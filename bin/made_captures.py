@@ -1,3 +1,4 @@
+# SPDX-License-Identifier: MIT
 """Captures for the tests, made with dpkt: the same messages over other links, formats and paths."""
 import io
 import random

@@ -1,3 +1,4 @@
+# SPDX-License-Identifier: MIT
 """What a response says and what it offers to a cache (docs/RULES.md), read strictly.
 
 It stands apart from the program and from dns.py, which makes messages. Names are octets in wire

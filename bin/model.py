@@ -1,3 +1,4 @@
+# SPDX-License-Identifier: MIT
 """The rules of the cache (docs/RULES.md), in Python and apart from the program: what each offer,
 ask and sweep does to a part, and what it is answered.
 

@@ -1,3 +1,4 @@
+# SPDX-License-Identifier: MIT
 """DNS messages in files of captures: pcap and pcapng, over UDP and TCP, IPv4 and IPv6.
 
 dpkt reads the headers of links, IP, UDP and TCP. The files are read here, with a bound on each

@@ -1,3 +1,4 @@
+# SPDX-License-Identifier: MIT
 """What the prover's processes take of the processors, by the crate that they check."""
 import os
 import re

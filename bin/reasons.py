@@ -1,3 +1,4 @@
+# SPDX-License-Identifier: MIT
 """In words why a line of a report is as it is: what the rules (docs/RULES.md) make of a trace.
 
 Each sentence names the RFC's section that its rule comes from, or says `ours` where the rule is

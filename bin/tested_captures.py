@@ -1,3 +1,4 @@
+# SPDX-License-Identifier: MIT
 """Tests of bin/from-capture, on the capture in captures/ and on made and broken ones.
 
 tshark wrote captures/small.asks and small.responses, unbound the zones in captures/small.dnstap."""

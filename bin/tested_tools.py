@@ -1,3 +1,4 @@
+# SPDX-License-Identifier: MIT
 """Tests of bin/why and bin/what-if: what they say of small traces follows from docs/RULES.md."""
 import csv
 import io

@@ -1,3 +1,4 @@
+# SPDX-License-Identifier: MIT
 """Traces (docs/FORMATS.md), read strictly and apart from the program, and the calls of a line."""
 from typing import NamedTuple
 

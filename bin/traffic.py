@@ -1,3 +1,4 @@
+# SPDX-License-Identifier: MIT
 """What a resolver's messages are as lines of a trace: asks, responses and failures.
 
 Whoever asks the resolver is a client, and whom it asks is a server. Memory is bounded but for the

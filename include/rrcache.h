@@ -1,3 +1,4 @@
+/* SPDX-License-Identifier: MIT */
 /* rrcache.h: the RRset cache of a recursive DNS resolver, for resolvers written in C.
 
    A *shelf* is one part of the cache with its history. A resolver makes 16 to 64 of them, each with
@@ -135,6 +136,13 @@
 extern "C" {
 #endif
 
+/* The version of this header. `rrcache_version` tells that of the library. */
+#define RRCACHE_VERSION_MAJOR 0
+#define RRCACHE_VERSION_MINOR 1
+#define RRCACHE_VERSION_PATCH 0
+#define RRCACHE_VERSION                                                                            \
+    (RRCACHE_VERSION_MAJOR * 65536 + RRCACHE_VERSION_MINOR * 256 + RRCACHE_VERSION_PATCH)
+
 /* What calls answer. */
 enum rrcache_status {
     RRCACHE_DONE = 0,
@@ -271,8 +279,17 @@ uint32_t rrc_sizes(struct rrcache_shelf *shelf, uint64_t *keys, uint64_t *events
                    uint64_t *chapters);
 uint32_t rrc_fault(const uint8_t *octets, size_t size, uint32_t *fault);
 uint32_t rrc_part_of(const uint8_t *name, size_t name_size, uint64_t parts, uint64_t *part);
+uint32_t rrc_version(void);
 
 /* ---- What a resolver calls. */
+
+/* The version of the library that the program is linked with, as RRCACHE_VERSION tells that of the
+   header. A library of another major version, or of an older minor one, may lack what the header
+   declares. */
+static inline uint32_t rrcache_version(void)
+{
+    return rrc_version();
+}
 
 /* Some octet for a list that has none. */
 static inline const uint8_t *rrcache_octets(const uint8_t *octets, size_t size)

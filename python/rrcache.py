@@ -1,3 +1,4 @@
+# SPDX-License-Identifier: MIT
 """The RRset cache by ctypes: one shelf, for scripts and tests (include/rrcache.h says what each call does).
 
 Names are octets in wire form, moments are seconds, sets are lists of octets. A call that the library refuses raises `Refused`. A shelf is for one

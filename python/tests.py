@@ -1,3 +1,4 @@
+# SPDX-License-Identifier: MIT
 """Tests of the library by ctypes (rrcache.py), which bin/test-forwarder runs: what it refuses, and
 the rows that it can be told, each of whose lines is compared with the row's report.
 """

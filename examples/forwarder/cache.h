@@ -1,3 +1,4 @@
+/* SPDX-License-Identifier: MIT */
 /* cache.h: the forwarder's cache, 16 shelves of the library with a lock each.
 
    What a message says of a name lies in the shelf of that name, and no thread holds two locks.

@@ -1,3 +1,4 @@
+/* SPDX-License-Identifier: MIT */
 /* clients.h: the sockets of clients. Queries come by UDP, on one socket that all threads take from,
    and by TCP (RFC 7766), where each thread has a table of the connections that it took up. Replies
    may be sent by any thread. */

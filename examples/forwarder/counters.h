@@ -1,3 +1,4 @@
+/* SPDX-License-Identifier: MIT */
 /* counters.h: what the forwarder did, counted by all threads, and the clock. */
 #ifndef COUNTERS_H
 #define COUNTERS_H

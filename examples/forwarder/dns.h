@@ -1,3 +1,4 @@
+/* SPDX-License-Identifier: MIT */
 /* dns.h: DNS messages as octets (RFC 1035 section 4). Queries of clients are read, replies to them
    are built, and responses of upstreams are looked at. Nothing here takes memory, waits, or knows
    of sockets and of the cache.

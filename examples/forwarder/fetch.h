@@ -1,3 +1,4 @@
+/* SPDX-License-Identifier: MIT */
 /* fetch.h: asking upstream. A question is fetched once at a time: who asks what is being fetched,
    of whatever thread, waits for that fetch.
 

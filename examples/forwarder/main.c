@@ -1,3 +1,4 @@
+/* SPDX-License-Identifier: MIT */
 /* forwarder [-q] [-l SECONDS] [-t THREADS] ADDRESS PORT UPSTREAM PORT [UPSTREAM PORT ..]
 
    A DNS forwarder over UDP and TCP and IPv4, as an example of the library for C. Clients ask it at

@@ -1,3 +1,4 @@
+# SPDX-License-Identifier: MIT
 """What is answered, and for how long: sets, negative answers, aliases, times to live."""
 import time
 

@@ -1,3 +1,4 @@
+# SPDX-License-Identifier: MIT
 """What clients may ask, by UDP and over TCP, and what fits into a reply."""
 import random
 import select

@@ -1,3 +1,4 @@
+# SPDX-License-Identifier: MIT
 """Debian's dig asks an authoritative server, and the forwarder before it: they have to agree."""
 import re
 import shutil

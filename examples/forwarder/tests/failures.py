@@ -1,3 +1,4 @@
+# SPDX-License-Identifier: MIT
 """Stale answers (RFC 8767), and failures that are remembered (RFC 2308 section 7)."""
 import time
 

@@ -1,3 +1,4 @@
+# SPDX-License-Identifier: MIT
 """What the tests of the forwarder are made of: name servers, clients, and forwarders' processes.
 
 All of it is on 127.0.0.1, on ports that the system picks. A name server is a thread of this

@@ -1,3 +1,4 @@
+# SPDX-License-Identifier: MIT
 """Few descriptors, no memory, more questions than can be asked, and the log."""
 import contextlib
 import os

@@ -1,3 +1,4 @@
+# SPDX-License-Identifier: MIT
 """Many clients at once. These tests run alone."""
 import concurrent.futures
 import random

@@ -1,3 +1,4 @@
+/* SPDX-License-Identifier: MIT */
 /* refusals.c: memory that is refused, for a test. It is preloaded to a program (LD_PRELOAD), and
    each SIGUSR2 goes on to the next stage: no more than what is used now; nothing at all; all again.
  */

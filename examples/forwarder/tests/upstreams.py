@@ -1,3 +1,4 @@
+# SPDX-License-Identifier: MIT
 """How upstreams are asked, and what is made of what they answer."""
 import concurrent.futures
 import random

@@ -1,0 +1,9 @@
+/* SPDX-License-Identifier: MIT */
+/* The version of the library that a program is linked with. It is the one call that is not written
+   in Rattle: bin/build-c links it beside the proved ones. */
+#include "rrcache.h"
+
+uint32_t rrc_version(void)
+{
+    return RRCACHE_VERSION;
+}
