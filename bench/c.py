@@ -37,7 +37,7 @@ def rate(threads, calls, whose, what):
 
 
 def python_rate(calls):
-    """Asks a second through python/rrcache.py, on one shelf."""
+    """Asks a second through the package python/rrcache, on one shelf."""
     sys.path.insert(0, str(TOP / "python"))
     import rrcache
     names = [b"\6n%05d\7example\0" % number for number in range(4096)]
@@ -46,7 +46,7 @@ def python_rate(calls):
             shelf.offer_set(name, 1, 4, 3600, [b"\xc0\0\2\1", b"\xc0\0\2\2"], 100)
         began = time.perf_counter()
         for call in range(calls):
-            if shelf.ask(names[call % 4096], 1, 100).kind != rrcache.FRESH:
+            if shelf.ask(names[call % 4096], 1, 100).kind != rrcache.Kind.FRESH:
                 sys.exit("an ask found nothing fresh")
         return calls / (time.perf_counter() - began)
 
@@ -81,7 +81,7 @@ def section(rates, by_python, args):
         for whose, kind in SHELVES.items():
             by = [rates[what, whose, threads] / 1e6 for threads in args.threads]
             lines.append(f"| {title} | {kind} | " + " | ".join(f"{it:.2f}" for it in by) + f" | {by[-1] / by[0]:.2f} |")
-    lines += ["", f"Through Python (`python/rrcache.py`) one thread asks {by_python:,.0f} times a second.", ""]
+    lines += ["", f"Through Python (`python/rrcache`) one thread asks {by_python:,.0f} times a second.", ""]
     return HEADING + "\n" + "\n".join(lines)
 
 

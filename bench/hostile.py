@@ -175,7 +175,7 @@ def tell_full(size, chapter):
         before = memory()
         took, _ = timed(shelf.offer_message, many_types(size), ROOT, 1)
         stay, closed = memory() - before, shelf.sizes().chapters
-        left = sum(shelf.peek(it, A, 1).kind == rrcache.FRESH for it in names)
+        left = sum(shelf.peek(it, A, 1).kind == rrcache.Kind.FRESH for it in names)
         print(f"one message of many_types leaves {left} of 4,096 keys, in {took:.0f} ms; it closes"
               f" {closed:,} chapters of {chapter:,} events, and {stay:,} octets stay")
 

@@ -1,9 +1,16 @@
 # SPDX-License-Identifier: MIT
-"""Tests of the library by ctypes (rrcache.py), which bin/test-forwarder runs: what it refuses, and
-the rows that it can be told, each of whose lines is compared with the row's report.
+"""Tests of the library through Python (the package rrcache), which bin/test-forwarder runs: what it
+refuses, the examples of its docstrings, many threads, the package once it is installed, and the
+rows that it can be told, each of whose lines is compared with the row's report.
 """
+import importlib
+import importlib.util
+import os
 import re
+import subprocess
 import sys
+import tempfile
+import threading
 from pathlib import Path
 
 TOP = Path(__file__).resolve().parent.parent
@@ -11,8 +18,9 @@ sys.path[:0] = [str(TOP / "examples" / "forwarder" / "tests"), str(TOP / "bin")]
 
 import rrcache
 from dns import A, CNAME, OPT, TXT, message, name_at, question, record, soa_data, wire
-from harness import Wrong, address, same, wanted
+from harness import Skipped, Wrong, address, same, wanted
 
+VERSION = (TOP / "VERSION").read_text().strip()
 MODES = {"none": 0, "failed": 1, "now": 2}
 OUTCOMES = {1: "kept", 2: "cleared", 3: "less"}
 # Fixed octets, and how many names stand behind them, of types whose data have names.
@@ -43,7 +51,7 @@ def life(ttl):
 def kind_of(field):
     """A type and a class, as a trace spells them."""
     rtype, _, rclass = field.partition("/")
-    return int(rtype), int(rclass or rrcache.IN)
+    return int(rtype), int(rclass or rrcache.Class.IN)
 
 
 def answer_line(shelf, words):
@@ -71,8 +79,8 @@ def answer_line(shelf, words):
     question = (wire(words[2]), rtype, int(words[1]), int(words[4] == "answer"), MODES[words[5]])
     reply = shelf.peek(*question, rclass=rclass)
     same(shelf.ask(*question, rclass=rclass), reply, "an ask after a peek")
-    if reply.kind >= rrcache.MISS:
-        return "miss" if reply.kind == rrcache.MISS else f"miss {reply.retry_from}"
+    if reply.is_miss:
+        return "miss" if reply.kind == rrcache.Kind.MISS else f"miss {reply.retry_from}"
     kind = {1: "fresh", 2: "stale", 3: "nodata", 4: "nxdomain"}[reply.kind]
     return f"{kind} {reply.left} {name_at(reply.owner, 0)[0]}. {','.join(it.hex() or '-' for it in reply.data)}"
 
@@ -113,12 +121,107 @@ def replay_row(row):
         same(shelf.sizes().chapters, 0, "closed chapters that are left")
 
 
+DOCSTRINGS = """
+import doctest, importlib, pkgutil, rrcache
+names = [it.name for it in pkgutil.iter_modules(rrcache.__path__, "rrcache.")]
+results = [doctest.testmod(importlib.import_module(it)) for it in names]
+print(sum(it.failed for it in results), "of", sum(it.attempted for it in results))
+"""
+
+
+def test_docstrings_of_python():
+    # doctest reads standard output, which other tests write to.
+    told = subprocess.run([sys.executable, "-c", DOCSTRINGS], cwd=TOP / "python",
+                          capture_output=True, text=True)
+    same(told.stdout, "0 of 7\n", told.stderr or "examples that are wrong")
+
+
+def test_names_by_python():
+    for text, octets in ((".", b"\0"), ("", b"\0"), ("a.b", b"\1a\1b\0"), ("a\\.b.", b"\3a.b\0"),
+                         ("\\032x.", b"\2 x\0"), ("\\\\.", b"\1\\\0")):
+        same(rrcache.to_wire(text), octets, f"the wire form of {text!r}")
+        same(rrcache.to_wire(rrcache.to_text(octets)), octets, f"{text!r} read again")
+    for text in ("a..b", ".a", "a\\", "\\999", "a" * 64, ".".join(["a" * 63] * 4), "\u00fc\u0100"):
+        try:
+            rrcache.to_wire(text)
+        except rrcache.NameFault:
+            continue
+        raise Wrong(f"{text!r} is taken for a name")
+
+
+def test_classes_by_python():
+    with rrcache.Shelf() as shelf:
+        shelf.offer_set("version.bind.", TXT, rrcache.Rank.AUTHORITATIVE_ANSWER, 60, [b"\1A"], 100,
+                        rclass=rrcache.Class.CH)
+        same(shelf.ask("version.bind.", TXT, 110).kind, rrcache.Kind.MISS, "class IN")
+        reply = shelf.ask("VERSION.bind.", TXT, 110, rclass=rrcache.Class.CH)
+        same((reply.kind, reply.left, reply.data), (rrcache.Kind.FRESH, 50, (b"\1A",)), "class CH")
+        try:
+            shelf.offer_failure("a.", A, 30, 100, rclass=rrcache.Class.CH)
+        except rrcache.BadType as refused:
+            same(refused.status, rrcache.Status.BAD_TYPE, "the status")
+        else:
+            raise Wrong("an address of class CH is kept")
+
+
+def test_a_cache_of_many_threads_by_python():
+    names = [f"x{number}.example." for number in range(40)]
+    messages = [message(7, 0x8580, question(it, A), [record(it, A, 60, address(9))]) for it in names]
+    found = []
+    with rrcache.Cache(parts=4, capacity=64) as cache:
+        def work(place):
+            for name, octets in zip(names[place::4], messages[place::4]):
+                cache.offer_message(octets, "example.", 100)
+                found.append(cache.ask(name.upper(), A, 110).left)
+        threads = [threading.Thread(target=work, args=(it,)) for it in range(4)]
+        for it in threads:
+            it.start()
+        for it in threads:
+            it.join()
+        same(found, [50] * 40, "what is left of each name's TTL")
+        same(cache.sweep(2 ** 40), 40, "keys that were swept")
+
+
+def test_an_installed_python_package():
+    for name in ("pip", "setuptools", "wheel"):
+        if importlib.util.find_spec(name) is None:
+            raise Skipped(f"this Python has no {name}: apt-get install python3-{name}")
+    with tempfile.TemporaryDirectory() as folder:
+        words = [sys.executable, "-m", "pip", "install", "--quiet", "--no-index", "--no-deps",
+                 "--no-build-isolation", "--disable-pip-version-check", "--target", folder,
+                 str(copied(folder))]
+        made = subprocess.run(words, capture_output=True, text=True)
+        same(made.returncode, 0, made.stderr)
+        around = {**os.environ, "PYTHONPATH": folder,
+                  "RRCACHE_LIBRARY": str(TOP / "build" / "librrcache.so")}
+        code = "import rrcache; print(rrcache.__file__, *rrcache.library_version())"
+        told = subprocess.run([sys.executable, "-c", code], cwd=folder, env=around,
+                              capture_output=True, text=True)
+        same(told.stdout.split(), [f"{folder}/rrcache/__init__.py", *VERSION.split(".")], told.stderr)
+
+
+def copied(folder):
+    """A copy of the package's sources, since pip builds where they are."""
+    to = Path(folder, "sources")
+    (to / "rrcache").mkdir(parents=True)
+    for path in ("pyproject.toml", "README.md", *(f"rrcache/{it.name}" for it in
+                 (TOP / "python" / "rrcache").iterdir() if it.is_file())):
+        (to / path).write_bytes((TOP / "python" / path).read_bytes())
+    return to
+
+
+def test_one_version_of_python_and_c():
+    text = (TOP / "python" / "pyproject.toml").read_text()
+    same(re.search(r'^version = "(.*)"', text, re.M)[1], VERSION, "the package's version")
+    same(".".join(map(str, rrcache.library_version())), VERSION, "the library's version")
+
+
 def test_refusals_by_python():
     cases = [(5, lambda it: it.sweep(2 ** 40 + 1)), (9, lambda it: it.ask(b"\1", A, 1)), (10, lambda it: it.offer_message(b"x", b"\0", 1)),
              (11, lambda it: it.ask(b"\0", A, 1, 2)), (12, lambda it: it.offer_set(b"\0", OPT, 4, 1, [b""], 1)),
              (13, lambda it: it.offer_set(b"\0", CNAME, 4, 1, [b"\1"], 1)), (14, lambda it: it.offer_set(b"\0", A, 4, 1, [], 1)),
-             (8, lambda it: it.offer_message(b"x", b"\0", 1, recheck=0)), (6, lambda it: rrcache.Shelf(capacity=0)),
-             (7, lambda it: rrcache.Shelf(seed=b"x")), (6, lambda it: rrcache.part_of(b"\0", 65)),
+             (8, lambda it: it.offer_message(b"x", b"\0", 1, rrcache.Limits(recheck=0))), (6, lambda it: rrcache.Shelf(capacity=0)),
+             (7, lambda it: rrcache.Shelf(seed=b"x")), (6, lambda it: rrcache.part_of(".", 65)),
              (6, lambda it: it.offer_part(b"x", b"\0", 4, 4, 1)), (10, lambda it: it.offer_part(b"x", b"\0", 4, 3, 1))]
     with rrcache.Shelf() as shelf:
         for status, call in cases:
@@ -130,11 +233,11 @@ def test_refusals_by_python():
                 raise Wrong(f"no refusal with status {status}")
         same(shelf.sizes(), (0, 0, 0), "keys, events and chapters")
         data = soa_data("ns.example", "host.example", 0, 0, 0, 0, 0)
-        same(shelf.offer_negative(wire("a.example"), A, rrcache.DENIES_NAME, 4, 60, wire("example"), data, 100), rrcache.KEPT, "a negative offer")
+        same(shelf.offer_negative(wire("a.example"), A, rrcache.Denial.NAME, 4, 60, wire("example"), data, 100), rrcache.Outcome.KEPT, "a negative offer")
         reply = shelf.ask(wire("A.example"), TXT, 110)
-        same((reply.kind, reply.left, reply.owner, reply.data), (rrcache.NO_NAME, 50, wire("example"), [data]), "its reply")
-        same(shelf.offer_set(wire("b.example"), TXT, 4, 60, [bytes(60000)], 100), rrcache.KEPT, "a large datum")
-        same(shelf.ask(wire("b.example"), TXT, 110).data, [bytes(60000)], "the large datum")
+        same((reply.kind, reply.left, reply.owner, reply.data), (rrcache.Kind.NO_NAME, 50, wire("example"), (data,)), "its reply")
+        same(shelf.offer_set(wire("b.example"), TXT, 4, 60, [bytes(60000)], 100), rrcache.Outcome.KEPT, "a large datum")
+        same(shelf.ask(wire("b.example"), TXT, 110).data, (bytes(60000),), "the large datum")
         same(shelf.sizes(), (2, 4, 0), "keys, events and chapters")
     try:
         shelf.sizes()
@@ -153,4 +256,4 @@ def test_parts_by_python():
             same(shelf.offer_part(octets, wire("example"), 4, part, 100), (parts.count(part), 0, 0), f"the share of part {part}")
             same(shelf.sizes(), (parts.count(part), parts.count(part), 0), "keys, events and chapters")
             for name, rtype, home in zip(names, [CNAME] * 7 + [A], parts):
-                same(shelf.peek(wire(name), rtype, 100).kind, rrcache.FRESH if home == part else rrcache.MISS, f"{name} in part {part}")
+                same(shelf.peek(wire(name), rtype, 100).kind, rrcache.Kind.FRESH if home == part else rrcache.Kind.MISS, f"{name} in part {part}")

@@ -1,0 +1,29 @@
+# SPDX-License-Identifier: MIT
+"""The RRset cache of a recursive DNS resolver (RFC 2181, RFC 2308, RFC 8767), over its library for
+C.
+
+A `Shelf` is one part of the cache, for one thread at a time. A `Cache` is several of them with
+their locks, for any number of threads. Names are text, as "www.example.", or octets in wire form
+(RFC 1035 section 3.1); moments and TTLs are seconds; data are octets, as records carry them, with
+no name compressed. A call that is refused raises a `Refused`.
+
+The library is the one that the environment variable RRCACHE_LIBRARY names, else build/librrcache.so
+of the repository that this package lies in, else what the system's loader finds.
+"""
+from .cache import Cache
+from .choices import Class, Denial, Kind, Mode, Outcome, Purpose, Rank
+from .library import fault, library_version, part_of
+from .names import NameFault, to_text, to_wire
+from .refusals import (BadChoice, BadData, BadLimits, BadMessage, BadName, BadRules, BadSeed,
+                       BadType, HistoryFull, Memory, MomentTooLarge, NoShelf, Refused, Status, Wide,
+                       WrongBody)
+from .replies import Counts, Limits, Reply, Sizes
+from .shelf import Shelf
+
+__all__ = [
+    "BadChoice", "BadData", "BadLimits", "BadMessage", "BadName", "BadRules", "BadSeed", "BadType",
+    "Cache", "Class", "Counts", "Denial", "HistoryFull", "Kind", "Limits", "Memory", "Mode",
+    "MomentTooLarge", "NameFault", "NoShelf", "Outcome", "Purpose", "Rank", "Refused", "Reply",
+    "Shelf", "Sizes", "Status", "Wide", "WrongBody", "fault", "library_version", "part_of",
+    "to_text", "to_wire",
+]

@@ -1,0 +1,66 @@
+# SPDX-License-Identifier: MIT
+"""A cache of several parts, for any number of threads."""
+from __future__ import annotations
+
+import threading
+from types import TracebackType
+from typing import Any
+
+from .library import part_of
+from .names import to_wire
+from .replies import Counts, Limits, Reply
+from .shelf import Name, Shelf
+
+
+class Cache:
+    """1 to 64 shelves, each with a lock: all that is known of a name lies in one of them.
+    `capacity` is the most keys of each; the other arguments are those of `Shelf`.
+
+    >>> with Cache(parts=4) as cache:
+    ...     cache.ask("www.example.", 1, moment=1000).kind.name
+    'MISS'
+    """
+
+    def __init__(self, parts: int = 16, **rules: Any) -> None:
+        part_of(".", parts)  # refuses a wrong number of them
+        self._shelves = [(threading.Lock(), Shelf(**rules)) for _ in range(parts)]
+
+    def ask(self, name: Name, rtype: int, moment: int, **more: Any) -> Reply:
+        """Asks the part of the name, as `Shelf.ask` does."""
+        lock, shelf = self._shelves[part_of(name, len(self._shelves))]
+        with lock:
+            return shelf.ask(name, rtype, moment, **more)
+
+    def offer_message(self, message: bytes, zone: Name, moment: int, limits: Limits = Limits(),
+                      line: int = 0) -> Counts:
+        """Offers a response: to each part what it says of that part's names. Where one part refuses
+        its share, that is raised, and what other parts took stays."""
+        zone, total = to_wire(zone), Counts(0, 0, 0)
+        for part, (lock, shelf) in enumerate(self._shelves):
+            with lock:
+                counts = shelf.offer_part(message, zone, len(self._shelves), part, moment, limits,
+                                          line)
+            total = total.plus(counts)
+        return total
+
+    def sweep(self, moment: int) -> int:
+        """Sweeps each part, one after another, and tells how many keys were removed."""
+        removed = 0
+        for lock, shelf in self._shelves:
+            with lock:
+                removed += shelf.sweep(moment)
+                shelf.drop_chapters()
+        return removed
+
+    def close(self) -> None:
+        """Frees the shelves."""
+        for lock, shelf in self._shelves:
+            with lock:
+                shelf.close()
+
+    def __enter__(self) -> Cache:
+        return self
+
+    def __exit__(self, kind: type[BaseException] | None, fault: BaseException | None,
+                 trace: TracebackType | None) -> None:
+        self.close()

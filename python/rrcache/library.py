@@ -1,0 +1,97 @@
+# SPDX-License-Identifier: MIT
+"""The library for C by ctypes: where it is, what its calls take, and calls without a shelf."""
+from __future__ import annotations
+
+import os
+from ctypes import (CDLL, Structure, byref, c_size_t, c_uint16, c_uint32, c_uint64, c_void_p)
+from pathlib import Path
+from typing import Any
+
+from .names import to_wire
+from .refusals import Status, refusal
+
+MAJOR, SONAME = 0, "librrcache.so.0"
+# What calls take: p a pointer, o octets and how many, t a type or a class, n a number of 32 bits,
+# m one of 64.
+TYPES: dict[str, list[Any]] = {
+    "p": [c_void_p], "o": [c_void_p, c_size_t], "t": [c_uint16], "n": [c_uint32],
+    "m": [c_uint64],
+}
+CALLS = {
+    "rrc_make": "pmmmo", "rrc_free": "p", "rrc_offer_message": "poompmp",
+    "rrc_offer_part": "poommmpmp", "rrc_offer_set": "pottnnommp",
+    "rrc_offer_negative": "pottnnnoommp", "rrc_offer_failure": "pottnmmp", "rrc_ask": "pottmnnmpo",
+    "rrc_peek": "pottmnnpo", "rrc_sweep": "pmmp", "rrc_drop_chapters": "pp", "rrc_sizes": "pppp",
+    "rrc_fault": "op", "rrc_part_of": "omp", "rrc_version": "",
+}
+
+
+class Told(Structure):
+    """`struct rrcache_told`."""
+
+    _fields_ = [("kind", c_uint32), ("left", c_uint32), ("retry_from", c_uint64),
+                ("owner_size", c_uint64), ("data_size", c_uint64)]
+
+
+def path() -> str:
+    """Where the library is."""
+    beside = Path(__file__).resolve().parents[2] / "build" / "librrcache.so"
+    return os.environ.get("RRCACHE_LIBRARY") or (str(beside) if beside.exists() else SONAME)
+
+
+def load() -> CDLL:
+    """The library, with what its calls take."""
+    try:
+        library = CDLL(path())
+    except OSError as fault:
+        raise ImportError(f"{path()} cannot be loaded ({fault}): install the library by "
+                          "bin/install-c, or name it in RRCACHE_LIBRARY") from fault
+    for name, letters in CALLS.items():
+        call = getattr(library, name)
+        call.argtypes = [it for letter in letters for it in TYPES[letter]]
+        call.restype = c_uint32
+    if (version := library.rrc_version()) >> 16 != MAJOR:
+        raise ImportError(f"{path()} has version {version >> 16}, and this package is for {MAJOR}")
+    return library
+
+
+LIBRARY = load()
+
+
+def call(name: str, *arguments: Any) -> bool:
+    """Whether the buffer for a reply was too small. Any other refusal is raised."""
+    status = getattr(LIBRARY, name)(*arguments)
+    if status not in (Status.DONE, Status.SMALL):
+        raise refusal(status)
+    return bool(status == Status.SMALL)
+
+
+def told(name: str, number: type[c_uint32] | type[c_uint64], *arguments: Any) -> int:
+    """The number that a call writes behind its other arguments."""
+    out = number()
+    call(name, *arguments, byref(out))
+    return out.value
+
+
+def sized(octets: bytes) -> tuple[bytes, int]:
+    return bytes(octets), len(octets)
+
+
+def fault(message: bytes) -> int:
+    """The number of the first fault of a response's octets, 0 where they have none (rrcache.h)."""
+    return told("rrc_fault", c_uint32, *sized(message))
+
+
+def part_of(name: str | bytes, parts: int) -> int:
+    """In which of 1 to 64 parts all keys of a name lie.
+
+    >>> part_of("WWW.example.", 16) == part_of("www.example.", 16)
+    True
+    """
+    return told("rrc_part_of", c_uint64, *sized(to_wire(name)), parts)
+
+
+def library_version() -> tuple[int, int, int]:
+    """The version of the library: major, minor and patch."""
+    version = LIBRARY.rrc_version()
+    return version >> 16, version >> 8 & 255, version & 255

@@ -1,0 +1,69 @@
+# SPDX-License-Identifier: MIT
+"""What calls are handed and what they answer."""
+from __future__ import annotations
+
+from dataclasses import dataclass
+from typing import NamedTuple
+
+from .choices import Kind
+from .names import to_text
+
+
+class Counts(NamedTuple):
+    """What became of the offers of a message: kept, cleared by a TTL of 0, or refused since what
+    their keys hold is trusted more."""
+
+    kept: int
+    cleared: int
+    refused: int
+
+    def plus(self, other: Counts) -> Counts:
+        """Both together."""
+        return Counts(self.kept + other.kept, self.cleared + other.cleared,
+                      self.refused + other.refused)
+
+
+class Sizes(NamedTuple):
+    """How many keys a shelf holds, how many events its open chapter has, and how many chapters are
+    closed."""
+
+    keys: int
+    events: int
+    chapters: int
+
+
+class Limits(NamedTuple):
+    """How long what a response says may be kept, in seconds: data (1 to 604,800, RFC 8767 section
+    4), negative answers (1 to 604,800, RFC 2308 section 5) and failures (1 to 300)."""
+
+    cap: int = 604_800
+    negative_cap: int = 10_800
+    recheck: int = 30
+
+
+@dataclass(frozen=True)
+class Reply:
+    """What a shelf answers: the kind; for how many seconds it holds, 0 with a miss; the owner's
+    wire form as it was received, and the data of the set or the SOA record's alone; with
+    MISS_FAILED the moment from which asking may be tried again, and else 0."""
+
+    kind: Kind
+    left: int = 0
+    owner: bytes = b""
+    data: tuple[bytes, ...] = ()
+    retry_from: int = 0
+
+    @property
+    def is_miss(self) -> bool:
+        """Whether nothing was found that will do."""
+        return self.kind in (Kind.MISS, Kind.MISS_FAILED)
+
+    @property
+    def is_negative(self) -> bool:
+        """Whether it says that the name or its data of the type do not exist (RFC 2308)."""
+        return self.kind in (Kind.NO_DATA, Kind.NO_NAME)
+
+    @property
+    def owner_text(self) -> str:
+        """The owner as text, empty with a miss."""
+        return to_text(self.owner) if self.owner else ""

@@ -1,0 +1,150 @@
+# SPDX-License-Identifier: MIT
+"""One part of the cache."""
+from __future__ import annotations
+
+import os
+from collections.abc import Iterable
+from ctypes import byref, c_uint32, c_uint64, c_void_p, create_string_buffer
+from types import TracebackType
+from typing import Any
+
+from .choices import Class, Denial, Kind, Mode, Outcome, Purpose, Rank
+from .library import LIBRARY, Told, call, sized, told
+from .names import to_wire
+from .refusals import refusal
+from .replies import Counts, Limits, Reply, Sizes
+
+Name = str | bytes
+
+
+def data_of(octets: bytes) -> tuple[bytes, ...]:
+    """Data that stand one behind another, each behind its length of two octets."""
+    data, at = [], 0
+    while at < len(octets):
+        behind = at + 2 + int.from_bytes(octets[at:at + 2], "big")
+        data.append(octets[at + 2:behind])
+        at = behind
+    return tuple(data)
+
+
+class Shelf:
+    """A part of the cache with its history, for one thread at a time: ctypes lets other threads of
+    Python run within a call, so two threads need a lock. A `with` closes it at its end.
+
+    `capacity` is the most keys (1 to 65,536), `chapter` the events of a chapter (1 to 1,048,576),
+    `stale` how long a set may answer past its TTL (0 to 604,800), `seed` the 16 secret octets by
+    which names are hashed, random where none are given.
+
+    >>> with Shelf() as shelf:
+    ...     outcome = shelf.offer_set("www.example.", 1, Rank.AUTHORITATIVE_ANSWER, 60,
+    ...                               [bytes([192, 0, 2, 1])], moment=1000)
+    ...     reply = shelf.ask("WWW.example.", 1, moment=1010)
+    >>> reply.kind.name, reply.left, reply.owner_text, reply.data
+    ('FRESH', 50, 'www.example.', (b'\\xc0\\x00\\x02\\x01',))
+    """
+
+    def __init__(self, capacity: int = 1024, chapter: int = 4096, stale: int = 86_400,
+                 seed: bytes | None = None) -> None:
+        # A handle that begins with a null pointer holds no shelf.
+        self._handle, self._room = (c_void_p * 2)(), 1024
+        octets = os.urandom(16) if seed is None else seed
+        call("rrc_make", self._handle, capacity, chapter, stale, *sized(octets))
+
+    def close(self) -> None:
+        """Frees the shelf; it may be closed again. Calls after that raise `NoShelf`."""
+        if self._handle[0]:
+            call("rrc_free", self._handle)
+
+    def __del__(self) -> None:
+        if hasattr(self, "_handle"):
+            self.close()
+
+    def __enter__(self) -> Shelf:
+        return self
+
+    def __exit__(self, kind: type[BaseException] | None, fault: BaseException | None,
+                 trace: TracebackType | None) -> None:
+        self.close()
+
+    # ---- offers
+
+    def _offer(self, name: str, *arguments: Any) -> Counts:
+        counts = (c_uint64 * 3)()
+        if status := getattr(LIBRARY, name)(self._handle, *arguments, counts):
+            raise refusal(status, Counts(*counts))
+        return Counts(*counts)
+
+    def offer_message(self, message: bytes, zone: Name, moment: int, limits: Limits = Limits(),
+                      line: int = 0) -> Counts:
+        """Offers all that a response from servers of a zone says. Whether it is the response to a
+        query that was sent is for the caller to find out."""
+        return self._offer("rrc_offer_message", *sized(message), *sized(to_wire(zone)), moment,
+                           (c_uint32 * 3)(*limits), line)
+
+    def offer_part(self, message: bytes, zone: Name, parts: int, part: int, moment: int,
+                   limits: Limits = Limits(), line: int = 0) -> Counts:
+        """The same of what it says of the names that lie in one of so many parts."""
+        return self._offer("rrc_offer_part", *sized(message), *sized(to_wire(zone)), parts, part,
+                           moment, (c_uint32 * 3)(*limits), line)
+
+    def offer_set(self, owner: Name, rtype: int, rank: Rank | int, ttl: int, data: Iterable[bytes],
+                  moment: int, line: int = 0, rclass: Class | int = Class.IN) -> Outcome:
+        """Offers one RRset."""
+        octets = b"".join(len(it).to_bytes(2, "big") + it for it in data)
+        return Outcome(told("rrc_offer_set", c_uint32, self._handle, *sized(to_wire(owner)), rtype,
+                            rclass, rank, ttl, *sized(octets), moment, line))
+
+    def offer_negative(self, name: Name, rtype: int, denial: Denial | int, rank: Rank | int,
+                       ttl: int, soa_owner: Name, soa: bytes, moment: int, line: int = 0,
+                       rclass: Class | int = Class.IN) -> Outcome:
+        """Offers that a name has no data of a type or does not exist, with the SOA record that says
+        so (RFC 2308)."""
+        return Outcome(told("rrc_offer_negative", c_uint32, self._handle, *sized(to_wire(name)),
+                            rtype, rclass, denial, rank, ttl, *sized(to_wire(soa_owner)),
+                            *sized(soa), moment, line))
+
+    def offer_failure(self, name: Name, rtype: int, ttl: int, moment: int, line: int = 0,
+                      rclass: Class | int = Class.IN) -> Outcome:
+        """Offers that asking for data of a type failed, for `ttl` seconds (RFC 9520)."""
+        return Outcome(told("rrc_offer_failure", c_uint32, self._handle, *sized(to_wire(name)),
+                            rtype, rclass, ttl, moment, line))
+
+    # ---- asks
+
+    def _reply(self, name: str, *arguments: Any) -> Reply:
+        reply, buffer = Told(), create_string_buffer(self._room)
+        if call(name, self._handle, *arguments, byref(reply), buffer, self._room):
+            self._room = reply.owner_size + reply.data_size
+            return self._reply(name, *arguments)
+        octets = buffer.raw[:reply.owner_size + reply.data_size]
+        data = data_of(octets[reply.owner_size:])
+        return Reply(Kind(reply.kind), reply.left, octets[:reply.owner_size], data,
+                     reply.retry_from)
+
+    def ask(self, name: Name, rtype: int, moment: int, purpose: Purpose | int = Purpose.QUESTION,
+            mode: Mode | int = Mode.NO_STALE, line: int = 0,
+            rclass: Class | int = Class.IN) -> Reply:
+        """Asks, which is one event. It follows no alias: ask for CNAME (5) too."""
+        return self._reply("rrc_ask", *sized(to_wire(name)), rtype, rclass, moment, purpose, mode,
+                           line)
+
+    def peek(self, name: Name, rtype: int, moment: int, purpose: Purpose | int = Purpose.QUESTION,
+             mode: Mode | int = Mode.NO_STALE, rclass: Class | int = Class.IN) -> Reply:
+        """What `ask` would answer; no event is written."""
+        return self._reply("rrc_peek", *sized(to_wire(name)), rtype, rclass, moment, purpose, mode)
+
+    # ---- housekeeping
+
+    def sweep(self, moment: int, line: int = 0) -> int:
+        """Removes the keys that can answer no more, and tells how many."""
+        return told("rrc_sweep", c_uint64, self._handle, moment, line)
+
+    def drop_chapters(self) -> int:
+        """Drops the closed chapters of the history, and tells how many."""
+        return told("rrc_drop_chapters", c_uint64, self._handle)
+
+    def sizes(self) -> Sizes:
+        """How large the shelf is."""
+        sizes = c_uint64(), c_uint64(), c_uint64()
+        call("rrc_sizes", self._handle, *map(byref, sizes))
+        return Sizes(*(it.value for it in sizes))
