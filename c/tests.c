@@ -303,7 +303,7 @@ static void test_classes(void)
                                   60, ZONE, sizeof ZONE, SOA_DATA, sizeof SOA_DATA, FIRST, 3,
                                   &outcome)
            == RRCACHE_DONE);
-    EXPECT(text_in(&shelf, NAME, sizeof NAME, RRCACHE_CH, text) == RRCACHE_NO_NAME);
+    EXPECT(text_in(&shelf, NAME, sizeof NAME, RRCACHE_CH, text) == RRCACHE_NXDOMAIN);
     EXPECT(text_in(&shelf, NAME, sizeof NAME, RRCACHE_IN, text) == RRCACHE_FRESH);
     EXPECT(
         rrcache_offer_failure(&shelf, OTHER, sizeof OTHER, TXT, RRCACHE_HS, 30, FIRST, 4, &outcome)

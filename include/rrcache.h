@@ -174,13 +174,15 @@ enum rrcache_status {
 
 /* What a reply is. */
 enum rrcache_kind {
-    RRCACHE_FRESH = 1,      /* a set that is not past its time to live */
-    RRCACHE_STALE = 2,      /* a set past its time to live (RFC 8767) */
-    RRCACHE_NO_DATA = 3,    /* the name has no data of the type (RFC 2308 section 2.2) */
-    RRCACHE_NO_NAME = 4,    /* the name does not exist (RFC 2308 section 2.1) */
-    RRCACHE_MISS = 5,       /* nothing that will do */
-    RRCACHE_MISS_FAILED = 6 /* nothing that will do, and asking has lately failed: `retry_from` says
-                               when to try again */
+    RRCACHE_FRESH = 1,       /* a set that is not past its time to live */
+    RRCACHE_STALE = 2,       /* a set past its time to live (RFC 8767) */
+    RRCACHE_NO_DATA = 3,     /* the name has no data of the type (RFC 2308 section 2.2) */
+    RRCACHE_NO_NAME = 4,     /* the name does not exist (RFC 2308 section 2.1) */
+    RRCACHE_MISS = 5,        /* nothing that will do */
+    RRCACHE_MISS_FAILED = 6, /* nothing that will do, and asking has lately failed: `retry_from`
+                                says when to try again */
+    RRCACHE_NODATA = RRCACHE_NO_DATA,  /* as RFC 2308 calls it */
+    RRCACHE_NXDOMAIN = RRCACHE_NO_NAME /* the same */
 };
 
 /* The classes of which data are kept (RFC 1035 section 3.2.4). */

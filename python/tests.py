@@ -182,6 +182,22 @@ def test_a_cache_of_many_threads_by_python():
         same(cache.sweep(2 ** 40), 40, "keys that were swept")
 
 
+def test_aliases_are_followed_by_python():
+    names = [f"x{number}.example" for number in range(4)]
+    records = [record(one, CNAME, 60, wire(other)) for one, other in zip(names, names[1:])]
+    ring = [record("r0.example", CNAME, 60, wire("R1.example")),
+            record("r1.example", CNAME, 60, wire("r0.example"))]
+    octets = message(7, 0x8580, question(names[0], A), [*records, record(names[3], A, 60, address(9)), *ring])
+    with rrcache.Cache(parts=8) as cache:
+        cache.offer_message(octets, "example.", 100)
+        replies = cache.follow("X0.example.", A, 110)
+        same([it.owner_text for it in replies], [f"{it}." for it in names], "the chain's owners")
+        same(replies[-1].data, (address(9),), "the address at its end")
+        same([it.kind for it in cache.follow("y.example", A, 110)], [rrcache.Kind.MISS], "no chain")
+        same(len(cache.follow("r0.example", A, 110)), 2, "aliases of a ring")
+        same([it.kind for it in cache.follow("x0.example", CNAME, 110)], [rrcache.Kind.FRESH], "CNAME")
+
+
 def test_an_installed_python_package():
     for name in ("pip", "setuptools", "wheel"):
         if importlib.util.find_spec(name) is None:

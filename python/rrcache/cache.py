@@ -12,6 +12,9 @@ from .replies import Counts, Limits, Reply
 from .shelf import Name, Shelf
 
 
+CNAME, LINKS_MOST = 5, 16
+
+
 class Cache:
     """1 to 64 shelves, each with a lock: all that is known of a name lies in one of them.
     `capacity` is the most keys of each; the other arguments are those of `Shelf`.
@@ -30,6 +33,24 @@ class Cache:
         lock, shelf = self._shelves[part_of(name, len(self._shelves))]
         with lock:
             return shelf.ask(name, rtype, moment, **more)
+
+    def follow(self, name: Name, rtype: int, moment: int, **more: Any) -> list[Reply]:
+        """The reply to a question, or where the name is an alias those along the chain: a CNAME
+        record's for each alias, at most 16, and last what the chain ends with (RFC 1034 section
+        3.6.2). A chain that is longer, or leads back, ends with its last alias."""
+        replies: list[Reply] = []
+        seen = set()
+        while True:
+            name = to_wire(name)
+            reply = self.ask(name, rtype, moment, **more)
+            alias = self.ask(name, CNAME, moment, **more) if reply.is_miss else reply
+            if rtype == CNAME or not reply.is_miss or alias.is_miss or alias.is_negative:
+                return [*replies, reply]
+            replies.append(alias)
+            seen.add(name.lower())
+            name = alias.data[0]
+            if len(replies) == LINKS_MOST or name.lower() in seen:
+                return replies
 
     def offer_message(self, message: bytes, zone: Name, moment: int, limits: Limits = Limits(),
                       line: int = 0) -> Counts:

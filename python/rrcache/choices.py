@@ -54,7 +54,8 @@ class Outcome(IntEnum):
 
 
 class Kind(IntEnum):
-    """What a reply is. With MISS_FAILED asking has lately failed."""
+    """What a reply is. With MISS_FAILED asking has lately failed. NODATA and NXDOMAIN are what RFC
+    2308 calls NO_DATA and NO_NAME."""
 
     FRESH = 1
     STALE = 2
@@ -62,3 +63,5 @@ class Kind(IntEnum):
     NO_NAME = 4
     MISS = 5
     MISS_FAILED = 6
+    NODATA = 3
+    NXDOMAIN = 4
