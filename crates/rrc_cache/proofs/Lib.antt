@@ -17,3 +17,4 @@ pub mod Sweeping
 pub mod Closed
 pub mod Again
 pub mod Rechecked
+pub mod Former

@@ -4,6 +4,7 @@
 mod ahead;
 mod answer;
 mod beside;
+mod classless;
 mod closing;
 mod deaths;
 mod entries;
@@ -19,6 +20,7 @@ mod seeded;
 mod store;
 mod sweep;
 
+pub use classless::{ChapterFault, classless_chapter, classless_chapter_seeded};
 pub use part::Part;
 pub use rechecks::{RecheckFault, recheck, recheck_seeded};
 pub use refusal::Refusal;

@@ -68,7 +68,7 @@ pub fn recheck_seeded(
 }
 
 /// Whether an event is right behind others that left what the store holds. Where it is, the store then holds what it leaves.
-fn is_right(
+pub(crate) fn is_right(
     alloc: Global,
     store: &mut Store,
     snapshot: &Snapshot,

@@ -18,4 +18,7 @@ pub mod Auditing
 pub mod Views
 pub mod Laws
 pub mod WholeLaws
+pub mod classless
+pub mod Images
+pub mod ImageLaws
 pub mod lemmas

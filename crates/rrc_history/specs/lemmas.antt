@@ -15,3 +15,8 @@ pub mod SameLaws
 pub mod ReplyLaws
 pub mod SnapshotLaws
 pub mod Openings
+pub mod ImagesFound
+pub mod ImagesJudged
+pub mod ImagesTouched
+pub mod ImagesRight
+pub mod ImagesWhole

@@ -6,8 +6,10 @@ mod audits;
 mod body;
 mod chains;
 mod chapter;
+pub mod classless;
 mod entry_list;
 mod event;
+mod images;
 mod judge;
 mod laws;
 mod offer;
@@ -24,6 +26,10 @@ pub use chains::{ChainFault, Whole, chain, join_chained};
 pub use chapter::Chapter;
 pub use entry_list::{Entries, EntryList};
 pub use event::{Event, Outcome, Reply, RrSet, Soa, Tag};
+pub use images::{
+    events_from_classless, from_classless, images_are_right_alike, snapshot_from_classless,
+    snapshot_without_class,
+};
 pub use judge::{Found, Held, governing, recent_failure, reply_of, retry_from, span, verdict};
 pub use laws::{
     calls_determine_the_history, legal_histories_keep_the_laws, same_snapshots_are_one,

@@ -7,4 +7,6 @@ pub mod WireFault
 pub mod Key
 pub mod KeyRef
 pub mod Parts
+pub mod classless
+pub mod Images
 pub mod lemmas

@@ -1,6 +1,7 @@
 //! Names of the DNS, and the keys under which a cache keeps what it knows of them.
 #![tactic(auto)]
 
+pub mod classless;
 mod fault;
 mod key;
 mod key_ref;

@@ -1,5 +1,6 @@
 mod beside;
 mod chapters;
+mod classless;
 mod eviction;
 mod limits;
 mod owners;

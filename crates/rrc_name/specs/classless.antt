@@ -1,0 +1,2 @@
+-- Keys as they were before they had a class: the definitions of that time, which do not change. Images says which keys they are now.
+pub mod Key
