@@ -1,5 +1,6 @@
 # SPDX-License-Identifier: MIT
 """Traces (docs/FORMATS.md), read strictly and apart from the program, and the calls of a line."""
+from binascii import unhexlify
 from typing import NamedTuple
 
 from messages import MessageFault, is_kept, offers_of, plain_item, read
@@ -62,7 +63,8 @@ def type_of(field):
 def octets(field):
     """The octets that hexadecimal digits of either case spell."""
     try:
-        return bytes.fromhex(field.decode("ascii"))
+        # bytes.fromhex would skip a tab or a CR
+        return unhexlify(field)
     except ValueError as fault:
         raise BadLine from fault
 
