@@ -36,9 +36,9 @@ class Writer:
         """Octets that are no name, or one that comes from an odd place."""
         here = len(self.octets)
         return self.rng.choice([
-            pointer(here), pointer(here + 2), pointer(max(0, here - 1)), pointer(self.rng.randrange(12)),
-            pointer(0x3FFF), b"\x40", b"\x80a\0", b"\xbf", b"\x3fa", b"\xc0", b"\1a" + pointer(here),
-            b"\0\0"])
+            pointer(here), pointer(here + 2), pointer(here - 1), pointer(self.rng.randrange(12)),
+            pointer(0x3FFF), b"\1a" + pointer(here), b"\x40", b"\x80a\0", b"\xbf", b"\x3fa",
+            b"\xc0", b"\0\0"])
 
     def name(self, text):
         """A name, at times with a pointer to an earlier one that ends alike (section 4.1.4)."""

@@ -1,17 +1,20 @@
 # SPDX-License-Identifier: MIT
-"""Traces that come from others by small changes: of lines, of fields, and of the octets of messages.
-Many of them are almost lines of the grammar (docs/FORMATS.md), or almost messages.
+"""Traces that come from others by small changes of lines, of fields, and of messages' octets. Many
+of them are almost lines of the grammar (docs/FORMATS.md), or almost messages.
 """
 from grammar import CLASSES, LEFT_OUT, ODD_CLASSES, RARE_TYPES, TTLS
 
-NUMBERS = [0, 1, 2, 3, 4, 5, 29, 30, 31, 255, 256, 65_535, 65_536, 2**16 + 1, 2**31, 2**32 - 1, 2**32,
+NUMBERS = [0, 1, 2, 3, 4, 5, 29, 30, 31, 255, 256, 65_535, 65_536, 65_537, 2**31, 2**32 - 1, 2**32,
            2**40 - 1, 2**40, 2**40 + 1, 2**63, 2**64, 2**64 + 1, 10**30, *TTLS]
 OCTETS = [0, 1, 2, 3, 5, 6, 12, 63, 64, 128, 191, 192, 255]
-PIECES = [b"\t", b"\r", b"\0", b" ", b"  ", b",", b"-", b".", b"\\", b"/", b"+1", b"\xb2", b"\xff", b"0"]
+PIECES = [b"\t", b"\r", b"\0", b" ", b"  ", b",", b"-", b".", b"\\", b"/", b"+1", b"\xb2", b"\xff",
+          b"0"]
 ITEMS = [b"-", b",", b"-,-", b"00", b"0", b"0g", b"0A,0a", b"00,,00", b"00,", b",00", b"--", b"00-"]
 WORDS = [b"put", b"ask", b"fail", b"fetch", b"sweep", b"response", b"checkpoint", b"Put", b"puts"]
-TYPE_WORDS = [b"1/1", b"1/3", b"16/3", b"16/4", b"16/", b"/1", b"16//1", b"16/1/1", b"016/003", b"16/-1",
-              b"65535/4", b"65536/1", b"0/1", b"16/65537", b"16/0", b"16/ 1"]
+TYPE_WORDS = [b"1/1", b"1/3", b"16/3", b"16/4", b"16/", b"/1", b"16//1", b"16/1/1", b"016/003",
+              b"16/-1", b"65535/4", b"65536/1", b"0/1", b"16/65537", b"16/0", b"16/ 1"]
+ODD_LABELS = [b"a", b"A", b"", b"x" * 61, b"x" * 63, b"x" * 64, b"\\065", b"\\256", b"\\0", b"\\",
+              b"\\ ", b"\\.", b"\\127", b"\x7f"]
 # A line may have so many octets.
 LINE_MOST = 140_000
 
@@ -62,9 +65,7 @@ def changed_type(rng, field):
 def changed_name(rng, field):
     labels = field.split(b".")
     at = rng.randrange(len(labels))
-    labels[at:at + rng.randrange(2)] = [rng.choice([
-        b"a", b"A", b"", b"x" * 63, b"x" * 64, b"\\065", b"\\256", b"\\0", b"\\", b"\\ ", b"\\.", b"\x7f",
-        b"\\127", b"y" * rng.choice([60, 61, 62])])]
+    labels[at:at + rng.randrange(2)] = [rng.choice(ODD_LABELS)]
     return rng.choice([b".".join(labels), field.swapcase(), field.rstrip(b"."), field + b".", b"."])
 
 
@@ -87,7 +88,8 @@ def changed_field(rng, field, others):
         return changed_type(rng, field)
     if b"." in field:
         return changed_name(rng, field)
-    return rng.choice([rng.choice(ITEMS), rng.choice(WORDS), field.upper(), changed_octets(rng, field)])
+    return rng.choice([*rng.sample(ITEMS, 2), rng.choice(WORDS), field.upper(),
+                       changed_octets(rng, field)])
 
 
 def spaced(rng, fields):

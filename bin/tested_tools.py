@@ -1,5 +1,6 @@
 # SPDX-License-Identifier: MIT
-"""Tests of bin/why and bin/what-if: what they say of small traces follows from docs/RULES.md."""
+"""Tests of bin/why and bin/what-if: what they say of small traces follows from docs/RULES.md. Of
+bin/fuzz, bin/schedules and bin/refusals: that they find what is wrong with a wrong program."""
 import csv
 import io
 import json
@@ -14,6 +15,8 @@ from tested_model import PROGRAM
 from traces import Replay
 
 TOP = Path(__file__).resolve().parent.parent
+# How many seconds a tool may take, also on a machine that does much else.
+LIMIT = 600
 SHARES = ("fresh", "stale_answers", "negative_answers", "missed")
 # Question a.example., NXDOMAIN, and the SOA record of example.: a time of 3,600, a MINIMUM of 300.
 DENIED = ("123484030001000000010000" "0161076578616d706c650000010001"
@@ -23,7 +26,7 @@ DENIAL = DENIED + "0000012c"
 
 def ran(tool, *words):
     return subprocess.run([sys.executable, TOP / "bin" / tool, *map(str, words)],
-                          capture_output=True, text=True, timeout=120)
+                          capture_output=True, text=True, timeout=LIMIT)
 
 
 def trace_file(folder, lines):
@@ -221,3 +224,79 @@ def test_what_if_refuses_what_it_cannot_replay():
         run = ran("what-if", "--program", PROGRAM, trace_file(folder, ["ask"]))
         if run.returncode != 1 or "line 0 is not a line of a trace" not in run.stderr:
             yield f"a bad trace: status {run.returncode}: {run.stderr}"
+
+
+# ---- bin/fuzz, bin/schedules and bin/refusals
+
+# What makes a wrong program of the right one, the words of the lines of its least trace, and by which
+# check it is found.
+REPORT = '"$real" "$@" | sed "{}"'
+WHERE = 'case "$*" in *{}*) "$real" "$@" | sed "{}" ;; *) exec "$real" "$@" ;; esac'
+WRONG = [
+    (REPORT.format("s/ put less$/ put kept/"), "put put", "model"),
+    (REPORT.format("s/ stale 30 / stale 29 /"), "(put|fetch|response) (ask|fetch)", "model"),
+    (REPORT.format("s/ refused 3$/ refused 2/"), "response", "model"),
+    ('"$real" "$@" 2>&1', r"\S*", "model"),
+    (WHERE.format("--audit", "s/ ask miss$/ ask fresh/"), "ask", "audit"),
+    (WHERE.format("--workers", "s/ ask miss$/ ask fresh/"), "ask", "workers"),
+]
+
+
+def program_of(folder, body, name="wrong"):
+    path = Path(folder) / name
+    path.write_text(f"#!/bin/bash\nset -o pipefail\nreal={PROGRAM}\n{body}\n")
+    path.chmod(0o755)
+    return path
+
+
+def first_trace(text):
+    """The check and the first words of the lines of the first trace that is told."""
+    found = re.search(r"^FAIL .*, (\w+): .*\n(?:.*\n)*?-- trace\n((?:.*\n)*?)-- ", text, re.M)
+    return found and (found[1], " ".join(it.split(" ")[0] for it in found[2].splitlines()))
+
+
+def is_found(run, lines, check):
+    """Whether a difference was found by a check, and its least trace has such lines."""
+    found, last = first_trace(run.stdout), run.stdout.splitlines()[-1]
+    return (run.returncode == 1 and re.fullmatch(r"\d+ passed, [1-9]\d* failed", last)
+            and found and found[0] == check and re.fullmatch(lines, found[1]))
+
+
+def test_fuzz_finds_each_wrong_rule_and_makes_it_minimal():
+    with tempfile.TemporaryDirectory() as folder:
+        for body, lines, check in WRONG:
+            run = ran("fuzz", "--seconds=30", "--most=1", program_of(folder, body))
+            if not is_found(run, lines, check):
+                yield f"{body}: {run.stdout}{run.stderr}"
+
+
+def test_fuzz_finds_that_two_builds_differ():
+    with tempfile.TemporaryDirectory() as folder:
+        program_of(folder, REPORT.format("s/ put cleared$/ put kept/"), "right.by-rattle")
+        right = program_of(folder, 'exec "$real" "$@"', "right")
+        run = ran("fuzz", "--seconds=30", "--most=1", right)
+        if not is_found(run, "put", "builds"):
+            yield f"{run.stdout}{run.stderr}"
+
+
+def test_fuzz_repeats_its_runs():
+    runs = [ran("fuzz", "--runs=70", "--seed=7", PROGRAM) for _ in range(2)]
+    if runs[0].stdout != runs[1].stdout or not runs[0].stdout.endswith("\n70 passed, 0 failed\n"):
+        yield f"{runs[0].stdout}{runs[1].stdout}"
+
+
+def test_random_tests_say_that_a_program_does_not_start_or_end():
+    with tempfile.TemporaryDirectory() as folder:
+        for program in (Path(folder) / "nothing", program_of(folder, "exec sleep 60")):
+            for tool in ("fuzz", "schedules"):
+                run = ran(tool, "--seconds=1", program)
+                last = run.stdout.splitlines()[-1:]
+                if run.returncode != 1 or not re.fullmatch(r"0 passed, \d failed", "".join(last)):
+                    yield f"{tool}: status {run.returncode}: {run.stdout}{run.stderr}"
+
+
+def test_refusals_say_that_nothing_was_tried():
+    for words in (["--compiler=no-compiler"], ["no-row"], ["--seconds=0"]):
+        run = ran("refusals", *words)
+        if run.returncode != 1 or run.stdout.splitlines()[-1] != "0 passed, 1 failed":
+            yield f"{words}: status {run.returncode}: {run.stdout}{run.stderr}"

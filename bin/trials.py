@@ -26,6 +26,7 @@ from names import fold
 from traces import Replay, TraceFault, read_trace, report
 
 SECONDS = 10
+NO_END = f"no end in {SECONDS} seconds".encode()
 DEFAULTS = {"capacity": 1024, "parts": 1, "stale": 86_400}
 RANGES = {"workers": (1, 64), "parts": (1, 64), "capacity": (1, 65_536), "chapter": (1, 2**20),
           "stale": (0, 604_800)}
@@ -63,7 +64,7 @@ def by_program(program, options, text):
         run = subprocess.run([program, *words_of(options)], input=text, capture_output=True,
                              timeout=SECONDS)
     except subprocess.TimeoutExpired:
-        return Answer(None, b"", f"no end in {SECONDS} seconds".encode())
+        return Answer(None, b"", NO_END)
     except OSError as fault:
         return Answer(None, b"", f"it did not start: {fault}".encode())
     return Answer(run.returncode, run.stdout, run.stderr)
@@ -164,6 +165,10 @@ class Trial(NamedTuple):
 # ---- the least trial that fails
 
 
+# What a field of a line is tried as, where it is longer.
+SIMPLE = [b"0", b"1", b"-", b".", b"9", b"a.", b"16", b"00", b"100", b"a.b."]
+
+
 class Spent(Exception):
     """All the tries are used up."""
 
@@ -171,7 +176,7 @@ class Spent(Exception):
 class Shortener:
     """Makes a failing trial shorter while it fails, by so many tries at most."""
 
-    def __init__(self, trial, tries=3_000):
+    def __init__(self, trial, tries=1_000):
         self.trial, self.tries = trial, tries
 
     def fails(self, trial):
@@ -180,8 +185,8 @@ class Shortener:
             raise Spent
         begun = time.monotonic()
         found = trial.fails()
-        # a run that does not end counts as many
-        self.tries -= 1_000 if time.monotonic() - begun > SECONDS else 1
+        # where a run did not end, it is the last
+        self.tries -= self.tries if time.monotonic() - begun > SECONDS else 1
         if found:
             self.trial = trial
         return found
@@ -213,6 +218,19 @@ class Shortener:
         lines = self.trial.text.splitlines(True)
         self.without_pieces(lines, lambda left: self.with_text(b"".join(left)))
 
+    def simplify_fields(self):
+        for at, line in enumerate(self.trial.text.split(b"\n")):
+            for place in range(1, len(line.split(b" "))):
+                self.simplify_field(at, place)
+
+    def simplify_field(self, at, place):
+        lines = self.trial.text.split(b"\n")
+        fields = lines[at].split(b" ")
+        for simple in [it for it in SIMPLE if len(it) < len(fields[place])]:
+            line = b" ".join([*fields[:place], simple, *fields[place + 1:]])
+            if self.fails(self.with_text(b"\n".join([*lines[:at], line, *lines[at + 1:]]))):
+                break
+
     def shorten_lines(self):
         for at in range(len(self.trial.text.splitlines(True))):
             lines = self.trial.text.splitlines(True)
@@ -224,9 +242,11 @@ class Shortener:
             self.without_pieces(lines[at], made)
 
     def shortest(self):
+        """The shortest that was found."""
         try:
             self.drop_lines()
             self.drop_options()
+            self.simplify_fields()
             self.shorten_lines()
             self.drop_lines()
         except Spent:
