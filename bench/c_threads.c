@@ -54,21 +54,36 @@ static uint64_t draw(uint64_t *seed)
 static void put(struct shelf *shelf, const uint8_t *name, uint64_t line)
 {
     static const uint8_t data[] = {0, 4, 192, 0, 2, 1, 0, 4, 192, 0, 2, 2};
+    const struct rrcache_set set = {
+        .owner = name,
+        .owner_size = sizeof names[0],
+        .rtype = 1,
+        .rclass = RRCACHE_IN,
+        .trust = RRCACHE_AUTHORITATIVE_ANSWER,
+        .ttl = TTL,
+        .data = data,
+        .data_size = sizeof data,
+        .moment = MOMENT,
+    };
     uint32_t outcome;
-    if (rrcache_offer_set(&shelf->cache, name, sizeof names[0], 1, RRCACHE_IN,
-                          RRCACHE_AUTHORITATIVE_ANSWER, TTL, data, sizeof data, MOMENT, line,
-                          &outcome)
-        != RRCACHE_DONE)
+    if (rrcache_offer_set(&shelf->cache, &set, line, &outcome) != RRCACHE_DONE)
         fail("a put was refused");
 }
 
 static void ask(struct shelf *shelf, const uint8_t *name, uint64_t line)
 {
+    const struct rrcache_query query = {
+        .name = name,
+        .name_size = sizeof names[0],
+        .rtype = 1,
+        .rclass = RRCACHE_IN,
+        .moment = MOMENT,
+        .purpose = RRCACHE_QUESTION,
+        .mode = RRCACHE_NO_STALE,
+    };
     struct rrcache_told told;
     uint8_t buffer[512];
-    if (rrcache_ask(&shelf->cache, name, sizeof names[0], 1, RRCACHE_IN, MOMENT, RRCACHE_QUESTION,
-                    RRCACHE_NO_STALE, line, &told, buffer, sizeof buffer)
-            != RRCACHE_DONE
+    if (rrcache_ask(&shelf->cache, &query, line, &told, buffer, sizeof buffer) != RRCACHE_DONE
         || told.kind != RRCACHE_FRESH)
         fail("an ask found nothing fresh");
 }

@@ -20,7 +20,7 @@ GROUPS = {
     "offer what a response says": [
         "rrcache_offer_message", "rrcache_offer_part", "rrcache_offer_set",
         "rrcache_offer_negative", "rrcache_offer_failure"],
-    "ask a shelf": ["rrcache_ask", "rrcache_peek"],
+    "ask a shelf": ["rrcache_ask", "rrcache_ask_alias", "rrcache_peek"],
     "sweep a shelf, drop its chapters, tell its sizes": [
         "rrcache_sweep", "rrcache_drop_chapters", "rrcache_sizes"],
     "tell a name's part, a message's fault and the library's version": [
@@ -38,12 +38,23 @@ int main(void)
     struct rrcache_told told;
     uint8_t buffer[512];
     uint32_t outcome;
+    struct rrcache_set set = {0};
+    struct rrcache_query query = {0};
     if (rrcache_make(&shelf, 4096, 4096, 86400, seed) != RRCACHE_DONE)
         return 1;
-    rrcache_offer_set(&shelf, name, sizeof name, 1, RRCACHE_IN, RRCACHE_AUTHORITATIVE_ANSWER, 60,
-                      address, sizeof address, 1000, 0, &outcome);
-    if (rrcache_ask(&shelf, name, sizeof name, 1, RRCACHE_IN, 1010, RRCACHE_QUESTION,
-                    RRCACHE_NO_STALE, 1, &told, buffer, sizeof buffer) == RRCACHE_DONE
+    set.owner = query.name = name;
+    set.owner_size = query.name_size = sizeof name;
+    set.rtype = query.rtype = 1; /* A */
+    set.rclass = query.rclass = RRCACHE_IN;
+    set.trust = RRCACHE_AUTHORITATIVE_ANSWER;
+    set.ttl = 60;
+    set.data = address;
+    set.data_size = sizeof address;
+    set.moment = 1000;
+    rrcache_offer_set(&shelf, &set, 0, &outcome);
+    query.purpose = RRCACHE_QUESTION;
+    query.moment = 1010;
+    if (rrcache_ask(&shelf, &query, 1, &told, buffer, sizeof buffer) == RRCACHE_DONE
         && told.kind == RRCACHE_FRESH)
         printf("TTL %u\\n", (unsigned)told.left);
     rrcache_free(&shelf);
@@ -62,7 +73,7 @@ class Call(NamedTuple):
 
 def calls(header):
     """The calls of a header that have a comment of their own, by name."""
-    form = re.compile(r"/\* ((?:(?!\*/).)*?) \*/\n(static inline uint32_t (rrcache_\w+)\([^)]*\))\n\{", re.S)
+    form = re.compile(r"/\* ((?:(?!\*/).)*?) \*/\n(static inline (?:uint32_t|enum rrcache_status) (rrcache_\w+)\([^)]*\))\n\{", re.S)
     found = (Call(it[3], undecorated(it[2]), it[1]) for it in form.finditer(header))
     return {it.name: it for it in found}
 

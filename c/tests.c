@@ -75,6 +75,21 @@ static const uint8_t ADDRESS[] = {0, 4, 192, 0, 2, 9};
 static const uint8_t SOA_DATA[] = {0, 0, 0, 0, 0, 1, 0, 0, 0, 2, 0,
                                    0, 0, 3, 0, 0, 0, 4, 0, 0, 0, 60};
 
+/* What the calls take, each field in its order. */
+#define QUERY(name, size, type, class, moment, purpose, mode)                                      \
+    (&(const struct rrcache_query){(name), (size), (type), (class), (moment), (purpose), (mode)})
+#define RESPONSE(octets, size, zone, zone_size, moment, limits)                                    \
+    (&(const struct rrcache_response){(octets), (size), (zone), (zone_size), (moment), (limits)})
+#define SET(owner, size, type, class, trust, ttl, data, data_size, moment)                         \
+    (&(const struct rrcache_set){(owner), (size), (type), (class), (trust), (ttl), (data),         \
+                                 (data_size), (moment)})
+#define NEGATIVE(name, size, type, class, denial, trust, ttl, owner, owner_size, soa, soa_size,    \
+                 moment)                                                                           \
+    (&(const struct rrcache_negative){(name), (size), (type), (class), (denial), (trust), (ttl),   \
+                                      (owner), (owner_size), (soa), (soa_size), (moment)})
+#define FAILURE(name, size, type, class, ttl, moment)                                              \
+    (&(const struct rrcache_failure){(name), (size), (type), (class), (ttl), (moment)})
+
 static uint32_t make(struct rrcache_shelf *shelf)
 {
     return rrcache_make(shelf, 100, 4, 3600, SEED);
@@ -83,22 +98,24 @@ static uint32_t make(struct rrcache_shelf *shelf)
 static uint32_t offer_answer(struct rrcache_shelf *shelf, uint64_t moment,
                              struct rrcache_counts *counts)
 {
-    return rrcache_offer_message(shelf, ANSWER, sizeof ANSWER, ZONE, sizeof ZONE, moment, &LIMITS,
-                                 1, counts);
+    return rrcache_offer_message(
+        shelf, RESPONSE(ANSWER, sizeof ANSWER, ZONE, sizeof ZONE, moment, LIMITS), 1, counts);
 }
 
 static uint32_t ask(struct rrcache_shelf *shelf, uint64_t moment, struct rrcache_told *told,
                     uint8_t *buffer, size_t size)
 {
-    return rrcache_ask(shelf, NAME, sizeof NAME, A, RRCACHE_IN, moment, RRCACHE_QUESTION,
-                       RRCACHE_NO_STALE, 2, told, buffer, size);
+    return rrcache_ask(
+        shelf, QUERY(NAME, sizeof NAME, A, RRCACHE_IN, moment, RRCACHE_QUESTION, RRCACHE_NO_STALE),
+        2, told, buffer, size);
 }
 
 static uint32_t peek(struct rrcache_shelf *shelf, uint64_t moment, struct rrcache_told *told,
                      uint8_t *buffer, size_t size)
 {
-    return rrcache_peek(shelf, NAME, sizeof NAME, A, RRCACHE_IN, moment, RRCACHE_QUESTION,
-                        RRCACHE_NO_STALE, told, buffer, size);
+    return rrcache_peek(
+        shelf, QUERY(NAME, sizeof NAME, A, RRCACHE_IN, moment, RRCACHE_QUESTION, RRCACHE_NO_STALE),
+        told, buffer, size);
 }
 
 static uint64_t events(struct rrcache_shelf *shelf)
@@ -119,8 +136,9 @@ static uint32_t offer_address(struct rrcache_shelf *shelf, const uint8_t *name, 
                               uint32_t trust, uint32_t ttl)
 {
     uint32_t outcome = 0;
-    EXPECT(rrcache_offer_set(shelf, name, size, A, RRCACHE_IN, trust, ttl, ADDRESS, sizeof ADDRESS,
-                             FIRST, 1, &outcome)
+    EXPECT(rrcache_offer_set(
+               shelf, SET(name, size, A, RRCACHE_IN, trust, ttl, ADDRESS, sizeof ADDRESS, FIRST), 1,
+               &outcome)
            == RRCACHE_DONE);
     return outcome;
 }
@@ -128,8 +146,9 @@ static uint32_t offer_address(struct rrcache_shelf *shelf, const uint8_t *name, 
 static uint32_t offer_alias(struct rrcache_shelf *shelf, uint64_t parts, uint64_t part,
                             uint64_t moment, struct rrcache_counts *counts)
 {
-    return rrcache_offer_part(shelf, ALIAS, sizeof ALIAS, ZONE, sizeof ZONE, parts, part, moment,
-                              &LIMITS, 1, counts);
+    return rrcache_offer_part(shelf,
+                              RESPONSE(ALIAS, sizeof ALIAS, ZONE, sizeof ZONE, moment, LIMITS),
+                              parts, part, 1, counts);
 }
 
 static uint64_t part_of(const uint8_t *name, size_t size)
@@ -172,8 +191,8 @@ static void test_answers(void)
 
     /* The name is asked for in any case, and a buffer of just the size will do. */
     memset(buffer, 0xee, sizeof buffer);
-    EXPECT(rrcache_ask(&shelf, UPPER, sizeof UPPER, A, RRCACHE_IN, FIRST, 0, 0, 3, &told, buffer,
-                       sizeof ADDRESSES)
+    EXPECT(rrcache_ask(&shelf, QUERY(UPPER, sizeof UPPER, A, RRCACHE_IN, FIRST, 0, 0), 3, &told,
+                       buffer, sizeof ADDRESSES)
            == RRCACHE_DONE);
     EXPECT(memcmp(buffer, ADDRESSES, sizeof ADDRESSES) == 0 && events(&shelf) == 4);
     EXPECT(rrcache_free(&shelf) == RRCACHE_DONE && shelf.at == NULL && !shelf.is_live);
@@ -218,26 +237,34 @@ static void test_offers(void)
     uint32_t outcome = 0;
     uint8_t buffer[64];
     EXPECT(make(&shelf) == RRCACHE_DONE);
-    EXPECT(rrcache_offer_set(&shelf, NAME, sizeof NAME, A, RRCACHE_IN, RRCACHE_AUTHORITATIVE_ANSWER,
-                             60, ADDRESS, sizeof ADDRESS, FIRST, 1, &outcome)
+    EXPECT(rrcache_offer_set(&shelf,
+                             SET(NAME, sizeof NAME, A, RRCACHE_IN, RRCACHE_AUTHORITATIVE_ANSWER, 60,
+                                 ADDRESS, sizeof ADDRESS, FIRST),
+                             1, &outcome)
            == RRCACHE_DONE);
     EXPECT(outcome == RRCACHE_KEPT);
-    EXPECT(rrcache_offer_set(&shelf, NAME, sizeof NAME, A, RRCACHE_IN, RRCACHE_ADDITIONAL, 60,
-                             ADDRESS, sizeof ADDRESS, FIRST, 2, &outcome)
+    EXPECT(rrcache_offer_set(&shelf,
+                             SET(NAME, sizeof NAME, A, RRCACHE_IN, RRCACHE_ADDITIONAL, 60, ADDRESS,
+                                 sizeof ADDRESS, FIRST),
+                             2, &outcome)
            == RRCACHE_DONE);
     EXPECT(outcome == RRCACHE_LESS_TRUSTED);
     EXPECT(peek(&shelf, FIRST, &told, buffer, sizeof buffer) == RRCACHE_DONE
            && told.kind == RRCACHE_FRESH && told.left == 60);
     EXPECT(told.data_size == sizeof ADDRESS
            && memcmp(buffer + told.owner_size, ADDRESS, sizeof ADDRESS) == 0);
-    EXPECT(rrcache_offer_set(&shelf, NAME, sizeof NAME, A, RRCACHE_IN, RRCACHE_AUTHORITATIVE_ANSWER,
-                             0, ADDRESS, sizeof ADDRESS, FIRST, 3, &outcome)
+    EXPECT(rrcache_offer_set(&shelf,
+                             SET(NAME, sizeof NAME, A, RRCACHE_IN, RRCACHE_AUTHORITATIVE_ANSWER, 0,
+                                 ADDRESS, sizeof ADDRESS, FIRST),
+                             3, &outcome)
            == RRCACHE_DONE);
     EXPECT(outcome == RRCACHE_CLEARED);
 
-    EXPECT(rrcache_offer_negative(&shelf, NAME, sizeof NAME, A, RRCACHE_IN, RRCACHE_DENIES_TYPE,
-                                  RRCACHE_AUTHORITY, 60, ZONE, sizeof ZONE, SOA_DATA,
-                                  sizeof SOA_DATA, FIRST, 4, &outcome)
+    EXPECT(rrcache_offer_negative(&shelf,
+                                  NEGATIVE(NAME, sizeof NAME, A, RRCACHE_IN, RRCACHE_DENIES_TYPE,
+                                           RRCACHE_AUTHORITY, 60, ZONE, sizeof ZONE, SOA_DATA,
+                                           sizeof SOA_DATA, FIRST),
+                                  4, &outcome)
                == RRCACHE_DONE
            && outcome == RRCACHE_KEPT);
     EXPECT(peek(&shelf, FIRST + 1, &told, buffer, sizeof buffer) == RRCACHE_DONE
@@ -247,20 +274,23 @@ static void test_offers(void)
     EXPECT(buffer[sizeof ZONE + 1] == sizeof SOA_DATA
            && memcmp(buffer + sizeof ZONE + 2, SOA_DATA, sizeof SOA_DATA) == 0);
 
-    EXPECT(rrcache_offer_negative(&shelf, OTHER, sizeof OTHER, A, RRCACHE_IN, RRCACHE_DENIES_NAME,
-                                  RRCACHE_AUTHORITY, 60, ZONE, sizeof ZONE, SOA_DATA,
-                                  sizeof SOA_DATA, FIRST, 5, &outcome)
+    EXPECT(rrcache_offer_negative(&shelf,
+                                  NEGATIVE(OTHER, sizeof OTHER, A, RRCACHE_IN, RRCACHE_DENIES_NAME,
+                                           RRCACHE_AUTHORITY, 60, ZONE, sizeof ZONE, SOA_DATA,
+                                           sizeof SOA_DATA, FIRST),
+                                  5, &outcome)
            == RRCACHE_DONE);
-    EXPECT(rrcache_peek(&shelf, OTHER, sizeof OTHER, TXT, RRCACHE_IN, FIRST, 1, 0, &told, buffer,
-                        sizeof buffer)
+    EXPECT(rrcache_peek(&shelf, QUERY(OTHER, sizeof OTHER, TXT, RRCACHE_IN, FIRST, 1, 0), &told,
+                        buffer, sizeof buffer)
            == RRCACHE_DONE);
     EXPECT(told.kind == RRCACHE_NO_NAME);
 
-    EXPECT(rrcache_offer_failure(&shelf, NAME, sizeof NAME, TXT, RRCACHE_IN, 30, FIRST, 6, &outcome)
+    EXPECT(rrcache_offer_failure(&shelf, FAILURE(NAME, sizeof NAME, TXT, RRCACHE_IN, 30, FIRST), 6,
+                                 &outcome)
                == RRCACHE_DONE
            && outcome == RRCACHE_KEPT);
-    EXPECT(rrcache_peek(&shelf, NAME, sizeof NAME, TXT, RRCACHE_IN, FIRST + 1, 1, 0, &told, buffer,
-                        sizeof buffer)
+    EXPECT(rrcache_peek(&shelf, QUERY(NAME, sizeof NAME, TXT, RRCACHE_IN, FIRST + 1, 1, 0), &told,
+                        buffer, sizeof buffer)
            == RRCACHE_DONE);
     EXPECT(told.kind == RRCACHE_MISS_FAILED && told.retry_from == FIRST + 30 && told.left == 0);
     EXPECT(rrcache_free(&shelf) == RRCACHE_DONE);
@@ -272,7 +302,8 @@ static uint32_t text_in(struct rrcache_shelf *shelf, const uint8_t *name, size_t
 {
     uint8_t buffer[64];
     struct rrcache_told told;
-    EXPECT(rrcache_ask(shelf, name, size, TXT, rclass, FIRST, RRCACHE_QUESTION, RRCACHE_NO_STALE, 1,
+    EXPECT(rrcache_ask(shelf,
+                       QUERY(name, size, TXT, rclass, FIRST, RRCACHE_QUESTION, RRCACHE_NO_STALE), 1,
                        &told, buffer, sizeof buffer)
            == RRCACHE_DONE);
     if (told.kind == RRCACHE_FRESH)
@@ -288,26 +319,29 @@ static void test_classes(void)
     uint32_t outcome = 0;
     char text[2] = {0, 0};
     EXPECT(make(&shelf) == RRCACHE_DONE);
-    EXPECT(rrcache_offer_set(&shelf, NAME, sizeof NAME, TXT, RRCACHE_IN, 4, 60, IN_TEXT, 4, FIRST,
-                             1, &outcome)
+    EXPECT(rrcache_offer_set(&shelf,
+                             SET(NAME, sizeof NAME, TXT, RRCACHE_IN, 4, 60, IN_TEXT, 4, FIRST), 1,
+                             &outcome)
            == RRCACHE_DONE);
-    EXPECT(rrcache_offer_set(&shelf, NAME, sizeof NAME, TXT, RRCACHE_CH, 4, 60, CH_TEXT, 4, FIRST,
-                             2, &outcome)
+    EXPECT(rrcache_offer_set(&shelf,
+                             SET(NAME, sizeof NAME, TXT, RRCACHE_CH, 4, 60, CH_TEXT, 4, FIRST), 2,
+                             &outcome)
            == RRCACHE_DONE);
     EXPECT(keys(&shelf) == 2);
     EXPECT(text_in(&shelf, NAME, sizeof NAME, RRCACHE_IN, text) == RRCACHE_FRESH && text[1] == 'I');
     EXPECT(text_in(&shelf, NAME, sizeof NAME, RRCACHE_CH, text) == RRCACHE_FRESH && text[1] == 'C');
     EXPECT(text_in(&shelf, NAME, sizeof NAME, RRCACHE_HS, text) == RRCACHE_MISS);
     EXPECT(text_in(&shelf, NAME, sizeof NAME, 254, text) == RRCACHE_MISS);
-    EXPECT(rrcache_offer_negative(&shelf, NAME, sizeof NAME, 0, RRCACHE_CH, RRCACHE_DENIES_NAME, 4,
-                                  60, ZONE, sizeof ZONE, SOA_DATA, sizeof SOA_DATA, FIRST, 3,
-                                  &outcome)
+    EXPECT(rrcache_offer_negative(&shelf,
+                                  NEGATIVE(NAME, sizeof NAME, 0, RRCACHE_CH, RRCACHE_DENIES_NAME, 4,
+                                           60, ZONE, sizeof ZONE, SOA_DATA, sizeof SOA_DATA, FIRST),
+                                  3, &outcome)
            == RRCACHE_DONE);
     EXPECT(text_in(&shelf, NAME, sizeof NAME, RRCACHE_CH, text) == RRCACHE_NXDOMAIN);
     EXPECT(text_in(&shelf, NAME, sizeof NAME, RRCACHE_IN, text) == RRCACHE_FRESH);
-    EXPECT(
-        rrcache_offer_failure(&shelf, OTHER, sizeof OTHER, TXT, RRCACHE_HS, 30, FIRST, 4, &outcome)
-        == RRCACHE_DONE);
+    EXPECT(rrcache_offer_failure(&shelf, FAILURE(OTHER, sizeof OTHER, TXT, RRCACHE_HS, 30, FIRST),
+                                 4, &outcome)
+           == RRCACHE_DONE);
     EXPECT(text_in(&shelf, OTHER, sizeof OTHER, RRCACHE_HS, text) == RRCACHE_MISS_FAILED);
     EXPECT(text_in(&shelf, OTHER, sizeof OTHER, RRCACHE_IN, text) == RRCACHE_MISS);
     rrcache_free(&shelf);
@@ -321,8 +355,8 @@ static void test_message_of_another_class(void)
     struct rrcache_counts counts = {0, 0, 0};
     char text[2] = {0, 0};
     EXPECT(make(&shelf) == RRCACHE_DONE);
-    EXPECT(rrcache_offer_message(&shelf, CHAOS, sizeof CHAOS, ZONE, sizeof ZONE, FIRST, &LIMITS, 1,
-                                 &counts)
+    EXPECT(rrcache_offer_message(
+               &shelf, RESPONSE(CHAOS, sizeof CHAOS, ZONE, sizeof ZONE, FIRST, LIMITS), 1, &counts)
            == RRCACHE_DONE);
     EXPECT(counts.kept == 1 && counts.cleared == 0 && counts.refused == 0);
     EXPECT(text_in(&shelf, CHAOS_NAME, sizeof CHAOS_NAME, RRCACHE_CH, text) == RRCACHE_FRESH);
@@ -337,20 +371,26 @@ static void test_refused_classes(void)
     struct rrcache_shelf shelf = {0};
     uint32_t outcome = 7;
     EXPECT(make(&shelf) == RRCACHE_DONE);
-    EXPECT(rrcache_offer_set(&shelf, NAME, sizeof NAME, A, 2, 4, 60, ADDRESS, sizeof ADDRESS, FIRST,
-                             1, &outcome)
+    EXPECT(rrcache_offer_set(&shelf,
+                             SET(NAME, sizeof NAME, A, 2, 4, 60, ADDRESS, sizeof ADDRESS, FIRST), 1,
+                             &outcome)
            == RRCACHE_BAD_TYPE);
-    EXPECT(rrcache_offer_set(&shelf, NAME, sizeof NAME, A, RRCACHE_CH, 4, 60, ADDRESS,
-                             sizeof ADDRESS, FIRST, 1, &outcome)
+    EXPECT(rrcache_offer_set(
+               &shelf, SET(NAME, sizeof NAME, A, RRCACHE_CH, 4, 60, ADDRESS, sizeof ADDRESS, FIRST),
+               1, &outcome)
            == RRCACHE_BAD_TYPE);
-    EXPECT(rrcache_offer_failure(&shelf, NAME, sizeof NAME, A, RRCACHE_CH, 30, FIRST, 1, &outcome)
+    EXPECT(rrcache_offer_failure(&shelf, FAILURE(NAME, sizeof NAME, A, RRCACHE_CH, 30, FIRST), 1,
+                                 &outcome)
            == RRCACHE_BAD_TYPE);
-    EXPECT(rrcache_offer_negative(&shelf, NAME, sizeof NAME, A, RRCACHE_CH, RRCACHE_DENIES_TYPE, 4,
-                                  60, ZONE, sizeof ZONE, SOA_DATA, sizeof SOA_DATA, FIRST, 1,
-                                  &outcome)
+    EXPECT(rrcache_offer_negative(&shelf,
+                                  NEGATIVE(NAME, sizeof NAME, A, RRCACHE_CH, RRCACHE_DENIES_TYPE, 4,
+                                           60, ZONE, sizeof ZONE, SOA_DATA, sizeof SOA_DATA, FIRST),
+                                  1, &outcome)
            == RRCACHE_BAD_TYPE);
-    EXPECT(rrcache_offer_negative(&shelf, NAME, sizeof NAME, A, 254, RRCACHE_DENIES_NAME, 4, 60,
-                                  ZONE, sizeof ZONE, SOA_DATA, sizeof SOA_DATA, FIRST, 1, &outcome)
+    EXPECT(rrcache_offer_negative(&shelf,
+                                  NEGATIVE(NAME, sizeof NAME, A, 254, RRCACHE_DENIES_NAME, 4, 60,
+                                           ZONE, sizeof ZONE, SOA_DATA, sizeof SOA_DATA, FIRST),
+                                  1, &outcome)
            == RRCACHE_BAD_TYPE);
     EXPECT(outcome == 7 && keys(&shelf) == 0 && events(&shelf) == 0);
     rrcache_free(&shelf);
@@ -366,7 +406,8 @@ static void test_stale(void)
     EXPECT(make(&shelf) == RRCACHE_DONE && offer_answer(&shelf, FIRST, &counts) == RRCACHE_DONE);
     EXPECT(ask(&shelf, FIRST + 300, &told, buffer, sizeof buffer) == RRCACHE_DONE
            && told.kind == RRCACHE_MISS);
-    EXPECT(rrcache_ask(&shelf, NAME, sizeof NAME, A, RRCACHE_IN, FIRST + 300, 1, RRCACHE_STALE_NOW,
+    EXPECT(rrcache_ask(&shelf,
+                       QUERY(NAME, sizeof NAME, A, RRCACHE_IN, FIRST + 300, 1, RRCACHE_STALE_NOW),
                        3, &told, buffer, sizeof buffer)
            == RRCACHE_DONE);
     EXPECT(told.kind == RRCACHE_STALE && told.left == 30
@@ -412,20 +453,23 @@ static void test_keys(void)
     EXPECT(offer_address(&shelf, NAME, sizeof NAME, 1, 60) == RRCACHE_LESS_TRUSTED
            && keys(&shelf) == 1);
     EXPECT(offer_address(&shelf, OTHER, sizeof OTHER, 4, 60) == RRCACHE_KEPT && keys(&shelf) == 2);
-    EXPECT(rrcache_offer_negative(&shelf, NAME, sizeof NAME, TXT, RRCACHE_IN, RRCACHE_DENIES_TYPE,
-                                  3, 60, ZONE, sizeof ZONE, SOA_DATA, sizeof SOA_DATA, FIRST, 1,
-                                  &outcome)
-               == RRCACHE_DONE
-           && keys(&shelf) == 3);
+    EXPECT(
+        rrcache_offer_negative(&shelf,
+                               NEGATIVE(NAME, sizeof NAME, TXT, RRCACHE_IN, RRCACHE_DENIES_TYPE, 3,
+                                        60, ZONE, sizeof ZONE, SOA_DATA, sizeof SOA_DATA, FIRST),
+                               1, &outcome)
+            == RRCACHE_DONE
+        && keys(&shelf) == 3);
     EXPECT(ask(&shelf, FIRST, &told, buffer, sizeof buffer) == RRCACHE_DONE
            && told.kind == RRCACHE_FRESH && keys(&shelf) == 3);
 
     /* There is room for three: the key touched least recently goes, which is that of OTHER. */
-    EXPECT(rrcache_offer_failure(&shelf, NAME, sizeof NAME, SOA, RRCACHE_IN, 30, FIRST, 1, &outcome)
+    EXPECT(rrcache_offer_failure(&shelf, FAILURE(NAME, sizeof NAME, SOA, RRCACHE_IN, 30, FIRST), 1,
+                                 &outcome)
                == RRCACHE_DONE
            && keys(&shelf) == 3);
-    EXPECT(rrcache_peek(&shelf, OTHER, sizeof OTHER, A, RRCACHE_IN, FIRST, 0, 0, &told, buffer,
-                        sizeof buffer)
+    EXPECT(rrcache_peek(&shelf, QUERY(OTHER, sizeof OTHER, A, RRCACHE_IN, FIRST, 0, 0), &told,
+                        buffer, sizeof buffer)
                == RRCACHE_DONE
            && told.kind == RRCACHE_MISS);
     EXPECT(rrcache_drop_chapters(&shelf, &number) == RRCACHE_DONE && number == 1
@@ -437,8 +481,8 @@ static void test_keys(void)
     EXPECT(offer_address(&shelf, NAME, sizeof NAME, 4, 0) == RRCACHE_CLEARED && keys(&shelf) == 2);
     EXPECT(rrcache_sweep(&shelf, FIRST + 29, 1, &number) == RRCACHE_DONE && number == 0
            && keys(&shelf) == 2);
-    EXPECT(rrcache_peek(&shelf, NAME, sizeof NAME, TXT, RRCACHE_IN, FIRST + 60, 0, 0, &told, buffer,
-                        sizeof buffer)
+    EXPECT(rrcache_peek(&shelf, QUERY(NAME, sizeof NAME, TXT, RRCACHE_IN, FIRST + 60, 0, 0), &told,
+                        buffer, sizeof buffer)
            == RRCACHE_DONE);
     EXPECT(told.kind == RRCACHE_MISS && keys(&shelf) == 2);
     EXPECT(rrcache_sweep(&shelf, FIRST + 30, 1, &number) == RRCACHE_DONE && number == 1
@@ -468,25 +512,25 @@ static void test_parts(void)
         EXPECT(keys(&shelves[part]) == share && events(&shelves[part]) == share);
         all.kept += counts.kept;
     }
-    EXPECT(rrcache_peek(&shelves[alias], NAME, sizeof NAME, CNAME, RRCACHE_IN, FIRST, 1, 0, &told,
-                        buffer, sizeof buffer)
+    EXPECT(rrcache_peek(&shelves[alias], QUERY(NAME, sizeof NAME, CNAME, RRCACHE_IN, FIRST, 1, 0),
+                        &told, buffer, sizeof buffer)
            == RRCACHE_DONE);
     EXPECT(told.kind == RRCACHE_FRESH && told.data_size == 2 + sizeof OTHER
            && memcmp(buffer + told.owner_size + 2, OTHER, sizeof OTHER) == 0);
-    EXPECT(rrcache_peek(&shelves[target], OTHER, sizeof OTHER, A, RRCACHE_IN, FIRST, 1, 0, &told,
-                        buffer, sizeof buffer)
+    EXPECT(rrcache_peek(&shelves[target], QUERY(OTHER, sizeof OTHER, A, RRCACHE_IN, FIRST, 1, 0),
+                        &told, buffer, sizeof buffer)
            == RRCACHE_DONE);
     EXPECT(told.kind == RRCACHE_FRESH && told.data_size == sizeof ADDRESS
            && memcmp(buffer + told.owner_size, ADDRESS, sizeof ADDRESS) == 0);
-    EXPECT(rrcache_peek(&shelves[alias], OTHER, sizeof OTHER, A, RRCACHE_IN, FIRST, 1, 0, &told,
-                        buffer, sizeof buffer)
+    EXPECT(rrcache_peek(&shelves[alias], QUERY(OTHER, sizeof OTHER, A, RRCACHE_IN, FIRST, 1, 0),
+                        &told, buffer, sizeof buffer)
            == RRCACHE_DONE);
     EXPECT(told.kind == RRCACHE_MISS);
 
     /* All together is what the whole message offers, which is also the share of one part alone. */
     EXPECT(make(&whole) == RRCACHE_DONE);
-    EXPECT(rrcache_offer_message(&whole, ALIAS, sizeof ALIAS, ZONE, sizeof ZONE, FIRST, &LIMITS, 1,
-                                 &counts)
+    EXPECT(rrcache_offer_message(
+               &whole, RESPONSE(ALIAS, sizeof ALIAS, ZONE, sizeof ZONE, FIRST, LIMITS), 1, &counts)
            == RRCACHE_DONE);
     EXPECT(counts.kept == all.kept && keys(&whole) == 2 && events(&whole) == 2);
     EXPECT(offer_alias(&whole, 1, 0, FIRST, &counts) == RRCACHE_DONE && counts.kept == 2
@@ -500,14 +544,66 @@ static void test_parts(void)
     uint8_t cleared[sizeof ALIAS];
     memcpy(cleared, ALIAS, sizeof cleared);
     memset(cleared + 35, 0, 4); /* the alias's ttl */
-    EXPECT(rrcache_offer_part(&shelves[alias], cleared, sizeof cleared, ZONE, sizeof ZONE, PARTS,
-                              alias, FIRST, &LIMITS, 1, &counts)
+    EXPECT(rrcache_offer_part(&shelves[alias],
+                              RESPONSE(cleared, sizeof cleared, ZONE, sizeof ZONE, FIRST, LIMITS),
+                              PARTS, alias, 1, &counts)
            == RRCACHE_DONE);
     EXPECT(counts.kept == 0 && counts.cleared == 1 && counts.refused == 0
            && keys(&shelves[alias]) == 0);
     for (uint64_t part = 0; part < PARTS; part++)
         EXPECT(rrcache_free(&shelves[part]) == RRCACHE_DONE);
     EXPECT(rrcache_free(&whole) == RRCACHE_DONE);
+}
+
+/* An ask that tells of an alias where that is what the shelf has. */
+static void test_alias(void)
+{
+    static const uint8_t target[] = {0,   15,  5,   'o', 't', 'h', 'e', 'r', 7,
+                                     'e', 'x', 'a', 'm', 'p', 'l', 'e', 0};
+    struct rrcache_shelf shelf = {0};
+    struct rrcache_counts counts;
+    struct rrcache_told told = {0};
+    uint8_t buffer[64];
+    bool is_alias = false;
+#define ASK_ALIAS(name, type, moment, mode, size)                                                  \
+    rrcache_ask_alias(&shelf,                                                                      \
+                      QUERY(name, sizeof name, type, RRCACHE_IN, moment, RRCACHE_QUESTION, mode),  \
+                      7, &told, buffer, size, &is_alias)
+    EXPECT(make(&shelf) == RRCACHE_DONE);
+    EXPECT(rrcache_offer_message(
+               &shelf, RESPONSE(ALIAS, sizeof ALIAS, ZONE, sizeof ZONE, FIRST, LIMITS), 1, &counts)
+               == RRCACHE_DONE
+           && events(&shelf) == 2);
+    EXPECT(ASK_ALIAS(NAME, A, FIRST, RRCACHE_NO_STALE, sizeof buffer) == RRCACHE_DONE);
+    EXPECT(is_alias && told.kind == RRCACHE_FRESH && told.left == 300);
+    EXPECT(told.owner_size == sizeof NAME && told.data_size == sizeof target
+           && memcmp(buffer + told.owner_size, target, sizeof target) == 0);
+    EXPECT(events(&shelf) == 3);
+    EXPECT(ASK_ALIAS(OTHER, A, FIRST, RRCACHE_NO_STALE, sizeof buffer) == RRCACHE_DONE && !is_alias
+           && told.kind == RRCACHE_FRESH && told.data_size == sizeof ADDRESS);
+    EXPECT(ASK_ALIAS(NAME, CNAME, FIRST, RRCACHE_NO_STALE, sizeof buffer) == RRCACHE_DONE
+           && !is_alias && told.kind == RRCACHE_FRESH && told.data_size == sizeof target);
+    EXPECT(ASK_ALIAS(THIRD, A, FIRST, RRCACHE_NO_STALE, sizeof buffer) == RRCACHE_DONE && !is_alias
+           && told.kind == RRCACHE_MISS);
+
+    /* What is too small for the alias is told as it is, and no event is written. */
+    uint64_t before = events(&shelf);
+    EXPECT(ASK_ALIAS(NAME, A, FIRST, RRCACHE_NO_STALE, 8) == RRCACHE_SMALL && is_alias
+           && told.data_size == sizeof target && events(&shelf) == before);
+    is_alias = false;
+    EXPECT(ASK_ALIAS(NAME, A, FIRST, 3, sizeof buffer) == RRCACHE_BAD_CHOICE && !is_alias);
+
+    /* Fresh data of the type come first, then a fresh alias, then what is stale of the type. */
+    EXPECT(offer_address(&shelf, NAME, sizeof NAME, RRCACHE_AUTHORITATIVE_ANSWER, 60)
+           == RRCACHE_KEPT);
+    EXPECT(ASK_ALIAS(NAME, A, FIRST + 59, RRCACHE_STALE_NOW, sizeof buffer) == RRCACHE_DONE
+           && !is_alias && told.kind == RRCACHE_FRESH);
+    EXPECT(ASK_ALIAS(NAME, A, FIRST + 60, RRCACHE_STALE_NOW, sizeof buffer) == RRCACHE_DONE
+           && is_alias && told.kind == RRCACHE_FRESH);
+    EXPECT(ASK_ALIAS(NAME, A, FIRST + 300, RRCACHE_STALE_NOW, sizeof buffer) == RRCACHE_DONE
+           && !is_alias && told.kind == RRCACHE_STALE && told.data_size == sizeof ADDRESS);
+    EXPECT(rrcache_free(&shelf) == RRCACHE_DONE);
+#undef ASK_ALIAS
 }
 
 static void test_octets(void)
@@ -542,13 +638,17 @@ static void test_no_shelf(void)
     EXPECT(rrcache_free(&shelf) == RRCACHE_NO_SHELF);
     EXPECT(offer_alias(&shelf, PARTS, 0, FIRST, &counts) == RRCACHE_NO_SHELF && counts.kept == 7);
     EXPECT(offer_answer(&shelf, FIRST, &counts) == RRCACHE_NO_SHELF && counts.kept == 7);
-    EXPECT(rrcache_offer_set(&shelf, NAME, sizeof NAME, A, RRCACHE_IN, 4, 60, ADDRESS,
-                             sizeof ADDRESS, FIRST, 1, &outcome)
+    EXPECT(rrcache_offer_set(
+               &shelf, SET(NAME, sizeof NAME, A, RRCACHE_IN, 4, 60, ADDRESS, sizeof ADDRESS, FIRST),
+               1, &outcome)
            == RRCACHE_NO_SHELF);
-    EXPECT(rrcache_offer_negative(&shelf, NAME, sizeof NAME, A, RRCACHE_IN, 0, 3, 60, ZONE,
-                                  sizeof ZONE, SOA_DATA, sizeof SOA_DATA, FIRST, 4, &outcome)
+    EXPECT(rrcache_offer_negative(&shelf,
+                                  NEGATIVE(NAME, sizeof NAME, A, RRCACHE_IN, 0, 3, 60, ZONE,
+                                           sizeof ZONE, SOA_DATA, sizeof SOA_DATA, FIRST),
+                                  4, &outcome)
            == RRCACHE_NO_SHELF);
-    EXPECT(rrcache_offer_failure(&shelf, NAME, sizeof NAME, A, RRCACHE_IN, 30, FIRST, 6, &outcome)
+    EXPECT(rrcache_offer_failure(&shelf, FAILURE(NAME, sizeof NAME, A, RRCACHE_IN, 30, FIRST), 6,
+                                 &outcome)
                == RRCACHE_NO_SHELF
            && outcome == 7);
     EXPECT(ask(&shelf, FIRST, &told, buffer, sizeof buffer) == RRCACHE_NO_SHELF);
@@ -606,39 +706,48 @@ static void test_refused_counts(void)
 #define REFUSES(call, status)                                                                      \
     (memset(&counts, 7, sizeof counts),                                                            \
      (call) == (status) && counts.kept == 0 && counts.cleared == 0 && counts.refused == 0)
-    EXPECT(REFUSES(rrcache_offer_message(&shelf, ANSWER, sizeof ANSWER, ZONE, sizeof ZONE, FIRST,
-                                         &bad, 1, &counts),
-                   RRCACHE_BAD_LIMITS));
-    EXPECT(REFUSES(rrcache_offer_message(&shelf, ANSWER, sizeof ANSWER, NO_NAME, sizeof NO_NAME,
-                                         FIRST, &LIMITS, 1, &counts),
-                   RRCACHE_BAD_NAME));
     EXPECT(REFUSES(
-        rrcache_offer_message(&shelf, ANSWER, 30, ZONE, sizeof ZONE, FIRST, &LIMITS, 1, &counts),
-        RRCACHE_BAD_MESSAGE));
+        rrcache_offer_message(
+            &shelf, RESPONSE(ANSWER, sizeof ANSWER, ZONE, sizeof ZONE, FIRST, bad), 1, &counts),
+        RRCACHE_BAD_LIMITS));
+    EXPECT(
+        REFUSES(rrcache_offer_message(
+                    &shelf, RESPONSE(ANSWER, sizeof ANSWER, NO_NAME, sizeof NO_NAME, FIRST, LIMITS),
+                    1, &counts),
+                RRCACHE_BAD_NAME));
+    EXPECT(REFUSES(rrcache_offer_message(
+                       &shelf, RESPONSE(ANSWER, 30, ZONE, sizeof ZONE, FIRST, LIMITS), 1, &counts),
+                   RRCACHE_BAD_MESSAGE));
     EXPECT(REFUSES(offer_answer(&shelf, late, &counts), RRCACHE_MOMENT_TOO_LARGE));
     EXPECT(REFUSES(offer_alias(&shelf, 0, 0, FIRST, &counts), RRCACHE_BAD_RULES)
            && REFUSES(offer_alias(&shelf, 65, 0, FIRST, &counts), RRCACHE_BAD_RULES));
     EXPECT(REFUSES(offer_alias(&shelf, PARTS, PARTS, FIRST, &counts), RRCACHE_BAD_RULES));
-    EXPECT(REFUSES(rrcache_offer_part(&shelf, ALIAS, sizeof ALIAS, ZONE, sizeof ZONE, 1, 0, FIRST,
-                                      &bad, 1, &counts),
+    EXPECT(REFUSES(rrcache_offer_part(&shelf,
+                                      RESPONSE(ALIAS, sizeof ALIAS, ZONE, sizeof ZONE, FIRST, bad),
+                                      1, 0, 1, &counts),
                    RRCACHE_BAD_LIMITS));
-    EXPECT(REFUSES(rrcache_offer_part(&shelf, ALIAS, sizeof ALIAS, NO_NAME, sizeof NO_NAME, 1, 0,
-                                      FIRST, &LIMITS, 1, &counts),
-                   RRCACHE_BAD_NAME));
     EXPECT(REFUSES(
-        rrcache_offer_part(&shelf, ALIAS, 30, ZONE, sizeof ZONE, 1, 0, FIRST, &LIMITS, 1, &counts),
-        RRCACHE_BAD_MESSAGE));
+        rrcache_offer_part(&shelf,
+                           RESPONSE(ALIAS, sizeof ALIAS, NO_NAME, sizeof NO_NAME, FIRST, LIMITS), 1,
+                           0, 1, &counts),
+        RRCACHE_BAD_NAME));
+    EXPECT(REFUSES(rrcache_offer_part(&shelf, RESPONSE(ALIAS, 30, ZONE, sizeof ZONE, FIRST, LIMITS),
+                                      1, 0, 1, &counts),
+                   RRCACHE_BAD_MESSAGE));
     EXPECT(REFUSES(offer_alias(&shelf, 1, 0, late, &counts), RRCACHE_MOMENT_TOO_LARGE));
     /* Of more than one the first is told: the parts before the limits, these before the zone, and
      * that before the message. */
-    EXPECT(REFUSES(rrcache_offer_part(&shelf, ALIAS, 30, NO_NAME, sizeof NO_NAME, 0, 0, late, &bad,
-                                      1, &counts),
-                   RRCACHE_BAD_RULES));
-    EXPECT(REFUSES(rrcache_offer_part(&shelf, ALIAS, 30, NO_NAME, sizeof NO_NAME, 1, 0, late, &bad,
-                                      1, &counts),
-                   RRCACHE_BAD_LIMITS));
-    EXPECT(REFUSES(rrcache_offer_part(&shelf, ALIAS, 30, NO_NAME, sizeof NO_NAME, 1, 0, late,
-                                      &LIMITS, 1, &counts),
+    EXPECT(
+        REFUSES(rrcache_offer_part(&shelf, RESPONSE(ALIAS, 30, NO_NAME, sizeof NO_NAME, late, bad),
+                                   0, 0, 1, &counts),
+                RRCACHE_BAD_RULES));
+    EXPECT(
+        REFUSES(rrcache_offer_part(&shelf, RESPONSE(ALIAS, 30, NO_NAME, sizeof NO_NAME, late, bad),
+                                   1, 0, 1, &counts),
+                RRCACHE_BAD_LIMITS));
+    EXPECT(REFUSES(rrcache_offer_part(&shelf,
+                                      RESPONSE(ALIAS, 30, NO_NAME, sizeof NO_NAME, late, LIMITS), 1,
+                                      0, 1, &counts),
                    RRCACHE_BAD_NAME));
 #undef REFUSES
     EXPECT(events(&shelf) == 0 && rrcache_free(&shelf) == RRCACHE_DONE);
@@ -653,21 +762,27 @@ static void test_denied_names(void)
     uint32_t outcome = 7;
     uint8_t buffer[64];
     EXPECT(make(&shelf) == RRCACHE_DONE);
-    EXPECT(rrcache_offer_negative(&shelf, NAME, sizeof NAME, OPT, RRCACHE_IN, RRCACHE_DENIES_TYPE,
-                                  3, 60, ZONE, sizeof ZONE, SOA_DATA, sizeof SOA_DATA, FIRST, 1,
-                                  &outcome)
-               == RRCACHE_BAD_TYPE
-           && outcome == 7);
-    EXPECT(rrcache_offer_negative(&shelf, NAME, sizeof NAME, OPT, RRCACHE_IN, RRCACHE_DENIES_NAME,
-                                  3, 60, ZONE, sizeof ZONE, SOA_DATA, sizeof SOA_DATA, FIRST, 1,
-                                  &outcome)
-               == RRCACHE_DONE
-           && outcome == RRCACHE_KEPT);
-    EXPECT(rrcache_offer_negative(&shelf, OTHER, sizeof OTHER, 0, RRCACHE_IN, RRCACHE_DENIES_NAME,
-                                  3, 60, ZONE, sizeof ZONE, SOA_DATA, sizeof SOA_DATA, FIRST, 2,
-                                  &outcome)
-               == RRCACHE_DONE
-           && outcome == RRCACHE_KEPT);
+    EXPECT(
+        rrcache_offer_negative(&shelf,
+                               NEGATIVE(NAME, sizeof NAME, OPT, RRCACHE_IN, RRCACHE_DENIES_TYPE, 3,
+                                        60, ZONE, sizeof ZONE, SOA_DATA, sizeof SOA_DATA, FIRST),
+                               1, &outcome)
+            == RRCACHE_BAD_TYPE
+        && outcome == 7);
+    EXPECT(
+        rrcache_offer_negative(&shelf,
+                               NEGATIVE(NAME, sizeof NAME, OPT, RRCACHE_IN, RRCACHE_DENIES_NAME, 3,
+                                        60, ZONE, sizeof ZONE, SOA_DATA, sizeof SOA_DATA, FIRST),
+                               1, &outcome)
+            == RRCACHE_DONE
+        && outcome == RRCACHE_KEPT);
+    EXPECT(
+        rrcache_offer_negative(&shelf,
+                               NEGATIVE(OTHER, sizeof OTHER, 0, RRCACHE_IN, RRCACHE_DENIES_NAME, 3,
+                                        60, ZONE, sizeof ZONE, SOA_DATA, sizeof SOA_DATA, FIRST),
+                               2, &outcome)
+            == RRCACHE_DONE
+        && outcome == RRCACHE_KEPT);
     EXPECT(peek(&shelf, FIRST, &told, buffer, sizeof buffer) == RRCACHE_DONE
            && told.kind == RRCACHE_NO_NAME);
     EXPECT(rrcache_free(&shelf) == RRCACHE_DONE);
@@ -685,14 +800,16 @@ static void test_refusals(void)
     const struct rrcache_limits bad = {86400, 3600, 301};
     EXPECT(make(&shelf) == RRCACHE_DONE);
 
-    EXPECT(rrcache_offer_message(&shelf, ANSWER, 30, ZONE, sizeof ZONE, FIRST, &LIMITS, 1, &counts)
+    EXPECT(rrcache_offer_message(&shelf, RESPONSE(ANSWER, 30, ZONE, sizeof ZONE, FIRST, LIMITS), 1,
+                                 &counts)
            == RRCACHE_BAD_MESSAGE);
     EXPECT(counts.kept == 0 && counts.cleared == 0 && counts.refused == 0);
-    EXPECT(rrcache_offer_message(&shelf, ANSWER, sizeof ANSWER, ZONE, sizeof ZONE, FIRST, &bad, 1,
-                                 &counts)
+    EXPECT(rrcache_offer_message(
+               &shelf, RESPONSE(ANSWER, sizeof ANSWER, ZONE, sizeof ZONE, FIRST, bad), 1, &counts)
            == RRCACHE_BAD_LIMITS);
-    EXPECT(rrcache_offer_message(&shelf, ANSWER, sizeof ANSWER, NO_NAME, sizeof NO_NAME, FIRST,
-                                 &LIMITS, 1, &counts)
+    EXPECT(rrcache_offer_message(
+               &shelf, RESPONSE(ANSWER, sizeof ANSWER, NO_NAME, sizeof NO_NAME, FIRST, LIMITS), 1,
+               &counts)
            == RRCACHE_BAD_NAME);
     EXPECT(offer_answer(&shelf, late, &counts) == RRCACHE_MOMENT_TOO_LARGE && counts.kept == 0);
 
@@ -705,100 +822,132 @@ static void test_refusals(void)
     EXPECT(offer_alias(&shelf, PARTS, (1ULL << 32) + part, FIRST, &counts) == RRCACHE_BAD_RULES);
     EXPECT(offer_alias(&shelf, PARTS, part, late, &counts) == RRCACHE_MOMENT_TOO_LARGE
            && counts.kept == 0);
-    EXPECT(rrcache_offer_part(&shelf, ALIAS, 30, ZONE, sizeof ZONE, PARTS, part, FIRST, &LIMITS, 1,
-                              &counts)
+    EXPECT(rrcache_offer_part(&shelf, RESPONSE(ALIAS, 30, ZONE, sizeof ZONE, FIRST, LIMITS), PARTS,
+                              part, 1, &counts)
            == RRCACHE_BAD_MESSAGE);
-    EXPECT(rrcache_offer_part(&shelf, ALIAS, sizeof ALIAS, ZONE, sizeof ZONE, PARTS, part, FIRST,
-                              &bad, 1, &counts)
+    EXPECT(rrcache_offer_part(&shelf, RESPONSE(ALIAS, sizeof ALIAS, ZONE, sizeof ZONE, FIRST, bad),
+                              PARTS, part, 1, &counts)
            == RRCACHE_BAD_LIMITS);
-    EXPECT(rrcache_offer_part(&shelf, ALIAS, sizeof ALIAS, NO_NAME, sizeof NO_NAME, PARTS, part,
-                              FIRST, &LIMITS, 1, &counts)
+    EXPECT(rrcache_offer_part(&shelf,
+                              RESPONSE(ALIAS, sizeof ALIAS, NO_NAME, sizeof NO_NAME, FIRST, LIMITS),
+                              PARTS, part, 1, &counts)
            == RRCACHE_BAD_NAME);
 
     EXPECT(ask(&shelf, late, &told, buffer, sizeof buffer) == RRCACHE_MOMENT_TOO_LARGE);
-    EXPECT(rrcache_ask(&shelf, NO_NAME, sizeof NO_NAME, A, RRCACHE_IN, FIRST, 0, 0, 1, &told,
+    EXPECT(rrcache_ask(&shelf, QUERY(NO_NAME, sizeof NO_NAME, A, RRCACHE_IN, FIRST, 0, 0), 1, &told,
                        buffer, sizeof buffer)
            == RRCACHE_BAD_NAME);
-    EXPECT(rrcache_ask(&shelf, NAME, sizeof NAME, A, RRCACHE_IN, FIRST, 2, 0, 1, &told, buffer,
-                       sizeof buffer)
+    EXPECT(rrcache_ask(&shelf, QUERY(NAME, sizeof NAME, A, RRCACHE_IN, FIRST, 2, 0), 1, &told,
+                       buffer, sizeof buffer)
            == RRCACHE_BAD_CHOICE);
-    EXPECT(rrcache_ask(&shelf, NAME, sizeof NAME, A, RRCACHE_IN, FIRST, 0, 3, 1, &told, buffer,
-                       sizeof buffer)
+    EXPECT(rrcache_ask(&shelf, QUERY(NAME, sizeof NAME, A, RRCACHE_IN, FIRST, 0, 3), 1, &told,
+                       buffer, sizeof buffer)
            == RRCACHE_BAD_CHOICE);
-    EXPECT(rrcache_peek(&shelf, NAME, sizeof NAME, A, RRCACHE_IN, FIRST, 0, 3, &told, buffer,
+    EXPECT(rrcache_peek(&shelf, QUERY(NAME, sizeof NAME, A, RRCACHE_IN, FIRST, 0, 3), &told, buffer,
                         sizeof buffer)
            == RRCACHE_BAD_CHOICE);
-    EXPECT(rrcache_peek(&shelf, NAME, sizeof NAME, A, RRCACHE_IN, FIRST, 2, 0, &told, buffer,
+    EXPECT(rrcache_peek(&shelf, QUERY(NAME, sizeof NAME, A, RRCACHE_IN, FIRST, 2, 0), &told, buffer,
                         sizeof buffer)
            == RRCACHE_BAD_CHOICE);
-    EXPECT(rrcache_peek(&shelf, NO_NAME, sizeof NO_NAME, A, RRCACHE_IN, FIRST, 0, 0, &told, buffer,
-                        sizeof buffer)
+    EXPECT(rrcache_peek(&shelf, QUERY(NO_NAME, sizeof NO_NAME, A, RRCACHE_IN, FIRST, 0, 0), &told,
+                        buffer, sizeof buffer)
            == RRCACHE_BAD_NAME);
     EXPECT(told.kind == 7 && told.owner_size == 7 && buffer[0] == 7);
 
-    EXPECT(rrcache_offer_set(&shelf, NAME, sizeof NAME, A, RRCACHE_IN, 0, 60, ADDRESS,
-                             sizeof ADDRESS, FIRST, 1, &outcome)
+    EXPECT(rrcache_offer_set(
+               &shelf, SET(NAME, sizeof NAME, A, RRCACHE_IN, 0, 60, ADDRESS, sizeof ADDRESS, FIRST),
+               1, &outcome)
            == RRCACHE_BAD_CHOICE);
-    EXPECT(rrcache_offer_set(&shelf, NAME, sizeof NAME, A, RRCACHE_IN, 5, 60, ADDRESS,
-                             sizeof ADDRESS, FIRST, 1, &outcome)
+    EXPECT(rrcache_offer_set(
+               &shelf, SET(NAME, sizeof NAME, A, RRCACHE_IN, 5, 60, ADDRESS, sizeof ADDRESS, FIRST),
+               1, &outcome)
            == RRCACHE_BAD_CHOICE);
-    EXPECT(rrcache_offer_set(&shelf, NAME, sizeof NAME, OPT, RRCACHE_IN, 4, 60, ADDRESS,
-                             sizeof ADDRESS, FIRST, 1, &outcome)
+    EXPECT(rrcache_offer_set(
+               &shelf,
+               SET(NAME, sizeof NAME, OPT, RRCACHE_IN, 4, 60, ADDRESS, sizeof ADDRESS, FIRST), 1,
+               &outcome)
            == RRCACHE_BAD_TYPE);
-    EXPECT(rrcache_offer_set(&shelf, NAME, sizeof NAME, A, RRCACHE_IN, 4, 60, ADDRESS,
-                             sizeof ADDRESS - 1, FIRST, 1, &outcome)
+    EXPECT(rrcache_offer_set(
+               &shelf,
+               SET(NAME, sizeof NAME, A, RRCACHE_IN, 4, 60, ADDRESS, sizeof ADDRESS - 1, FIRST), 1,
+               &outcome)
            == RRCACHE_BAD_DATA);
-    EXPECT(rrcache_offer_set(&shelf, NAME, sizeof NAME, A, RRCACHE_IN, 4, 60, ADDRESS, 1, FIRST, 1,
-                             &outcome)
+    EXPECT(rrcache_offer_set(
+               &shelf, SET(NAME, sizeof NAME, A, RRCACHE_IN, 4, 60, ADDRESS, 1, FIRST), 1, &outcome)
            == RRCACHE_BAD_DATA);
-    EXPECT(rrcache_offer_set(&shelf, NAME, sizeof NAME, SOA, RRCACHE_IN, 4, 60, ADDRESS,
-                             sizeof ADDRESS, FIRST, 1, &outcome)
+    EXPECT(rrcache_offer_set(
+               &shelf,
+               SET(NAME, sizeof NAME, SOA, RRCACHE_IN, 4, 60, ADDRESS, sizeof ADDRESS, FIRST), 1,
+               &outcome)
            == RRCACHE_BAD_DATA);
-    EXPECT(rrcache_offer_set(&shelf, NAME, sizeof NAME, A, RRCACHE_IN, 4, 60, NULL, 0, FIRST, 1,
-                             &outcome)
+    EXPECT(rrcache_offer_set(&shelf, SET(NAME, sizeof NAME, A, RRCACHE_IN, 4, 60, NULL, 0, FIRST),
+                             1, &outcome)
            == RRCACHE_WRONG_BODY);
-    EXPECT(rrcache_offer_set(&shelf, NAME, sizeof NAME, A, RRCACHE_IN, 4, 1u << 31, ADDRESS,
-                             sizeof ADDRESS, FIRST, 1, &outcome)
+    EXPECT(rrcache_offer_set(
+               &shelf,
+               SET(NAME, sizeof NAME, A, RRCACHE_IN, 4, 1u << 31, ADDRESS, sizeof ADDRESS, FIRST),
+               1, &outcome)
            == RRCACHE_WRONG_BODY);
-    EXPECT(rrcache_offer_set(&shelf, NO_NAME, sizeof NO_NAME, A, RRCACHE_IN, 4, 60, ADDRESS,
-                             sizeof ADDRESS, FIRST, 1, &outcome)
+    EXPECT(rrcache_offer_set(
+               &shelf,
+               SET(NO_NAME, sizeof NO_NAME, A, RRCACHE_IN, 4, 60, ADDRESS, sizeof ADDRESS, FIRST),
+               1, &outcome)
            == RRCACHE_BAD_NAME);
-    EXPECT(rrcache_offer_set(&shelf, NAME, sizeof NAME, A, RRCACHE_IN, 4, 60, ADDRESS,
-                             sizeof ADDRESS, late, 1, &outcome)
+    EXPECT(rrcache_offer_set(
+               &shelf, SET(NAME, sizeof NAME, A, RRCACHE_IN, 4, 60, ADDRESS, sizeof ADDRESS, late),
+               1, &outcome)
            == RRCACHE_MOMENT_TOO_LARGE);
-    EXPECT(rrcache_offer_negative(&shelf, NAME, sizeof NAME, A, RRCACHE_IN, 2, 3, 60, ZONE,
-                                  sizeof ZONE, SOA_DATA, sizeof SOA_DATA, FIRST, 1, &outcome)
+    EXPECT(rrcache_offer_negative(&shelf,
+                                  NEGATIVE(NAME, sizeof NAME, A, RRCACHE_IN, 2, 3, 60, ZONE,
+                                           sizeof ZONE, SOA_DATA, sizeof SOA_DATA, FIRST),
+                                  1, &outcome)
            == RRCACHE_BAD_CHOICE);
-    EXPECT(rrcache_offer_negative(&shelf, NAME, sizeof NAME, A, RRCACHE_IN, 0, 3, 60, ZONE,
-                                  sizeof ZONE, SOA_DATA, 21, FIRST, 1, &outcome)
+    EXPECT(rrcache_offer_negative(&shelf,
+                                  NEGATIVE(NAME, sizeof NAME, A, RRCACHE_IN, 0, 3, 60, ZONE,
+                                           sizeof ZONE, SOA_DATA, 21, FIRST),
+                                  1, &outcome)
            == RRCACHE_BAD_DATA);
-    EXPECT(rrcache_offer_negative(&shelf, NAME, sizeof NAME, A, RRCACHE_IN, 0, 5, 60, ZONE,
-                                  sizeof ZONE, SOA_DATA, sizeof SOA_DATA, FIRST, 1, &outcome)
+    EXPECT(rrcache_offer_negative(&shelf,
+                                  NEGATIVE(NAME, sizeof NAME, A, RRCACHE_IN, 0, 5, 60, ZONE,
+                                           sizeof ZONE, SOA_DATA, sizeof SOA_DATA, FIRST),
+                                  1, &outcome)
            == RRCACHE_BAD_CHOICE);
-    EXPECT(rrcache_offer_negative(&shelf, NAME, sizeof NAME, OPT, RRCACHE_IN, 0, 3, 60, ZONE,
-                                  sizeof ZONE, SOA_DATA, sizeof SOA_DATA, FIRST, 1, &outcome)
+    EXPECT(rrcache_offer_negative(&shelf,
+                                  NEGATIVE(NAME, sizeof NAME, OPT, RRCACHE_IN, 0, 3, 60, ZONE,
+                                           sizeof ZONE, SOA_DATA, sizeof SOA_DATA, FIRST),
+                                  1, &outcome)
            == RRCACHE_BAD_TYPE);
-    EXPECT(rrcache_offer_negative(&shelf, NO_NAME, sizeof NO_NAME, A, RRCACHE_IN, 0, 3, 60, ZONE,
-                                  sizeof ZONE, SOA_DATA, sizeof SOA_DATA, FIRST, 1, &outcome)
+    EXPECT(rrcache_offer_negative(&shelf,
+                                  NEGATIVE(NO_NAME, sizeof NO_NAME, A, RRCACHE_IN, 0, 3, 60, ZONE,
+                                           sizeof ZONE, SOA_DATA, sizeof SOA_DATA, FIRST),
+                                  1, &outcome)
            == RRCACHE_BAD_NAME);
-    EXPECT(rrcache_offer_negative(&shelf, NAME, sizeof NAME, A, RRCACHE_IN, 0, 3, 60, NO_NAME,
-                                  sizeof NO_NAME, SOA_DATA, sizeof SOA_DATA, FIRST, 1, &outcome)
+    EXPECT(rrcache_offer_negative(&shelf,
+                                  NEGATIVE(NAME, sizeof NAME, A, RRCACHE_IN, 0, 3, 60, NO_NAME,
+                                           sizeof NO_NAME, SOA_DATA, sizeof SOA_DATA, FIRST),
+                                  1, &outcome)
            == RRCACHE_BAD_NAME);
-    EXPECT(rrcache_offer_negative(&shelf, NAME, sizeof NAME, A, RRCACHE_IN, 0, 3, 1u << 31, ZONE,
-                                  sizeof ZONE, SOA_DATA, sizeof SOA_DATA, FIRST, 1, &outcome)
+    EXPECT(rrcache_offer_negative(&shelf,
+                                  NEGATIVE(NAME, sizeof NAME, A, RRCACHE_IN, 0, 3, 1u << 31, ZONE,
+                                           sizeof ZONE, SOA_DATA, sizeof SOA_DATA, FIRST),
+                                  1, &outcome)
            == RRCACHE_WRONG_BODY);
-    EXPECT(rrcache_offer_negative(&shelf, NAME, sizeof NAME, A, RRCACHE_IN, 0, 3, 60, ZONE,
-                                  sizeof ZONE, SOA_DATA, sizeof SOA_DATA, late, 1, &outcome)
+    EXPECT(rrcache_offer_negative(&shelf,
+                                  NEGATIVE(NAME, sizeof NAME, A, RRCACHE_IN, 0, 3, 60, ZONE,
+                                           sizeof ZONE, SOA_DATA, sizeof SOA_DATA, late),
+                                  1, &outcome)
            == RRCACHE_MOMENT_TOO_LARGE);
-    EXPECT(rrcache_offer_failure(&shelf, NAME, sizeof NAME, OPT, RRCACHE_IN, 30, FIRST, 1, &outcome)
-           == RRCACHE_BAD_TYPE);
-    EXPECT(rrcache_offer_failure(&shelf, NO_NAME, sizeof NO_NAME, A, RRCACHE_IN, 30, FIRST, 1,
+    EXPECT(rrcache_offer_failure(&shelf, FAILURE(NAME, sizeof NAME, OPT, RRCACHE_IN, 30, FIRST), 1,
                                  &outcome)
+           == RRCACHE_BAD_TYPE);
+    EXPECT(rrcache_offer_failure(&shelf, FAILURE(NO_NAME, sizeof NO_NAME, A, RRCACHE_IN, 30, FIRST),
+                                 1, &outcome)
            == RRCACHE_BAD_NAME);
-    EXPECT(rrcache_offer_failure(&shelf, NAME, sizeof NAME, A, RRCACHE_IN, 30, late, 1, &outcome)
-           == RRCACHE_MOMENT_TOO_LARGE);
-    EXPECT(rrcache_offer_failure(&shelf, NAME, sizeof NAME, A, RRCACHE_IN, 1u << 31, FIRST, 1,
+    EXPECT(rrcache_offer_failure(&shelf, FAILURE(NAME, sizeof NAME, A, RRCACHE_IN, 30, late), 1,
                                  &outcome)
+           == RRCACHE_MOMENT_TOO_LARGE);
+    EXPECT(rrcache_offer_failure(&shelf, FAILURE(NAME, sizeof NAME, A, RRCACHE_IN, 1u << 31, FIRST),
+                                 1, &outcome)
                == RRCACHE_WRONG_BODY
            && outcome == 7);
     EXPECT(rrcache_sweep(&shelf, late, 1, &removed) == RRCACHE_MOMENT_TOO_LARGE && removed == 7);
@@ -818,31 +967,40 @@ static void test_null(void)
     EXPECT(rrcache_make(NULL, 1, 1, 0, SEED) == RRCACHE_NULL
            && rrcache_make(&shelf, 1, 1, 0, NULL) == RRCACHE_NULL);
     EXPECT(rrcache_free(NULL) == RRCACHE_NULL && make(&shelf) == RRCACHE_DONE);
-    EXPECT(rrcache_offer_message(&shelf, NULL, 1, ZONE, sizeof ZONE, FIRST, &LIMITS, 1, &counts)
-           == RRCACHE_NULL);
-    EXPECT(rrcache_offer_message(&shelf, ANSWER, sizeof ANSWER, ZONE, sizeof ZONE, FIRST, NULL, 1,
+    EXPECT(rrcache_offer_message(&shelf, RESPONSE(NULL, 1, ZONE, sizeof ZONE, FIRST, LIMITS), 1,
                                  &counts)
            == RRCACHE_NULL);
-    EXPECT(rrcache_offer_part(&shelf, ALIAS, sizeof ALIAS, NULL, 1, PARTS, 0, FIRST, &LIMITS, 1,
-                              &counts)
+    EXPECT(rrcache_offer_message(&shelf, NULL, 1, &counts) == RRCACHE_NULL
+           && rrcache_offer_part(&shelf, NULL, PARTS, 0, 1, &counts) == RRCACHE_NULL);
+    EXPECT(rrcache_offer_set(&shelf, NULL, 1, &number) == RRCACHE_NULL
+           && rrcache_offer_negative(&shelf, NULL, 1, &number) == RRCACHE_NULL
+           && rrcache_offer_failure(&shelf, NULL, 1, &number) == RRCACHE_NULL);
+    EXPECT(rrcache_ask(&shelf, NULL, 1, &told, buffer, sizeof buffer) == RRCACHE_NULL
+           && rrcache_peek(&shelf, NULL, &told, buffer, sizeof buffer) == RRCACHE_NULL);
+    EXPECT(rrcache_offer_part(&shelf, RESPONSE(ALIAS, sizeof ALIAS, NULL, 1, FIRST, LIMITS), PARTS,
+                              0, 1, &counts)
            == RRCACHE_NULL);
     EXPECT(offer_alias(NULL, PARTS, 0, FIRST, &counts) == RRCACHE_NULL
            && offer_alias(&shelf, PARTS, 0, FIRST, NULL) == RRCACHE_NULL);
-    EXPECT(rrcache_offer_set(&shelf, NAME, sizeof NAME, A, RRCACHE_IN, 4, 60, ADDRESS,
-                             sizeof ADDRESS, FIRST, 1, NULL)
+    EXPECT(rrcache_offer_set(
+               &shelf, SET(NAME, sizeof NAME, A, RRCACHE_IN, 4, 60, ADDRESS, sizeof ADDRESS, FIRST),
+               1, NULL)
            == RRCACHE_NULL);
-    EXPECT(rrcache_offer_negative(&shelf, NAME, sizeof NAME, A, RRCACHE_IN, 0, 3, 60, NULL, 1,
-                                  SOA_DATA, sizeof SOA_DATA, FIRST, 1, &number)
+    EXPECT(rrcache_offer_negative(&shelf,
+                                  NEGATIVE(NAME, sizeof NAME, A, RRCACHE_IN, 0, 3, 60, NULL, 1,
+                                           SOA_DATA, sizeof SOA_DATA, FIRST),
+                                  1, &number)
            == RRCACHE_NULL);
-    EXPECT(rrcache_offer_failure(NULL, NAME, sizeof NAME, A, RRCACHE_IN, 30, FIRST, 1, &number)
+    EXPECT(rrcache_offer_failure(NULL, FAILURE(NAME, sizeof NAME, A, RRCACHE_IN, 30, FIRST), 1,
+                                 &number)
            == RRCACHE_NULL);
     EXPECT(ask(&shelf, FIRST, NULL, buffer, sizeof buffer) == RRCACHE_NULL
            && ask(&shelf, FIRST, &told, NULL, 1) == RRCACHE_NULL);
     EXPECT(peek(NULL, FIRST, &told, buffer, sizeof buffer) == RRCACHE_NULL);
-    EXPECT(
-        rrcache_ask(&shelf, buffer, 13, A, RRCACHE_IN, FIRST, 0, 0, 1, &told, buffer, sizeof buffer)
-        == RRCACHE_NULL);
-    EXPECT(rrcache_peek(&shelf, buffer + 8, 13, A, RRCACHE_IN, FIRST, 0, 0, &told, buffer, 9)
+    EXPECT(rrcache_ask(&shelf, QUERY(buffer, 13, A, RRCACHE_IN, FIRST, 0, 0), 1, &told, buffer,
+                       sizeof buffer)
+           == RRCACHE_NULL);
+    EXPECT(rrcache_peek(&shelf, QUERY(buffer + 8, 13, A, RRCACHE_IN, FIRST, 0, 0), &told, buffer, 9)
            == RRCACHE_NULL);
     EXPECT(rrcache_sweep(&shelf, FIRST, 1, NULL) == RRCACHE_NULL
            && rrcache_drop_chapters(&shelf, NULL) == RRCACHE_NULL);
@@ -892,92 +1050,112 @@ static void test_overlaps(void)
     IS_NULL(peek(shelf, FIRST, (struct rrcache_told *)(void *)(memory.octets + 8), far, 64));
     IS_NULL(ask(shelf, FIRST, told, end - 1, 8));
     IS_NULL(peek(shelf, FIRST, told, end - 1, 8));
-    IS_NULL(rrcache_ask(shelf, end - 1, 1, A, RRCACHE_IN, FIRST, 0, 0, 1, told, far, 64));
-    IS_NULL(rrcache_peek(shelf, end - 1, 1, A, RRCACHE_IN, FIRST, 0, 0, told, far, 64));
+    IS_NULL(rrcache_ask(shelf, QUERY(end - 1, 1, A, RRCACHE_IN, FIRST, 0, 0), 1, told, far, 64));
+    IS_NULL(rrcache_peek(shelf, QUERY(end - 1, 1, A, RRCACHE_IN, FIRST, 0, 0), told, far, 64));
+    IS_NULL(rrcache_ask_alias(shelf, QUERY(NAME, sizeof NAME, A, RRCACHE_IN, FIRST, 0, 0), 1, told,
+                              far, 64, (bool *)(end - 1)));
     IS_NULL(offer_answer(shelf, FIRST, (struct rrcache_counts *)(void *)(memory.octets + 8)));
     IS_NULL(offer_alias(shelf, 1, 0, FIRST, (struct rrcache_counts *)(void *)(memory.octets + 8)));
-    IS_NULL(rrcache_offer_message(shelf, end - 1, 8, ZONE, sizeof ZONE, FIRST, &LIMITS, 1, counts));
-    IS_NULL(
-        rrcache_offer_message(shelf, ANSWER, sizeof ANSWER, end - 1, 8, FIRST, &LIMITS, 1, counts));
-    IS_NULL(rrcache_offer_message(shelf, ANSWER, sizeof ANSWER, ZONE, sizeof ZONE, FIRST,
-                                  (struct rrcache_limits *)(void *)(memory.octets + 8), 1, counts));
-    IS_NULL(
-        rrcache_offer_part(shelf, end - 1, 8, ZONE, sizeof ZONE, 1, 0, FIRST, &LIMITS, 1, counts));
-    IS_NULL(rrcache_offer_part(shelf, ALIAS, sizeof ALIAS, end - 1, 8, 1, 0, FIRST, &LIMITS, 1,
-                               counts));
-    IS_NULL(rrcache_offer_part(shelf, ALIAS, sizeof ALIAS, ZONE, sizeof ZONE, 1, 0, FIRST,
-                               (struct rrcache_limits *)(void *)(memory.octets + 8), 1, counts));
-    IS_NULL(rrcache_offer_set(shelf, end - 1, 8, A, RRCACHE_IN, 4, 60, ADDRESS, sizeof ADDRESS,
-                              FIRST, 1, number));
-    IS_NULL(rrcache_offer_set(shelf, NAME, sizeof NAME, A, RRCACHE_IN, 4, 60, end - 1, 8, FIRST, 1,
-                              number));
-    IS_NULL(rrcache_offer_set(shelf, NAME, sizeof NAME, A, RRCACHE_IN, 4, 60, ADDRESS,
-                              sizeof ADDRESS, FIRST, 1, (uint32_t *)(void *)(memory.octets + 12)));
-    IS_NULL(rrcache_offer_negative(shelf, end - 1, 8, A, RRCACHE_IN, 0, 3, 60, ZONE, sizeof ZONE,
-                                   SOA_DATA, sizeof SOA_DATA, FIRST, 1, number));
-    IS_NULL(rrcache_offer_negative(shelf, NAME, sizeof NAME, A, RRCACHE_IN, 0, 3, 60, end - 1, 8,
-                                   SOA_DATA, sizeof SOA_DATA, FIRST, 1, number));
-    IS_NULL(rrcache_offer_negative(shelf, NAME, sizeof NAME, A, RRCACHE_IN, 0, 3, 60, ZONE,
-                                   sizeof ZONE, end - 1, 8, FIRST, 1, number));
-    IS_NULL(rrcache_offer_negative(shelf, NAME, sizeof NAME, A, RRCACHE_IN, 0, 3, 60, ZONE,
-                                   sizeof ZONE, SOA_DATA, sizeof SOA_DATA, FIRST, 1,
-                                   (uint32_t *)(void *)(memory.octets + 12)));
-    IS_NULL(rrcache_offer_failure(shelf, end - 1, 8, A, RRCACHE_IN, 30, FIRST, 1, number));
-    IS_NULL(rrcache_offer_failure(shelf, NAME, sizeof NAME, A, RRCACHE_IN, 30, FIRST, 1,
+    IS_NULL(rrcache_offer_message(shelf, RESPONSE(end - 1, 8, ZONE, sizeof ZONE, FIRST, LIMITS), 1,
+                                  counts));
+    IS_NULL(rrcache_offer_message(shelf, RESPONSE(ANSWER, sizeof ANSWER, end - 1, 8, FIRST, LIMITS),
+                                  1, counts));
+    IS_NULL(rrcache_offer_part(shelf, RESPONSE(end - 1, 8, ZONE, sizeof ZONE, FIRST, LIMITS), 1, 0,
+                               1, counts));
+    IS_NULL(rrcache_offer_part(shelf, RESPONSE(ALIAS, sizeof ALIAS, end - 1, 8, FIRST, LIMITS), 1,
+                               0, 1, counts));
+    IS_NULL(rrcache_offer_set(
+        shelf, SET(end - 1, 8, A, RRCACHE_IN, 4, 60, ADDRESS, sizeof ADDRESS, FIRST), 1, number));
+    IS_NULL(rrcache_offer_set(
+        shelf, SET(NAME, sizeof NAME, A, RRCACHE_IN, 4, 60, end - 1, 8, FIRST), 1, number));
+    IS_NULL(rrcache_offer_set(
+        shelf, SET(NAME, sizeof NAME, A, RRCACHE_IN, 4, 60, ADDRESS, sizeof ADDRESS, FIRST), 1,
+        (uint32_t *)(void *)(memory.octets + 12)));
+    IS_NULL(rrcache_offer_negative(shelf,
+                                   NEGATIVE(end - 1, 8, A, RRCACHE_IN, 0, 3, 60, ZONE, sizeof ZONE,
+                                            SOA_DATA, sizeof SOA_DATA, FIRST),
+                                   1, number));
+    IS_NULL(rrcache_offer_negative(shelf,
+                                   NEGATIVE(NAME, sizeof NAME, A, RRCACHE_IN, 0, 3, 60, end - 1, 8,
+                                            SOA_DATA, sizeof SOA_DATA, FIRST),
+                                   1, number));
+    IS_NULL(rrcache_offer_negative(
+        shelf,
+        NEGATIVE(NAME, sizeof NAME, A, RRCACHE_IN, 0, 3, 60, ZONE, sizeof ZONE, end - 1, 8, FIRST),
+        1, number));
+    IS_NULL(rrcache_offer_negative(shelf,
+                                   NEGATIVE(NAME, sizeof NAME, A, RRCACHE_IN, 0, 3, 60, ZONE,
+                                            sizeof ZONE, SOA_DATA, sizeof SOA_DATA, FIRST),
+                                   1, (uint32_t *)(void *)(memory.octets + 12)));
+    IS_NULL(rrcache_offer_failure(shelf, FAILURE(end - 1, 8, A, RRCACHE_IN, 30, FIRST), 1, number));
+    IS_NULL(rrcache_offer_failure(shelf, FAILURE(NAME, sizeof NAME, A, RRCACHE_IN, 30, FIRST), 1,
                                   (uint32_t *)(void *)(memory.octets + 12)));
 
     /* What else is written, with itself and with what is read. */
     IS_NULL(ask(shelf, FIRST, told, apart + sizeof *told - 1, 64));
     IS_NULL(peek(shelf, FIRST, told, apart + sizeof *told - 1, 64));
-    IS_NULL(rrcache_ask(shelf, apart + sizeof *told - 1, 8, A, RRCACHE_IN, FIRST, 0, 0, 1, told,
-                        far, 64));
-    IS_NULL(rrcache_peek(shelf, apart + sizeof *told - 1, 8, A, RRCACHE_IN, FIRST, 0, 0, told, far,
-                         64));
-    IS_NULL(rrcache_ask(shelf, far, sizeof NAME, A, RRCACHE_IN, FIRST, 0, 0, 1, told,
+    IS_NULL(rrcache_ask(shelf, QUERY(apart + sizeof *told - 1, 8, A, RRCACHE_IN, FIRST, 0, 0), 1,
+                        told, far, 64));
+    IS_NULL(rrcache_peek(shelf, QUERY(apart + sizeof *told - 1, 8, A, RRCACHE_IN, FIRST, 0, 0),
+                         told, far, 64));
+    IS_NULL(rrcache_ask(shelf, QUERY(far, sizeof NAME, A, RRCACHE_IN, FIRST, 0, 0), 1, told,
                         far + sizeof NAME - 1, 64));
-    IS_NULL(rrcache_peek(shelf, far, sizeof NAME, A, RRCACHE_IN, FIRST, 0, 0, told,
+    IS_NULL(rrcache_peek(shelf, QUERY(far, sizeof NAME, A, RRCACHE_IN, FIRST, 0, 0), told,
                          far + sizeof NAME - 1, 64));
+    IS_NULL(rrcache_ask_alias(shelf, QUERY(NAME, sizeof NAME, A, RRCACHE_IN, FIRST, 0, 0), 1, told,
+                              far, 64, (bool *)(apart + sizeof *told - 1)));
+    IS_NULL(rrcache_ask_alias(shelf, QUERY(NAME, sizeof NAME, A, RRCACHE_IN, FIRST, 0, 0), 1, told,
+                              far, 64, (bool *)(far + 63)));
+    IS_NULL(rrcache_ask_alias(shelf, QUERY(far, sizeof NAME, A, RRCACHE_IN, FIRST, 0, 0), 1, told,
+                              apart + sizeof *told, 8, (bool *)far));
     IS_NULL(rrcache_sizes(shelf, wide, wide, wide + 1));
     IS_NULL(rrcache_sizes(shelf, wide, wide + 1, wide));
     IS_NULL(rrcache_sizes(shelf, wide + 1, wide, wide));
-    IS_NULL(rrcache_offer_message(shelf, apart + sizeof *counts - 1, 8, ZONE, sizeof ZONE, FIRST,
-                                  &LIMITS, 1, counts));
-    IS_NULL(rrcache_offer_message(shelf, ANSWER, sizeof ANSWER, apart + sizeof *counts - 1, 8,
-                                  FIRST, &LIMITS, 1, counts));
-    IS_NULL(rrcache_offer_message(shelf, ANSWER, sizeof ANSWER, ZONE, sizeof ZONE, FIRST,
-                                  (struct rrcache_limits *)(void *)(apart + sizeof *counts - 4), 1,
-                                  counts));
-    IS_NULL(rrcache_offer_part(shelf, apart + sizeof *counts - 1, 8, ZONE, sizeof ZONE, 1, 0, FIRST,
-                               &LIMITS, 1, counts));
-    IS_NULL(rrcache_offer_part(shelf, ALIAS, sizeof ALIAS, apart + sizeof *counts - 1, 8, 1, 0,
-                               FIRST, &LIMITS, 1, counts));
-    IS_NULL(rrcache_offer_part(shelf, ALIAS, sizeof ALIAS, ZONE, sizeof ZONE, 1, 0, FIRST,
-                               (struct rrcache_limits *)(void *)(apart + sizeof *counts - 4), 1,
-                               counts));
-    IS_NULL(rrcache_offer_set(shelf, apart + 3, 8, A, RRCACHE_IN, 4, 60, ADDRESS, sizeof ADDRESS,
-                              FIRST, 1, number));
-    IS_NULL(rrcache_offer_set(shelf, NAME, sizeof NAME, A, RRCACHE_IN, 4, 60, apart + 3, 8, FIRST,
-                              1, number));
-    IS_NULL(rrcache_offer_negative(shelf, apart + 3, 8, A, RRCACHE_IN, 0, 3, 60, ZONE, sizeof ZONE,
-                                   SOA_DATA, sizeof SOA_DATA, FIRST, 1, number));
-    IS_NULL(rrcache_offer_negative(shelf, NAME, sizeof NAME, A, RRCACHE_IN, 0, 3, 60, apart + 3, 8,
-                                   SOA_DATA, sizeof SOA_DATA, FIRST, 1, number));
-    IS_NULL(rrcache_offer_negative(shelf, NAME, sizeof NAME, A, RRCACHE_IN, 0, 3, 60, ZONE,
-                                   sizeof ZONE, apart + 3, 8, FIRST, 1, number));
-    IS_NULL(rrcache_offer_failure(shelf, apart + 3, 8, A, RRCACHE_IN, 30, FIRST, 1, number));
+    IS_NULL(rrcache_offer_message(
+        shelf, RESPONSE(apart + sizeof *counts - 1, 8, ZONE, sizeof ZONE, FIRST, LIMITS), 1,
+        counts));
+    IS_NULL(rrcache_offer_message(
+        shelf, RESPONSE(ANSWER, sizeof ANSWER, apart + sizeof *counts - 1, 8, FIRST, LIMITS), 1,
+        counts));
+    IS_NULL(rrcache_offer_part(
+        shelf, RESPONSE(apart + sizeof *counts - 1, 8, ZONE, sizeof ZONE, FIRST, LIMITS), 1, 0, 1,
+        counts));
+    IS_NULL(rrcache_offer_part(
+        shelf, RESPONSE(ALIAS, sizeof ALIAS, apart + sizeof *counts - 1, 8, FIRST, LIMITS), 1, 0, 1,
+        counts));
+    IS_NULL(rrcache_offer_set(
+        shelf, SET(apart + 3, 8, A, RRCACHE_IN, 4, 60, ADDRESS, sizeof ADDRESS, FIRST), 1, number));
+    IS_NULL(rrcache_offer_set(
+        shelf, SET(NAME, sizeof NAME, A, RRCACHE_IN, 4, 60, apart + 3, 8, FIRST), 1, number));
+    IS_NULL(rrcache_offer_negative(shelf,
+                                   NEGATIVE(apart + 3, 8, A, RRCACHE_IN, 0, 3, 60, ZONE,
+                                            sizeof ZONE, SOA_DATA, sizeof SOA_DATA, FIRST),
+                                   1, number));
+    IS_NULL(rrcache_offer_negative(shelf,
+                                   NEGATIVE(NAME, sizeof NAME, A, RRCACHE_IN, 0, 3, 60, apart + 3,
+                                            8, SOA_DATA, sizeof SOA_DATA, FIRST),
+                                   1, number));
+    IS_NULL(rrcache_offer_negative(shelf,
+                                   NEGATIVE(NAME, sizeof NAME, A, RRCACHE_IN, 0, 3, 60, ZONE,
+                                            sizeof ZONE, apart + 3, 8, FIRST),
+                                   1, number));
+    IS_NULL(
+        rrcache_offer_failure(shelf, FAILURE(apart + 3, 8, A, RRCACHE_IN, 30, FIRST), 1, number));
     IS_NULL(rrcache_fault(apart + 3, 8, number));
     IS_NULL(rrcache_part_of(apart + 7, 8, 1, wide));
 #undef IS_NULL
 
     /* Nothing was written, and what lies side by side, or is only read, is no overlap. */
     EXPECT(memcmp(&held, shelf, sizeof held) == 0 && events(shelf) == 0);
-    EXPECT(rrcache_ask(shelf, far, sizeof NAME, A, RRCACHE_IN, FIRST, 0, 0, 1, told,
+    EXPECT(rrcache_ask(shelf, QUERY(far, sizeof NAME, A, RRCACHE_IN, FIRST, 0, 0), 1, told,
                        far + sizeof NAME, 64)
            == RRCACHE_DONE);
     EXPECT(ask(shelf, FIRST, told, apart + sizeof *told, 0) == RRCACHE_DONE
            && ask(shelf, FIRST, told, apart, 0) == RRCACHE_DONE);
-    EXPECT(rrcache_offer_negative(shelf, far, sizeof NAME, A, RRCACHE_IN, 0, 3, 60, far,
-                                  sizeof NAME, SOA_DATA, sizeof SOA_DATA, FIRST, 1, number)
+    EXPECT(rrcache_offer_negative(shelf,
+                                  NEGATIVE(far, sizeof NAME, A, RRCACHE_IN, 0, 3, 60, far,
+                                           sizeof NAME, SOA_DATA, sizeof SOA_DATA, FIRST),
+                                  1, number)
            == RRCACHE_DONE);
     EXPECT(rrcache_sizes(shelf, wide, wide + 1, wide + 2) == RRCACHE_DONE
            && rrcache_free(shelf) == RRCACHE_DONE);
@@ -1062,24 +1240,27 @@ static uint32_t call(int number, struct rrcache_shelf *shelf)
     case 0:
         return offer_answer(shelf, FIRST, &counts);
     case 1:
-        return rrcache_ask(shelf, UPPER, sizeof UPPER, A, RRCACHE_IN, FIRST, 1, 0, 2, &told, buffer,
-                           sizeof buffer);
+        return rrcache_ask(shelf, QUERY(UPPER, sizeof UPPER, A, RRCACHE_IN, FIRST, 1, 0), 2, &told,
+                           buffer, sizeof buffer);
     case 2:
-        return rrcache_offer_set(shelf, OTHER, sizeof OTHER, A, RRCACHE_IN, 4, 60, ADDRESS,
-                                 sizeof ADDRESS, FIRST, 3, &outcome);
+        return rrcache_offer_set(
+            shelf, SET(OTHER, sizeof OTHER, A, RRCACHE_IN, 4, 60, ADDRESS, sizeof ADDRESS, FIRST),
+            3, &outcome);
     case 3:
-        return rrcache_offer_negative(shelf, OTHER, sizeof OTHER, TXT, RRCACHE_IN, 0, 3, 60, ZONE,
-                                      sizeof ZONE, SOA_DATA, sizeof SOA_DATA, FIRST, 4, &outcome);
+        return rrcache_offer_negative(shelf,
+                                      NEGATIVE(OTHER, sizeof OTHER, TXT, RRCACHE_IN, 0, 3, 60, ZONE,
+                                               sizeof ZONE, SOA_DATA, sizeof SOA_DATA, FIRST),
+                                      4, &outcome);
     case 4:
-        return rrcache_offer_failure(shelf, NAME, sizeof NAME, TXT, RRCACHE_IN, 30, FIRST, 5,
-                                     &outcome);
+        return rrcache_offer_failure(shelf, FAILURE(NAME, sizeof NAME, TXT, RRCACHE_IN, 30, FIRST),
+                                     5, &outcome);
     case 5:
         return rrcache_sweep(shelf, FIRST + 10000, 6, &removed);
     case 6:
         return rrcache_fault(ANSWER, sizeof ANSWER, &outcome);
     case 7:
-        return rrcache_peek(shelf, LONG, sizeof LONG, A, RRCACHE_IN, FIRST, 1, 0, &told, buffer,
-                            sizeof buffer);
+        return rrcache_peek(shelf, QUERY(LONG, sizeof LONG, A, RRCACHE_IN, FIRST, 1, 0), &told,
+                            buffer, sizeof buffer);
     case 8:
         return offer_alias(shelf, PARTS, target, FIRST, &counts);
     default:
@@ -1151,6 +1332,7 @@ int main(void)
     test_chapters();
     test_keys();
     test_parts();
+    test_alias();
     test_octets();
     test_no_shelf();
     test_making_refused();

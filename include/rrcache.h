@@ -121,8 +121,9 @@
 
    The functions of the library proper begin with `rrc_`, and need pointers that are not null and
    buffers that do not overlap. The inline functions below answer RRCACHE_NULL where a pointer is
-   null that may not be, and where what the call writes, the handle too, overlaps anything else that
-   it is handed; what is only read may overlap. Else they call them. That a handle was made by
+   null that may not be, and where what the call writes, the handle too, overlaps any octets that it
+   is handed; what is only read may overlap, and a struct that is handed in is read before anything
+   is written. Else they call them. That a handle was made by
    zeros, that no two threads are in it, and that buffers lie where they are said to, no test finds
    out. */
 #ifndef RRCACHE_H
@@ -138,7 +139,7 @@ extern "C" {
 
 /* The version of this header. `rrcache_version` tells that of the library. */
 #define RRCACHE_VERSION_MAJOR 0
-#define RRCACHE_VERSION_MINOR 1
+#define RRCACHE_VERSION_MINOR 2
 #define RRCACHE_VERSION_PATCH 0
 #define RRCACHE_VERSION                                                                            \
     (RRCACHE_VERSION_MAJOR * 65536 + RRCACHE_VERSION_MINOR * 256 + RRCACHE_VERSION_PATCH)
@@ -181,8 +182,9 @@ enum rrcache_kind {
     RRCACHE_MISS = 5,        /* nothing that will do */
     RRCACHE_MISS_FAILED = 6, /* nothing that will do, and asking has lately failed: `retry_from`
                                 says when to try again */
-    RRCACHE_NODATA = RRCACHE_NO_DATA,  /* as RFC 2308 calls it */
-    RRCACHE_NXDOMAIN = RRCACHE_NO_NAME /* the same */
+    RRCACHE_NODATA = RRCACHE_NO_DATA,      /* as RFC 2308 calls it */
+    RRCACHE_NXDOMAIN = RRCACHE_NO_NAME,    /* the same */
+    RRCACHE_SERVFAIL = RRCACHE_MISS_FAILED /* what a resolver answers then (RFC 9520) */
 };
 
 /* The classes of which data are kept (RFC 1035 section 3.2.4). */
@@ -243,6 +245,82 @@ struct rrcache_limits {
     uint32_t negative_cap; /* the most that a negative answer lives: 1 to 604,800 (RFC 2308 section
                               5) */
     uint32_t recheck;      /* how long a failure is remembered: 1 to 300 (RFC 2308 section 7) */
+};
+
+/* The limits of a resolver that wishes for no others. */
+#define RRCACHE_LIMITS                                                                             \
+    {                                                                                              \
+        604800, 10800, 30                                                                          \
+    }
+
+/* ---- What a resolver hands in. These structs are read by the inline functions alone, and so they
+   may have more fields in a later version of this header: name the fields, and what is not named is
+   0. The structs above are the library's too, and have the same fields in all versions under one
+   soname. A name stands with the number of its octets. */
+
+/* A question, and which answers will do. With `purpose` and `mode` 0 glue will do and stale data
+   will not. */
+struct rrcache_query {
+    const uint8_t *name;
+    size_t name_size;
+    uint16_t rtype;
+    uint16_t rclass; /* enum rrcache_class */
+    uint64_t moment;
+    enum rrcache_purpose purpose;
+    enum rrcache_mode mode;
+};
+
+/* A response: its octets, without those of its length over TCP, and the zone whose server sent
+   it. */
+struct rrcache_response {
+    const uint8_t *octets;
+    size_t size;
+    const uint8_t *zone;
+    size_t zone_size;
+    uint64_t moment;
+    struct rrcache_limits limits;
+};
+
+/* An RRset. The data stand one behind another, each behind its length of two octets, with no name
+   compressed. */
+struct rrcache_set {
+    const uint8_t *owner;
+    size_t owner_size;
+    uint16_t rtype;
+    uint16_t rclass;
+    enum rrcache_trust trust;
+    uint32_t ttl;
+    const uint8_t *data;
+    size_t data_size;
+    uint64_t moment;
+};
+
+/* That a name has no data of a type, or does not exist, with the SOA record that says so, its names
+   not compressed. A name that does not exist has no type: with RRCACHE_DENIES_NAME `rtype` is not
+   looked at. */
+struct rrcache_negative {
+    const uint8_t *name;
+    size_t name_size;
+    uint16_t rtype;
+    uint16_t rclass;
+    enum rrcache_denial denial;
+    enum rrcache_trust trust;
+    uint32_t ttl;
+    const uint8_t *soa_owner;
+    size_t soa_owner_size;
+    const uint8_t *soa;
+    size_t soa_size;
+    uint64_t moment;
+};
+
+/* That asking for data of a type failed, which is remembered for `ttl` seconds. */
+struct rrcache_failure {
+    const uint8_t *name;
+    size_t name_size;
+    uint16_t rtype;
+    uint16_t rclass;
+    uint32_t ttl;
+    uint64_t moment;
 };
 
 /* The functions of the library proper. A size stands behind its pointer. */
@@ -336,21 +414,38 @@ static inline bool rrcache_holds(const struct rrcache_shelf *shelf, const void *
    secret: then nobody can pick names whose hashes are alike, which would make calls slow. Where the
    handle holds a shelf RRCACHE_HAS_SHELF is answered, whatever the rules are, and that shelf is as
    it was. */
-static inline uint32_t rrcache_make(struct rrcache_shelf *shelf, uint64_t capacity,
-                                    uint64_t chapter, uint64_t stale, const uint8_t seed[16])
+static inline enum rrcache_status rrcache_make(struct rrcache_shelf *shelf, uint64_t capacity,
+                                               uint64_t chapter, uint64_t stale,
+                                               const uint8_t seed[16])
 {
     if (shelf == NULL || seed == NULL || rrcache_holds(shelf, seed, 16))
         return RRCACHE_NULL;
-    return rrc_make(shelf, capacity, chapter, stale, seed, 16);
+    return (enum rrcache_status)rrc_make(shelf, capacity, chapter, stale, seed, 16);
 }
 
 /* Frees the shelf of a handle, which then holds none, with all its keys and the events of all its
    chapters, one by one. Where it held none RRCACHE_NO_SHELF is answered and nothing done. */
-static inline uint32_t rrcache_free(struct rrcache_shelf *shelf)
+static inline enum rrcache_status rrcache_free(struct rrcache_shelf *shelf)
 {
     if (shelf == NULL)
         return RRCACHE_NULL;
-    return rrc_free(shelf);
+    return (enum rrcache_status)rrc_free(shelf);
+}
+
+/* Whether a response may be offered: what is needed is there, and the counts overlap nothing that
+   is handed in. */
+static inline bool rrcache_can_offer(const struct rrcache_shelf *shelf,
+                                     const struct rrcache_response *response,
+                                     const struct rrcache_counts *counts)
+{
+    return shelf != NULL && response != NULL && counts != NULL
+           && rrcache_is_there(response->octets, response->size)
+           && rrcache_is_there(response->zone, response->zone_size)
+           && !rrcache_holds(shelf, counts, sizeof *counts)
+           && !rrcache_touch(shelf, sizeof *shelf, counts, sizeof *counts, response->octets,
+                             response->size)
+           && !rrcache_touch(shelf, sizeof *shelf, counts, sizeof *counts, response->zone,
+                             response->zone_size);
 }
 
 /* Offers all that a response from a server of this zone says: its RRsets at or below the zone, and
@@ -358,107 +453,113 @@ static inline uint32_t rrcache_free(struct rrcache_shelf *shelf)
    well; where there are other shelves `rrcache_offer_part` gives each its share. It compares the
    response with no query, and one with TC set offers nothing: "What may be offered" above tells
    more. */
-static inline uint32_t rrcache_offer_message(struct rrcache_shelf *shelf, const uint8_t *octets,
-                                             size_t size, const uint8_t *zone, size_t zone_size,
-                                             uint64_t moment, const struct rrcache_limits *limits,
-                                             uint64_t line, struct rrcache_counts *counts)
+static inline enum rrcache_status rrcache_offer_message(struct rrcache_shelf *shelf,
+                                                        const struct rrcache_response *response,
+                                                        uint64_t line,
+                                                        struct rrcache_counts *counts)
 {
-    if (shelf == NULL || limits == NULL || counts == NULL || !rrcache_is_there(octets, size)
-        || !rrcache_is_there(zone, zone_size) || rrcache_holds(shelf, counts, sizeof *counts)
-        || rrcache_touch(shelf, sizeof *shelf, counts, sizeof *counts, octets, size)
-        || rrcache_touch(shelf, sizeof *shelf, counts, sizeof *counts, zone, zone_size)
-        || rrcache_touch(shelf, sizeof *shelf, counts, sizeof *counts, limits, sizeof *limits))
+    if (!rrcache_can_offer(shelf, response, counts))
         return RRCACHE_NULL;
-    return rrc_offer_message(shelf, rrcache_octets(octets, size), size,
-                             rrcache_octets(zone, zone_size), zone_size, moment, limits, line,
-                             counts);
+    struct rrcache_limits limits = response->limits;
+    return (enum rrcache_status)rrc_offer_message(
+        shelf, rrcache_octets(response->octets, response->size), response->size,
+        rrcache_octets(response->zone, response->zone_size), response->zone_size, response->moment,
+        &limits, line, counts);
 }
 
 /* Offers what a response says of the names that lie in one of 1 to 64 parts, counted from 0
    (`rrcache_part_of`): that of `rrcache_offer_message`, but for what lies in other parts, which is
    neither offered nor counted. */
-static inline uint32_t rrcache_offer_part(struct rrcache_shelf *shelf, const uint8_t *octets,
-                                          size_t size, const uint8_t *zone, size_t zone_size,
-                                          uint64_t parts, uint64_t part, uint64_t moment,
-                                          const struct rrcache_limits *limits, uint64_t line,
-                                          struct rrcache_counts *counts)
+static inline enum rrcache_status rrcache_offer_part(struct rrcache_shelf *shelf,
+                                                     const struct rrcache_response *response,
+                                                     uint64_t parts, uint64_t part, uint64_t line,
+                                                     struct rrcache_counts *counts)
 {
-    if (shelf == NULL || limits == NULL || counts == NULL || !rrcache_is_there(octets, size)
-        || !rrcache_is_there(zone, zone_size) || rrcache_holds(shelf, counts, sizeof *counts)
-        || rrcache_touch(shelf, sizeof *shelf, counts, sizeof *counts, octets, size)
-        || rrcache_touch(shelf, sizeof *shelf, counts, sizeof *counts, zone, zone_size)
-        || rrcache_touch(shelf, sizeof *shelf, counts, sizeof *counts, limits, sizeof *limits))
+    if (!rrcache_can_offer(shelf, response, counts))
         return RRCACHE_NULL;
-    return rrc_offer_part(shelf, rrcache_octets(octets, size), size,
-                          rrcache_octets(zone, zone_size), zone_size, parts, part, moment, limits,
-                          line, counts);
+    struct rrcache_limits limits = response->limits;
+    return (enum rrcache_status)rrc_offer_part(
+        shelf, rrcache_octets(response->octets, response->size), response->size,
+        rrcache_octets(response->zone, response->zone_size), response->zone_size, parts, part,
+        response->moment, &limits, line, counts);
 }
 
-/* Offers one set under its owner. The data stand one behind another, each behind its length of two
-   octets, with no name compressed. */
-static inline uint32_t rrcache_offer_set(struct rrcache_shelf *shelf, const uint8_t *owner,
-                                         size_t owner_size, uint16_t rtype, uint16_t rclass,
-                                         uint32_t trust, uint32_t ttl, const uint8_t *data,
-                                         size_t data_size, uint64_t moment, uint64_t line,
-                                         uint32_t *outcome)
+/* Offers one set under its owner. */
+static inline enum rrcache_status rrcache_offer_set(struct rrcache_shelf *shelf,
+                                                    const struct rrcache_set *set, uint64_t line,
+                                                    uint32_t *outcome)
 {
-    if (shelf == NULL || outcome == NULL || !rrcache_is_there(owner, owner_size)
-        || !rrcache_is_there(data, data_size) || rrcache_holds(shelf, outcome, sizeof *outcome)
-        || rrcache_touch(shelf, sizeof *shelf, outcome, sizeof *outcome, owner, owner_size)
-        || rrcache_touch(shelf, sizeof *shelf, outcome, sizeof *outcome, data, data_size))
-        return RRCACHE_NULL;
-    return rrc_offer_set(shelf, rrcache_octets(owner, owner_size), owner_size, rtype, rclass, trust,
-                         ttl, rrcache_octets(data, data_size), data_size, moment, line, outcome);
-}
-
-/* Offers that a name has no data of a type, or does not exist, with the SOA record that says so,
-   its names not compressed. A name that does not exist has no type: with RRCACHE_DENIES_NAME none
-   is asked for, and `rtype` may be any number; its class has to be one that is kept. */
-static inline uint32_t rrcache_offer_negative(struct rrcache_shelf *shelf, const uint8_t *name,
-                                              size_t name_size, uint16_t rtype, uint16_t rclass,
-                                              uint32_t denial, uint32_t trust, uint32_t ttl,
-                                              const uint8_t *soa_owner, size_t soa_owner_size,
-                                              const uint8_t *soa, size_t soa_size, uint64_t moment,
-                                              uint64_t line, uint32_t *outcome)
-{
-    if (shelf == NULL || outcome == NULL || !rrcache_is_there(name, name_size)
-        || !rrcache_is_there(soa_owner, soa_owner_size) || !rrcache_is_there(soa, soa_size)
+    if (shelf == NULL || set == NULL || outcome == NULL
+        || !rrcache_is_there(set->owner, set->owner_size)
+        || !rrcache_is_there(set->data, set->data_size)
         || rrcache_holds(shelf, outcome, sizeof *outcome)
-        || rrcache_touch(shelf, sizeof *shelf, outcome, sizeof *outcome, name, name_size)
-        || rrcache_touch(shelf, sizeof *shelf, outcome, sizeof *outcome, soa_owner, soa_owner_size)
-        || rrcache_touch(shelf, sizeof *shelf, outcome, sizeof *outcome, soa, soa_size))
+        || rrcache_touch(shelf, sizeof *shelf, outcome, sizeof *outcome, set->owner,
+                         set->owner_size)
+        || rrcache_touch(shelf, sizeof *shelf, outcome, sizeof *outcome, set->data, set->data_size))
         return RRCACHE_NULL;
-    return rrc_offer_negative(shelf, rrcache_octets(name, name_size), name_size, rtype, rclass,
-                              denial, trust, ttl, rrcache_octets(soa_owner, soa_owner_size),
-                              soa_owner_size, rrcache_octets(soa, soa_size), soa_size, moment, line,
-                              outcome);
+    return (enum rrcache_status)rrc_offer_set(
+        shelf, rrcache_octets(set->owner, set->owner_size), set->owner_size, set->rtype,
+        set->rclass, (uint32_t)set->trust, set->ttl, rrcache_octets(set->data, set->data_size),
+        set->data_size, set->moment, line, outcome);
 }
 
-/* Offers that asking for data of a type failed, for `ttl` seconds. */
-static inline uint32_t rrcache_offer_failure(struct rrcache_shelf *shelf, const uint8_t *name,
-                                             size_t name_size, uint16_t rtype, uint16_t rclass,
-                                             uint32_t ttl, uint64_t moment, uint64_t line,
-                                             uint32_t *outcome)
+/* Offers that a name has no data of a type, or does not exist. A class has to be one of those that
+   are kept. */
+static inline enum rrcache_status rrcache_offer_negative(struct rrcache_shelf *shelf,
+                                                         const struct rrcache_negative *negative,
+                                                         uint64_t line, uint32_t *outcome)
 {
-    if (shelf == NULL || outcome == NULL || !rrcache_is_there(name, name_size)
+    if (shelf == NULL || negative == NULL || outcome == NULL
+        || !rrcache_is_there(negative->name, negative->name_size)
+        || !rrcache_is_there(negative->soa_owner, negative->soa_owner_size)
+        || !rrcache_is_there(negative->soa, negative->soa_size)
         || rrcache_holds(shelf, outcome, sizeof *outcome)
-        || rrcache_touch(shelf, sizeof *shelf, outcome, sizeof *outcome, name, name_size))
+        || rrcache_touch(shelf, sizeof *shelf, outcome, sizeof *outcome, negative->name,
+                         negative->name_size)
+        || rrcache_touch(shelf, sizeof *shelf, outcome, sizeof *outcome, negative->soa_owner,
+                         negative->soa_owner_size)
+        || rrcache_touch(shelf, sizeof *shelf, outcome, sizeof *outcome, negative->soa,
+                         negative->soa_size))
         return RRCACHE_NULL;
-    return rrc_offer_failure(shelf, rrcache_octets(name, name_size), name_size, rtype, rclass, ttl,
-                             moment, line, outcome);
+    return (enum rrcache_status)rrc_offer_negative(
+        shelf, rrcache_octets(negative->name, negative->name_size), negative->name_size,
+        negative->rtype, negative->rclass, (uint32_t)negative->denial, (uint32_t)negative->trust,
+        negative->ttl, rrcache_octets(negative->soa_owner, negative->soa_owner_size),
+        negative->soa_owner_size, rrcache_octets(negative->soa, negative->soa_size),
+        negative->soa_size, negative->moment, line, outcome);
 }
 
-/* Whether a reply about a name may be told: what is needed is there, and nothing that is written
+/* Offers that asking for data of a type failed. */
+static inline enum rrcache_status rrcache_offer_failure(struct rrcache_shelf *shelf,
+                                                        const struct rrcache_failure *failure,
+                                                        uint64_t line, uint32_t *outcome)
+{
+    if (shelf == NULL || failure == NULL || outcome == NULL
+        || !rrcache_is_there(failure->name, failure->name_size)
+        || rrcache_holds(shelf, outcome, sizeof *outcome)
+        || rrcache_touch(shelf, sizeof *shelf, outcome, sizeof *outcome, failure->name,
+                         failure->name_size))
+        return RRCACHE_NULL;
+    return (enum rrcache_status)rrc_offer_failure(
+        shelf, rrcache_octets(failure->name, failure->name_size), failure->name_size,
+        failure->rtype, failure->rclass, failure->ttl, failure->moment, line, outcome);
+}
+
+/* Whether a reply to a query may be told: what is needed is there, and nothing that is written
    overlaps anything else. */
-static inline bool rrcache_can_tell(const struct rrcache_shelf *shelf, const uint8_t *name,
-                                    size_t name_size, const struct rrcache_told *told,
-                                    const uint8_t *buffer, size_t buffer_size)
+static inline bool rrcache_can_tell(const struct rrcache_shelf *shelf,
+                                    const struct rrcache_query *query,
+                                    const struct rrcache_told *told, const uint8_t *buffer,
+                                    size_t buffer_size)
 {
-    return shelf != NULL && told != NULL && rrcache_is_there(name, name_size)
+    return shelf != NULL && query != NULL && told != NULL
+           && rrcache_is_there(query->name, query->name_size)
            && rrcache_is_there(buffer, buffer_size) && !rrcache_holds(shelf, told, sizeof *told)
-           && !rrcache_holds(shelf, buffer, buffer_size) && !rrcache_holds(shelf, name, name_size)
+           && !rrcache_holds(shelf, buffer, buffer_size)
+           && !rrcache_holds(shelf, query->name, query->name_size)
            && !rrcache_overlap(buffer, buffer_size, told, sizeof *told)
-           && !rrcache_touch(told, sizeof *told, buffer, buffer_size, name, name_size);
+           && !rrcache_touch(told, sizeof *told, buffer, buffer_size, query->name,
+                             query->name_size);
 }
 
 /* Asks, which is one event: the reply is told and written to the buffer. Where the buffer is too
@@ -466,56 +567,104 @@ static inline bool rrcache_can_tell(const struct rrcache_shelf *shelf, const uin
    reply never takes more than 255 octets and those of its data. RRCACHE_SMALL comes before
    RRCACHE_HISTORY_FULL and RRCACHE_MOMENT_TOO_LARGE, so that the call with room enough may still be
    refused. */
-static inline uint32_t rrcache_ask(struct rrcache_shelf *shelf, const uint8_t *name,
-                                   size_t name_size, uint16_t rtype, uint16_t rclass,
-                                   uint64_t moment, uint32_t purpose, uint32_t mode, uint64_t line,
-                                   struct rrcache_told *told, uint8_t *buffer, size_t buffer_size)
+static inline enum rrcache_status rrcache_ask(struct rrcache_shelf *shelf,
+                                              const struct rrcache_query *query, uint64_t line,
+                                              struct rrcache_told *told, uint8_t *buffer,
+                                              size_t buffer_size)
 {
     uint8_t none;
-    if (!rrcache_can_tell(shelf, name, name_size, told, buffer, buffer_size))
+    if (!rrcache_can_tell(shelf, query, told, buffer, buffer_size))
         return RRCACHE_NULL;
-    return rrc_ask(shelf, rrcache_octets(name, name_size), name_size, rtype, rclass, moment,
-                   purpose, mode, line, told, buffer_size == 0 ? &none : buffer, buffer_size);
+    return (enum rrcache_status)rrc_ask(
+        shelf, rrcache_octets(query->name, query->name_size), query->name_size, query->rtype,
+        query->rclass, query->moment, (uint32_t)query->purpose, (uint32_t)query->mode, line, told,
+        buffer_size == 0 ? &none : buffer, buffer_size);
 }
 
 /* What `rrcache_ask` would answer. No event is written and no key touched. It is not refused for
    its moment, which may be above 2^40, nor where numbers are spent. */
-static inline uint32_t rrcache_peek(struct rrcache_shelf *shelf, const uint8_t *name,
-                                    size_t name_size, uint16_t rtype, uint16_t rclass,
-                                    uint64_t moment, uint32_t purpose, uint32_t mode,
-                                    struct rrcache_told *told, uint8_t *buffer, size_t buffer_size)
+static inline enum rrcache_status rrcache_peek(struct rrcache_shelf *shelf,
+                                               const struct rrcache_query *query,
+                                               struct rrcache_told *told, uint8_t *buffer,
+                                               size_t buffer_size)
 {
     uint8_t none;
-    if (!rrcache_can_tell(shelf, name, name_size, told, buffer, buffer_size))
+    if (!rrcache_can_tell(shelf, query, told, buffer, buffer_size))
         return RRCACHE_NULL;
-    return rrc_peek(shelf, rrcache_octets(name, name_size), name_size, rtype, rclass, moment,
-                    purpose, mode, told, buffer_size == 0 ? &none : buffer, buffer_size);
+    return (enum rrcache_status)rrc_peek(
+        shelf, rrcache_octets(query->name, query->name_size), query->name_size, query->rtype,
+        query->rclass, query->moment, (uint32_t)query->purpose, (uint32_t)query->mode, told,
+        buffer_size == 0 ? &none : buffer, buffer_size);
+}
+
+/* Whether the CNAME record of a name is to be told in place of data of a type, by the kinds of both
+   replies: a fresh one where of the type there is stale data alone or nothing, a stale one where
+   there is nothing. */
+static inline bool rrcache_is_alias_told(uint32_t of_alias, uint32_t of_type)
+{
+    if (of_type == RRCACHE_STALE)
+        return of_alias == RRCACHE_FRESH;
+    return (of_type == RRCACHE_MISS || of_type == RRCACHE_MISS_FAILED)
+           && (of_alias == RRCACHE_FRESH || of_alias == RRCACHE_STALE);
+}
+
+/* Asks as `rrcache_ask` does, which is one event, and where the shelf has no fresh data of the type
+   but the name is an alias, for its CNAME record instead: `is_alias` tells which. The resolver then
+   asks for the record's target, under the lock of that name's shelf. Where there is neither, the
+   miss is told. `is_alias` is written where RRCACHE_DONE or RRCACHE_SMALL is answered. */
+static inline enum rrcache_status
+rrcache_ask_alias(struct rrcache_shelf *shelf, const struct rrcache_query *query, uint64_t line,
+                  struct rrcache_told *told, uint8_t *buffer, size_t buffer_size, bool *is_alias)
+{
+    struct rrcache_told of_type, of_alias;
+    struct rrcache_query alias;
+    enum rrcache_status status;
+    bool is_told;
+    if (!rrcache_can_tell(shelf, query, told, buffer, buffer_size) || is_alias == NULL
+        || rrcache_holds(shelf, is_alias, sizeof *is_alias)
+        || rrcache_touch(told, sizeof *told, buffer, buffer_size, is_alias, sizeof *is_alias)
+        || rrcache_overlap(is_alias, sizeof *is_alias, query->name, query->name_size))
+        return RRCACHE_NULL;
+    of_type.kind = of_alias.kind = 0;
+    alias = *query;
+    alias.rtype = 5; /* CNAME */
+    status = rrcache_peek(shelf, query, &of_type, NULL, 0);
+    if (status == RRCACHE_DONE || status == RRCACHE_SMALL)
+        status = rrcache_peek(shelf, &alias, &of_alias, NULL, 0);
+    if (status != RRCACHE_DONE && status != RRCACHE_SMALL)
+        return status;
+    is_told = query->rtype != alias.rtype && rrcache_is_alias_told(of_alias.kind, of_type.kind);
+    status = rrcache_ask(shelf, is_told ? &alias : query, line, told, buffer, buffer_size);
+    if (status == RRCACHE_DONE || status == RRCACHE_SMALL)
+        *is_alias = is_told;
+    return status;
 }
 
 /* Removes the keys that can answer no more at a moment, which is one event, and tells how many they
    were. */
-static inline uint32_t rrcache_sweep(struct rrcache_shelf *shelf, uint64_t moment, uint64_t line,
-                                     uint64_t *removed)
+static inline enum rrcache_status rrcache_sweep(struct rrcache_shelf *shelf, uint64_t moment,
+                                                uint64_t line, uint64_t *removed)
 {
     if (shelf == NULL || removed == NULL || rrcache_holds(shelf, removed, sizeof *removed))
         return RRCACHE_NULL;
-    return rrc_sweep(shelf, moment, line, removed);
+    return (enum rrcache_status)rrc_sweep(shelf, moment, line, removed);
 }
 
 /* Takes the closed chapters and drops them, and tells how many they were. No reply changes. Each
    event of these chapters is freed before the call returns. */
-static inline uint32_t rrcache_drop_chapters(struct rrcache_shelf *shelf, uint64_t *dropped)
+static inline enum rrcache_status rrcache_drop_chapters(struct rrcache_shelf *shelf,
+                                                        uint64_t *dropped)
 {
     if (shelf == NULL || dropped == NULL || rrcache_holds(shelf, dropped, sizeof *dropped))
         return RRCACHE_NULL;
-    return rrc_drop_chapters(shelf, dropped);
+    return (enum rrcache_status)rrc_drop_chapters(shelf, dropped);
 }
 
 /* Tells how many keys the shelf holds, those that are dead and not yet swept with them, how many
    events the open chapter has, and how many chapters are closed. A key is a name with a type, with
    no type where the name does not exist, or with a type that asking failed for. */
-static inline uint32_t rrcache_sizes(struct rrcache_shelf *shelf, uint64_t *keys, uint64_t *events,
-                                     uint64_t *chapters)
+static inline enum rrcache_status rrcache_sizes(struct rrcache_shelf *shelf, uint64_t *keys,
+                                                uint64_t *events, uint64_t *chapters)
 {
     if (shelf == NULL || keys == NULL || events == NULL || chapters == NULL
         || rrcache_holds(shelf, keys, sizeof *keys) || rrcache_holds(shelf, events, sizeof *events)
@@ -523,29 +672,30 @@ static inline uint32_t rrcache_sizes(struct rrcache_shelf *shelf, uint64_t *keys
         || rrcache_overlap(keys, sizeof *keys, events, sizeof *events)
         || rrcache_touch(keys, sizeof *keys, events, sizeof *events, chapters, sizeof *chapters))
         return RRCACHE_NULL;
-    return rrc_sizes(shelf, keys, events, chapters);
+    return (enum rrcache_status)rrc_sizes(shelf, keys, events, chapters);
 }
 
 /* Tells why octets are no response: 0 they are one, 1 they end too soon, 2 a length octet has
    reserved bits, 3 a pointer leads to no lower place, 4 a name has more than 255 octets, 5 data do
    not fill their layout, 6 they are no response, 7 there is not one question, 8 they are more than
    65,535. */
-static inline uint32_t rrcache_fault(const uint8_t *octets, size_t size, uint32_t *fault)
+static inline enum rrcache_status rrcache_fault(const uint8_t *octets, size_t size, uint32_t *fault)
 {
     if (fault == NULL || !rrcache_is_there(octets, size)
         || rrcache_overlap(fault, sizeof *fault, octets, size))
         return RRCACHE_NULL;
-    return rrc_fault(rrcache_octets(octets, size), size, fault);
+    return (enum rrcache_status)rrc_fault(rrcache_octets(octets, size), size, fault);
 }
 
 /* Tells in which of 1 to 64 parts all keys of a name lie, counted from 0. */
-static inline uint32_t rrcache_part_of(const uint8_t *name, size_t name_size, uint64_t parts,
-                                       uint64_t *part)
+static inline enum rrcache_status rrcache_part_of(const uint8_t *name, size_t name_size,
+                                                  uint64_t parts, uint64_t *part)
 {
     if (part == NULL || !rrcache_is_there(name, name_size)
         || rrcache_overlap(part, sizeof *part, name, name_size))
         return RRCACHE_NULL;
-    return rrc_part_of(rrcache_octets(name, name_size), name_size, parts, part);
+    return (enum rrcache_status)rrc_part_of(rrcache_octets(name, name_size), name_size, parts,
+                                            part);
 }
 
 #ifdef __cplusplus

@@ -30,7 +30,7 @@ struct found {
 struct walk {
     struct question at; /* the name that was reached */
     size_t place;       /* of that name in the reply */
-    uint32_t mode;
+    enum rrcache_mode mode;
     bool only_looks;   /* no event is to be written */
     bool lacks_memory; /* it was refused */
     bool is_stale, has_failed;
@@ -74,21 +74,28 @@ void leave_cache(void)
 
 /* Asks the shelf of a name for a type. An ask writes an event. Where memory is refused for that,
    the chapters that are closed are freed, and the shelf is asked for nothing but the reply. */
-static uint32_t ask_shelf(struct shelf *shelf, const struct question *at, uint16_t type,
-                          const struct walk *walk, struct found *found)
+static enum rrcache_status ask_shelf(struct shelf *shelf, const struct question *at, uint16_t type,
+                                     const struct walk *walk, struct found *found)
 {
+    const struct rrcache_query query = {
+        .name = at->name,
+        .name_size = at->size,
+        .rtype = type,
+        .rclass = RRCACHE_IN,
+        .moment = moment(),
+        .purpose = RRCACHE_QUESTION,
+        .mode = walk->mode,
+    };
     uint64_t dropped;
-    uint32_t status = RRCACHE_MEMORY;
+    enum rrcache_status status = RRCACHE_MEMORY;
     pthread_mutex_lock(&shelf->lock);
     if (!walk->only_looks)
-        status = rrcache_ask(&shelf->cache, at->name, at->size, type, RRCACHE_IN, moment(),
-                             RRCACHE_QUESTION, walk->mode, shelf->calls++, &found->told,
-                             found->octets, sizeof found->octets);
+        status = rrcache_ask(&shelf->cache, &query, shelf->calls++, &found->told, found->octets,
+                             sizeof found->octets);
     if (status == RRCACHE_MEMORY) {
         rrcache_drop_chapters(&shelf->cache, &dropped);
-        status = rrcache_peek(&shelf->cache, at->name, at->size, type, RRCACHE_IN, moment(),
-                              RRCACHE_QUESTION, walk->mode, &found->told, found->octets,
-                              sizeof found->octets);
+        status =
+            rrcache_peek(&shelf->cache, &query, &found->told, found->octets, sizeof found->octets);
     }
     pthread_mutex_unlock(&shelf->lock);
     return status;
@@ -100,7 +107,7 @@ static uint32_t ask(const struct question *at, uint16_t type, const struct walk 
                     struct found *found)
 {
     uint64_t part = 0;
-    uint32_t status = rrcache_part_of(at->name, at->size, SHELVES, &part);
+    enum rrcache_status status = rrcache_part_of(at->name, at->size, SHELVES, &part);
     if (status == RRCACHE_DONE)
         status = ask_shelf(&shelves[part], at, type, walk, found);
     if (status == RRCACHE_MEMORY)
@@ -232,7 +239,7 @@ static enum outcome walk_on(struct walk *walk, struct reply *reply)
 }
 
 /* Looks up once, with an event for each name or with none; tells whether memory was refused. */
-static bool look_once(const struct question *question, uint32_t mode, bool only_looks,
+static bool look_once(const struct question *question, enum rrcache_mode mode, bool only_looks,
                       struct reply *reply, enum outcome *outcome)
 {
     struct walk walk = {.at = *question, .place = HEADER, .mode = mode, .only_looks = only_looks};
@@ -243,7 +250,7 @@ static bool look_once(const struct question *question, uint32_t mode, bool only_
 
 /* Where memory is refused, the thread's reserve is freed, and taken again behind the look: what a
    look takes it gives back. */
-enum outcome look_up(const struct question *question, uint32_t mode, struct reply *reply)
+enum outcome look_up(const struct question *question, enum rrcache_mode mode, struct reply *reply)
 {
     enum outcome outcome;
     if (reserve == NULL)
@@ -264,13 +271,21 @@ enum outcome look_up(const struct question *question, uint32_t mode, struct repl
    Where memory is refused a part of it is kept. */
 static bool offer(const uint8_t *message, size_t size)
 {
+    const struct rrcache_response response = {
+        .octets = message,
+        .size = size,
+        .zone = ROOT,
+        .zone_size = sizeof ROOT,
+        .moment = moment(),
+        .limits = LIMITS,
+    };
     struct rrcache_counts counts;
-    uint32_t status = RRCACHE_DONE;
+    enum rrcache_status status = RRCACHE_DONE;
     for (uint64_t part = 0; part < SHELVES && status != RRCACHE_BAD_MESSAGE; part++) {
         struct shelf *shelf = &shelves[part];
         pthread_mutex_lock(&shelf->lock);
-        status = rrcache_offer_part(&shelf->cache, message, size, ROOT, sizeof ROOT, SHELVES, part,
-                                    moment(), &LIMITS, shelf->calls++, &counts);
+        status =
+            rrcache_offer_part(&shelf->cache, &response, SHELVES, part, shelf->calls++, &counts);
         pthread_mutex_unlock(&shelf->lock);
     }
     return status != RRCACHE_BAD_MESSAGE;
@@ -300,14 +315,21 @@ bool keep(const struct question *question, const uint8_t *message, size_t size, 
 
 void remember_failure(const struct question *question)
 {
+    const struct rrcache_failure failure = {
+        .name = question->name,
+        .name_size = question->size,
+        .rtype = question->type,
+        .rclass = RRCACHE_IN,
+        .ttl = FAILURE_SECONDS,
+        .moment = moment(),
+    };
     uint64_t part = 0;
     uint32_t outcome;
     if (rrcache_part_of(question->name, question->size, SHELVES, &part) != RRCACHE_DONE)
         return;
     struct shelf *shelf = &shelves[part];
     pthread_mutex_lock(&shelf->lock);
-    rrcache_offer_failure(&shelf->cache, question->name, question->size, question->type, RRCACHE_IN,
-                          FAILURE_SECONDS, moment(), shelf->calls++, &outcome);
+    rrcache_offer_failure(&shelf->cache, &failure, shelf->calls++, &outcome);
     pthread_mutex_unlock(&shelf->lock);
 }
 

@@ -42,7 +42,7 @@ void leave_cache(void);
 
 /* Answers a question from the cache: the aliases of its name, and what is at their end. The mode is
    one of `enum rrcache_mode`. The reply is complete where something was found. */
-enum outcome look_up(const struct question *question, uint32_t mode, struct reply *reply);
+enum outcome look_up(const struct question *question, enum rrcache_mode mode, struct reply *reply);
 
 /* Keeps what a response says, and makes the reply to its question: what is then in the cache, or,
    of what is not kept there, as data with a ttl of 0, what the response says. False where the

@@ -62,7 +62,7 @@ static void answer(struct worker *worker, const struct asker *asker)
     const struct question *question = &asker->query.question;
     struct reply reply;
     bool wants_recursion = asker->query.flags[0] & 1;
-    uint32_t mode = wants_recursion ? RRCACHE_STALE_IF_FAILED : RRCACHE_NO_STALE;
+    enum rrcache_mode mode = wants_recursion ? RRCACHE_STALE_IF_FAILED : RRCACHE_NO_STALE;
     enum outcome outcome = look_up(question, mode, &reply);
     if (outcome == IS_MISSING && wants_recursion) {
         if (await_fetch(&worker->fetcher, asker, false))
