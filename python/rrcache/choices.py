@@ -55,7 +55,7 @@ class Outcome(IntEnum):
 
 class Kind(IntEnum):
     """What a reply is. With MISS_FAILED asking has lately failed. NODATA and NXDOMAIN are what RFC
-    2308 calls NO_DATA and NO_NAME."""
+    2308 calls NO_DATA and NO_NAME, and SERVFAIL is what a resolver answers for MISS_FAILED."""
 
     FRESH = 1
     STALE = 2
@@ -65,3 +65,4 @@ class Kind(IntEnum):
     MISS_FAILED = 6
     NODATA = 3
     NXDOMAIN = 4
+    SERVFAIL = 6

@@ -1,5 +1,6 @@
 -- What C is told of octets, and of what a shelf holds.
 use Rattle.std.specs.Prelude.{◌≡◌, ℕ, ◌⊎◌, List, [], length}
+use Rattle.rrc_cache.specs.Expiry.{NoneDiesBefore}
 use Rattle.rrc_cache.specs.Sizes.{HoldsKeys}
 use Rattle.rrc_share.specs.Shelf.{ShelfOf}
 use Rattle.rrc_wire.specs.Fault.{number_of}
@@ -30,6 +31,11 @@ pub record TellsSizes (keys events chapters : ℕ) (old new : ShelfOf) : Type 0 
   pub keys_are : HoldsKeys old.part keys
   pub events_are : events ≡ length old.part.events
   pub chapters_are : chapters ≡ length old.closed
+
+-- no key of the shelf is dead before a moment
+pub record TellsExpiry (moment : ℕ) (old new : ShelfOf) : Type 0 where
+  pub kept : new ≡ old
+  pub before : NoneDiesBefore old.part moment
 
 -- the closed chapters were dropped, and as many of them are told
 pub record DropsChapters (chapters : ℕ) (old new : ShelfOf) : Type 0 where

@@ -2,7 +2,7 @@ ghost use Rattle.std.specs.Prelude.{◌≡◌, ◌<◌, ◌⊎◌, None, IfOk, O
 ghost use Rattle.rrc_c.specs.Statuses.{number_of_call, number_of_reply, OnDone, OnNoShelf, OnRefused, OnSmall, OnUntold};
 ghost use Rattle.rrc_c.specs.Handles.{BothHold, HoldsNone, IsKept, TellsNone};
 ghost use Rattle.rrc_c.specs.Asked.{asked, Answers, Shows, TellsSizeAlone};
-ghost use Rattle.rrc_c.specs.Kept.{TellsFault, TellsSizes, DropsChapters};
+ghost use Rattle.rrc_c.specs.Kept.{TellsExpiry, TellsFault, TellsSizes, DropsChapters};
 ghost use Rattle.rrc_c.specs.Offered.{denial_offer, failure_offer, TakesMessage, TakesOne, TakesSet, TakesSome};
 ghost use Rattle.rrc_c.specs.Parted.{IsPart, TakesPart, TakesSomeOfPart};
 ghost use Rattle.rrc_c.specs.Refusals.{AskDue, DenialDue, FailureDue, IfHeld, IsDenial, IsFailure, IsQuestion, IsSet, OutOfMemory, PartDue, PeekDue, SetDue, WriteDue};
@@ -12,7 +12,7 @@ ghost use Rattle.rrc_name.specs.Parts.{part_of};
 use crate::asking::{ask_shelf, peek_at_shelf};
 use crate::counts::{Bounds, Counts};
 use crate::handle::Handle;
-use crate::keeping::{fault_in, part_in, sweep};
+use crate::keeping::{expiry_of, fault_in, part_in, sweep};
 use crate::offering::{offer_message, offer_part, take_failure, take_negative, take_set};
 use crate::status::{NO_SHELF, SMALL_BUFFER, Status};
 use crate::told::Told;
@@ -329,6 +329,24 @@ pub extern "C" fn rrc_drop_chapters(alloc: Global, handle: &mut Handle, dropped:
     let chapters = shelf.take_chapters();
     *dropped = chapters.len() as u64;
     drop(chapters);
+    handle.put(shelf);
+    0
+}
+
+/// Tells a moment before which no key of a shelf is dead: the earliest at which a sweep may remove one, or 2^64 - 1 where the shelf
+/// holds no key.
+#[unsafe(no_mangle)]
+pub extern "C" fn rrc_next_expiry(alloc: Global, handle: &mut Handle, moment: &mut u64) -> u32
+    ensures none { TellsNone handle.old.seal.shelf result }
+    ensures done { OnDone result (BothHold handle.old.seal.shelf handle.new.seal.shelf (TellsExpiry moment.new)) }
+    ensures kept { handle.new.seal.shelf ≡ handle.old.seal.shelf }
+    ensures moment { OnRefused result (moment.new ≡ moment.old) }
+    ensures due { OnRefused result (handle.old.seal.shelf ≡ None) }
+{
+    let Some(shelf) = handle.take(alloc) else {
+        return NO_SHELF;
+    };
+    *moment = expiry_of(&shelf);
     handle.put(shelf);
     0
 }

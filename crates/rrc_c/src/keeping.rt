@@ -1,4 +1,5 @@
 ghost use Rattle.std.specs.Prelude.{◌≡◌, ◌≤◌, ◌<◌, IfOk, IfErr, OnOk, OnErr};
+ghost use Rattle.rrc_cache.specs.Expiry.{NoneDiesBefore};
 ghost use Rattle.rrc_c.specs.Kept.{TellsFault};
 ghost use Rattle.rrc_c.specs.Refusals.{OutOfMemory, PartDue, WriteDue};
 ghost use Rattle.rrc_c.specs.Statuses.{number_of, number_of_call};
@@ -21,6 +22,16 @@ pub(crate) fn sweep(shelf: &mut Shelf, line: u64, moment: u64) -> Result<u64, St
 {
     let removed = on_shelf_sweep(shelf, Tag { line, place: 0 }, moment)?;
     Ok(removed as u64)
+}
+
+/// A moment before which no key of a shelf is dead.
+pub(crate) fn expiry_of(shelf: &Shelf) -> u64
+    ensures { NoneDiesBefore shelf.now.part result }
+{
+    match shelf.part().next_expiry() {
+        Some(moment) => moment,
+        None => u64::MAX,
+    }
 }
 
 /// The number of the first fault of some octets, or 0 where they are a message.

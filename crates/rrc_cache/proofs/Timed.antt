@@ -272,6 +272,38 @@ due_swept stale moment entries deaths are timely waits key = among_dead stale mo
             (among_due stale entries deaths are moment key entry waits is le)
             ∙ sym (swept ∙ at)
 
+-- ---- before the first death
+
+none_by : (key : KeyOf) (time first : ℕ) (deaths : List Death) → AllByRecursion (λ death. first ≤ death.time) deaths → time < first → list_any (is_by key time) deaths ≡ false
+none_by key time first [] all less = refl
+none_by key time first (death ∷ deaths) all less =
+    ap (λ b. b || list_any (is_by key time) deaths) (and_right (key_eq key death.key) (nat_le death.time time) (lt-leb death.time time (omega (arith, all.0, less))))
+    ∙ none_by key time first deaths all.1 less
+
+dies_none : (key : KeyOf) (time first : ℕ) (deaths : DeathsOf) → deaths.due ≡ [] → AllByRecursion (λ death. first ≤ death.time) deaths.waiting → time < first → dies_by deaths key time ≡ false
+dies_none key time first deaths none all less =
+    ap (λ b. b || list_any (is_by key time) deaths.due) (none_by key time first deaths.waiting all less)
+    ∙ ap (λ (ds : List Death). list_any (is_by key time) ds) none
+
+module _ (stale : ℕ) (entries : List Entry) (deaths : DeathsOf) (are : AreForeseen stale entries deaths) (none : deaths.due ≡ []) where
+  -- no entry is dead before the first of the deaths
+  pub none_before : (first : ℕ) → AllByRecursion (λ death. first ≤ death.time) deaths.waiting
+      → (key : KeyOf) (moment : ℕ) → moment < first → moment ≤ LAST_MOMENT → is_swept stale (entry_at key entries) moment ≡ false
+  none_before first all key moment less timely = by (entry_at key entries) refl
+    where
+      by : (found : Option Entry) → entry_at key entries ≡ found → is_swept stale found moment ≡ false
+      by None is = refl
+      by (Some entry) is = dead (is_dead stale entry moment) refl
+        where
+          dead : (b : Bool) → is_dead stale entry moment ≡ b → is_dead stale entry moment ≡ false
+          dead false at = at
+          dead true at =
+              let le : time_of_death stale entry ≤ moment = leb-true (time_of_death stale entry) moment (dead_from stale moment entry timely ∙ at) in
+              let has : dies_by deaths entry.key (time_of_death stale entry) ≡ true = subst (IsForeseen stale deaths) is (are key) in
+              let some : dies_by deaths entry.key moment ≡ true = dies_by-later deaths entry.key (time_of_death stale entry) moment le has in
+              let not : dies_by deaths entry.key moment ≡ false = dies_none entry.key moment first deaths none all less in
+              absurd cc
+
 -- ---- all entries
 
 -- the deaths of all entries foresee them

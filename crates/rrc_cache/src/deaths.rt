@@ -231,6 +231,17 @@ impl Deaths {
         }
     }
 
+    /// The time of the first one that waits.
+    pub(crate) fn first(&self) -> Option<u64>
+        ensures none { IfNone result (self.now.waiting ≡ []) }
+        ensures some { IfSome result (λ time. AllByRecursion (λ death. time ≤ death.time) self.now.waiting) }
+    {
+        match self.waiting.peek() {
+            Some(first) => Some(first.time),
+            None => None,
+        }
+    }
+
     /// Whether the first one comes at a moment or before.
     fn is_due(&self, moment: u64) -> bool
         ensures due { result ≡ true → 0 < length self.now.waiting }

@@ -1,4 +1,4 @@
-ghost use Rattle.std.specs.Prelude.{◌≡◌, ◌<◌, ◌≤◌, ◌↔◌, ◌++◌, ◌∷◌, [], None, length, IsTrue, IfOk, IfErr, OnOk, OnErr, Err};
+ghost use Rattle.std.specs.Prelude.{◌≡◌, ◌<◌, ◌≤◌, ◌↔◌, ◌++◌, ◌∷◌, [], None, length, IsTrue, IfOk, IfErr, IfSome, IfNone, OnOk, OnErr, Err};
 
 use crate::refusal::Refusal;
 use crate::seeded::Seeded;
@@ -43,6 +43,7 @@ impl Model for Part {
 impl Part {
     ghost use Rattle.rrc_cache.specs.Part.{past_of, next_number, Closes, HasRoom, IsCloseDue, IsDue, IsOfMoments, IsSound, WritesOffer, WritesAsk, WritesSweep};
     ghost use Rattle.rrc_cache.specs.Sizes.{HoldsKeys};
+    ghost use Rattle.rrc_cache.specs.Expiry.{HoldsNothing, NoneDiesBefore};
     ghost use Rattle.rrc_history.specs.Past.{reply_to};
     ghost use Rattle.rrc_history.specs.Views.{reply_in};
 
@@ -104,6 +105,15 @@ impl Part {
         ensures sound { IsSound self.now }
     {
         self.store.len()
+    }
+
+    /// A moment before which no key is dead, or `None` where the part holds none: the earliest at which a sweep may find something,
+    /// though not each such sweep does. It takes no memory.
+    pub fn next_expiry(&self) -> Option<u64>
+        ensures none { IfNone result (HoldsNothing self.now) }
+        ensures some { IfSome result (λ time. NoneDiesBefore self.now time) }
+    {
+        self.store.next_death()
     }
 
     /// Whether the chapter has room for another event.

@@ -1,4 +1,4 @@
-ghost use Rattle.std.specs.Prelude.{◌≡◌, ℕ, ◌-◌, ◌<◌, ◌≤◌, [], ◌∷◌, Some, None, length, take, nat_le, true, false, if◌then◌else◌, IfOk, OnOk, OnErr};
+ghost use Rattle.std.specs.Prelude.{◌≡◌, ℕ, ◌-◌, ◌<◌, ◌≤◌, [], ◌∷◌, Some, None, length, take, nat_le, true, false, if◌then◌else◌, IfOk, IfSome, IfNone, OnOk, OnErr};
 ghost use Rattle.std.specs.Map.{lookup};
 ghost use Rattle.std.specs.Option.{option_map};
 ghost use Rattle.lru.specs.LruCache.{lru_cache, put_entries, promoted as lru_promoted};
@@ -145,6 +145,18 @@ impl Store {
         ensures { result ≡ false → (key : KeyOf) → hash ≡ name_hash self.now.seeded key.name → is_beside key.slot ≡ true → entry_at key self.now.entries ≡ None }
     {
         self.beside.may_hold(hash)
+    }
+
+    /// A moment before which no entry is dead, the time of the first death, or `None` where there is no entry.
+    pub(crate) fn next_death(&self) -> Option<u64>
+        ensures none { IfNone result ((key : KeyOf) → entry_at key self.now.entries ≡ None) }
+        ensures some { IfSome result (λ time. (key : KeyOf) (moment : ℕ) → moment < time → moment ≤ LAST_MOMENT → is_swept self.now.stale (entry_at key self.now.entries) moment ≡ false) }
+    {
+        // A sweep that was refused memory may have left deaths that it found due.
+        if !self.deaths.due().is_empty() {
+            return Some(0);
+        }
+        self.deaths.first()
     }
 
     /// The keys of the dead entries, some perhaps more than once. It looks at the deaths that came since the last time, however many
