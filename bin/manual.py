@@ -20,9 +20,10 @@ GROUPS = {
     "offer what a response says": [
         "rrcache_offer_message", "rrcache_offer_part", "rrcache_offer_set",
         "rrcache_offer_negative", "rrcache_offer_failure"],
-    "ask a shelf": ["rrcache_ask", "rrcache_ask_alias", "rrcache_peek"],
+    "ask a shelf": ["rrcache_ask", "rrcache_ask_alias", "rrcache_peek", "rrcache_tell_stored"],
     "sweep a shelf, drop its chapters, tell its sizes": [
-        "rrcache_sweep", "rrcache_drop_chapters", "rrcache_sizes"],
+        "rrcache_sweep", "rrcache_next_expiry", "rrcache_sweep_some", "rrcache_drop_chapters",
+        "rrcache_sizes"],
     "tell a name's part, a message's fault and the library's version": [
         "rrcache_part_of", "rrcache_fault", "rrcache_version"],
 }
@@ -73,7 +74,7 @@ class Call(NamedTuple):
 
 def calls(header):
     """The calls of a header that have a comment of their own, by name."""
-    form = re.compile(r"/\* ((?:(?!\*/).)*?) \*/\n(static inline (?:uint32_t|enum rrcache_status) (rrcache_\w+)\([^)]*\))\n\{", re.S)
+    form = re.compile(r"/\* ((?:(?!\*/).)*?) \*/\n(static inline (?:uint32_t|enum rrcache_status)\s+(rrcache_\w+)\([^)]*\))\n\{", re.S)
     found = (Call(it[3], undecorated(it[2]), it[1]) for it in form.finditer(header))
     return {it.name: it for it in found}
 

@@ -164,7 +164,7 @@ static void test_layout(void)
 {
     EXPECT(sizeof(struct rrcache_shelf) == 16 && offsetof(struct rrcache_shelf, is_live) == 8);
     EXPECT(sizeof(struct rrcache_told) == 32 && sizeof(struct rrcache_counts) == 24
-           && sizeof(struct rrcache_limits) == 12);
+           && sizeof(struct rrcache_limits) == 12 && sizeof(struct rrcache_stored) == 16);
 }
 
 static void test_answers(void)
@@ -553,6 +553,78 @@ static void test_parts(void)
     for (uint64_t part = 0; part < PARTS; part++)
         EXPECT(rrcache_free(&shelves[part]) == RRCACHE_DONE);
     EXPECT(rrcache_free(&whole) == RRCACHE_DONE);
+}
+
+/* Sweeps in steps: what dies in one second goes in one. */
+static void test_sweep_some(void)
+{
+    struct rrcache_shelf shelf = {0};
+    uint64_t next = 7, removed = 7;
+    bool is_done = false;
+    EXPECT(make(&shelf) == RRCACHE_DONE);
+    EXPECT(rrcache_next_expiry(&shelf, &next) == RRCACHE_DONE && next == UINT64_MAX);
+    EXPECT(rrcache_sweep_some(&shelf, FIRST, 10, 1, &removed, &is_done) == RRCACHE_DONE
+           && removed == 0 && is_done && events(&shelf) == 0);
+    EXPECT(offer_address(&shelf, NAME, sizeof NAME, 4, 60) == RRCACHE_KEPT
+           && offer_address(&shelf, OTHER, sizeof OTHER, 4, 60) == RRCACHE_KEPT
+           && offer_address(&shelf, THIRD, sizeof THIRD, 4, 90) == RRCACHE_KEPT);
+
+    /* A set may be stale for 3,600 seconds. */
+    EXPECT(rrcache_next_expiry(&shelf, &next) == RRCACHE_DONE && next == FIRST + 3660
+           && events(&shelf) == 3);
+    EXPECT(rrcache_sweep_some(&shelf, FIRST + 3659, 10, 1, &removed, &is_done) == RRCACHE_DONE
+           && removed == 0 && is_done && events(&shelf) == 3);
+    EXPECT(rrcache_sweep_some(&shelf, FIRST + 3690, 0, 1, &removed, &is_done) == RRCACHE_DONE
+           && removed == 0 && !is_done && events(&shelf) == 3);
+    EXPECT(rrcache_sweep_some(&shelf, FIRST + 3690, 1, 1, &removed, &is_done) == RRCACHE_DONE
+           && removed == 2 && !is_done && keys(&shelf) == 1);
+    EXPECT(rrcache_next_expiry(&shelf, &next) == RRCACHE_DONE && next == FIRST + 3690);
+    EXPECT(rrcache_sweep_some(&shelf, FIRST + 3690, 1, 1, &removed, &is_done) == RRCACHE_DONE
+           && removed == 1 && is_done && keys(&shelf) == 0);
+    EXPECT(rrcache_free(&shelf) == RRCACHE_DONE);
+    next = removed = 7;
+    EXPECT(rrcache_next_expiry(&shelf, &next) == RRCACHE_NO_SHELF && next == 7);
+    EXPECT(rrcache_sweep_some(&shelf, FIRST, 1, 1, &removed, &is_done) == RRCACHE_NO_SHELF
+           && removed == 7);
+}
+
+/* What is held: its rank, its TTL as it was stored, and when, also past its time. */
+static void test_stored(void)
+{
+    struct rrcache_shelf shelf = {0};
+    struct rrcache_stored stored = {7, 7, 7};
+    uint32_t outcome;
+#define STORED(name, type, class)                                                                  \
+    rrcache_tell_stored(&shelf, QUERY(name, sizeof name, type, class, 0, 0, 0), &stored)
+    EXPECT(STORED(NAME, A, RRCACHE_IN) == RRCACHE_NO_SHELF && stored.trust == 7);
+    EXPECT(make(&shelf) == RRCACHE_DONE);
+    EXPECT(STORED(NAME, A, RRCACHE_IN) == RRCACHE_DONE && stored.trust == 0 && stored.ttl == 0
+           && stored.moment == 0);
+    EXPECT(offer_address(&shelf, NAME, sizeof NAME, RRCACHE_AUTHORITY, 60) == RRCACHE_KEPT);
+    EXPECT(STORED(UPPER, A, RRCACHE_IN) == RRCACHE_DONE && stored.trust == RRCACHE_AUTHORITY
+           && stored.ttl == 60 && stored.moment == FIRST);
+    EXPECT(STORED(NAME, TXT, RRCACHE_IN) == RRCACHE_DONE && stored.trust == 0);
+    EXPECT(STORED(NAME, A, RRCACHE_CH) == RRCACHE_DONE && stored.trust == 0);
+    EXPECT(rrcache_offer_negative(&shelf,
+                                  NEGATIVE(OTHER, sizeof OTHER, TXT, RRCACHE_IN,
+                                           RRCACHE_DENIES_TYPE, RRCACHE_AUTHORITY, 40, ZONE,
+                                           sizeof ZONE, SOA_DATA, sizeof SOA_DATA, FIRST + 5),
+                                  1, &outcome)
+           == RRCACHE_DONE);
+    EXPECT(STORED(OTHER, TXT, RRCACHE_IN) == RRCACHE_DONE && stored.trust == RRCACHE_AUTHORITY
+           && stored.ttl == 40 && stored.moment == FIRST + 5);
+    EXPECT(events(&shelf) == 2);
+    stored.ttl = 7;
+    EXPECT(STORED(NO_NAME, TXT, RRCACHE_IN) == RRCACHE_BAD_NAME && stored.ttl == 7);
+    EXPECT(rrcache_tell_stored(&shelf, NULL, &stored) == RRCACHE_NULL
+           && rrcache_tell_stored(NULL, QUERY(NAME, sizeof NAME, A, 1, 0, 0, 0), &stored)
+                  == RRCACHE_NULL
+           && rrcache_tell_stored(&shelf, QUERY(NAME, sizeof NAME, A, 1, 0, 0, 0), NULL)
+                  == RRCACHE_NULL);
+    EXPECT(rrcache_tell_stored(&shelf, QUERY((uint8_t *)&stored, 13, A, 1, 0, 0, 0), &stored)
+           == RRCACHE_NULL);
+    EXPECT(rrcache_free(&shelf) == RRCACHE_DONE);
+#undef STORED
 }
 
 /* An ask that tells of an alias where that is what the shelf has. */
@@ -963,6 +1035,7 @@ static void test_null(void)
     struct rrcache_told told;
     uint32_t number;
     uint64_t wide, other;
+    bool is_done;
     uint8_t buffer[64] = {0};
     EXPECT(rrcache_make(NULL, 1, 1, 0, SEED) == RRCACHE_NULL
            && rrcache_make(&shelf, 1, 1, 0, NULL) == RRCACHE_NULL);
@@ -1002,6 +1075,9 @@ static void test_null(void)
            == RRCACHE_NULL);
     EXPECT(rrcache_peek(&shelf, QUERY(buffer + 8, 13, A, RRCACHE_IN, FIRST, 0, 0), &told, buffer, 9)
            == RRCACHE_NULL);
+    EXPECT(rrcache_next_expiry(&shelf, NULL) == RRCACHE_NULL
+           && rrcache_sweep_some(&shelf, FIRST, 1, 1, NULL, &is_done) == RRCACHE_NULL
+           && rrcache_sweep_some(&shelf, FIRST, 1, 1, &wide, NULL) == RRCACHE_NULL);
     EXPECT(rrcache_sweep(&shelf, FIRST, 1, NULL) == RRCACHE_NULL
            && rrcache_drop_chapters(&shelf, NULL) == RRCACHE_NULL);
     EXPECT(rrcache_sizes(NULL, &wide, &other, &other + 1) == RRCACHE_NULL
@@ -1042,6 +1118,11 @@ static void test_overlaps(void)
 
     /* The handle with what else is written, and with what is read. */
     IS_NULL(rrcache_sweep(shelf, FIRST, 1, (uint64_t *)(void *)(memory.octets + 8)));
+    IS_NULL(rrcache_next_expiry(shelf, (uint64_t *)(void *)(memory.octets + 8)));
+    IS_NULL(rrcache_sweep_some(shelf, FIRST, 1, 1, (uint64_t *)(void *)(memory.octets + 8),
+                               (bool *)far));
+    IS_NULL(rrcache_sweep_some(shelf, FIRST, 1, 1, wide, (bool *)(end - 1)));
+    IS_NULL(rrcache_sweep_some(shelf, FIRST, 1, 1, wide, (bool *)(apart + 7)));
     IS_NULL(rrcache_drop_chapters(shelf, (uint64_t *)(void *)(memory.octets + 8)));
     IS_NULL(rrcache_sizes(shelf, (uint64_t *)(void *)(memory.octets + 8), wide, wide + 1));
     IS_NULL(rrcache_sizes(shelf, wide, (uint64_t *)(void *)(memory.octets + 8), wide + 1));
@@ -1332,6 +1413,8 @@ int main(void)
     test_chapters();
     test_keys();
     test_parts();
+    test_sweep_some();
+    test_stored();
     test_alias();
     test_octets();
     test_no_shelf();

@@ -239,6 +239,15 @@ struct rrcache_counts {
     uint64_t refused; /* since what their key holds is trusted more */
 };
 
+/* What a shelf holds of a name, a type and a class: a set, or that the name has no such data. A
+   resolver that renews data before their time is over (prefetch) sees here how much of it is left:
+   `ttl` seconds from `moment` on. */
+struct rrcache_stored {
+    uint32_t trust;  /* enum rrcache_trust; 0 where nothing is held, and all is 0 */
+    uint32_t ttl;    /* as it was stored, which is at most the cap */
+    uint64_t moment; /* of the offer that was kept */
+};
+
 /* How long what a response says may be kept, in seconds. */
 struct rrcache_limits {
     uint32_t cap;          /* the most that data live: 1 to 604,800 (RFC 8767 section 4) */
@@ -354,6 +363,9 @@ uint32_t rrc_peek(struct rrcache_shelf *shelf, const uint8_t *name, size_t name_
                   uint16_t rtype, uint16_t rclass, uint64_t moment, uint32_t purpose, uint32_t mode,
                   struct rrcache_told *told, uint8_t *buffer, size_t buffer_size);
 uint32_t rrc_sweep(struct rrcache_shelf *shelf, uint64_t moment, uint64_t line, uint64_t *removed);
+uint32_t rrc_stored(struct rrcache_shelf *shelf, const uint8_t *name, size_t name_size,
+                    uint16_t rtype, uint16_t rclass, struct rrcache_stored *stored);
+uint32_t rrc_next_expiry(struct rrcache_shelf *shelf, uint64_t *moment);
 uint32_t rrc_drop_chapters(struct rrcache_shelf *shelf, uint64_t *dropped);
 uint32_t rrc_sizes(struct rrcache_shelf *shelf, uint64_t *keys, uint64_t *events,
                    uint64_t *chapters);
@@ -597,6 +609,23 @@ static inline enum rrcache_status rrcache_peek(struct rrcache_shelf *shelf,
         buffer_size == 0 ? &none : buffer, buffer_size);
 }
 
+/* Tells how far what the shelf holds of the name, type and class of a query is trusted, its time to
+   live and when it was stored, whether it is past its time or not. A name that does not exist holds
+   nothing of its types. No event is written and no key touched. */
+static inline enum rrcache_status rrcache_tell_stored(struct rrcache_shelf *shelf,
+                                                      const struct rrcache_query *query,
+                                                      struct rrcache_stored *stored)
+{
+    if (shelf == NULL || query == NULL || stored == NULL
+        || !rrcache_is_there(query->name, query->name_size)
+        || rrcache_holds(shelf, stored, sizeof *stored)
+        || rrcache_touch(shelf, sizeof *shelf, stored, sizeof *stored, query->name,
+                         query->name_size))
+        return RRCACHE_NULL;
+    return (enum rrcache_status)rrc_stored(shelf, rrcache_octets(query->name, query->name_size),
+                                           query->name_size, query->rtype, query->rclass, stored);
+}
+
 /* Whether the CNAME record of a name is to be told in place of data of a type, by the kinds of both
    replies: a fresh one where of the type there is stale data alone or nothing, a stale one where
    there is nothing. */
@@ -648,6 +677,46 @@ static inline enum rrcache_status rrcache_sweep(struct rrcache_shelf *shelf, uin
     if (shelf == NULL || removed == NULL || rrcache_holds(shelf, removed, sizeof *removed))
         return RRCACHE_NULL;
     return (enum rrcache_status)rrc_sweep(shelf, moment, line, removed);
+}
+
+/* Tells a moment before which no key of the shelf is dead, the earliest at which a sweep may remove
+   one; 2^64 - 1 where the shelf holds no key. No event is written. */
+static inline enum rrcache_status rrcache_next_expiry(struct rrcache_shelf *shelf, uint64_t *moment)
+{
+    if (shelf == NULL || moment == NULL || rrcache_holds(shelf, moment, sizeof *moment))
+        return RRCACHE_NULL;
+    return (enum rrcache_status)rrc_next_expiry(shelf, moment);
+}
+
+/* Sweeps in steps, so that no call is long: at each moment up to this one at which a key died, from
+   the earliest on, until `most` keys or more are removed, or `most` sweeps made. It tells how many
+   keys were removed, and whether none is left that was dead. Each step is a sweep of its own, which
+   is one event. Keys that die in one second go in one step. What the steps before a refusal removed
+   stays removed, and is told. */
+static inline enum rrcache_status rrcache_sweep_some(struct rrcache_shelf *shelf, uint64_t moment,
+                                                     uint64_t most, uint64_t line,
+                                                     uint64_t *removed, bool *is_done)
+{
+    enum rrcache_status status = RRCACHE_DONE;
+    uint64_t next = 0, gone = 0, in_step = 0, step;
+    if (shelf == NULL || removed == NULL || is_done == NULL
+        || rrcache_holds(shelf, removed, sizeof *removed)
+        || rrcache_holds(shelf, is_done, sizeof *is_done)
+        || rrcache_overlap(removed, sizeof *removed, is_done, sizeof *is_done))
+        return RRCACHE_NULL;
+    status = rrcache_next_expiry(shelf, &next);
+    for (step = 0; status == RRCACHE_DONE && next <= moment && gone < most && step < most; step++) {
+        status = rrcache_sweep(shelf, next, line, &in_step);
+        if (status == RRCACHE_DONE) {
+            gone += in_step;
+            status = rrcache_next_expiry(shelf, &next);
+        }
+    }
+    if (status == RRCACHE_NO_SHELF)
+        return status;
+    *removed = gone;
+    *is_done = status == RRCACHE_DONE && next > moment;
+    return status;
 }
 
 /* Takes the closed chapters and drops them, and tells how many they were. No reply changes. Each

@@ -182,6 +182,25 @@ def test_a_cache_of_many_threads_by_python():
         same(cache.sweep(2 ** 40), 40, "keys that were swept")
 
 
+def test_sweeps_in_steps():
+    with rrcache.Shelf(capacity=8, chapter=64, stale=0) as shelf:
+        same(shelf.next_expiry(), None, "the next expiry of an empty shelf")
+        for name, ttl in ((b"\1a\0", 60), (b"\1b\0", 60), (b"\1c\0", 90)):
+            shelf.offer_set(name, A, 4, ttl, [b"\xc0\0\2\1"], 100)
+        same(shelf.next_expiry(), 160, "the next expiry")
+        same(shelf.sweep_some(159, 9), (0, True), "a sweep before it")
+        same(shelf.sweep_some(200, 1), (2, False), "the first step")
+        same(shelf.sweep_some(200, 1), (1, True), "the last step")
+
+
+def test_what_is_stored_is_told():
+    with rrcache.Shelf(capacity=8, chapter=64, stale=0) as shelf:
+        same(shelf.stored("a", A), None, "what an empty shelf holds")
+        shelf.offer_set("a", A, rrcache.Rank.AUTHORITY, 60, [b"\xc0\0\2\1"], 100)
+        same(shelf.stored("A", A), (rrcache.Rank.AUTHORITY, 60, 100), "what is held of a name")
+        same(shelf.stored("a", A, rrcache.Class.CH), None, "what is held in another class")
+
+
 def test_aliases_are_followed_by_python():
     names = [f"x{number}.example" for number in range(4)]
     records = [record(one, CNAME, 60, wire(other)) for one, other in zip(names, names[1:])]

@@ -17,13 +17,13 @@ from .names import NameFault, to_text, to_wire
 from .refusals import (BadChoice, BadData, BadLimits, BadMessage, BadName, BadRules, BadSeed,
                        BadType, HistoryFull, Memory, MomentTooLarge, NoShelf, Refused, Status, Wide,
                        WrongBody)
-from .replies import Counts, Limits, Reply, Sizes
+from .replies import Counts, Limits, Reply, Sizes, Stored
 from .shelf import Shelf
 
 __all__ = [
-    "BadChoice", "BadData", "BadLimits", "BadMessage", "BadName", "BadRules", "BadSeed", "BadType",
-    "Cache", "Class", "Counts", "Denial", "HistoryFull", "Kind", "Limits", "Memory", "Mode",
-    "MomentTooLarge", "NameFault", "NoShelf", "Outcome", "Purpose", "Rank", "Refused", "Reply",
-    "Shelf", "Sizes", "Status", "Wide", "WrongBody", "fault", "library_version", "part_of",
-    "to_text", "to_wire",
+    "BadChoice", "BadData", "BadLimits", "BadMessage", "BadName", "BadRules", "BadSeed",
+    "BadType", "Cache", "Class", "Counts", "Denial", "HistoryFull", "Kind", "Limits", "Memory",
+    "Mode", "MomentTooLarge", "NameFault", "NoShelf", "Outcome", "Purpose", "Rank", "Refused",
+    "Reply", "Shelf", "Sizes", "Status", "Stored", "Wide", "WrongBody", "fault",
+    "library_version", "part_of", "to_text", "to_wire",
 ]

@@ -21,7 +21,8 @@ CALLS = {
     "rrc_make": "pmmmo", "rrc_free": "p", "rrc_offer_message": "poompmp",
     "rrc_offer_part": "poommmpmp", "rrc_offer_set": "pottnnommp",
     "rrc_offer_negative": "pottnnnoommp", "rrc_offer_failure": "pottnmmp", "rrc_ask": "pottmnnmpo",
-    "rrc_peek": "pottmnnpo", "rrc_sweep": "pmmp", "rrc_drop_chapters": "pp", "rrc_sizes": "pppp",
+    "rrc_peek": "pottmnnpo", "rrc_sweep": "pmmp", "rrc_next_expiry": "pp", "rrc_stored": "pottp",
+    "rrc_drop_chapters": "pp", "rrc_sizes": "pppp",
     "rrc_fault": "op", "rrc_part_of": "omp", "rrc_version": "",
 }
 
@@ -31,6 +32,12 @@ class Told(Structure):
 
     _fields_ = [("kind", c_uint32), ("left", c_uint32), ("retry_from", c_uint64),
                 ("owner_size", c_uint64), ("data_size", c_uint64)]
+
+
+class StoredNumbers(Structure):
+    """`struct rrcache_stored`."""
+
+    _fields_ = [("rank", c_uint32), ("ttl", c_uint32), ("moment", c_uint64)]
 
 
 def path() -> str:

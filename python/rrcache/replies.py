@@ -5,7 +5,7 @@ from __future__ import annotations
 from dataclasses import dataclass
 from typing import NamedTuple
 
-from .choices import Kind
+from .choices import Kind, Rank
 from .names import to_text
 
 
@@ -30,6 +30,14 @@ class Sizes(NamedTuple):
     keys: int
     events: int
     chapters: int
+
+
+class Stored(NamedTuple):
+    """What a key holds: its rank, its TTL when it was stored, and that moment."""
+
+    rank: Rank
+    ttl: int
+    moment: int
 
 
 class Limits(NamedTuple):

@@ -9,10 +9,10 @@ from types import TracebackType
 from typing import Any
 
 from .choices import Class, Denial, Kind, Mode, Outcome, Purpose, Rank
-from .library import LIBRARY, Told, call, sized, told
+from .library import LIBRARY, StoredNumbers, Told, call, sized, told
 from .names import to_wire
 from .refusals import refusal
-from .replies import Counts, Limits, Reply, Sizes
+from .replies import Counts, Limits, Reply, Sizes, Stored
 
 Name = str | bytes
 
@@ -133,11 +133,37 @@ class Shelf:
         """What `ask` would answer; no event is written."""
         return self._reply("rrc_peek", *sized(to_wire(name)), rtype, rclass, moment, purpose, mode)
 
+    def stored(self, name: Name, rtype: int, rclass: Class | int = Class.IN) -> Stored | None:
+        """What the shelf holds of a name and a type, past its time or not: its rank, its TTL when
+        it was stored, and that moment. So a resolver sees when data are to be renewed."""
+        held = StoredNumbers()
+        call("rrc_stored", self._handle, *sized(to_wire(name)), rtype, rclass, byref(held))
+        return Stored(Rank(held.rank), held.ttl, held.moment) if held.rank else None
+
     # ---- housekeeping
 
     def sweep(self, moment: int, line: int = 0) -> int:
         """Removes the keys that can answer no more, and tells how many."""
         return told("rrc_sweep", c_uint64, self._handle, moment, line)
+
+    def next_expiry(self) -> int | None:
+        """A moment before which no key is dead, the earliest at which a sweep may remove one; None
+        where the shelf holds no key."""
+        moment = told("rrc_next_expiry", c_uint64, self._handle)
+        return None if moment == 2 ** 64 - 1 else moment
+
+    def sweep_some(self, moment: int, most: int, line: int = 0) -> tuple[int, bool]:
+        """Sweeps in steps, at each moment up to this one at which a key died, from the earliest on,
+        until `most` keys or more are removed, or `most` sweeps made. It tells how many keys were
+        removed, and whether none is left that was dead."""
+        removed = 0
+        for _ in range(most):
+            due = self.next_expiry()
+            if due is None or due > moment or removed >= most:
+                break
+            removed += self.sweep(due, line)
+        due = self.next_expiry()
+        return removed, due is None or due > moment
 
     def drop_chapters(self) -> int:
         """Drops the closed chapters of the history, and tells how many."""

@@ -8,3 +8,4 @@ pub mod Refusals
 pub mod Offered
 pub mod Parted
 pub mod Kept
+pub mod Stored

@@ -250,6 +250,10 @@ pub record AreParts (parts : ℕ) : Type 0 where
   pub some : 1 ≤ parts
   pub few : parts ≤ 64
 
+-- when it is told what a key holds, and when that is refused with what
+abbrev pub StoredDue : List ℕ → ℕ → Type 0
+StoredDue name = Then (NameRefused name) (IsWireForm name) (λ number. number ≡ 0)
+
 -- when the part of a name is told, and when that is refused with what
 abbrev pub PartDue : List ℕ → ℕ → ℕ → Type 0
 PartDue name parts =

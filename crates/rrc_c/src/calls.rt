@@ -4,8 +4,9 @@ ghost use Rattle.rrc_c.specs.Handles.{BothHold, HoldsNone, IsKept, TellsNone};
 ghost use Rattle.rrc_c.specs.Asked.{asked, Answers, Shows, TellsSizeAlone};
 ghost use Rattle.rrc_c.specs.Kept.{TellsExpiry, TellsFault, TellsSizes, DropsChapters};
 ghost use Rattle.rrc_c.specs.Offered.{denial_offer, failure_offer, TakesMessage, TakesOne, TakesSet, TakesSome};
+ghost use Rattle.rrc_c.specs.Stored.{TellsStored};
 ghost use Rattle.rrc_c.specs.Parted.{IsPart, TakesPart, TakesSomeOfPart};
-ghost use Rattle.rrc_c.specs.Refusals.{AskDue, DenialDue, FailureDue, IfHeld, IsDenial, IsFailure, IsQuestion, IsSet, OutOfMemory, PartDue, PeekDue, SetDue, WriteDue};
+ghost use Rattle.rrc_c.specs.Refusals.{AskDue, DenialDue, FailureDue, IfHeld, IsDenial, IsFailure, IsQuestion, IsSet, OutOfMemory, PartDue, PeekDue, SetDue, StoredDue, WriteDue};
 ghost use Rattle.rrc_share.specs.Shelf.{AppendsSweep};
 ghost use Rattle.rrc_name.specs.Parts.{part_of};
 
@@ -15,6 +16,7 @@ use crate::handle::Handle;
 use crate::keeping::{expiry_of, fault_in, part_in, sweep};
 use crate::offering::{offer_message, offer_part, take_failure, take_negative, take_set};
 use crate::status::{NO_SHELF, SMALL_BUFFER, Status};
+use crate::stored::{Stored, stored_in};
 use crate::told::Told;
 use std::alloc::Global;
 
@@ -376,6 +378,36 @@ pub extern "C" fn rrc_sizes(
     *chapters = shelf.closed().len() as u64;
     handle.put(shelf);
     0
+}
+
+/// Tells of what a shelf holds of a name, a type and a class how far it is trusted, its time to live and when it was stored.
+#[unsafe(no_mangle)]
+pub extern "C" fn rrc_stored(
+    alloc: Global,
+    handle: &mut Handle,
+    name: &[u8],
+    rtype: u16,
+    class: u16,
+    stored: &mut Stored,
+) -> u32
+    ensures none { TellsNone handle.old.seal.shelf result }
+    ensures done { OnDone result (BothHold handle.old.seal.shelf handle.new.seal.shelf (TellsStored name.now rtype class stored.new)) }
+    ensures kept { handle.new.seal.shelf ≡ handle.old.seal.shelf }
+    ensures stored { OnRefused result (stored.new ≡ stored.old) }
+    ensures due { IfHeld handle.old.seal.shelf (λ shelf. StoredDue name.now result) }
+{
+    let Some(shelf) = handle.take(alloc) else {
+        return NO_SHELF;
+    };
+    let found = stored_in(alloc, &shelf, name, rtype, class);
+    handle.put(shelf);
+    match found {
+        Ok(found) => {
+            *stored = found;
+            0
+        }
+        Err(status) => status.number(),
+    }
 }
 
 /// Tells the number of the first fault of some octets, or 0 where they are a message.

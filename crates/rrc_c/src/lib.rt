@@ -10,5 +10,6 @@ mod making;
 mod offering;
 mod seal;
 mod status;
+mod stored;
 mod text;
 mod told;

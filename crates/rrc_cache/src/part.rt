@@ -5,9 +5,9 @@ use crate::seeded::Seeded;
 use crate::store::Store;
 use crate::{ahead, answer, closing, entries, judge, sweep};
 use rrc_history::{
-    Ask, Chapter, Event, LAST_MOMENT, Offer, Outcome, Reply, ReplyRef, Rules, Snapshot, Tag,
+    Ask, Chapter, Event, Held, LAST_MOMENT, Offer, Outcome, Reply, ReplyRef, Rules, Snapshot, Tag,
 };
-use rrc_name::{Sequence, Shared};
+use rrc_name::{KeyRef, Sequence, Shared};
 use std::alloc::Global;
 use std::marker::Model;
 use std::mem;
@@ -44,8 +44,10 @@ impl Part {
     ghost use Rattle.rrc_cache.specs.Part.{past_of, next_number, Closes, HasRoom, IsCloseDue, IsDue, IsOfMoments, IsSound, WritesOffer, WritesAsk, WritesSweep};
     ghost use Rattle.rrc_cache.specs.Sizes.{HoldsKeys};
     ghost use Rattle.rrc_cache.specs.Expiry.{HoldsNothing, NoneDiesBefore};
-    ghost use Rattle.rrc_history.specs.Past.{reply_to};
-    ghost use Rattle.rrc_history.specs.Views.{reply_in};
+    ghost use Rattle.rrc_history.specs.Past.{held, reply_to};
+    ghost use Rattle.rrc_history.specs.Views.{held_in, reply_in};
+    ghost use Rattle.rrc_name.specs.KeyRef.{key_of};
+    ghost use Rattle.std.specs.Option.{option_map};
 
     /// An empty part in the first chapter of its history. Its seed is `KNOWN_SEED`: for names that anyone may send, `seeded`
     /// takes one that nobody knows.
@@ -105,6 +107,14 @@ impl Part {
         ensures sound { IsSound self.now }
     {
         self.store.len()
+    }
+
+    /// What a key holds, lent: the body, and the moment and the number of the event that stored it. It takes no memory and touches
+    /// nothing.
+    pub fn held(&self, key: KeyRef<'_>) -> Option<Held<'_>>
+        ensures { option_map held_in result ≡ held self.now.snapshot (past_of self.now) (key_of key.entry) }
+    {
+        self.store.get(self.store.hash_of(key.name), key)
     }
 
     /// A moment before which no key is dead, or `None` where the part holds none: the earliest at which a sweep may find something,

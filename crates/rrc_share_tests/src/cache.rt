@@ -3,6 +3,7 @@ mod chapters;
 mod classless;
 mod eviction;
 mod limits;
+mod looks;
 mod owners;
 mod rechecks;
 mod replies;

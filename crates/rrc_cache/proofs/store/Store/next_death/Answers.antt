@@ -7,7 +7,6 @@ use Rattle.rrc_history.specs.declared.snapshot.Entry.{Entry}
 use Rattle.rrc_history.specs.Lives.{LAST_MOMENT}
 use Rattle.rrc_history.specs.Past.{entry_at}
 use Rattle.rrc_history.specs.Right.{is_swept}
-use Rattle.rrc_cache.specs.declared.deaths.Death.{Death}
 use Rattle.rrc_cache.specs.Deaths.{DeathsOf}
 use Rattle.rrc_cache.specs.Pairs.{entries_in, StoreOf}
 use Rattle.rrc_cache.proofs.Timed.{none_before}
