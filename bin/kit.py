@@ -93,6 +93,7 @@ def unpack(rlib, to):
 
 
 def check(rt, crate, texts, kept, jobs=1):
-    """Checks a copy of a crate with these texts in place of its own, begun with what is kept of it. Answers the status and the lines printed."""
-    ran = rt.checked(crate, texts, ["--jobs", str(jobs)], kept)
+    """Checks a copy of a crate with these texts in place of its own, begun with what is kept of it, past what is refused. Answers the status and the lines printed, of which
+    the last is `holes=0` where the prover told of each function whether it is proved; the status is 0 where all are."""
+    ran = rt.checked(crate, texts, ["--jobs", str(jobs), "--allow-holes"], kept)
     return ran.returncode, ran.stdout.rstrip("\n").split("\n")
