@@ -12,16 +12,10 @@ since no proof says how deep the stack gets.
 """
 import argparse
 import concurrent.futures
-import ctypes
-import itertools
 import os
 import pathlib
-import string
-import subprocess
 import sys
-import tempfile
 import threading
-import time
 
 TOP = pathlib.Path(__file__).resolve().parent.parent
 sys.path[:0] = [str(TOP / "bin"), str(TOP / "python")]
@@ -30,107 +24,11 @@ PROGRAM = os.environ.get("RRCACHE_PROGRAM", TOP / "crates" / "rrcache" / "out" /
 if not pathlib.Path(LIBRARY).exists():
     sys.exit("build the library first: `bin/build-c`")
 import rrcache
-from dns import A, MINFO, TXT, pointer, question, record, response, wire
+from attacks import ENDS, LONG, MESSAGES, ROOT, label, many_keys, many_types, one_key
+from costs import memory, timed, used_by
+from dns import A, MINFO, TXT
 
-RP, PX = 17, 26
-MOST_KEYS, ROOT, ASKED = 65_536, b"\0", pointer(12)
-DIGITS = string.digits + string.ascii_lowercase
-# A name of 251 octets in capitals: one more label of three letters makes it one of 255, and its key
-# has a folded copy of it.
-LONG = ".".join("X" * size for size in (63, 63, 63, 57))
-# What names of keys end with: in wire form their first label has five octets.
-ENDS = {
-    "short names": wire("example"),
-    "names of 255 octets": wire(".".join("x" * size for size in (63, 63, 63, 56))),
-    "names of 125 labels": wire(".".join(["xx"] + ["x"] * 123)),
-}
-
-
-class Memory(ctypes.Structure):
-    """What mallinfo2 answers."""
-
-    _fields_ = [(name, ctypes.c_size_t) for name in (
-        "arena", "ordblks", "smblks", "hblks", "hblkhd", "usmblks", "fsmblks", "uordblks",
-        "fordblks", "keepcost")]
-
-
-LIBC = ctypes.CDLL(None)
-LIBC.mallinfo2.restype = Memory
-
-
-def memory():
-    """How many octets the allocator has given out."""
-    told = LIBC.mallinfo2()
-    return told.uordblks + told.hblkhd
-
-
-def label(number, digits):
-    """A label for each number."""
-    return bytes([digits]) + bytes(ord(DIGITS[number // 36**at % 36]) for at in range(digits))
-
-
-def timed(call, *arguments):
-    """The milliseconds of a call, and what it answered."""
-    start = time.thread_time()
-    answer = call(*arguments)
-    return 1000 * (time.thread_time() - start), answer
-
-
-def filled(size, asked, records):
-    """A response of no more than `size` octets with as many of the records as fit."""
-    fitting, left = [], size - 12 - len(asked)
-    for it in records:
-        if len(it) > left:
-            break
-        fitting.append(it)
-        left -= len(it)
-    return response(asked, fitting)
-
-
-def one_key(size, ttl=600):
-    """One RRset of as many rdata as there can be, each of two names of 255 octets."""
-    asked = question(LONG, MINFO)
-    first = [record(ASKED, MINFO, ttl, ASKED + label(it, 3) + ASKED) for it in range(64)]
-    # Each of these names stands behind an owner, ten octets and a pointer.
-    names = [pointer(12 + len(asked) + it * len(first[0]) + 14) for it in range(64)]
-    pairs = (record(ASKED, MINFO, ttl, a + b) for a, b in itertools.product(names, repeat=2))
-    return filled(size, asked, itertools.chain(first, pairs))
-
-
-def many_keys(size):
-    """Three RRsets of one rdata of two such names for each of many owners of 255 octets."""
-    asked = question(LONG, MINFO)
-
-    def records():
-        place = 12 + len(asked)
-        for number in itertools.count():
-            owner = label(number, 3).upper() + ASKED
-            again = pointer(place) if place < 1 << 14 else owner
-            own = [record(owner, MINFO, 600, ASKED + ASKED), record(again, RP, 600, ASKED + ASKED),
-                   record(again, PX, 600, bytes(2) + ASKED + ASKED)]
-            place += sum(map(len, own))
-            yield from own
-
-    return filled(size, asked, records())
-
-
-def many_types(size):
-    """An RRset with no octets for each of many types of one name."""
-    return filled(size, question("a.example.", A),
-                  (record(ASKED, 256 + it, 600, b"") for it in range(MOST_KEYS - 256)))
-
-
-def many_labels(size):
-    """Records with three names of 125 labels and more, where each label is behind a pointer."""
-    asked = question(".", MINFO)
-    data, start = bytearray(1), 12 + len(asked) + 11
-    place = start
-    for _ in range(125):
-        place, last = start + len(data), place
-        data += b"\1x" + pointer(last)
-    name = pointer(place)
-    owned = (record(label(it, 3) + name, MINFO, 600, name + name) for it in itertools.count())
-    return filled(size, asked, itertools.chain([record(".", TXT, 600, bytes(data))], owned))
+MOST_KEYS = 65_536
 
 
 def tell_message(make, size, runs):
@@ -196,14 +94,9 @@ def tell_sweep(kind, keys):
 
 def tell_trace(name, text, *options):
     """What the program makes of a trace: the report's octets, and the most memory that it held."""
-    with tempfile.TemporaryFile() as source, tempfile.TemporaryFile() as report:
-        source.write(text)
-        source.seek(0)
-        child = subprocess.Popen([PROGRAM, *options], stdin=source, stdout=report)
-        _, status, used = os.wait4(child.pid, 0)
-        print(f"{name}: {len(text):,} octets, report {report.seek(0, os.SEEK_END):,} octets,"
-              f" {used.ru_maxrss / 1024:,.0f} MB, {used.ru_utime + used.ru_stime:.1f} s,"
-              f" status {status}", flush=True)
+    used = used_by([PROGRAM, *options], text)
+    print(f"{name}: {len(text):,} octets, report {used.written:,} octets,"
+          f" {used.memory / 2**20:,.0f} MB, {used.seconds:.1f} s, status {used.status}", flush=True)
 
 
 def tell_traces(size):
@@ -219,11 +112,73 @@ def tell_traces(size):
     tell_trace("10,000 sweeps of 64 parts", 10_000 * b"sweep 0\n", "--parts", "64")
 
 
+def data_of(size):
+    """Data of as many rdata of two octets as fit in so many octets, the greatest first."""
+    return [number.to_bytes(2, "big") for number in range(min(size // 4, 65_536) - 1, -1, -1)]
+
+
+def offer_apart(message, parts):
+    """Offers a message to as many shelves, each its part."""
+    for part in range(parts):
+        with rrcache.Shelf(MOST_KEYS // parts, MOST_KEYS // parts) as shelf:
+            shelf.offer_part(message, ROOT, parts, part, 0)
+
+
+def worst(inputs, call, *, shelf=None, runs=3):
+    """The name of the input for which a call takes longest, its milliseconds, and the octets that
+    the call leaves. Each call has a shelf of its own, which `shelf` fills."""
+    found = []
+    for name, it in inputs.items():
+        took = []
+        for _ in range(runs):
+            with rrcache.Shelf(MOST_KEYS, MOST_KEYS) as own:
+                if shelf:
+                    shelf(own, it)
+                before = memory()
+                took.append(timed(call, own, it)[0])
+                kept = memory() - before
+        found.append((min(took), name, kept))
+    return max(found)
+
+
+def tell_calls(size, runs):
+    """For each call of the library: which of some inputs of a size takes it longest, how long, and
+    how many octets it leaves."""
+    messages = {it.__name__: it(size) for it in MESSAGES}
+    sets = {"one RRset of rdata of two octets": data_of(size), "one rdata": [bytes(size - 2)]}
+    names = {kind: label(0, 4) + end for kind, end in ENDS.items()}
+
+    def offered(shelf, message):
+        shelf.offer_message(message, ROOT, 0)
+
+    def filled_by(shelf, end):
+        for number in range(4096):
+            shelf.offer_set(label(number * 40_507 % 36**4, 4) + end, A, 4, 60, [bytes(4)], 0)
+    calls = {
+        "rrcache_fault": worst(messages, lambda _, it: rrcache.fault(it), runs=runs),
+        "rrcache_offer_message": worst(messages, offered, runs=runs),
+        "rrcache_offer_part, 16 shelves": worst(messages, lambda _, it: offer_apart(it, 16), runs=1),
+        "rrcache_offer_set": worst(sets, lambda shelf, it: shelf.offer_set("a.", TXT, 4, 60, it, 0),
+                                   runs=runs),
+        "rrcache_ask": worst({"one_key": messages["one_key"]},
+                             lambda shelf, it: shelf.ask(LONG, MINFO, 1), shelf=offered, runs=runs),
+        "rrcache_part_of": worst(names, lambda _, it: rrcache.part_of(it, 16), runs=runs),
+        "rrcache_sweep, 4,096 keys": worst(ENDS, lambda shelf, _: shelf.sweep(10**6),
+                                           shelf=filled_by, runs=runs),
+        "rrcache_free": worst(messages, lambda shelf, _: shelf.close(), shelf=offered, runs=runs),
+    }
+    print(f"the input that each call took longest for, of {size:,} octets where it is a message:")
+    for name, (took, what, kept) in calls.items():
+        print(f"  {name:32}{what:36}{took:8.3f} ms{kept:12,} octets stay", flush=True)
+
+
 def tell_all(size, keys, runs):
     # First, since what this process held is counted for those that it starts.
     tell_traces(size)
-    for make in (one_key, many_keys, many_types, many_labels):
+    for make in MESSAGES:
         tell_message(make, size, runs)
+    for octets in (1232, size):
+        tell_calls(octets, runs)
     tell_history(size, 20)
     tell_drop(size, 64)
     tell_full(size, 4096)

@@ -14,7 +14,8 @@ import tempfile
 import time
 
 sys.path.insert(0, str(pathlib.Path(__file__).resolve().parent.parent / "bin"))
-from dns import A, CNAME, MINFO, NS, TXT, pointer, question, record, response, wire
+from attacks import chained
+from dns import A, CNAME, MINFO, NS, pointer, question, record, response, wire
 
 PROGRAM = pathlib.Path(__file__).resolve().parent.parent / "crates" / "bench_sets" / "out" / "bench_sets"
 QUESTION = question("a.example.", A)
@@ -39,13 +40,6 @@ def usual():
 def crowded():
     """As many small records as 65,535 octets hold."""
     return response(QUESTION, [ADDRESS] * ((65535 - 27) // len(ADDRESS)))
-
-
-def chained(count):
-    """A record of so many pointers, each to the one before it, and a pointer to the last."""
-    # Its data begin with a root at octet 28, to which the first points.
-    pointers = b"".join(pointer(26 + 2 * i) for i in range(1, count + 1))
-    return record(".", TXT, 60, bytes(2) + pointers), pointer(28 + 2 * count)
 
 
 def chain():

@@ -354,13 +354,24 @@ static bool read_more(struct fetch *fetch)
     return fetch->got < LENGTH || fetch->message != NULL;
 }
 
+/* Goes on where no message comes. That there is no memory for one is no failure of the name's
+   servers either. */
+static void miss_message(struct fetch *fetch)
+{
+    bool lacks_memory = fetch->got == LENGTH && fetch->message == NULL;
+    if (lacks_memory)
+        give_up(fetch);
+    else
+        ask_next(fetch);
+}
+
 static void read_stream(struct fetch *fetch)
 {
     size_t before;
     do {
         before = fetch->got;
         if (!read_more(fetch)) {
-            ask_next(fetch);
+            miss_message(fetch);
             return;
         }
     } while (fetch->got > before && fetch->got < LENGTH + word_at(fetch->length));

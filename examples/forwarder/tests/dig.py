@@ -8,7 +8,7 @@ import tempfile
 import time
 from pathlib import Path
 
-from harness import Forwarder, Skipped, Wrong, same, wanted
+from harness import Forwarder, Skipped, Wrong, once, same, wanted
 
 NAMES = 400
 TYPES = ("A", "AAAA", "MX", "TXT", "SRV")
@@ -123,6 +123,7 @@ def dig(port, words):
     return [(status, sorted(records)) for status, records in answers], edns
 
 
+@once
 def test_dig_agrees_with_the_authority():
     """2,000 questions without EDNS, with it, and over TCP: the server's answer, and twice that of
     the forwarder."""

@@ -4,6 +4,7 @@
 All of it is on 127.0.0.1, on ports that the system picks. A name server is a thread of this
 process.
 """
+import contextvars
 import os
 import random
 import re
@@ -19,7 +20,8 @@ from pathlib import Path
 
 TOP = Path(__file__).resolve().parents[3]
 BUILD = TOP / "build"
-PROGRAM = os.environ.get("FORWARDER", "forwarder-checked")
+# The program of a test's forwarders, where the test names none.
+PROGRAM = contextvars.ContextVar("PROGRAM", default="forwarder-checked")
 sys.path.insert(0, str(TOP / "bin"))
 
 from dns import A, CNAME, OPT, SOA, message, name_at, question, record, soa_data, wire  # noqa: E402
@@ -38,6 +40,12 @@ class Wrong(Exception):
 
 class Skipped(Exception):
     """A test needs what is not installed here."""
+
+
+def once(test):
+    """Marks a test that names its programs itself: it is run once, and not under each sanitizer."""
+    test.is_run_once = True
+    return test
 
 
 def wanted(holds, what):
@@ -278,9 +286,9 @@ class Stream:
 class Forwarder:
     """A forwarder's process. At its end it has to be as clean as the sanitizers want it."""
 
-    def __init__(self, *upstreams, program=PROGRAM, options=("-q",), descriptors=None,
+    def __init__(self, *upstreams, program=None, options=("-q",), descriptors=None,
                  environment=None):
-        words = [BUILD / program, *options, "127.0.0.1", "0"]
+        words = [BUILD / (program or PROGRAM.get()), *options, "127.0.0.1", "0"]
         words += [word for it in upstreams for word in ("127.0.0.1", str(it.port))]
         if descriptors:
             words = ["sh", "-c", 'ulimit -n "$0" && exec "$@"', str(descriptors), *words]
@@ -320,6 +328,11 @@ class Forwarder:
         """What the process took of the processors so far."""
         words = Path(f"/proc/{self.process.pid}/stat").read_text().rsplit(")", 1)[1].split()
         return (int(words[11]) + int(words[12])) / 100
+
+    def memory(self):
+        """The octets that the process has in memory."""
+        status = Path(f"/proc/{self.process.pid}/status").read_text()
+        return 1024 * int(re.search(r"VmRSS:\s*(\d+)", status)[1])
 
     def end(self):
         """Ends the process, and answers its status and what it wrote on standard error."""

@@ -11,7 +11,7 @@ import subprocess
 import time
 
 from harness import (BUILD, FORMERR, NOERROR, SERVFAIL, Forwarder, Reply, Server, Stream, address,
-                     exchange, message, plain, query,
+                     exchange, message, once, plain, query,
                      same, silent, took, wanted)
 
 
@@ -24,6 +24,7 @@ def spent(forwarder, seconds):
 
 # ---- Descriptors.
 
+@once
 def test_descriptors_that_are_few():
     """Tables are as large as the limit allows, and all is served, one after another."""
     for descriptors in (12, 16, 32, 64, 128):
@@ -47,6 +48,7 @@ def test_descriptors_that_are_few():
                 stream.socket.close()
 
 
+@once
 def test_descriptors_that_are_too_few():
     command = 'ulimit -n 11 && exec "$0" 127.0.0.1 0 127.0.0.1 53'
     run = subprocess.run(["sh", "-c", command, BUILD / "forwarder"], capture_output=True, text=True)
@@ -54,6 +56,7 @@ def test_descriptors_that_are_too_few():
          "a refusal to start")
 
 
+@once
 def test_descriptors_that_run_out():
     """Where the limit falls while it runs, cached data are answered, other questions SERVFAIL, and
     nothing spins; that is not remembered as a failure of the names' servers."""
@@ -75,6 +78,7 @@ def test_descriptors_that_run_out():
 
 # ---- Memory.
 
+@once
 def test_memory_that_is_refused():
     """Where memory is used up, what is cached is answered, and the rest is SERVFAIL; where the
     system refuses all of it, all is."""
@@ -165,10 +169,12 @@ def starve(names):
         wanted(counters["displaced"] > 0, "fetches that gave way")
 
 
+@once
 def test_dead_domain_starves_no_other():
     starve(lambda n: f"x{n}.dead.example")
 
 
+@once
 def test_dead_domains_starve_no_others():
     starve(lambda n: f"x{n}.dead{n % 500}")
 
@@ -193,6 +199,7 @@ def test_log():
            "octets that were sent, and keys: two answers and the SOA record")
 
 
+@once
 def test_wrong_arguments():
     for words in ([], ["127.0.0.1", "0"], ["127.0.0.1", "0", "127.0.0.1"],
                   ["127.0.0.1", "0", "127.0.0.1", "65536"], ["localhost", "0", "127.0.0.1", "53"],

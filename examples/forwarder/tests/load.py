@@ -1,12 +1,24 @@
 # SPDX-License-Identifier: MIT
-"""Many clients at once. These tests run alone."""
+"""Many clients at once, and one of many that floods. These tests run alone."""
 import concurrent.futures
+import contextlib
 import random
 import re
 import socket
+import subprocess
+import sys
+import time
+from pathlib import Path
 
-from harness import (NXDOMAIN, NOERROR, Forwarder, Reply, Server, Stream, address, edns, plain,
-                     query, same, took)
+from harness import (NXDOMAIN, NOERROR, SERVFAIL, Forwarder, Reply, Server, Stream, address, edns,
+                     exchange, once, plain, query, same, took, wanted)
+
+FLOOD = Path(__file__).with_name("flood.py")
+# Of the clients beside the one that floods: how many they are, how often each asks, how often it
+# asks again, and within how many seconds it has to be answered.
+OTHERS, TURNS, TRIES, MOST_SECONDS = 99, 5, 5, 5
+# The MB that a flood may have a forwarder take; sanitizers take more of their own.
+MOST_MEMORY = {"forwarder": 50, "forwarder-checked": 500, "forwarder-threads": 500}
 
 
 def is_right(reply, text):
@@ -56,10 +68,104 @@ def load(program, queries, tcp_clients):
               f"upstream, {counters['joined']} joined")
 
 
+@once
 def test_load_of_20000_queries():
     load("forwarder", 20000, 0)
 
 
+@once
 def test_load_by_udp_and_tcp_with_threads_watched():
     """Under the sanitizer of threads."""
     load("forwarder-threads", 4000, 4)
+
+
+# ---- One of 100 clients floods.
+
+@contextlib.contextmanager
+def flood(port, kind, rate):
+    process = subprocess.Popen([sys.executable, FLOOD, str(port), kind, str(rate)])
+    try:
+        time.sleep(0.3)
+        yield
+        wanted(process.poll() is None, "a flood to the end")
+    finally:
+        process.kill()
+        process.wait()
+
+
+def patient(port, text, is_tcp):
+    """Asks as a stub resolver does, again where nothing comes for a second, over TCP for some, or
+    where that is a failure: the answer, or None."""
+    for _ in range(TRIES):
+        try:
+            if not is_tcp:
+                reply = exchange(port, query(text), 1)
+            else:
+                with Stream(port, MOST_SECONDS) as stream:
+                    reply = stream.ask(text)
+        except OSError:  # the connection was not taken up, or gave way to another
+            continue
+        if reply is not None and reply.rcode != SERVFAIL:
+            return reply
+    return None
+
+
+def client(port, number):
+    """A client that asks for names which are cached and for others: the seconds of its slowest
+    answer, and how many did not come."""
+    slowest, missing = 0, 0
+    for turn in range(TURNS):
+        n = random.choice((number, 100 + TURNS * number + turn))
+        reply, seconds = took(lambda: patient(port, f"a{n}.example", number % 5 == 0))
+        if reply is None:
+            missing += 1
+        else:
+            same((reply.rcode, reply.data()), (NOERROR, [address(n)]), "the answer")
+            slowest = max(slowest, seconds)
+        time.sleep(0.2)
+    return slowest, missing
+
+
+def under_flood(kind, rate, program="forwarder"):
+    """99 clients ask, every fifth over TCP, while one floods. As a machine that does much else is
+    late at times, of 20 answers one may be missing."""
+    def dead(server, number, question, name, rtype):
+        return [] if "dead" in name else plain()(server, number, question, name, rtype)
+    with (Forwarder(Server(dead), program=program) as it,
+          concurrent.futures.ThreadPoolExecutor(OTHERS) as pool):
+        it.ask("a0.example")
+        before, began = it.memory(), time.monotonic()
+        with flood(it.port, kind, rate):
+            slowest, missing = zip(*pool.map(lambda n: client(it.port, n), range(OTHERS)))
+        seconds, counters = time.monotonic() - began, it.counters()
+        grown = (it.memory() - before) >> 20
+        print(f"flood of {kind}, {program}: {counters['queries'] / seconds:,.0f} queries and "
+              f"{counters['connections'] / seconds:,.0f} connections a second; of "
+              f"{OTHERS * TURNS} other answers the slowest took {max(slowest):.1f} seconds, and "
+              f"{sum(missing)} are missing; {grown} MB more")
+        wanted(counters["connections" if kind == "connections" else "queries"] > rate, "a flood")
+        wanted(max(slowest) < MOST_SECONDS, f"answers in time, and not after {max(slowest):.1f} s")
+        wanted(sum(missing) <= OTHERS * TURNS // 20, f"answers, of which {sum(missing)} are missing")
+        wanted(grown < MOST_MEMORY[program], f"little memory, and not {grown} MB")
+
+
+@once
+def test_flood_of_hits():
+    under_flood("hits", 20000)
+
+
+@once
+def test_flood_of_names_whose_servers_are_dead():
+    under_flood("names", 2000)
+
+
+@once
+def test_flood_of_connections():
+    under_flood("connections", 500)
+
+
+@once
+def test_floods_with_addresses_and_threads_watched():
+    for program in ("forwarder-checked", "forwarder-threads"):
+        for kind, rate in (("names", 500), ("connections", 100)):
+            under_flood(kind, rate, program)

@@ -1,0 +1,145 @@
+# SPDX-License-Identifier: MIT
+"""What an attacker sends in an upstream's place, and an upstream that answers wrongly on purpose."""
+import concurrent.futures
+import random
+import re
+import socket
+import string
+import struct
+
+from harness import (A, NOERROR, NXDOMAIN, SERVFAIL, TOP, Forwarder, Reply, Server, address,
+                     exchange, message, plain, query, record, same, took, wanted, wire)
+from dns import OPT, name_at
+from mutation import changed_octets
+
+META = 128
+FORGED = address(6 * 256 + 66)
+
+
+# ---- Answers from wrong places.
+
+def send_from(place, octets, client):
+    with socket.socket(socket.AF_INET, socket.SOCK_DGRAM) as other:
+        other.bind(place)
+        other.sendto(octets, client)
+
+
+def test_answers_from_wrong_places():
+    """Answers that are forged but for one thing: they come from another address, from another port,
+    from another upstream, under other ids, or to the port of a query that was answered. They come
+    before the right one, and none is taken."""
+    clients, others = [], 100
+
+    def answer(server, number, question, name, rtype):
+        forged = message(number, 0x8180, question, [record(name, A, 60, FORGED)])
+        for place in (("127.0.0.2", server.port), ("127.0.0.2", 0), ("127.0.0.1", 0)):
+            send_from(place, forged, server.client)
+        two.socket.sendto(forged, server.client)
+        for client in clients[-1:]:
+            server.socket.sendto(forged, client)
+        clients.append(server.client)
+        ids = random.sample([it for it in range(65536) if it != number], others)
+        return [struct.pack(">H", it) + forged[2:] for it in ids] \
+            + plain()(server, number, question, name, rtype)
+    with Forwarder(server := Server(answer), two := Server(plain())) as it:
+        for n in range(20):
+            for _ in range(2):
+                same(it.ask(f"a{n}.example").data(), [address(n)], "the address")
+        counters = it.counters()
+        same((counters["strays"], counters["sent"]), (20 * others, 20),
+             "answers under other ids, and queries")
+        same(two.asked, [], "queries to the other upstream")
+
+
+def test_answers_from_wrong_places_alone():
+    """Where the right answer never comes, the forged ones are no answer, by UDP and over TCP."""
+    def answer(server, number, question, name, rtype):
+        if server.is_tcp:
+            forged = message(number ^ 0x100, 0x8180, question, [record(name, A, 60, FORGED)])
+            return [forged]
+        forged = message(number, 0x8180, question, [record(name, A, 60, FORGED)])
+        for place in (("127.0.0.2", server.port), ("127.0.0.1", 0)):
+            send_from(place, forged, server.client)
+        return [message(number, 0x8380, question)] if name[0] == "t" else []
+    with Forwarder(Server(answer)) as it, concurrent.futures.ThreadPoolExecutor(8) as pool:
+        for reply in pool.map(it.ask, [f"{first}{n}.example" for n in range(4) for first in "at"]):
+            same((reply.rcode, reply.counts), (SERVFAIL, [0, 0, 0]), "no answer")
+
+
+# ---- An upstream whose messages are changed at random.
+
+def real_messages():
+    """Responses as name servers sent them: those of the rows real-, of which the question is one
+    that the forwarder takes, with a name of two labels or more."""
+    texts = b"".join(it.read_bytes() for it in sorted(TOP.glob("rows/real-*/trace")))
+    found = [bytes.fromhex(it.decode())
+             for it in re.findall(rb"^response \S+ \S+ (\S+)$", texts, re.M)]
+    return [it for it in found if it[4:6] == b"\0\1" and is_taken(*asked_by(it)[1:])]
+
+
+def asked_by(octets):
+    """The name, type and class of a message's question, and the place behind it."""
+    name, at = name_at(octets, 12)
+    return name, *struct.unpack(">HH", octets[at:at + 4]), at + 4
+
+
+def is_taken(rtype, rclass, behind):
+    return rclass == 1 and rtype < META and rtype != OPT and behind > 12 + 12
+
+
+def renamed(dice, octets):
+    """The message with other letters in the first label of its question, whose size stays, so that
+    all pointers lead where they did."""
+    size = octets[12]
+    letters = "".join(dice.choices(string.ascii_lowercase, k=size)).encode()
+    return octets[:13] + letters + octets[13 + size:]
+
+
+def fuzzed(dice, octets):
+    """The message, behind its id, with octets changed: mostly behind the question, so that it is
+    taken for an answer; and at times with TC set."""
+    behind = asked_by(octets)[-1]
+    begins, ends = octets[2:behind], changed_octets(dice, octets[behind:])
+    if dice.random() < 0.2:
+        begins = bytes([begins[0] | 2]) + begins[1:]
+    elif dice.random() < 0.2:
+        begins = changed_octets(dice, begins)
+    return begins + ends
+
+
+def ask_for(it, sent, octets, number):
+    """Asks for what a message answers, and has the upstream answer with it, changed."""
+    dice = random.Random(number)
+    octets = renamed(dice, octets)
+    text, rtype, _, _ = asked_by(octets)
+    sent[text.lower()] = fuzzed(dice, octets), fuzzed(dice, octets)
+    reply = exchange(it.port, query(text, rtype))
+    wanted(reply is not None, f"a reply, in run {number}")
+    wanted(reply.rcode in (NOERROR, NXDOMAIN, SERVFAIL), f"an answer or a failure in run {number}")
+    same(reply.question, (text.lower(), rtype, 1), f"the question of run {number}")
+    return reply.rcode
+
+
+def test_upstream_of_changed_messages():
+    """2,000 messages as name servers send them, with octets changed, by UDP and over TCP. Each
+    question is answered, in a message that can be read, and what no one changes is right."""
+    sent = {}
+
+    def answer(server, number, question, name, rtype):
+        right = plain()(server, number, question, name, rtype)
+        if name not in sent:
+            return right
+        by_udp, by_tcp = (struct.pack(">H", number) + it for it in sent[name])
+        return [by_tcp[:65535]] if server.is_tcp else [by_udp, *right]
+    messages = real_messages()
+    wanted(len(messages) > 30, f"messages, and not {len(messages)}")
+    with (Forwarder(server := Server(answer)) as it,
+          concurrent.futures.ThreadPoolExecutor(16) as pool):
+        rcodes, seconds = took(lambda: list(pool.map(
+            lambda n: ask_for(it, sent, messages[n % len(messages)], n), range(2000))))
+        wanted(seconds < 60, f"all in time, and not after {seconds:.0f} seconds")
+        for n in range(20):
+            same(it.ask(f"a{n}.example").data(), [address(n)], "what no one changed")
+        kinds = [rcodes.count(it) for it in (NOERROR, NXDOMAIN, SERVFAIL)]
+        wanted(min(kinds) > 20, f"answers of each kind, and not {kinds}")
+        wanted(it.counters()["upgraded"] > 100, "queries over TCP")
