@@ -3,6 +3,7 @@ pub mod DigitLemmas
 pub mod AheadLemmas
 pub mod NumberLemmas
 pub mod ItemLemmas
+pub mod RepeatLemmas
 pub mod SaidLemmas
 pub mod SearchLemmas
 pub mod FieldLemmas

@@ -6,6 +6,7 @@ pub mod Names
 pub mod Words
 pub mod Octets
 pub mod Items
+pub mod Repeats
 pub mod Lines
 pub mod Trace
 pub mod Questions
