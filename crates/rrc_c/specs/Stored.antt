@@ -1,7 +1,7 @@
 -- What C is told of what a key holds.
 use Rattle.std.specs.Prelude.{◌≡◌, ℕ, List, Option, Some, None}
 use Rattle.rrc_name.specs.Wire.{folded}
-use Rattle.rrc_name.specs.declared.key.Slot.TheVariants.{Set}
+use Rattle.rrc_name.specs.declared.slot.Slot.TheVariants.{Set}
 use Rattle.rrc_history.specs.declared.snapshot.Entry.{Entry}
 use Rattle.rrc_history.specs.Lives.{rank_of, ttl_of}
 use Rattle.rrc_history.specs.Past.{held}

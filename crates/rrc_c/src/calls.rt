@@ -14,9 +14,10 @@ use crate::asking::{ask_shelf, peek_at_shelf};
 use crate::counts::{Bounds, Counts};
 use crate::handle::Handle;
 use crate::keeping::{expiry_of, fault_in, part_in, sweep};
+use crate::lookup::stored_in;
 use crate::offering::{offer_message, offer_part, take_failure, take_negative, take_set};
 use crate::status::{NO_SHELF, SMALL_BUFFER, Status};
-use crate::stored::{Stored, stored_in};
+use crate::stored::Stored;
 use crate::told::Told;
 use std::alloc::Global;
 

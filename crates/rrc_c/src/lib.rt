@@ -6,6 +6,7 @@ mod calls;
 mod counts;
 mod handle;
 mod keeping;
+mod lookup;
 mod making;
 mod offering;
 mod seal;

@@ -1,0 +1,94 @@
+/* SPDX-License-Identifier: MIT */
+/* rrcache under bench/beside/work.c: 64 shelves, each with a lock, whose closed chapters are
+   dropped. */
+#include <pthread.h>
+
+#include "rrcache.h"
+#include "work.h"
+
+struct shelf {
+    pthread_mutex_t lock;
+    struct rrcache_shelf cache;
+    uint64_t calls;
+    char apart[64]; /* so that two locks lie on two lines of the processor's cache */
+};
+
+static struct shelf shelves[SHARDS];
+static uint64_t chapter;
+
+void make_cache(size_t sets)
+{
+    static const uint8_t seed[16] = {7};
+    chapter = sets / SHARDS;
+    for (struct shelf *shelf = shelves; shelf < shelves + SHARDS; shelf++)
+        if (pthread_mutex_init(&shelf->lock, NULL) != 0
+            || rrcache_make(&shelf->cache, chapter, chapter, 0, seed) != RRCACHE_DONE)
+            fail("no shelf");
+}
+
+void *begin_thread(unsigned number)
+{
+    (void)number;
+    return NULL;
+}
+
+static struct shelf *shelf_of(const struct name *name)
+{
+    uint64_t part;
+    if (rrcache_part_of(name->octets, name->size, SHARDS, &part) != RRCACHE_DONE)
+        fail("no part");
+    return &shelves[part];
+}
+
+/* Ends a call on a shelf. */
+static void leave(struct shelf *shelf)
+{
+    uint64_t dropped;
+    if (++shelf->calls % chapter == 0)
+        rrcache_drop_chapters(&shelf->cache, &dropped);
+    pthread_mutex_unlock(&shelf->lock);
+}
+
+void put(void *thread, const struct name *name, unsigned turn)
+{
+    const uint8_t data[] = {0, 4, 192, 0, 2, (uint8_t)turn};
+    const struct rrcache_set set = {
+        .owner = name->octets,
+        .owner_size = name->size,
+        .rtype = 1,
+        .rclass = RRCACHE_IN,
+        .trust = RRCACHE_AUTHORITATIVE_ANSWER,
+        .ttl = TTL,
+        .data = data,
+        .data_size = sizeof data,
+        .moment = MOMENT,
+    };
+    uint32_t outcome;
+    struct shelf *shelf = shelf_of(name);
+    (void)thread;
+    pthread_mutex_lock(&shelf->lock);
+    if (rrcache_offer_set(&shelf->cache, &set, 0, &outcome) != RRCACHE_DONE)
+        fail("a put was refused");
+    leave(shelf);
+}
+
+bool ask(void *thread, const struct name *name)
+{
+    const struct rrcache_query query = {
+        .name = name->octets,
+        .name_size = name->size,
+        .rtype = 1,
+        .rclass = RRCACHE_IN,
+        .moment = MOMENT,
+        .purpose = RRCACHE_QUESTION,
+    };
+    struct rrcache_told told;
+    uint8_t buffer[512];
+    struct shelf *shelf = shelf_of(name);
+    (void)thread;
+    pthread_mutex_lock(&shelf->lock);
+    if (rrcache_ask(&shelf->cache, &query, 0, &told, buffer, sizeof buffer) != RRCACHE_DONE)
+        fail("an ask was refused");
+    leave(shelf);
+    return told.kind == RRCACHE_FRESH;
+}

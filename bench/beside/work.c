@@ -1,0 +1,129 @@
+/* SPDX-License-Identifier: MIT */
+/* THREADS CALLS hit|hot|replace|evict NAMES: times a cache of RRsets. So many threads make so many
+   calls in all on names `host<i>.example`, each with one A record, in random order: `hit` asks for
+   names that are there, `hot` always for one; `replace` puts names that are there with another
+   address, `evict` names that are not there into a cache that has no room. It prints how many calls
+   there were, the nanoseconds that they took by the clock, and those of processor time. */
+#include "work.h"
+
+#include <pthread.h>
+#include <stdio.h>
+#include <stdlib.h>
+#include <string.h>
+#include <time.h>
+
+enum { MOST_THREADS = 64 };
+
+enum kind { HIT, HOT, REPLACE, EVICT };
+
+struct worker {
+    pthread_t thread;
+    unsigned number;
+    uint64_t calls, seed, processor;
+};
+
+static const char *const KINDS[] = {"hit", "hot", "replace", "evict"};
+static struct name *names;
+static size_t name_count, worker_count;
+static enum kind kind;
+static pthread_barrier_t start;
+
+void fail(const char *what)
+{
+    fprintf(stderr, "%s\n", what);
+    exit(1);
+}
+
+static uint64_t nanoseconds(clockid_t clock)
+{
+    struct timespec now;
+    clock_gettime(clock, &now);
+    return (uint64_t)now.tv_sec * 1000000000 + (uint64_t)now.tv_nsec;
+}
+
+static uint64_t draw(uint64_t *seed)
+{
+    *seed ^= *seed << 13;
+    *seed ^= *seed >> 7;
+    return *seed ^= *seed << 17;
+}
+
+static void make_names(size_t count)
+{
+    name_count = count;
+    names = calloc(count, sizeof *names);
+    if (names == NULL)
+        fail("no memory");
+    for (size_t i = 0; i < count; i++) {
+        char label[12];
+        size_t size = (size_t)snprintf(label, sizeof label, "host%u", (unsigned)i);
+        names[i].octets[0] = (uint8_t)size;
+        memcpy(names[i].octets + 1, label, size);
+        memcpy(names[i].octets + 1 + size, "\7example", 9);
+        names[i].size = size + 10;
+    }
+}
+
+/* One call. Puts that evict go round all names, of which the cache holds the last half. */
+static void call(struct worker *worker, void *thread, uint64_t turn)
+{
+    size_t place = kind == EVICT ? (worker->number + turn * worker_count) % name_count
+                                 : draw(&worker->seed) % name_count;
+    if (kind == REPLACE || kind == EVICT)
+        put(thread, &names[place], (unsigned)turn);
+    else if (!ask(thread, &names[kind == HOT ? 0 : place]))
+        fail("an ask found nothing");
+}
+
+static void *work(void *argument)
+{
+    struct worker *worker = argument;
+    void *thread = begin_thread(worker->number + 1);
+    pthread_barrier_wait(&start);
+    uint64_t began = nanoseconds(CLOCK_THREAD_CPUTIME_ID);
+    for (uint64_t turn = 0; turn < worker->calls; turn++)
+        call(worker, thread, turn);
+    worker->processor = nanoseconds(CLOCK_THREAD_CPUTIME_ID) - began;
+    return NULL;
+}
+
+static void run(uint64_t calls)
+{
+    static struct worker workers[MOST_THREADS];
+    uint64_t processor = 0;
+    pthread_barrier_init(&start, NULL, (unsigned)worker_count + 1);
+    for (unsigned i = 0; i < worker_count; i++) {
+        workers[i] = (struct worker){.number = i, .calls = calls / worker_count, .seed = i + 88172};
+        if (pthread_create(&workers[i].thread, NULL, work, &workers[i]) != 0)
+            fail("no thread");
+    }
+    pthread_barrier_wait(&start);
+    uint64_t began = nanoseconds(CLOCK_MONOTONIC);
+    for (unsigned i = 0; i < worker_count; i++) {
+        pthread_join(workers[i].thread, NULL);
+        processor += workers[i].processor;
+    }
+    uint64_t took = nanoseconds(CLOCK_MONOTONIC) - began;
+    printf("%llu %llu %llu\n", (unsigned long long)(calls / worker_count * worker_count),
+           (unsigned long long)took, (unsigned long long)processor);
+}
+
+int main(int count, char **words)
+{
+    if (count != 5)
+        fail("THREADS CALLS hit|hot|replace|evict NAMES");
+    worker_count = strtoul(words[1], NULL, 10);
+    if (worker_count < 1 || worker_count > MOST_THREADS)
+        fail("1 to 64 threads");
+    while (strcmp(words[3], KINDS[kind]) != 0)
+        if (kind++ == EVICT)
+            fail("no such kind");
+    size_t room = strtoul(words[4], NULL, 10);
+    make_names(kind == EVICT ? 2 * room : room);
+    make_cache(kind == EVICT ? room : 2 * room);
+    void *thread = begin_thread(0);
+    for (size_t i = 0; i < name_count; i++)
+        put(thread, &names[i], 1);
+    run(strtoull(words[2], NULL, 10));
+    return 0;
+}

@@ -1,0 +1,31 @@
+/* SPDX-License-Identifier: MIT */
+/* What a cache of RRsets does under bench/beside/work.c. */
+#ifndef WORK_H
+#define WORK_H
+
+#include <stdbool.h>
+#include <stddef.h>
+#include <stdint.h>
+
+enum { SHARDS = 64, MOMENT = 1000, TTL = 3600 };
+
+struct name {
+    uint8_t octets[24]; /* its wire form */
+    size_t size;
+};
+
+/* Makes the cache, with room for about so many sets of one address. */
+void make_cache(size_t sets);
+
+/* What a thread needs beside the cache. */
+void *begin_thread(unsigned number);
+
+/* Puts one address of a name; `turn` picks which. */
+void put(void *thread, const struct name *name, unsigned turn);
+
+/* Whether the name has an address, which is copied out. */
+bool ask(void *thread, const struct name *name);
+
+void fail(const char *what);
+
+#endif

@@ -1,0 +1,69 @@
+ghost use Rattle.std.specs.Prelude.{◌≡◌, IfOk};
+ghost use Rattle.std.specs.Option.{option_map};
+ghost use Rattle.rrc_c.specs.Refusals.{StoredDue};
+ghost use Rattle.rrc_c.specs.Statuses.{number_of_call};
+ghost use Rattle.rrc_c.specs.Stored.{stored_in, stored_of};
+ghost use Rattle.rrc_history.specs.Lives.{rank};
+ghost use Rattle.rrc_history.specs.Views.{held_in};
+
+use crate::asking::name_of;
+use crate::status::Status;
+use crate::stored::Stored;
+use rrc_history::{Body, Held, Trust};
+use rrc_name::{KeyRef, Slot};
+use rrc_share::Shelf;
+use std::alloc::Global;
+
+fn rank(trust: Trust) -> u32
+    ensures { result ≡ rank trust }
+{
+    match trust {
+        Trust::Additional => 1,
+        Trust::NonAuthoritativeAnswer => 2,
+        Trust::Authority => 3,
+        Trust::AuthoritativeAnswer => 4,
+    }
+}
+
+fn stored_of(held: Option<Held<'_>>) -> Stored
+    ensures { result ≡ stored_of (option_map held_in held.entry) }
+{
+    let Some(held) = held else {
+        return Stored {
+            trust: 0,
+            ttl: 0,
+            moment: 0,
+        };
+    };
+    let (trust, ttl) = match held.body {
+        Body::Positive { trust, ttl, .. } | Body::Negative { trust, ttl, .. } => {
+            (rank(*trust), *ttl)
+        }
+        Body::Failure { ttl } => (0, *ttl),
+    };
+    Stored {
+        trust,
+        ttl,
+        moment: held.moment,
+    }
+}
+
+/// What a shelf holds of a name, a type and a class: a set, or that the name has no data of the type.
+pub(crate) fn stored_in(
+    alloc: Global,
+    shelf: &Shelf,
+    name: &[u8],
+    rtype: u16,
+    class: u16,
+) -> Result<Stored, Status>
+    ensures value { IfOk result (λ stored. stored ≡ stored_in shelf.now name.now rtype class) }
+    ensures due { StoredDue name.now (number_of_call result) }
+{
+    let name = name_of(alloc, name)?.folded()?;
+    let key = KeyRef {
+        name: &name,
+        class,
+        slot: Slot::Set(rtype),
+    };
+    Ok(stored_of(shelf.part().held(key)))
+}
