@@ -22,7 +22,7 @@ empty_keeps rules = record {
   kept = record { few = omega arith; apart = tt; before = tt; numbered = tt; fit = tt; timely = tt };
 }
 
-past-more : (part : PartOf) (event : Event) → past_of (record { number = part.number; snapshot = part.snapshot; events = part.events ++ event ∷ [] }) ≡ event ∷ past_of part
+pub past-more : (part : PartOf) (event : Event) → past_of (record { number = part.number; snapshot = part.snapshot; events = part.events ++ event ∷ [] }) ≡ event ∷ past_of part
 past-more part event = reverse-push part.events event
 
 pub number-of : (part : PartOf) → number_after part.snapshot (past_of part) ≡ next_number part

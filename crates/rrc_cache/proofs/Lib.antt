@@ -11,8 +11,10 @@ pub mod Following
 pub mod Leaving
 pub mod Put
 pub mod Written
+pub mod Walks
 pub mod Keeping
 pub mod Answering
+pub mod LeanKeeping
 pub mod Sweeping
 pub mod Closed
 pub mod Again

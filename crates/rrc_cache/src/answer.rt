@@ -36,7 +36,7 @@ fn kept_ask(ask: &Ask, answering: Option<Held<'_>>) -> Result<Ask, AllocError>
     }
 }
 
-fn slot_of(answering: Option<Held<'_>>) -> Option<Slot>
+pub(crate) fn slot_of(answering: Option<Held<'_>>) -> Option<Slot>
     ensures { result ≡ slot_of (option_map held_in answering.entry) }
 {
     match answering {

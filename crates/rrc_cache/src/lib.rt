@@ -10,8 +10,10 @@ mod deaths;
 mod entries;
 mod followed;
 mod hashed;
+mod history;
 mod judge;
 mod keyed;
+mod lean;
 mod overwriting;
 mod part;
 mod rechecks;
@@ -21,6 +23,7 @@ mod store;
 mod sweep;
 
 pub use classless::{ChapterFault, classless_chapter, classless_chapter_seeded};
+pub use lean::LeanPart;
 pub use part::Part;
 pub use rechecks::{RecheckFault, recheck, recheck_seeded};
 pub use refusal::Refusal;

@@ -13,7 +13,7 @@ use std::marker::Model;
 use std::mem;
 
 /// The number that no event has any more, and no chapter that is closed.
-const SPENT: u64 = 1 << 62;
+pub(crate) const SPENT: u64 = 1 << 62;
 
 /// The seed of a part that is given none, so that tests and replays take the same time twice.
 pub(crate) const KNOWN_SEED: [u8; 16] = [0; 16];

@@ -119,6 +119,10 @@ impl Store {
         self.cache.len()
     }
 
+    pub(crate) fn allocator(&self) -> Global {
+        self.cache.allocator()
+    }
+
     /// The hash of a name, by which its keys are looked up.
     pub(crate) fn hash_of(&self, name: &Name) -> u64
         ensures { result ≡ name_hash self.now.seeded name.now }

@@ -2,6 +2,7 @@ mod beside;
 mod chapters;
 mod classless;
 mod eviction;
+mod lean;
 mod limits;
 mod looks;
 mod owners;

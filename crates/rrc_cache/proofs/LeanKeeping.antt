@@ -1,0 +1,116 @@
+-- What a part that keeps no events keeps is what its history leaves, through every event.
+use Rattle.std.proofs.Common.{◌≡◌, ℕ, ◌+◌, ◌<◌, ◌^◌, List, [], ◌∷◌, ◌++◌, length, Option, refl, sym, ap, subst, ◌∙◌, arith}
+use Rattle.std.proofs.lemmas.List.{length-append}
+use Rattle.rrc_history.specs.declared.rules.Rules.{Rules}
+use Rattle.rrc_history.specs.declared.event.Event.{Event}
+use Rattle.rrc_history.specs.declared.snapshot.Entry.{Entry}
+use Rattle.rrc_name.specs.declared.slot.Slot.{Slot}
+use Rattle.rrc_history.specs.declared.event.Reply.{Reply}
+use Rattle.rrc_history.specs.Asked.{AskOf}
+use Rattle.rrc_history.specs.Entries.{found_among}
+use Rattle.rrc_history.specs.Judged.{answering, key_in, reply_by}
+use Rattle.rrc_history.specs.Past.{held, number_after, found, reply_to, AreContents}
+use Rattle.rrc_history.specs.Right.{IsLegal}
+use Rattle.rrc_history.specs.lemmas.AskLaws.{found-contents}
+use Rattle.rrc_history.specs.lemmas.LawsHold.{laws_hold}
+use Rattle.rrc_cache.specs.Calls.{Leaves, Writes, moment_of}
+use Rattle.rrc_cache.specs.Lean.{HoldsLean, IsLeanOpen, IsPick, first_chapter, with_event}
+use Rattle.rrc_cache.specs.Pairs.{StoreOf}
+use Rattle.rrc_cache.specs.Part.{PartOf, past_of, Adds}
+use Rattle.rrc_cache.specs.Taken.{IsAnswered, slot_of}
+use Rattle.rrc_cache.proofs.Answering.{answered_at}
+use Rattle.rrc_cache.proofs.Keeping.{number-of, past-more}
+use Rattle.rrc_cache.proofs.Written.{writes_leaves}
+
+-- a part with nothing in it
+pub empty_holds : (rules : Rules) (store : StoreOf) → store.entries ≡ [] → store.stale ≡ rules.stale → HoldsLean (first_chapter rules) 1 0 rules store
+unfolding held
+empty_holds rules store none stale = record {
+  sound = record { legal = tt; numbered = omega arith; chapter = omega arith };
+  leaves =
+      let P : List Entry → Type 0 = Leaves (first_chapter rules).snapshot [] in
+      subst P (sym none) (record {
+        legal = tt;
+        contents = record { agree = λ key. refl; falling = tt };
+        kept = record { few = omega arith; apart = tt; before = tt; numbered = tt; fit = tt; timely = tt };
+      });
+  stale = stale;
+  chapter = refl;
+  following = omega arith;
+  ruled = refl;
+}
+
+-- what an event that was written says, and what the part keeps after it
+pub record IsLeanDone (old new : PartOf) (number next : ℕ) (rules : Rules) (event : Event) (store : StoreOf) : Type 0 where
+  pub adds : Adds old new event
+  pub holds : HoldsLean new number (next + 1) rules store
+
+done : (part : PartOf) (number next : ℕ) (rules : Rules) (before after : StoreOf) (event : Event) → HoldsLean part number next rules before
+    → IsLeanOpen part (moment_of event) → Writes rules next before.entries event after.entries → after.stale ≡ before.stale
+    → IsLeanDone part (with_event part event) number next rules event after
+done part number next rules before after event holds open' writes stale =
+    let now : ℕ = number_after part.snapshot (past_of part) in
+    let below : now < 2 ^ 62 = omega (arith, number-of part, open'.number) in
+    let W : Rules → ℕ → Type 0 = λ r n. Writes r n before.entries event after.entries in
+    let written : W part.snapshot.rules now = subst (λ r. W r now) holds.ruled (subst (W rules) (holds.following ∙ sym (number-of part)) writes) in
+    let leaves : Leaves part.snapshot (event ∷ past_of part) after.entries =
+    writes_leaves part.snapshot (past_of part) before.entries event after.entries holds.leaves below open'.moment written in
+    let past : event ∷ past_of part ≡ past_of (with_event part event) = sym (past-more part event) in
+    let more : length (part.events ++ event ∷ []) ≡ length part.events + 1 = length-append part.events (event ∷ []) in
+    record {
+      adds = record {
+        number = refl;
+        snapshot = refl;
+        written = refl;
+        right = leaves.legal.0;
+        laws = laws_hold part.snapshot (past_of part) event leaves.legal.0;
+      };
+      holds = record {
+        sound = record {
+          legal = let P : List Event → Type 0 = IsLegal part.snapshot in subst P past leaves.legal;
+          numbered = omega (arith, open'.number, more);
+          chapter = holds.sound.chapter;
+        };
+        leaves = let P : List Event → Type 0 = λ p. Leaves part.snapshot p after.entries in subst P past leaves;
+        stale = stale ∙ holds.stale;
+        chapter = holds.chapter;
+        following = omega (arith, holds.following, more);
+        ruled = holds.ruled;
+      };
+    }
+
+-- where the part is seen as its history, and the history was told the event
+pub lean_done : (seen part told : PartOf) (number next : ℕ) (rules : Rules) (before after : StoreOf) (event : Event) → part ≡ seen → told ≡ with_event part event
+    → HoldsLean part number next rules before → IsLeanOpen seen (moment_of event) → Writes rules next before.entries event after.entries → after.stale ≡ before.stale
+    → IsLeanDone seen told number next rules event after
+lean_done seen part told number next rules before after event is tells holds open' writes stale =
+    let D : PartOf → PartOf → Type 0 = λ old new. IsLeanDone old new number next rules event after in
+    let O : PartOf → Type 0 = λ p. IsLeanOpen p (moment_of event) in
+    subst (D seen) (sym tells)
+    (subst (λ old. D old (with_event part event)) is (done part number next rules before after event holds (subst O (sym is) open') writes stale))
+
+-- ---- an ask in two halves
+
+-- the slot that was told is that of the entry that answers by the history
+pub picked : (part : PartOf) (rules : Rules) (entries : List Entry) (ask : AskOf) (reply : Reply) (answering' : Option Entry) (slot : Option Slot) → rules ≡ part.snapshot.rules
+    → AreContents part.snapshot (past_of part) entries → reply ≡ reply_by rules.stale (found_among entries ask) ask
+    → answering' ≡ answering (found_among entries ask) ask reply → slot ≡ slot_of answering' → IsPick part ask slot
+picked part rules entries ask reply answering' slot ruled contents answered gave is =
+    let same : found_among entries ask ≡ found part.snapshot (past_of part) ask = found-contents part.snapshot (past_of part) ask entries contents in
+    let told : reply ≡ reply_to part.snapshot (past_of part) ask =
+    answered ∙ (ap (λ (r : Rules). reply_by r.stale (found_among entries ask) ask) ruled ∙ ap (λ f. reply_by part.snapshot.rules.stale f ask) same) in
+    (answered_at rules.stale ask entries reply answering' slot answered gave is).from
+    ∙ (ap (λ f. key_in (answering f ask reply)) same ∙ ap (λ r. key_in (answering (found part.snapshot (past_of part) ask) ask r)) told)
+
+-- and so the ask is answered by the entries from that one
+pub pick_answers : (part : PartOf) (rules : Rules) (entries : List Entry) (ask : AskOf) (slot : Option Slot) → rules ≡ part.snapshot.rules
+    → AreContents part.snapshot (past_of part) entries → IsPick part ask slot
+    → IsAnswered rules.stale ask entries (reply_to part.snapshot (past_of part) ask) slot
+pick_answers part rules entries ask slot ruled contents pick =
+    let same : found part.snapshot (past_of part) ask ≡ found_among entries ask = sym (found-contents part.snapshot (past_of part) ask entries contents) in
+    record {
+      answered =
+          ap (λ f. reply_by part.snapshot.rules.stale f ask) same
+          ∙ ap (λ (r : Rules). reply_by r.stale (found_among entries ask) ask) (sym ruled);
+      from = pick ∙ ap (λ f. key_in (answering f ask (reply_to part.snapshot (past_of part) ask))) same;
+    }

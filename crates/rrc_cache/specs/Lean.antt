@@ -1,0 +1,57 @@
+-- A part that keeps no events: what its history is told, and what it keeps of that.
+use Rattle.std.specs.Prelude.{◌≡◌, ℕ, ◌^◌, ◌<◌, ◌≤◌, [], ◌∷◌, ◌++◌, Option, Result, Ok, Err}
+use Rattle.std.specs.Option.{option_map}
+use Rattle.rrc_name.specs.declared.slot.Slot.{Slot}
+use Rattle.rrc_history.specs.declared.event.Event.{Event}
+use Rattle.rrc_history.specs.declared.rules.Rules.{Rules}
+use Rattle.rrc_history.specs.Asked.{AskOf}
+use Rattle.rrc_history.specs.Judged.{answering, key_in}
+use Rattle.rrc_history.specs.Lives.{LAST_MOMENT}
+use Rattle.rrc_history.specs.Past.{found, key_at, reply_to}
+use Rattle.rrc_history.specs.Right.{IsLegal}
+use Rattle.rrc_cache.specs.Calls.{Leaves}
+use Rattle.rrc_cache.specs.Pairs.{StoreOf}
+use Rattle.rrc_cache.specs.Part.{PartOf, past_of, next_number}
+use Rattle.rrc_cache.specs.declared.refusal.Refusal.{Refusal}
+use Rattle.rrc_cache.specs.declared.refusal.Refusal.TheVariants.{HistoryFull, MomentTooLarge, Memory}
+
+-- the first chapter, with no events
+abbrev pub first_chapter : Rules → PartOf
+first_chapter rules = record { number = 1; snapshot = record { rules = rules; first = 0; entries = [] }; events = [] }
+
+-- one more event
+abbrev pub with_event : PartOf → Event → PartOf
+with_event part event = record { number = part.number; snapshot = part.snapshot; events = part.events ++ event ∷ [] }
+
+-- the slot is that of the entry that answers an ask, and none where none answers
+abbrev pub IsPick : PartOf → AskOf → Option Slot → Type 0
+IsPick part ask slot = option_map (key_at ask) slot ≡ key_in (answering (found part.snapshot (past_of part) ask) ask (reply_to part.snapshot (past_of part) ask))
+
+-- a part that keeps no events could take a call at this moment: the next event has a number below 2^62
+pub record IsLeanOpen (part : PartOf) (at : ℕ) : Type 0 where
+  pub number : next_number part < 2 ^ 62
+  pub moment : at ≤ LAST_MOMENT
+
+-- when a call at a moment answers, and when it refuses with what: no chapter is ever full, so
+-- HistoryFull is that the numbers are spent
+abbrev pub IsLeanDue : {A : Type 0} → PartOf → ℕ → Result A Refusal → Type 0
+IsLeanDue part moment (Ok answer) = IsLeanOpen part moment
+IsLeanDue part moment (Err HistoryFull) = 2 ^ 62 ≤ next_number part
+IsLeanDue part moment (Err MomentTooLarge) = (next_number part < 2 ^ 62) × (LAST_MOMENT < moment)
+IsLeanDue part moment (Err Memory) = IsLeanOpen part moment
+
+-- its history is legal, and has numbers left
+pub record IsLeanSound (part : PartOf) : Type 0 where
+  pub legal : IsLegal part.snapshot (past_of part)
+  pub numbered : next_number part ≤ 2 ^ 62
+  pub chapter : part.number ≤ 2 ^ 62
+
+-- a part that keeps no events keeps what its history leaves, the key touched last first, and of the
+-- history the number of its chapter, that of its next event, and its rules
+pub record HoldsLean (part : PartOf) (number next : ℕ) (rules : Rules) (store : StoreOf) : Type 0 where
+  pub sound : IsLeanSound part
+  pub leaves : Leaves part.snapshot (past_of part) store.entries
+  pub stale : store.stale ≡ part.snapshot.rules.stale
+  pub chapter : number ≡ part.number
+  pub following : next ≡ next_number part
+  pub ruled : rules ≡ part.snapshot.rules

@@ -1,0 +1,66 @@
+ghost use Rattle.std.specs.Prelude.{◌≡◌};
+ghost use Rattle.std.specs.Borrow.{ftrue};
+ghost use Rattle.rrc_cache.specs.Part.{PartOf};
+
+use rrc_history::{Ask, Offer, Outcome, Rules, Tag};
+use rrc_name::Key;
+use std::marker::Model;
+
+/// A history that only proofs read: the chapter that is open, as contracts see a part. It takes no
+/// memory, and nothing is left of it in a program. What a clause says of it is so by the two
+/// functions that make one, and by nothing else.
+#[derive(Drop)]
+pub(crate) struct History {
+    ghost part: { PartOf },
+}
+
+impl Model for History {
+    ghost also_owns = { λ _. ftrue };
+}
+
+// It owns nothing.
+unsafe impl Send for History {}
+
+unsafe impl Sync for History {}
+
+/// What a history is told: a call that was made, and what became of it. What an ask is answered
+/// follows from the history.
+#[derive(Clone, Copy, Drop)]
+pub(crate) enum Told<'a> {
+    Offered {
+        tag: Tag,
+        offer: &'a Offer,
+        outcome: Outcome,
+        evicted: &'a Option<Key>,
+    },
+    Asked {
+        tag: Tag,
+        ask: &'a Ask,
+    },
+    Swept {
+        tag: Tag,
+        moment: u64,
+        gone: &'a [Key],
+    },
+}
+
+impl History {
+    ghost use Rattle.rrc_cache.specs.Lean.{first_chapter};
+    ghost use Rattle.rrc_cache.specs.Told.{with_told};
+
+    /// The first chapter, with no events.
+    #[inline(always)]
+    pub(crate) fn new(_rules: &Rules) -> History
+        ensures { result.part ≡ first_chapter _rules.now }
+    {
+        History {}
+    }
+
+    /// The history with the event of a call.
+    #[inline(always)]
+    pub(crate) fn then(&self, _told: &Told<'_>) -> History
+        ensures { result.part ≡ with_told self.now.part _told.now }
+    {
+        History {}
+    }
+}

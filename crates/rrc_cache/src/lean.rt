@@ -1,0 +1,250 @@
+ghost use Rattle.std.specs.Prelude.{◌≡◌, ◌<◌, ◌≤◌, ◌^◌, ◌↔◌, [], IsTrue, IfOk, IfErr, OnErr, Err};
+
+use crate::history::{History, Told};
+use crate::part::{KNOWN_SEED, SPENT};
+use crate::refusal::Refusal;
+use crate::seeded::Seeded;
+use crate::store::Store;
+use crate::{ahead, answer, entries, judge, sweep};
+use rrc_history::{Ask, LAST_MOMENT, Offer, Outcome, Reply, ReplyRef, Rules, Tag};
+use rrc_name::{Key, Slot};
+use std::alloc::Global;
+use std::fmt::{self, Debug, Formatter, Write};
+use std::marker::Model;
+
+/// A part of the cache that keeps no events. Contracts see it as they see a `Part`: the chapter of
+/// its history that is open, with the snapshot that it began with and the events since. That
+/// history is in proofs alone. It takes no memory, so a chapter may be as long as the numbers of
+/// events go, whatever `Rules::chapter` says, and calls take less time than those of a `Part`.
+#[derive(Drop)]
+pub struct LeanPart {
+    /// The number of the chapter.
+    number: u64,
+    rules: Rules,
+    /// The number of the next event.
+    next: u64,
+    /// What is kept, the key touched last first.
+    store: Store,
+    history: History,
+}
+
+impl Model for LeanPart {
+    ghost use Rattle.rrc_cache.specs.Part.{PartOf};
+    ghost use Rattle.rrc_cache.specs.Lean.{HoldsLean};
+
+    ghost Value = { PartOf };
+
+    ghost view = { λ p. p.history.part };
+
+    ghost invariant = { λ p. HoldsLean p.history.part p.number p.next p.rules p.store };
+}
+
+impl LeanPart {
+    ghost use Rattle.rrc_history.specs.declared.event.Event.TheVariants.{Offered, Swept};
+    ghost use Rattle.rrc_history.specs.Past.{reply_to};
+    ghost use Rattle.rrc_history.specs.Views.{reply_in};
+    ghost use Rattle.rrc_cache.specs.Lean.{IsLeanDue, IsLeanOpen, IsLeanSound, IsPick};
+    ghost use Rattle.rrc_cache.specs.Part.{past_of, next_number, Adds, IsOfMoments, WritesOffer, WritesAsk, WritesSweep};
+    ghost use Rattle.rrc_cache.specs.Sizes.{HoldsKeys};
+
+    /// An empty part in the first chapter of its history. Its seed is known, as that of
+    /// `Part::new`: for names that anyone may send, `seeded` takes one that nobody knows.
+    pub fn new(alloc: Global, rules: Rules) -> Result<LeanPart, Refusal>
+        ensures number { IfOk result (λ part. part.number ≡ 1) }
+        ensures empty { IfOk result (λ part. part.events ≡ []) }
+        ensures snapshot { IfOk result (λ part. part.snapshot ≡ record { rules = rules; first = 0; entries = [] }) }
+        ensures memory { OnErr result (result ≡ Err Refusal.Memory) }
+    {
+        LeanPart::seeded(alloc, rules, KNOWN_SEED)
+    }
+
+    /// An empty part in the first chapter of its history, whose names are hashed by SipHash-1-3
+    /// with the seed as its key. Under a seed that nobody can foresee nobody can pick names that
+    /// make it slow. No reply depends on the seed.
+    pub fn seeded(alloc: Global, rules: Rules, seed: [u8; 16]) -> Result<LeanPart, Refusal>
+        ensures number { IfOk result (λ part. part.number ≡ 1) }
+        ensures empty { IfOk result (λ part. part.events ≡ []) }
+        ensures snapshot { IfOk result (λ part. part.snapshot ≡ record { rules = rules; first = 0; entries = [] }) }
+        ensures memory { OnErr result (result ≡ Err Refusal.Memory) }
+    {
+        Ok(LeanPart {
+            number: 1,
+            rules,
+            next: 0,
+            store: Store::new(alloc, Seeded::new(seed), rules)?,
+            history: History::new(&rules),
+        })
+    }
+
+    /// The number of the chapter that is open.
+    pub fn number(&self) -> u64
+        ensures value { result ≡ self.now.number }
+        ensures sound { IsLeanSound self.now }
+    {
+        self.number
+    }
+
+    /// How many keys the part holds. Those that are dead and not yet swept are counted too.
+    pub fn len(&self) -> usize
+        ensures keys { HoldsKeys self.now result }
+        ensures few { result ≤ self.now.snapshot.rules.capacity }
+        ensures sound { IsLeanSound self.now }
+    {
+        self.store.len()
+    }
+
+    /// Whether the numbers go on to another event. Only after 2^62 events they do not.
+    pub fn has_room(&self) -> bool
+        ensures { IsTrue result ↔ next_number self.now < 2 ^ 62 }
+    {
+        self.next < SPENT
+    }
+
+    /// The reply that `ask` would give to this ask now. It comes whatever the ask's moment is, also
+    /// above the last one, and where the numbers are spent, where `ask` refuses. It takes no memory
+    /// and touches nothing.
+    pub fn would_answer(&self, ask: &Ask) -> ReplyRef<'_>
+        ensures { reply_in result ≡ reply_to self.now.snapshot (past_of self.now) ask.now }
+    {
+        let hash = self.store.hash_of(&ask.name);
+        judge::judge(&self.store, hash, ask, self.rules.stale).0
+    }
+
+    /// Keeps the body of an offer under its key, or says why not. The history has one more event,
+    /// which tells it.
+    ///
+    /// `HistoryFull` comes first, where 2^62 events were written, then `MomentTooLarge` (above 2^40
+    /// seconds), then `Memory`. A part that refuses is as it was.
+    pub fn offer(&mut self, tag: Tag, offer: Offer) -> Result<Outcome, Refusal>
+        ensures ok { IfOk result (WritesOffer self.old self.new tag offer) }
+        ensures err { OnErr result (self.new ≡ self.old) }
+        ensures due { IsLeanDue self.old offer.moment result }
+    {
+        let (outcome, _) = self.take(tag, &offer)?;
+        Ok(outcome)
+    }
+
+    /// What `offer` does, with an offer that its caller keeps. It tells what was evicted too.
+    pub(crate) fn take(
+        &mut self,
+        tag: Tag,
+        offer: &Offer,
+    ) -> Result<(Outcome, Option<Key>), Refusal>
+        ensures ok { IfOk result (λ told. Adds self.old self.new (Offered told.0 tag offer.now told.1)) }
+        ensures err { OnErr result (self.new ≡ self.old) }
+        ensures due { IsLeanDue self.old offer.now.moment result }
+    {
+        ahead::load_data(&offer.body);
+        self.admit(offer.moment)?;
+        let (outcome, evicted) = entries::take(
+            &mut self.store,
+            offer,
+            self.next,
+            self.rules.capacity,
+        )?;
+        self.history = self.history.then(&Told::Offered {
+            tag,
+            offer,
+            outcome,
+            evicted: &evicted,
+        });
+        self.next += 1;
+        Ok((outcome, evicted))
+    }
+
+    /// Answers a question from what is kept, and moves the entry that answers to the front. The
+    /// history has one more event, which tells it. The refusals are those of `offer`.
+    pub fn ask(&mut self, tag: Tag, ask: &Ask) -> Result<Reply, Refusal>
+        ensures ok { IfOk result (WritesAsk self.old self.new tag ask.now) }
+        ensures err { OnErr result (self.new ≡ self.old) }
+        ensures due { IsLeanDue self.old ask.now.moment result }
+    {
+        let (reply, slot) = self.judge(ask)?;
+        let reply = reply.to_owned()?;
+        self.note_asked(tag, ask, slot);
+        Ok(reply)
+    }
+
+    /// The first half of `ask`, which takes no memory: the reply, as it is kept, and the slot of
+    /// the entry that gives it, to be handed to `note_asked`. It touches nothing. The refusals are
+    /// those of `offer`, without `Memory`.
+    pub fn judge(&self, ask: &Ask) -> Result<(ReplyRef<'_>, Option<Slot>), Refusal>
+        ensures reply { IfOk result (λ judged. reply_in judged.0 ≡ reply_to self.now.snapshot (past_of self.now) ask.now) }
+        ensures pick { IfOk result (λ judged. IsPick self.now ask.now judged.1) }
+        ensures due { IsLeanDue self.now ask.now.moment result }
+        ensures only { IfErr result IsOfMoments }
+    {
+        self.admit(ask.moment)?;
+        let hash = self.store.hash_of(&ask.name);
+        let (reply, answering) = judge::judge(&self.store, hash, ask, self.rules.stale);
+        Ok((reply, answer::slot_of(answering)))
+    }
+
+    /// The second half of `ask`, for an ask that `judge` answered just before, with the slot that
+    /// it told: it moves that entry to the front, and the history has one more event, which tells
+    /// the ask and its reply. It takes no memory and refuses nothing.
+    pub fn note_asked(&mut self, tag: Tag, ask: &Ask, slot: Option<Slot>)
+        requires open { IsLeanOpen self.old ask.now.moment }
+        requires pick { IsPick self.old ask.now slot }
+        ensures { WritesAsk self.old self.new tag ask.now (reply_to self.old.snapshot (past_of self.old) ask.now) }
+    {
+        let hash = self.store.hash_of(&ask.name);
+        answer::touch(&mut self.store, hash, ask, slot);
+        self.history = self.history.then(&Told::Asked { tag, ask });
+        self.next += 1;
+    }
+
+    /// Removes the dead keys, and answers how many there were. The history has one more event,
+    /// which lists them in the order of keys. The refusals are those of `offer`.
+    pub fn sweep(&mut self, tag: Tag, moment: u64) -> Result<usize, Refusal>
+        ensures ok { IfOk result (WritesSweep self.old self.new tag moment) }
+        ensures err { OnErr result (self.new ≡ self.old) }
+        ensures due { IsLeanDue self.old moment result }
+    {
+        Ok(self.clear(tag, moment)?.len())
+    }
+
+    /// What `sweep` does. It tells the keys that were removed.
+    pub(crate) fn clear(&mut self, tag: Tag, moment: u64) -> Result<Vec<Key>, Refusal>
+        ensures ok { IfOk result (λ gone. Adds self.old self.new (Swept tag moment gone.items)) }
+        ensures err { OnErr result (self.new ≡ self.old) }
+        ensures due { IsLeanDue self.old moment result }
+    {
+        self.admit(moment)?;
+        let gone = sweep::dead_keys(self.store.allocator(), &mut self.store, moment)?;
+        sweep::remove(&mut self.store, gone.as_slice());
+        self.history = self.history.then(&Told::Swept {
+            tag,
+            moment,
+            gone: gone.as_slice(),
+        });
+        self.next += 1;
+        Ok(gone)
+    }
+
+    /// Whether the part could take a call at this moment.
+    fn admit(&self, moment: u64) -> Result<(), Refusal>
+        ensures due { IsLeanDue self.now moment result }
+        ensures only { IfErr result IsOfMoments }
+    {
+        if self.next >= SPENT {
+            return Err(Refusal::HistoryFull);
+        }
+        if moment > LAST_MOMENT {
+            return Err(Refusal::MomentTooLarge);
+        }
+        Ok(())
+    }
+}
+
+/// It tells what is kept, and that is no history.
+impl Debug for LeanPart {
+    fn fmt<W: Write>(&self, f: &mut Formatter<W>) -> fmt::Result {
+        f.debug_struct("LeanPart")
+            .field("number", &self.number)
+            .field("rules", &self.rules)
+            .field("next", &self.next)
+            .field("store", &self.store)
+            .finish()
+    }
+}
