@@ -7,3 +7,8 @@ pub mod Records
 pub mod Classes
 pub mod Moments
 pub mod Unaliased
+pub mod Subsets
+pub mod SomeOffers
+pub mod Links
+pub mod Hosts
+pub mod Answering

@@ -1,5 +1,5 @@
 -- Where the aliases of an answer lead (RFC 2308 1).
-use Rattle.std.specs.Prelude.{ℕ, zero, suc, List, Bool, ◌&&◌, ◌||◌, ◌==◌, if◌then◌else◌, Option, Some, None, find, option_map}
+use Rattle.std.specs.Prelude.{ℕ, zero, suc, List, [], ◌∷◌, Bool, ◌&&◌, ◌||◌, ◌==◌, if◌then◌else◌, Option, Some, None, find, option_map}
 use Rattle.std.specs.Option.{option_map_or}
 use Rattle.rrc_name.specs.Wire.{same_name}
 use Rattle.rrc_wire.specs.declared.record.Rr.{Rr}
@@ -23,3 +23,14 @@ abbrev pub final_name : Message → Option (List ℕ)
 final_name message =
     let question = message.question in
     if question.qtype == 5 || question.qtype == 255 then Some question.name else end_of_chain 17 message.answer question.name
+
+-- the names of a chain of aliases that begins with a name: that one, and so many behind it at most
+unfoldable pub chain : ℕ → List Rr → List ℕ → List (List ℕ)
+chain zero answer name = name ∷ []
+chain (suc aliases) answer name = name ∷ option_map_or (chain aliases answer) (target_of answer name) []
+
+-- the names that an answer is about: the question's and at most so many aliases behind it, and none where aliases were asked for
+abbrev pub question_names : ℕ → Message → List (List ℕ)
+question_names aliases message =
+    let question = message.question in
+    if question.qtype == 5 || question.qtype == 255 then question.name ∷ [] else chain aliases message.answer question.name

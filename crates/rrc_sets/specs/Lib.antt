@@ -12,3 +12,7 @@ pub mod Message
 pub mod Gathering
 pub mod Same
 pub mod Trees
+pub mod Relevance
+pub mod Queries
+pub mod Relevant
+pub mod RelevantMessage

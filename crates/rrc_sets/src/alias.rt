@@ -1,7 +1,7 @@
 ghost use Rattle.std.specs.Prelude.{◌≡◌, IfOk, IfSome, option_map, find};
 ghost use Rattle.std.specs.Option.{option_copied};
 ghost use Rattle.rrc_name.specs.Wire.{same_name, IsWireForm};
-ghost use Rattle.rrc_sets.specs.Aliases.{is_of, target_of, end_of_chain, final_name};
+ghost use Rattle.rrc_sets.specs.Aliases.{is_of, target_of, end_of_chain, final_name, chain, question_names};
 
 use rrc_name::{Name, Octets, Shared};
 use rrc_wire::{Message, Rr};
@@ -93,4 +93,40 @@ pub(crate) fn final_name(alloc: Global, message: &Message) -> Result<Option<Name
         Some(end) => Ok(Some(name_of(alloc, end)?)),
         None => Ok(None),
     }
+}
+
+/// The names of a chain of aliases that begins with a name: that one, and so many behind it at most.
+fn chain(alloc: Global, answer: &[Rr], first: Name, aliases: u8) -> Result<Vec<Name>, AllocError>
+    ensures { IfOk result (λ names. names.items ≡ chain aliases answer.now first) }
+{
+    let mut names = Vec::new(alloc);
+    let mut name = first;
+    for _alias in 0..aliases {
+        let Some(target) = target_of(answer, name.as_slice()) else {
+            names.push(name)?;
+            return Ok(names);
+        };
+        let next = name_of(alloc, target)?;
+        names.push(name)?;
+        name = next;
+    }
+    names.push(name)?;
+    Ok(names)
+}
+
+/// The names that an answer is about: the question's and at most so many aliases behind it. Where the question is about aliases, or
+/// about every type, it is the question's name alone.
+pub(crate) fn question_names(
+    alloc: Global,
+    message: &Message,
+    aliases: u8,
+) -> Result<Vec<Name>, AllocError>
+    ensures { IfOk result (λ names. names.items ≡ question_names aliases message.now) }
+{
+    let question = &message.question;
+    let name = question.name.clone()?;
+    if question.qtype == CNAME || question.qtype == ANY {
+        return Ok(vec![in alloc; name]?);
+    }
+    chain(alloc, message.answer.as_slice(), name, aliases)
 }

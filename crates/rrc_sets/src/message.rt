@@ -3,8 +3,12 @@ ghost use Rattle.std.specs.List.{All};
 ghost use Rattle.rrc_wire.specs.Message.{FirstFault};
 ghost use Rattle.rrc_sets.specs.Kept.{IsOfRecords};
 ghost use Rattle.rrc_sets.specs.Message.{Brings};
+ghost use Rattle.rrc_sets.specs.RelevantMessage.{BringsRelevant, IsNoResponse, IsOfOtherQuery};
 
 use crate::limits::Limits;
+use crate::query::{Query, QueryFault};
+use crate::relevance::RelevanceLimits;
+use crate::relevant::relevant_offers;
 use crate::reply::offers;
 use rrc_history::Offer;
 use rrc_name::Name;
@@ -30,4 +34,24 @@ pub fn offers_in(
         Ok(offers) => Ok(offers),
         Err(_) => Err(WireFault::Memory),
     }
+}
+
+/// Reads a response (RFC 1035 section 4.1), and tells what of it is relevant to a query for a zone, at a moment in seconds, as
+/// `relevant_offers` does. The first fault of octets that are no message, why the message does not answer the query, or `Memory`.
+pub fn relevant_offers_in(
+    alloc: Global,
+    octets: &[u8],
+    query: &Query,
+    zone: &Name,
+    moment: u64,
+    limits: &Limits,
+    relevance: &RelevanceLimits,
+) -> Result<Vec<Offer>, QueryFault>
+    ensures ok { IfOk result (λ offers. BringsRelevant query.now limits.now relevance.now octets.now zone.now moment offers.items) }
+    ensures moments { IfOk result (λ offers. All (λ offer. offer.moment ≡ moment) offers.items) }
+    ensures kept { IfOk result (λ offers. All IsOfRecords offers.items) }
+    ensures err { IfErr result (λ fault. (fault ≡ QueryFault.Memory) ⊎ (IsNoResponse octets.now fault ⊎ IsOfOtherQuery query.now octets.now fault)) }
+{
+    let message = read_message(alloc, octets)?;
+    relevant_offers(alloc, &message, query, zone, moment, limits, relevance)
 }

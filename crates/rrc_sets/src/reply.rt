@@ -22,9 +22,9 @@ use std::alloc::{AllocError, Global};
 const QUERY: u8 = 0;
 
 /// The RCODEs of replies that answer.
-const NOERROR: u8 = 0;
+pub(crate) const NOERROR: u8 = 0;
 
-const NXDOMAIN: u8 = 3;
+pub(crate) const NXDOMAIN: u8 = 3;
 
 /// The offer of a set of the zone that has a life.
 fn set_offer(
@@ -57,7 +57,7 @@ fn set_offer(
 }
 
 /// Puts an offer, if there is one, behind the others.
-fn add(offers: &mut Vec<Offer>, offer: Option<Offer>) -> Result<(), AllocError>
+pub(crate) fn add(offers: &mut Vec<Offer>, offer: Option<Offer>) -> Result<(), AllocError>
     requires all { All IsOfRecords offers.old.items }
     requires one { IfSome offer IsOfRecords }
     ensures value { OnOk result (offers.new.items ≡ offers.old.items ++ option_to_list offer) }
@@ -81,7 +81,7 @@ fn records_of(section: Section, message: &Message) -> &[Rr]
 }
 
 /// Puts the offers of a section's sets behind the others.
-fn add_section(
+pub(crate) fn add_section(
     alloc: Global,
     offers: &mut Vec<Offer>,
     section: Section,
@@ -157,7 +157,7 @@ fn own_offers(
 }
 
 /// The offer of a reply that failed (RFC 8767 section 5).
-fn failure_offers(
+pub(crate) fn failure_offers(
     alloc: Global,
     message: &Message,
     moment: u64,
@@ -180,7 +180,7 @@ fn failure_offers(
 }
 
 /// Whether a message offers nothing to a zone.
-fn is_silent(message: &Message, zone: &Name) -> bool
+pub(crate) fn is_silent(message: &Message, zone: &Name) -> bool
     ensures { result ≡ is_silent message.now zone.now }
 {
     message.tc

@@ -33,11 +33,11 @@ const QUESTION: &str = "0161076578616d706c650000010001";
 
 const SOA: &str = "c00e0006000100000e100018c00ec00e0000000100000e100000025800093a800000012c";
 
-const SOA_DATA: &str =
+pub(crate) const SOA_DATA: &str =
     "076578616d706c6500076578616d706c65000000000100000e100000025800093a800000012c";
 
 /// The octets of a line's words.
-fn octets_of(alloc: Global, words: &str) -> Result<Vec<u8>, Fail> {
+pub(crate) fn octets_of(alloc: Global, words: &str) -> Result<Vec<u8>, Fail> {
     let mut text = String::new(alloc);
     for word in words.split(' ') {
         text.push_str(match word {
@@ -91,7 +91,7 @@ fn push_body(text: &mut String, body: &Body) -> Result<(), AllocError> {
 }
 
 /// Offers in words, all at one moment.
-fn shown(alloc: Global, offers: &[Offer], moment: u64) -> Result<String, Fail> {
+pub(crate) fn shown(alloc: Global, offers: &[Offer], moment: u64) -> Result<String, Fail> {
     let mut text = String::new(alloc);
     for offer in offers {
         if offer.moment != moment {
@@ -110,7 +110,7 @@ fn shown(alloc: Global, offers: &[Offer], moment: u64) -> Result<String, Fail> {
 }
 
 /// What a message offers for a zone at the moment 100, in words.
-fn offered(alloc: Global, octets: &[u8], zone: &str) -> Result<String, Fail> {
+pub(crate) fn offered(alloc: Global, octets: &[u8], zone: &str) -> Result<String, Fail> {
     let limits = Limits::new(604_800, 10_800, 30).ok_or("within the ranges")?;
     let zone = Name::from_text(alloc, zone)?;
     let message = read_message(alloc, octets)?;

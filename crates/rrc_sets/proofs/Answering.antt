@@ -1,0 +1,43 @@
+-- Why octets bring nothing that is relevant to a query.
+use Rattle.std.proofs.Common.{◌≡◌, ◌⊎◌, List, ℕ, Option, Some, None, Result, Ok, Err, inl, inr, refl, sym, ap, subst, ◌∙◌}
+use Rattle.std.specs.Prelude.{IfErr}
+use Rattle.std.specs.Option.{unwrap_or}
+use Rattle.rrc_wire.specs.declared.fault.WireFault.{WireFault}
+use Rattle.rrc_wire.specs.declared.fault.WireFault.TheVariants as wire
+use Rattle.rrc_wire.specs.declared.message.Message.{Message}
+use Rattle.rrc_wire.specs.Grammar.{MessageOf}
+use Rattle.rrc_wire.specs.Message.{FirstFault}
+use Rattle.rrc_sets.specs.declared.query.Query.{Query}
+use Rattle.rrc_sets.specs.declared.query.QueryFault.{QueryFault}
+use Rattle.rrc_sets.specs.declared.query.QueryFault.TheVariants.{Memory}
+use Rattle.rrc_sets.specs.Queries.{mismatch, of_wire}
+use Rattle.rrc_sets.specs.RelevantMessage.{IsNoResponse, IsOfOtherQuery}
+
+-- the first fault is told, and a want of memory as one
+pub unread : (query : Query) (octets : List ℕ) (first : WireFault) → (first ≡ wire.Memory) ⊎ FirstFault octets first
+    → (of_wire first ≡ Memory) ⊎ (IsNoResponse octets (of_wire first) ⊎ IsOfOtherQuery query octets (of_wire first))
+unread query octets first (inl memory) = inl (ap of_wire memory)
+unread query octets wire.Memory (inr is) = inl refl
+unread query octets wire.Short (inr is) = inr (inl (record { first = wire.Short; is_first = is; told = refl }))
+unread query octets wire.ReservedLabel (inr is) = inr (inl (record { first = wire.ReservedLabel; is_first = is; told = refl }))
+unread query octets wire.BadPointer (inr is) = inr (inl (record { first = wire.BadPointer; is_first = is; told = refl }))
+unread query octets wire.NameTooLong (inr is) = inr (inl (record { first = wire.NameTooLong; is_first = is; told = refl }))
+unread query octets wire.BadData (inr is) = inr (inl (record { first = wire.BadData; is_first = is; told = refl }))
+unread query octets wire.NotResponse (inr is) = inr (inl (record { first = wire.NotResponse; is_first = is; told = refl }))
+unread query octets wire.NotOneQuestion (inr is) = inr (inl (record { first = wire.NotOneQuestion; is_first = is; told = refl }))
+unread query octets wire.TooLong (inr is) = inr (inl (record { first = wire.TooLong; is_first = is; told = refl }))
+
+-- so is another query
+pub unmade : (query : Query) (octets : List ℕ) (message : Message) (fault : QueryFault) → MessageOf octets message
+    → fault ≡ unwrap_or (mismatch query message) Memory → (fault ≡ Memory) ⊎ (IsNoResponse octets fault ⊎ IsOfOtherQuery query octets fault)
+unmade query octets message fault begins is = by (mismatch query message) refl is
+  where
+    by : (other : Option QueryFault) → mismatch query message ≡ other → fault ≡ unwrap_or other Memory
+        → (fault ≡ Memory) ⊎ (IsNoResponse octets fault ⊎ IsOfOtherQuery query octets fault)
+    by None says told = inl told
+    by (Some why) says told = inr (inr (record { message = message; begins = begins; told = says ∙ ap Some (sym told) }))
+
+-- what follows from a fault follows from each that comes
+pub map_err : {A B : Type 0} (result : Result A B) (X Y : B → Type 0) → ((error : B) → X error → Y error) → IfErr result X → IfErr result Y
+map_err (Ok value) X Y step none = tt
+map_err (Err error) X Y step is = step error is

@@ -1,0 +1,62 @@
+-- What is relevant of a message is some of what it offers.
+use Rattle.std.proofs.Common.{◌≡◌, ℕ, List, [], ◌++◌, Bool, true, false, cond, refl, sym, subst, ◌∙◌, append_assoc}
+use Rattle.std.specs.Prelude.{filter, ◌||◌, ◌==◌, ◌&&◌}
+use Rattle.std.specs.Option.{option_to_list}
+use Rattle.rrc_history.specs.Fits.{OfferOf}
+use Rattle.rrc_wire.specs.declared.message.Message.{Message}
+use Rattle.rrc_sets.specs.declared.limits.Limits.{Limits}
+use Rattle.rrc_sets.specs.declared.relevance.RelevanceLimits.{RelevanceLimits}
+use Rattle.rrc_sets.specs.declared.rank.Section.TheVariants.{Answer, Authority, Additional}
+use Rattle.rrc_sets.specs.Uniques.{AreSomeOf}
+use Rattle.rrc_sets.specs.Aliases.{final_name, question_names}
+use Rattle.rrc_sets.specs.Denials.{negative_offer}
+use Rattle.rrc_sets.specs.Classes.{in_own_class}
+use Rattle.rrc_sets.specs.Offers.{section_offers, answer_offers, failure_offers, is_silent, offers_of}
+use Rattle.rrc_sets.specs.Relevant.{is_on_chain, is_of_final_zone, is_address_of, is_measured, same_type, hosts_named, relevant_answer, relevant_authority, relevant_additional, relevant_offers, relevant_of}
+use Rattle.rrc_sets.proofs.Subsets.{whole, of_filter, of_uniques, of_some, of_append}
+
+module _ (message : Message) (zone : List ℕ) (moment : ℕ) (limits : Limits) (relevance : RelevanceLimits) where
+  of_answer : AreSomeOf (relevant_answer message zone moment limits relevance) (section_offers Answer message zone moment limits)
+  unfolding relevant_answer
+  of_answer = of_filter _ (section_offers Answer message zone moment limits)
+
+  of_authority : AreSomeOf (relevant_authority message zone moment limits relevance) (section_offers Authority message zone moment limits)
+  unfolding relevant_authority
+  of_authority =
+      let offers = section_offers Authority message zone moment limits in
+      let own : List OfferOf = filter (λ offer. is_of_final_zone (final_name message) offer && is_measured relevance offer) offers in
+      of_some (relevant_authority message zone moment limits relevance) own offers (of_uniques same_type own) (of_filter _ offers)
+
+  of_additional : (naming : List OfferOf) → AreSomeOf (relevant_additional naming message zone moment limits relevance) (section_offers Additional message zone moment limits)
+  unfolding relevant_additional
+  of_additional naming = of_filter _ (section_offers Additional message zone moment limits)
+
+  of_answering : AreSomeOf (relevant_offers message zone moment limits relevance) (answer_offers message zone moment limits)
+  unfolding relevant_offers answer_offers
+  of_answering =
+      let first = relevant_answer message zone moment limits relevance in
+      let second = relevant_authority message zone moment limits relevance in
+      let third = relevant_additional (first ++ second) message zone moment limits relevance in
+      let answer = section_offers Answer message zone moment limits in
+      let authority = section_offers Authority message zone moment limits in
+      let additional = section_offers Additional message zone moment limits in
+      let denial = option_to_list (negative_offer message zone moment limits) in
+      subst (λ offers. AreSomeOf offers (answer ++ (authority ++ (additional ++ denial)))) (sym (append_assoc first second (third ++ denial)))
+      (of_append first answer (second ++ (third ++ denial)) (authority ++ (additional ++ denial)) of_answer
+      (of_append second authority (third ++ denial) (additional ++ denial) of_authority
+      (of_append third additional denial denial (of_additional (first ++ second)) (whole denial))))
+
+chosen : (test : Bool) (first second all others : List OfferOf) → AreSomeOf first all → AreSomeOf second others → AreSomeOf (cond test first second) (cond test all others)
+chosen true first second all others are rest = are
+chosen false first second all others are rest = rest
+
+-- what is relevant of a message is some of its offers, in their order
+pub of_message : (message : Message) (zone : List ℕ) (moment : ℕ) (limits : Limits) (relevance : RelevanceLimits)
+    → AreSomeOf (relevant_of message zone moment limits relevance) (offers_of message zone moment limits)
+unfolding relevant_of offers_of
+of_message message zone moment limits relevance =
+    let own = in_own_class message in let failure = failure_offers message moment limits in
+    let relevant = relevant_offers own zone moment limits relevance in let all = answer_offers own zone moment limits in
+    let answers = message.rcode == 0 || message.rcode == 3 in
+    chosen (is_silent message zone) [] (cond answers relevant failure) [] (cond answers all failure) refl
+    (chosen answers relevant failure all failure (of_answering own zone moment limits relevance) (whole failure))

@@ -1,0 +1,28 @@
+use Rattle.std.proofs.Common.{◌≡◌, ◌++◌, ℕ, List, Bool, Option, rules, refl, sym, ap, subst, ◌∙◌}
+use Rattle.std.specs.Prelude.{filter, ◌&&◌, IfOk}
+use Rattle.std.specs.List.{All}
+use Rattle.std.proofs.lemmas.Fn.{filter_same}
+use Rattle.rrc_history.specs.Fits.{OfferOf}
+use Rattle.rrc_sets.specs.declared.rank.Section.TheVariants.{Authority}
+use Rattle.rrc_sets.specs.Uniques.{uniques}
+use Rattle.rrc_sets.specs.Kept.{IsOfRecords}
+use Rattle.rrc_sets.specs.Offers.{section_offers}
+use Rattle.rrc_sets.specs.Relevant.{is_of_final_zone, is_measured, same_type, relevant_authority}
+use Rattle.rrc_sets.proofs.Subsets.{All-filter_same, All-uniques_same}
+use Rattle.rrc_sets.proofs.relevant.relevant_authority.Goals as goal
+
+pub returns-clause-value : goal.returns-clause-value
+unfolding relevant_authority
+returns-clause-value c =
+    let passes : Option (List ℕ) → OfferOf → Bool = λ final offer. is_of_final_zone final offer && is_measured c.args.relevance.now offer in
+    let offers = section_offers Authority c.args.message.now c.args.zone.now c.args.moment c.args.limits.now in
+    c.in_ok-firsts.ensures
+    ∙ ap (uniques same_type) (filter_same _ (passes c.in_ok-name.name) _ (λ offer b f' k. search rules) _ _ c.retain.ensures.filtered
+    ∙ (ap (filter (passes c.in_ok-name.name)) c.in_ok-offers.ensures.value
+    ∙ ap (λ final. filter (passes final) offers) c.in_ok-name.ensures))
+
+pub returns-clause-kept : goal.returns-clause-kept
+returns-clause-kept c =
+    let passes : OfferOf → Bool = λ offer. is_of_final_zone c.in_ok-name.name offer && is_measured c.args.relevance.now offer in
+    All-uniques_same IsOfRecords same_type _ _ c.in_ok-firsts.ensures
+    (All-filter_same IsOfRecords passes _ _ (filter_same _ passes _ (λ offer b f' k. search rules) _ _ c.retain.ensures.filtered) c.in_ok-offers.ensures.kept)

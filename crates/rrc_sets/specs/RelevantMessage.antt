@@ -1,0 +1,33 @@
+-- What of octets is relevant to a query that are to be a message.
+use Rattle.std.specs.Prelude.{◌≡◌, ℕ, List, Some, None}
+use Rattle.rrc_wire.specs.declared.fault.WireFault.{WireFault}
+use Rattle.rrc_wire.specs.declared.message.Message.{Message}
+use Rattle.rrc_wire.specs.Grammar.{MessageOf}
+use Rattle.rrc_wire.specs.Message.{FirstFault}
+use Rattle.rrc_history.specs.Fits.{OfferOf}
+use Rattle.rrc_sets.specs.declared.limits.Limits.{Limits}
+use Rattle.rrc_sets.specs.declared.relevance.RelevanceLimits.{RelevanceLimits}
+use Rattle.rrc_sets.specs.declared.query.Query.{Query}
+use Rattle.rrc_sets.specs.declared.query.QueryFault.{QueryFault}
+use Rattle.rrc_sets.specs.declared.query.QueryFault.TheVariants.{NoResponse}
+use Rattle.rrc_sets.specs.Queries.{mismatch}
+use Rattle.rrc_sets.specs.Relevant.{relevant_of}
+
+-- octets begin with a message (RFC 1035 4.1) that answers a query, and this of what it offers is relevant
+pub record BringsRelevant (query : Query) (limits : Limits) (relevance : RelevanceLimits) (octets zone : List ℕ) (moment : ℕ) (offers : List OfferOf) : Type 0 where
+  pub message : Message
+  pub begins : MessageOf octets message
+  pub response : mismatch query message ≡ None
+  pub offered : offers ≡ relevant_of message zone moment limits relevance
+
+-- octets are no response, and this is their first fault
+pub record IsNoResponse (octets : List ℕ) (fault : QueryFault) : Type 0 where
+  pub first : WireFault
+  pub is_first : FirstFault octets first
+  pub told : fault ≡ NoResponse first
+
+-- octets begin with a message that does not answer a query, and this is why
+pub record IsOfOtherQuery (query : Query) (octets : List ℕ) (fault : QueryFault) : Type 0 where
+  pub message : Message
+  pub begins : MessageOf octets message
+  pub told : mismatch query message ≡ Some fault

@@ -1,0 +1,27 @@
+ghost use Rattle.std.specs.Prelude.{◌≡◌};
+
+/// How much of a response is relevant at most. They bound the time that it takes to tell, which is in proportion to the octets of the
+/// message times the aliases and hosts, and what one message leaves in a cache: a relevant RRset has no more than `octets`.
+#[derive(Clone, Copy, Debug, PartialEq, Eq, Hash)]
+pub struct RelevanceLimits {
+    /// The most aliases behind the question's name (RFC 1034 section 3.6.2): 0 to 255, by default 11.
+    pub aliases: u8,
+    /// The most hosts, named by NS, MX and SRV records, whose addresses are relevant: 0 to 255, by default 20.
+    pub hosts: u8,
+    /// The most octets of the rdata of an RRset, all together: by default 16,384.
+    pub octets: u32,
+}
+
+impl Default for RelevanceLimits {
+    ghost use Rattle.rrc_sets.specs.Relevance.{AreDefault};
+
+    ghost is_default = { AreDefault };
+
+    fn default() -> RelevanceLimits {
+        RelevanceLimits {
+            aliases: 11,
+            hosts: 20,
+            octets: 16_384,
+        }
+    }
+}

@@ -1,0 +1,316 @@
+ghost use Rattle.std.specs.Prelude.{◌≡◌, IfOk, IfErr, OnOk, None};
+ghost use Rattle.std.specs.Option.{unwrap_or};
+ghost use Rattle.std.specs.List.{All, list_any};
+ghost use Rattle.rrc_sets.specs.Uniques.{uniques, AreSomeOf};
+ghost use Rattle.rrc_sets.specs.Gathering.{with_value};
+ghost use Rattle.rrc_sets.specs.Classes.{in_own_class};
+ghost use Rattle.rrc_sets.specs.Kept.{IsOfRecords};
+ghost use Rattle.rrc_sets.specs.Offers.{section_offers, offers_of};
+ghost use Rattle.rrc_sets.specs.Queries.{mismatch};
+ghost use Rattle.rrc_sets.specs.Relevant.{is_owned_by, is_above, is_asked_for, is_on_chain, has_below, is_of_final_zone, same_type, is_address_of, relevant_answer, relevant_authority, relevant_additional, relevant_offers, relevant_of};
+
+use crate::alias::{final_name, question_names, same};
+use crate::class::{has_one_class, in_own_class};
+use crate::denial::negative_offer;
+use crate::host::{NS, hosts_named};
+use crate::limits::Limits;
+use crate::measure::{A, AAAA, is_measured, is_set_of};
+use crate::query::{Query, QueryFault, mismatch};
+use crate::rank::Section;
+use crate::relevance::RelevanceLimits;
+use crate::reply::{NOERROR, NXDOMAIN, add, add_section, failure_offers, is_silent};
+use rrc_history::Offer;
+use rrc_name::{Name, Octets};
+use rrc_wire::Message;
+use std::alloc::{AllocError, Global};
+
+const CNAME: u16 = 5;
+
+const SOA: u16 = 6;
+
+const DNAME: u16 = 39;
+
+const DS: u16 = 43;
+
+/// The type of questions about every type.
+const ANY: u16 = 255;
+
+/// Whether the owner of an offer is one of these names.
+fn is_owned_by(names: &[Name], offer: &Offer) -> bool
+    ensures { result ≡ is_owned_by names.now offer.now }
+{
+    names.iter().any(|name| name.same(&offer.key.name))
+}
+
+/// Whether the owner of an offer is above one of these names.
+fn is_above(names: &[Name], offer: &Offer) -> bool
+    ensures { result ≡ is_above names.now offer.now }
+{
+    names.iter().any(|name| name.is_at_or_below(&offer.key.name) && !name.same(&offer.key.name))
+}
+
+/// Whether an offer is of a type that a question asks for (RFC 1035 section 3.2.3).
+fn is_asked_for(qtype: u16, offer: &Offer) -> bool
+    ensures { result ≡ is_asked_for qtype offer.now }
+{
+    qtype == ANY || is_set_of(qtype, offer)
+}
+
+/// Whether an RRset is of a name of the chain, and of the type that was asked for or an alias, or is a DNAME record above such a name
+/// (RFC 6672 section 2.3).
+#[tactic(auto, unfolding(crate::specs::Relevant::is_on_chain))]
+fn is_on_chain(qtype: u16, names: &[Name], offer: &Offer) -> bool
+    ensures { result ≡ is_on_chain qtype names.now offer.now }
+{
+    if is_set_of(DNAME, offer) && is_above(names, offer) {
+        return true;
+    }
+    is_owned_by(names, offer) && (is_asked_for(qtype, offer) || is_set_of(CNAME, offer))
+}
+
+/// Whether the owner of an offer is at or above the name, if there is one.
+fn has_below(name: &Option<Name>, offer: &Offer) -> bool
+    ensures { result ≡ has_below name.now offer.now }
+{
+    match name {
+        Some(name) => name.is_at_or_below(&offer.key.name),
+        None => false,
+    }
+}
+
+/// Whether an RRset is an SOA record, the name servers of a zone or their DS record (RFC 4035 section 3.1.4), where the final name is in
+/// that zone.
+#[tactic(auto, unfolding(crate::specs::Relevant::is_of_final_zone))]
+fn is_of_final_zone(name: &Option<Name>, offer: &Offer) -> bool
+    ensures { result ≡ is_of_final_zone name.now offer.now }
+{
+    (is_set_of(SOA, offer) || is_set_of(NS, offer) || is_set_of(DS, offer))
+        && has_below(name, offer)
+}
+
+/// Whether the owner of an offer is one of these hosts.
+fn is_host(hosts: &[Octets], offer: &Offer) -> bool
+    ensures { result ≡ is_owned_by hosts.now offer.now }
+{
+    hosts
+        .iter()
+        .any(|host| same(host.as_slice(), offer.key.name.as_slice()))
+}
+
+/// Whether an RRset is the addresses of one of these hosts.
+#[tactic(auto, unfolding(crate::specs::Relevant::is_address_of))]
+fn is_address_of(hosts: &[Octets], offer: &Offer) -> bool
+    ensures { result ≡ is_address_of hosts.now offer.now }
+{
+    (is_set_of(A, offer) || is_set_of(AAAA, offer)) && is_host(hosts, offer)
+}
+
+/// Whether one of some offers is of the type of another one.
+fn has_type_of(offers: &[Offer], other: &Offer) -> bool
+    ensures { result ≡ list_any (λ offer. same_type offer other.now) offers.now }
+{
+    offers.iter().any(|offer| offer.key.slot == other.key.slot)
+}
+
+/// Puts an offer behind the others, where none of these is of its type.
+fn add_first(offers: &mut Vec<Offer>, offer: Offer) -> Result<(), AllocError>
+    ensures { OnOk result (offers.new.items ≡ with_value same_type offers.old.items offer) }
+{
+    if has_type_of(offers.as_slice(), &offer) {
+        return Ok(());
+    }
+    Ok(offers.push(offer)?)
+}
+
+/// The first offer of each type.
+fn first_of_each_type(alloc: Global, offers: Vec<Offer>) -> Result<Vec<Offer>, AllocError>
+    ensures { IfOk result (λ firsts. firsts.items ≡ uniques same_type offers.items) }
+{
+    let mut firsts = Vec::new(alloc);
+    for offer in offers {
+        add_first(&mut firsts, offer)?;
+    }
+    Ok(firsts)
+}
+
+/// The offers of a section's RRsets.
+fn section_offers(
+    alloc: Global,
+    section: Section,
+    message: &Message,
+    zone: &Name,
+    moment: u64,
+    limits: &Limits,
+) -> Result<Vec<Offer>, AllocError>
+    ensures value { IfOk result (λ offers. offers.items ≡ section_offers section message.now zone.now moment limits.now) }
+    ensures kept { IfOk result (λ offers. All IsOfRecords offers.items) }
+{
+    let mut offers = Vec::new(alloc);
+    add_section(alloc, &mut offers, section, message, zone, moment, limits)?;
+    Ok(offers)
+}
+
+/// The relevant offers of the answer section.
+#[tactic(auto, unfolding(crate::specs::Relevant::relevant_answer))]
+fn relevant_answer(
+    alloc: Global,
+    message: &Message,
+    zone: &Name,
+    moment: u64,
+    limits: &Limits,
+    relevance: &RelevanceLimits,
+) -> Result<Vec<Offer>, AllocError>
+    ensures value { IfOk result (λ offers. offers.items ≡ relevant_answer message.now zone.now moment limits.now relevance.now) }
+    ensures kept { IfOk result (λ offers. All IsOfRecords offers.items) }
+{
+    let qtype = message.question.qtype;
+    let names = question_names(alloc, message, relevance.aliases)?;
+    let mut offers = section_offers(alloc, Section::Answer, message, zone, moment, limits)?;
+    offers.retain(|offer| {
+        is_on_chain(qtype, names.as_slice(), offer) && is_measured(relevance, offer)
+    });
+    Ok(offers)
+}
+
+/// The relevant offers of the authority section.
+#[tactic(auto, unfolding(crate::specs::Relevant::relevant_authority))]
+fn relevant_authority(
+    alloc: Global,
+    message: &Message,
+    zone: &Name,
+    moment: u64,
+    limits: &Limits,
+    relevance: &RelevanceLimits,
+) -> Result<Vec<Offer>, AllocError>
+    ensures value { IfOk result (λ offers. offers.items ≡ relevant_authority message.now zone.now moment limits.now relevance.now) }
+    ensures kept { IfOk result (λ offers. All IsOfRecords offers.items) }
+{
+    let name = final_name(alloc, message)?;
+    let mut offers = section_offers(alloc, Section::Authority, message, zone, moment, limits)?;
+    offers.retain(|offer| is_of_final_zone(&name, offer) && is_measured(relevance, offer));
+    let firsts = first_of_each_type(alloc, offers)?;
+    Ok(firsts)
+}
+
+/// The relevant offers of the additional section: addresses of the hosts that other offers name.
+#[tactic(auto, unfolding(crate::specs::Relevant::relevant_additional))]
+fn relevant_additional(
+    alloc: Global,
+    naming: &[Offer],
+    message: &Message,
+    zone: &Name,
+    moment: u64,
+    limits: &Limits,
+    relevance: &RelevanceLimits,
+) -> Result<Vec<Offer>, AllocError>
+    ensures value { IfOk result (λ offers. offers.items ≡ relevant_additional naming.now message.now zone.now moment limits.now relevance.now) }
+    ensures kept { IfOk result (λ offers. All IsOfRecords offers.items) }
+{
+    let hosts = hosts_named(alloc, naming, relevance.hosts)?;
+    let mut offers = section_offers(alloc, Section::Additional, message, zone, moment, limits)?;
+    offers.retain(|offer| is_address_of(hosts.as_slice(), offer) && is_measured(relevance, offer));
+    Ok(offers)
+}
+
+/// The relevant offers of a reply that answers.
+#[tactic(auto, unfolding(crate::specs::Relevant::relevant_offers))]
+fn answer_offers(
+    alloc: Global,
+    message: &Message,
+    zone: &Name,
+    moment: u64,
+    limits: &Limits,
+    relevance: &RelevanceLimits,
+) -> Result<Vec<Offer>, AllocError>
+    ensures value { IfOk result (λ offers. offers.items ≡ relevant_offers message.now zone.now moment limits.now relevance.now) }
+    ensures kept { IfOk result (λ offers. All IsOfRecords offers.items) }
+{
+    let mut offers = relevant_answer(alloc, message, zone, moment, limits, relevance)?;
+    let mut authority = relevant_authority(alloc, message, zone, moment, limits, relevance)?;
+    offers.append(&mut authority)?;
+    let naming = offers.as_slice();
+    let mut additional = relevant_additional(
+        alloc, naming, message, zone, moment, limits, relevance,
+    )?;
+    offers.append(&mut additional)?;
+    add(
+        &mut offers,
+        negative_offer(alloc, message, zone, moment, limits)?,
+    )?;
+    Ok(offers)
+}
+
+/// The relevant offers of a reply that answers, by its records of its question's class.
+fn own_offers(
+    alloc: Global,
+    message: &Message,
+    zone: &Name,
+    moment: u64,
+    limits: &Limits,
+    relevance: &RelevanceLimits,
+) -> Result<Vec<Offer>, AllocError>
+    ensures value { IfOk result (λ offers. offers.items ≡ relevant_offers (in_own_class message.now) zone.now moment limits.now relevance.now) }
+    ensures kept { IfOk result (λ offers. All IsOfRecords offers.items) }
+{
+    if has_one_class(message) {
+        return answer_offers(alloc, message, zone, moment, limits, relevance);
+    }
+    let own = in_own_class(alloc, message)?;
+    answer_offers(alloc, &own, zone, moment, limits, relevance)
+}
+
+/// The relevant offers of a message, whatever was asked.
+#[tactic(auto, unfolding(crate::specs::Relevant::relevant_of))]
+fn relevant_of(
+    alloc: Global,
+    message: &Message,
+    zone: &Name,
+    moment: u64,
+    limits: &Limits,
+    relevance: &RelevanceLimits,
+) -> Result<Vec<Offer>, AllocError>
+    ensures value { IfOk result (λ offers. offers.items ≡ relevant_of message.now zone.now moment limits.now relevance.now) }
+    ensures kept { IfOk result (λ offers. All IsOfRecords offers.items) }
+{
+    if is_silent(message, zone) {
+        return Ok(Vec::new(alloc));
+    }
+    if message.rcode == NOERROR || message.rcode == NXDOMAIN {
+        own_offers(alloc, message, zone, moment, limits, relevance)
+    } else {
+        failure_offers(alloc, message, moment, limits)
+    }
+}
+
+/// Those of the offers of a response, as `offers` makes them and in their order, that are relevant to a query:
+///
+/// - of the answer section the RRsets of the question's name, and of the aliases behind it, that have the type that was asked for or are
+///   CNAME records, and the DNAME records above such a name;
+/// - of the authority section the first SOA record, the first NS and the first DS RRset of a zone that the final name is in;
+/// - of the additional section the addresses of hosts that NS, MX and SRV records among these name;
+/// - the negative answer, and the failure.
+///
+/// No RRset has more octets than the limit, and the addresses of class IN have 4 or 16 octets (RFC 1035 section 3.4.1, RFC 3596 section
+/// 2.2). A response with another identifier or to another question offers nothing: why is answered (RFC 5452 section 9.1), and only
+/// then can memory be refused. The time is in proportion to the octets of the message times the limits of aliases and hosts.
+pub fn relevant_offers(
+    alloc: Global,
+    message: &Message,
+    query: &Query,
+    zone: &Name,
+    moment: u64,
+    limits: &Limits,
+    relevance: &RelevanceLimits,
+) -> Result<Vec<Offer>, QueryFault>
+    ensures ok { IfOk result (λ offers. offers.items ≡ relevant_of message.now zone.now moment limits.now relevance.now) }
+    ensures response { OnOk result (mismatch query.now message.now ≡ None) }
+    ensures some { IfOk result (λ offers. AreSomeOf offers.items (offers_of message.now zone.now moment limits.now)) }
+    ensures moments { IfOk result (λ offers. All (λ offer. offer.moment ≡ moment) offers.items) }
+    ensures kept { IfOk result (λ offers. All IsOfRecords offers.items) }
+    ensures err { IfErr result (λ fault. fault ≡ unwrap_or (mismatch query.now message.now) QueryFault.Memory) }
+{
+    if let Some(fault) = mismatch(query, message) {
+        return Err(fault);
+    }
+    Ok(relevant_of(alloc, message, zone, moment, limits, relevance)?)
+}
