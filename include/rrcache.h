@@ -12,13 +12,17 @@
      to it leaves the library.
    - A handle begins as zeros, `struct rrcache_shelf shelf = {0};`, which holds no shelf. Nothing
      but the library writes into it after that. It may be moved in memory while no call runs; there
-     must be no copy of it that is used as well.
+     must be no copy of it that is used as well. All this is so of `struct rrcache_offers` too,
+     which holds the offers of a message and is freed by `rrcache_free_offers`.
 
    Which lock to hold
    - That of the shelf, for the whole of every call that takes a handle, `rrcache_peek` and
      `rrcache_sizes` too, which also write into the handle for a while. Two threads in one handle
      are a fault of the caller that nothing tests. A call takes one shelf, so no second lock is ever
      needed beside it.
+   - `rrcache_read_message` and `rrcache_free_offers` take no shelf, and so need no lock of one. Of
+     a handle of offers the same is true as of a shelf's: one call at a time, and
+     `rrcache_offer_read` writes into both of its handles for a while.
    - `rrcache_fault` and `rrcache_part_of` take no handle and need no lock.
    - No call waits, sleeps, takes a lock or calls back. None may be made in a signal handler, nor in
      the child of a process with threads that forked.
@@ -32,21 +36,24 @@
    - Every call answers a status. RRCACHE_DONE is 0; each other one is a refusal, and nothing ends
      the process.
    - A refusal leaves the shelf's history and its replies as they were; a chapter that was full may
-     have been closed. `rrcache_offer_message` and `rrcache_offer_part` alone may leave a part of
-     their work: the offers of one message are made one after another, and where one is refused,
-     those before it stay. `counts` tells how many they are. RRCACHE_NULL and RRCACHE_NO_SHELF alone
-     leave `counts` as it was.
+     have been closed. `rrcache_offer_message`, `rrcache_offer_part` and `rrcache_offer_read` alone
+     may leave a part of their work: the offers of one message are made one after another, and where
+     one is refused, those before it stay. `counts` tells how many they are. RRCACHE_NULL,
+     RRCACHE_NO_SHELF and RRCACHE_NO_OFFERS alone leave `counts` as it was.
    - What a call was to write for the caller is as it was after a refusal, but for `counts`, and for
      `told` after RRCACHE_SMALL.
 
    A message that has more than one name
    - A response may tell of names that lie in other shelves than the one that was asked for: the
      target of an alias, a zone's SOA record, the addresses of name servers. A resolver with so many
-     shelves calls `rrcache_offer_part` once for each shelf that is to have its share, with the
-     number of shelves and that shelf's own, counted from 0, under that shelf's lock. Each call
-     keeps what the message says of names in that shelf and nothing else, so that all calls together
-     keep all that it says, and each name's data lie where `rrcache_part_of` leads. A shelf of whose
-     names the message tells nothing gets no event.
+     shelves reads the message once, by `rrcache_read_message` and under no lock, which tells the
+     shelves that it concerns. For each of these it calls `rrcache_offer_read` with that shelf's
+     number, counted from 0, under that shelf's lock. Each call keeps what the message says of names
+     in that shelf and nothing else, so that all calls together keep all that it says, and each
+     name's data lie where `rrcache_part_of` leads. A shelf of whose names the message tells nothing
+     gets no event.
+   - `rrcache_offer_part` does the same in one call for each shelf, and reads the whole message
+     anew, under that shelf's lock. That will do for one shelf's share alone.
    - An alias is then followed from shelf to shelf: one `rrcache_ask` for each name, under the lock
      of that name's shelf.
    - `rrcache_offer_message` keeps all in the one shelf that it is given. That will do where there
@@ -106,10 +113,10 @@
 
    Which refusal is told
    - Where more than one is due, the first of these, of which each call has some: RRCACHE_NULL;
-     RRCACHE_NO_SHELF or RRCACHE_HAS_SHELF; RRCACHE_BAD_RULES; RRCACHE_BAD_SEED; RRCACHE_BAD_LIMITS;
-     RRCACHE_BAD_CHOICE; RRCACHE_BAD_TYPE; RRCACHE_BAD_NAME; RRCACHE_BAD_MESSAGE or
-     RRCACHE_BAD_DATA; RRCACHE_WRONG_BODY; RRCACHE_WIDE; RRCACHE_SMALL; RRCACHE_HISTORY_FULL;
-     RRCACHE_MOMENT_TOO_LARGE.
+     RRCACHE_NO_SHELF or RRCACHE_HAS_SHELF; RRCACHE_NO_OFFERS or RRCACHE_HAS_OFFERS;
+     RRCACHE_BAD_RULES; RRCACHE_BAD_SEED; RRCACHE_BAD_LIMITS; RRCACHE_BAD_CHOICE; RRCACHE_BAD_TYPE;
+     RRCACHE_BAD_NAME; RRCACHE_BAD_MESSAGE or RRCACHE_BAD_DATA; RRCACHE_WRONG_BODY; RRCACHE_WIDE;
+     RRCACHE_SMALL; RRCACHE_HISTORY_FULL; RRCACHE_MOMENT_TOO_LARGE.
    - RRCACHE_MEMORY is told where malloc refuses on this way: behind what was found before, and in
      place of what would have been found later.
    - A message meets the last two with its first offer. One that offers nothing is RRCACHE_DONE,
@@ -169,8 +176,10 @@ enum rrcache_status {
                                      response brings, or all have 2^64 */
     RRCACHE_SMALL = 16,           /* the buffer is too small: `told` says what it needs, and no
                                      event was written */
-    RRCACHE_NULL = 17             /* a pointer is null, or what is written overlaps (told by the
+    RRCACHE_NULL = 17,            /* a pointer is null, or what is written overlaps (told by the
                                      inline functions alone) */
+    RRCACHE_NO_OFFERS = 18,       /* the handle holds no offers */
+    RRCACHE_HAS_OFFERS = 19       /* the handle holds offers already */
 };
 
 /* What a reply is. */
@@ -217,6 +226,12 @@ enum rrcache_outcome { RRCACHE_KEPT = 1, RRCACHE_CLEARED = 2, RRCACHE_LESS_TRUST
 
 /* A handle: zeros, or what `rrcache_make` made of it. */
 struct rrcache_shelf {
+    void *at;
+    bool is_live;
+};
+
+/* A handle of the offers of a message: zeros, or what `rrcache_read_message` made of it. */
+struct rrcache_offers {
     void *at;
     bool is_live;
 };
@@ -344,6 +359,12 @@ uint32_t rrc_offer_part(struct rrcache_shelf *shelf, const uint8_t *octets, size
                         const uint8_t *zone, size_t zone_size, uint64_t parts, uint64_t part,
                         uint64_t moment, const struct rrcache_limits *limits, uint64_t line,
                         struct rrcache_counts *counts);
+uint32_t rrc_read_message(struct rrcache_offers *offers, const uint8_t *octets, size_t size,
+                          const uint8_t *zone, size_t zone_size, uint64_t parts, uint64_t moment,
+                          const struct rrcache_limits *limits, uint64_t *concerned);
+uint32_t rrc_offer_read(struct rrcache_shelf *shelf, struct rrcache_offers *offers, uint64_t part,
+                        uint64_t line, struct rrcache_counts *counts);
+uint32_t rrc_free_offers(struct rrcache_offers *offers);
 uint32_t rrc_offer_set(struct rrcache_shelf *shelf, const uint8_t *owner, size_t owner_size,
                        uint16_t rtype, uint16_t rclass, uint32_t trust, uint32_t ttl,
                        const uint8_t *data, size_t data_size, uint64_t moment, uint64_t line,
@@ -494,6 +515,56 @@ static inline enum rrcache_status rrcache_offer_part(struct rrcache_shelf *shelf
         shelf, rrcache_octets(response->octets, response->size), response->size,
         rrcache_octets(response->zone, response->zone_size), response->zone_size, parts, part,
         response->moment, &limits, line, counts);
+}
+
+/* Reads a response from a server of this zone into the offers that `rrcache_offer_message` would
+   make of it, for a handle that holds none, and tells which of 1 to 64 parts they concern: bit 0 of
+   `concerned` is set where one lies in part 0, bit 1 for part 1, and so on. It takes no shelf and
+   writes no event. A handle that holds offers keeps them, and RRCACHE_HAS_OFFERS is answered,
+   whatever else would be refused. Where a response offers nothing, as one with TC set, `concerned`
+   is 0, and the handle is to be freed like any other. */
+static inline enum rrcache_status rrcache_read_message(struct rrcache_offers *offers,
+                                                       const struct rrcache_response *response,
+                                                       uint64_t parts, uint64_t *concerned)
+{
+    if (offers == NULL || response == NULL || concerned == NULL
+        || !rrcache_is_there(response->octets, response->size)
+        || !rrcache_is_there(response->zone, response->zone_size)
+        || rrcache_overlap(offers, sizeof *offers, concerned, sizeof *concerned)
+        || rrcache_touch(offers, sizeof *offers, concerned, sizeof *concerned, response->octets,
+                         response->size)
+        || rrcache_touch(offers, sizeof *offers, concerned, sizeof *concerned, response->zone,
+                         response->zone_size))
+        return RRCACHE_NULL;
+    struct rrcache_limits limits = response->limits;
+    return (enum rrcache_status)rrc_read_message(
+        offers, rrcache_octets(response->octets, response->size), response->size,
+        rrcache_octets(response->zone, response->zone_size), response->zone_size, parts,
+        response->moment, &limits, concerned);
+}
+
+/* Offers a shelf what was read of the names that lie in a part, counted from 0 and below the number
+   of parts that the message was read for: that of `rrcache_offer_part`, and nothing is read. The
+   offers stay in their handle, so that a part may be offered again, and what the shelf keeps of
+   them outlives the handle. No name and no data are copied. */
+static inline enum rrcache_status rrcache_offer_read(struct rrcache_shelf *shelf,
+                                                     struct rrcache_offers *offers, uint64_t part,
+                                                     uint64_t line, struct rrcache_counts *counts)
+{
+    if (shelf == NULL || offers == NULL || counts == NULL
+        || rrcache_holds(shelf, offers, sizeof *offers)
+        || rrcache_touch(shelf, sizeof *shelf, offers, sizeof *offers, counts, sizeof *counts))
+        return RRCACHE_NULL;
+    return (enum rrcache_status)rrc_offer_read(shelf, offers, part, line, counts);
+}
+
+/* Frees the offers of a handle, which then holds none; what shelves kept of them stays. Where it
+   held none RRCACHE_NO_OFFERS is answered and nothing done. */
+static inline enum rrcache_status rrcache_free_offers(struct rrcache_offers *offers)
+{
+    if (offers == NULL)
+        return RRCACHE_NULL;
+    return (enum rrcache_status)rrc_free_offers(offers);
 }
 
 /* Offers one set under its owner. */

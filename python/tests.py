@@ -133,7 +133,7 @@ def test_docstrings_of_python():
     # doctest reads standard output, which other tests write to.
     told = subprocess.run([sys.executable, "-c", DOCSTRINGS], cwd=TOP / "python",
                           capture_output=True, text=True)
-    same(told.stdout, "0 of 7\n", told.stderr or "examples that are wrong")
+    same(told.stdout, "0 of 10\n", told.stderr or "examples that are wrong")
 
 
 def test_names_by_python():
@@ -292,3 +292,26 @@ def test_parts_by_python():
             same(shelf.sizes(), (parts.count(part), parts.count(part), 0), "keys, events and chapters")
             for name, rtype, home in zip(names, [CNAME] * 7 + [A], parts):
                 same(shelf.peek(wire(name), rtype, 100).kind, rrcache.Kind.FRESH if home == part else rrcache.Kind.MISS, f"{name} in part {part}")
+
+
+def test_one_reading_by_python():
+    names = [f"x{n}.example" for n in range(8)]
+    octets = message(7, 0x8580, question(names[0], A), [record(it, A, 60, address(9)) for it in names])
+    parts = [rrcache.part_of(wire(it), 4) for it in names]
+    with rrcache.Offers(octets, "example.", 4, 100) as offers:
+        same(offers.concerned, sorted(set(parts)), "the parts concerned")
+        for part in range(4):
+            with rrcache.Shelf() as shelf:
+                same(shelf.offer_read(offers, part), (parts.count(part), 0, 0), f"the share of part {part}")
+                same(shelf.offer_part(octets, "example.", 4, part, 100), (parts.count(part), 0, 0), "the same by a reading of its own")
+                same(shelf.sizes(), (parts.count(part), 2 * parts.count(part), 0), "keys, events and chapters")
+    cases = [(18, lambda: shelf.offer_read(offers, 0)), (6, lambda: rrcache.Offers(octets, ".", 65, 100)),
+             (10, lambda: rrcache.Offers(b"x", ".", 4, 100)), (9, lambda: rrcache.Offers(octets, b"\1", 4, 100))]
+    with rrcache.Shelf() as shelf:
+        for status, call in cases:
+            try:
+                call()
+            except rrcache.Refused as refused:
+                same(refused.status, status, "status")
+            else:
+                raise Wrong(f"no refusal with status {status}")

@@ -268,7 +268,7 @@ enum outcome look_up(const struct question *question, enum rrcache_mode mode, st
 /* ---- Keeping. */
 
 /* Offers what a message says, each name's to the shelf of that name; false where it cannot be read.
-   Where memory is refused a part of it is kept. */
+   It is read once, under no lock. Where memory is refused a part of it is kept. */
 static bool offer(const uint8_t *message, size_t size)
 {
     const struct rrcache_response response = {
@@ -279,15 +279,20 @@ static bool offer(const uint8_t *message, size_t size)
         .moment = moment(),
         .limits = LIMITS,
     };
+    struct rrcache_offers offers = {0};
     struct rrcache_counts counts;
-    enum rrcache_status status = RRCACHE_DONE;
-    for (uint64_t part = 0; part < SHELVES && status != RRCACHE_BAD_MESSAGE; part++) {
+    uint64_t concerned = 0;
+    enum rrcache_status status = rrcache_read_message(&offers, &response, SHELVES, &concerned);
+    for (uint64_t part = 0; part < SHELVES; part++) {
         struct shelf *shelf = &shelves[part];
+        if ((concerned >> part & 1) == 0)
+            continue;
         pthread_mutex_lock(&shelf->lock);
-        status =
-            rrcache_offer_part(&shelf->cache, &response, SHELVES, part, shelf->calls++, &counts);
+        rrcache_offer_read(&shelf->cache, &offers, part, shelf->calls++, &counts);
         pthread_mutex_unlock(&shelf->lock);
     }
+    if (status == RRCACHE_DONE)
+        rrcache_free_offers(&offers);
     return status != RRCACHE_BAD_MESSAGE;
 }
 

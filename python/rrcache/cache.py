@@ -8,6 +8,7 @@ from typing import Any
 
 from .library import part_of
 from .names import to_wire
+from .offers import Offers
 from .replies import Counts, Limits, Reply
 from .shelf import Name, Shelf
 
@@ -54,14 +55,15 @@ class Cache:
 
     def offer_message(self, message: bytes, zone: Name, moment: int, limits: Limits = Limits(),
                       line: int = 0) -> Counts:
-        """Offers a response: to each part what it says of that part's names. Where one part refuses
-        its share, that is raised, and what other parts took stays."""
-        zone, total = to_wire(zone), Counts(0, 0, 0)
-        for part, (lock, shelf) in enumerate(self._shelves):
-            with lock:
-                counts = shelf.offer_part(message, zone, len(self._shelves), part, moment, limits,
-                                          line)
-            total = total.plus(counts)
+        """Offers a response: to each part what it says of that part's names. It is read once, under
+        no lock. Where one part refuses its share, that is raised, and what other parts took
+        stays."""
+        total = Counts(0, 0, 0)
+        with Offers(message, zone, len(self._shelves), moment, limits) as offers:
+            for part in offers.concerned:
+                lock, shelf = self._shelves[part]
+                with lock:
+                    total = total.plus(shelf.offer_read(offers, part, line))
         return total
 
     def sweep(self, moment: int) -> int:

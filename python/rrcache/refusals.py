@@ -28,6 +28,8 @@ class Status(IntEnum):
     WIDE = 15
     SMALL = 16
     NULL = 17
+    NO_OFFERS = 18
+    HAS_OFFERS = 19
 
 
 class Refused(Exception):
@@ -132,9 +134,21 @@ class Wide(Refused):
     status, reason = Status.WIDE, "a datum has more than 65,535 octets"
 
 
+class NoOffers(Refused):
+    """The offers were freed."""
+
+    status, reason = Status.NO_OFFERS, "the offers are freed"
+
+
+class HasOffers(Refused):
+    """The handle holds offers already."""
+
+    status, reason = Status.HAS_OFFERS, "the handle holds offers"
+
+
 BY_STATUS: dict[int, type[Refused]] = {it.status: it for it in (
     NoShelf, HasShelf, Memory, HistoryFull, MomentTooLarge, BadRules, BadSeed, BadLimits, BadName,
-    BadMessage, BadChoice, BadType, BadData, WrongBody, Wide)}
+    BadMessage, BadChoice, BadType, BadData, WrongBody, Wide, NoOffers, HasOffers)}
 
 
 def refusal(status: int, counts: Counts | None = None) -> Refused:

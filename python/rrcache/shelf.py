@@ -11,6 +11,7 @@ from typing import Any
 from .choices import Class, Denial, Kind, Mode, Outcome, Purpose, Rank
 from .library import LIBRARY, StoredNumbers, Told, call, sized, told
 from .names import to_wire
+from .offers import Offers
 from .refusals import refusal
 from .replies import Counts, Limits, Reply, Sizes, Stored
 
@@ -86,6 +87,10 @@ class Shelf:
         """The same of what it says of the names that lie in one of so many parts."""
         return self._offer("rrc_offer_part", *sized(message), *sized(to_wire(zone)), parts, part,
                            moment, (c_uint32 * 3)(*limits), line)
+
+    def offer_read(self, offers: Offers, part: int, line: int = 0) -> Counts:
+        """The same of a message that was read for so many parts."""
+        return self._offer("rrc_offer_read", offers._handle, part, line)
 
     def offer_set(self, owner: Name, rtype: int, rank: Rank | int, ttl: int, data: Iterable[bytes],
                   moment: int, line: int = 0, rclass: Class | int = Class.IN) -> Outcome:

@@ -1,5 +1,7 @@
 pub mod AsBox
+pub mod ReadingAsBox
 pub mod Filling
 pub mod Answering
 pub mod Taking
 pub mod Refusing
+pub mod Sharing

@@ -1,4 +1,5 @@
 pub mod Sealed
+pub mod SealedReading
 pub mod Statuses
 pub mod Handles
 pub mod Made
@@ -7,5 +8,6 @@ pub mod Asked
 pub mod Refusals
 pub mod Offered
 pub mod Parted
+pub mod Readings
 pub mod Kept
 pub mod Stored

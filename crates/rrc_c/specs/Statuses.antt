@@ -43,6 +43,10 @@ OnSmall status fact = status ≡ 16 → fact
 abbrev pub OnNoShelf : ℕ → Type 0 → Type 0
 OnNoShelf status fact = status ≡ 1 → fact
 
+-- what holds where a call answers that the handle holds no offers
+abbrev pub OnNoOffers : ℕ → Type 0 → Type 0
+OnNoOffers status fact = status ≡ 18 → fact
+
 -- what holds where a call tells nothing: it was refused, and not since the buffer is too small
 abbrev pub OnUntold : ℕ → Type 0 → Type 0
 OnUntold status fact = (status ≡ 0 → ⊥) → (status ≡ 16 → ⊥) → fact

@@ -101,7 +101,7 @@ pub extern "C" fn rrc_peek(
 }
 
 /// What C is told of a call that only does something.
-fn number_of_call(done: Result<(), Status>) -> u32
+pub(crate) fn number_of_call(done: Result<(), Status>) -> u32
     ensures value { result ≡ number_of_call done }
     ensures shelf { result ≡ 1 → ⊥ }
 {

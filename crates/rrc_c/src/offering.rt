@@ -234,7 +234,7 @@ fn count(counts: &mut Counts, outcome: Outcome)
 }
 
 /// Makes offers to a shelf, in order, and counts what became of them.
-fn take_each(
+pub(crate) fn take_each(
     shelf: &mut Shelf,
     line: u64,
     offers: Vec<Offer>,
@@ -284,7 +284,7 @@ fn offers_of_message(
 }
 
 /// What a message offers that was received from a zone.
-fn offers_in(
+pub(crate) fn offers_in(
     alloc: Global,
     octets: &[u8],
     zone: &[u8],
@@ -293,6 +293,7 @@ fn offers_in(
 ) -> Result<Vec<Offer>, Status>
     ensures offers { IfOk result (λ made. AreOffered octets.now zone.now moment bounds.now made.items) }
     ensures moments { IfOk result (λ made. AreAt moment made.items) }
+    ensures limits { OnOk result (AreLimits bounds.now) }
     ensures refused { IfErr result (λ status. OffersRefused octets.now zone.now bounds.now (number_of status)) }
 {
     let limits = limits_of(bounds)?;

@@ -1,7 +1,7 @@
 ghost use Rattle.std.specs.Prelude.{◌≡◌, None, Some, IsSome};
 ghost use Rattle.rrc_c.specs.Sealed.{Held, held_coded, sealed_owns};
 
-mod parts;
+pub(crate) mod parts;
 
 use parts::Parts;
 use rrc_share::Shelf;

@@ -44,6 +44,12 @@ pub(crate) const HAS_SHELF: u32 = 2;
 /// What C is told where the buffer is too small for the answer, whose size is then told.
 pub(crate) const SMALL_BUFFER: u32 = 16;
 
+/// What C is told where the handle holds no offers; 17 is told by the header's inline functions alone.
+pub(crate) const NO_OFFERS: u32 = 18;
+
+/// What C is told where the handle that is to be read into holds offers already.
+pub(crate) const HAS_OFFERS: u32 = 19;
+
 impl Status {
     /// The number that C is told, from 3 to 15.
     pub(crate) fn number(self) -> u32

@@ -1,0 +1,92 @@
+/* SPDX-License-Identifier: MIT */
+/* one_reading MESSAGE TIMES RUNS: times what it takes to offer a message to one shelf, to 16
+   shelves by one reading of it, and to 16 shelves by a reading for each. It prints the nanoseconds
+   of processor time of each, the least of so many runs of so many times. bench/one_reading.py runs
+   it. */
+#include <stdio.h>
+#include <stdlib.h>
+#include <time.h>
+
+#include "rrcache.h"
+
+enum { SHELVES = 16, KEYS = 65536 };
+
+static const uint8_t ROOT[] = {0}, SEED[16] = "sixteen octets.";
+static uint8_t message[65535];
+static struct rrcache_response response = {
+    .octets = message,
+    .zone = ROOT,
+    .zone_size = sizeof ROOT,
+    .moment = 1,
+    .limits = {86400, 3600, 30},
+};
+static struct rrcache_counts counts;
+
+static void check(uint32_t status)
+{
+    if (status == RRCACHE_DONE)
+        return;
+    fprintf(stderr, "a call was refused: %u\n", (unsigned)status);
+    exit(1);
+}
+
+static void offer_whole(struct rrcache_shelf *shelves)
+{
+    check(rrcache_offer_message(shelves, &response, 1, &counts));
+}
+
+static void offer_read(struct rrcache_shelf *shelves)
+{
+    struct rrcache_offers offers = {0};
+    uint64_t concerned;
+    check(rrcache_read_message(&offers, &response, SHELVES, &concerned));
+    for (uint64_t part = 0; part < SHELVES; part++)
+        check(rrcache_offer_read(&shelves[part], &offers, part, 1, &counts));
+    check(rrcache_free_offers(&offers));
+}
+
+static void offer_parts(struct rrcache_shelf *shelves)
+{
+    for (uint64_t part = 0; part < SHELVES; part++)
+        check(rrcache_offer_part(&shelves[part], &response, SHELVES, part, 1, &counts));
+}
+
+static uint64_t nanoseconds(void)
+{
+    struct timespec now;
+    clock_gettime(CLOCK_THREAD_CPUTIME_ID, &now);
+    return (uint64_t)now.tv_sec * 1000000000 + (uint64_t)now.tv_nsec;
+}
+
+static uint64_t took(void (*offer)(struct rrcache_shelf *), unsigned long times)
+{
+    struct rrcache_shelf shelves[SHELVES] = {{0}};
+    for (int i = 0; i < SHELVES; i++)
+        check(rrcache_make(&shelves[i], KEYS, KEYS, 0, SEED));
+    uint64_t begin = nanoseconds();
+    for (unsigned long time = 0; time < times; time++)
+        offer(shelves);
+    uint64_t end = nanoseconds();
+    for (int i = 0; i < SHELVES; i++)
+        check(rrcache_free(&shelves[i]));
+    return (end - begin) / times;
+}
+
+int main(int argc, char **argv)
+{
+    void (*const ways[])(struct rrcache_shelf *) = {offer_whole, offer_read, offer_parts};
+    uint64_t least[] = {UINT64_MAX, UINT64_MAX, UINT64_MAX};
+    FILE *file = argc == 4 ? fopen(argv[1], "rb") : NULL;
+    if (file == NULL)
+        return 1;
+    response.size = fread(message, 1, sizeof message, file);
+    fclose(file);
+    for (unsigned long run = 0; run < strtoul(argv[3], NULL, 10); run++)
+        for (int i = 0; i < 3; i++) {
+            uint64_t it = took(ways[i], strtoul(argv[2], NULL, 10));
+            least[i] = it < least[i] ? it : least[i];
+        }
+    printf("%llu %llu %llu\n", (unsigned long long)least[0], (unsigned long long)least[1],
+           (unsigned long long)least[2]);
+    return 0;
+}

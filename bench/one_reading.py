@@ -1,0 +1,72 @@
+#!/usr/bin/env python3
+# SPDX-License-Identifier: MIT
+"""Tells what it takes to offer a message to 16 shelves by one reading, beside offering it to one
+shelf, and beside a reading for each shelf. It fails where one reading for 16 takes more than MOST
+times what one shelf takes.
+
+Build the library for C first, by `bin/build-c`. Times are of a processor, the least of RUNS: of a
+usual response, which names four servers with their addresses, and of the hostile ones of
+bench/hostile.py.
+"""
+import argparse
+import pathlib
+import subprocess
+import sys
+import tempfile
+
+TOP = pathlib.Path(__file__).resolve().parent.parent
+sys.path[:0] = [str(TOP / "bin"), str(TOP / "bench")]
+from dns import A, NS, question, record, response, wire
+from hostile import many_keys, many_labels, many_types, one_key
+
+PROGRAM = TOP / "build" / "one_reading"
+SIZE, MOST = 65_535, 1.5
+
+
+def usual(_size):
+    """An answer of two addresses, with the names and the addresses of four servers of the zone."""
+    servers = [f"ns{number}.example.net." for number in range(4)]
+    return response(
+        question("www.example.com.", A),
+        [record("www.example.com.", A, 300, bytes([192, 0, 2, it])) for it in (1, 2)],
+        [record("example.com.", NS, 86_400, wire(it)) for it in servers],
+        [record(it, A, 86_400, bytes([192, 0, 2, 9])) for it in servers])
+
+
+def compile_program():
+    if not (TOP / "build" / "librrcache.a").exists():
+        sys.exit("build the library first: bin/build-c")
+    words = ["-std=gnu11", "-O2", "-Wall", "-Wextra", f"-I{TOP / 'include'}"]
+    subprocess.run(["cc", *words, TOP / "bench" / "one_reading.c", TOP / "build" / "librrcache.a",
+                    "-o", PROGRAM], check=True)
+
+
+def times(message, count, runs):
+    """Nanoseconds of one shelf, of 16 by one reading and of 16 by a reading for each."""
+    with tempfile.NamedTemporaryFile() as file:
+        file.write(message)
+        file.flush()
+        ran = subprocess.run([PROGRAM, file.name, str(count), str(runs)], check=True,
+                             capture_output=True, text=True)
+    return [int(it) for it in ran.stdout.split()]
+
+
+def main():
+    parser = argparse.ArgumentParser(description=__doc__.splitlines()[0])
+    parser.add_argument("--runs", type=int, default=7, help="runs of each (default 7)")
+    args = parser.parse_args()
+    compile_program()
+    slow = []
+    for make in (usual, one_key, many_keys, many_types, many_labels):
+        whole, read, each = times(make(SIZE), 500 if make is usual else 1, args.runs)
+        print(f"{make.__name__:12} one shelf {whole / 1000:9,.1f} us, 16 by one reading"
+              f" {read / 1000:9,.1f} us ({read / whole:4.2f}), by a reading for each"
+              f" {each / 1000:9,.1f} us ({each / whole:5.2f})", flush=True)
+        if read > MOST * whole:
+            slow.append(make.__name__)
+    if slow:
+        sys.exit(f"one reading for 16 shelves takes over {MOST} times as long: {', '.join(slow)}")
+
+
+if __name__ == "__main__":
+    main()

@@ -1,0 +1,81 @@
+-- What a reading offers by parts is what the message offers by them, and which parts those are.
+use Rattle.std.proofs.Common.{◌≡◌, ℕ, suc, ◌+◌, ◌^◌, ◌<◌, ◌≤◌, List, [], ◌∷◌, ◌==◌, Bool, true, false, cond, if◌then◌else◌, map, filter, refl, sym, ap, subst, ◌∙◌, inl, inr, arith}
+use Rattle.std.proofs.Math.Nat.{two-pow-succ}
+use Rattle.std.proofs.Math.Pow.{pow_mono}
+use Rattle.std.proofs.lemmas.List.Elements.{All-filter}
+use Rattle.rrc_history.specs.Fits.{OfferOf}
+use Rattle.rrc_name.specs.Parts.{part_of}
+use Rattle.rrc_c.specs.Offered.{AreAt, TakesAll, TakesFirst}
+use Rattle.rrc_c.specs.Parted.{lying_in, IsPart}
+use Rattle.rrc_c.specs.Readings.{bit_of, has_part, parts_below, placed_in, share_of, IsReading, RefusedShareIsPart, ShareIsPart}
+use Rattle.rrc_c.specs.declared.counts.Bounds.{Bounds}
+use Rattle.rrc_c.specs.declared.reading.Placed.{Placed}
+use Rattle.rrc_c.specs.declared.reading.Reading.{Reading}
+
+-- ---- shares
+
+pick : (lies : Bool) (one : Placed) (behind : List Placed) (offers : List OfferOf) → map (λ (it : Placed). it.offer) behind ≡ offers
+    → map (λ (it : Placed). it.offer) (cond lies (one ∷ behind) behind) ≡ cond lies (one.offer ∷ offers) offers
+pick true one behind offers same = ap (λ them. one.offer ∷ them) same
+pick false one behind offers same = same
+
+-- offers that were placed in their parts give by a part those that lie in it
+share_placed : (parts part : ℕ) (offers : List OfferOf) → share_of part (map (placed_in parts) offers) ≡ lying_in parts part offers
+share_placed parts part [] = refl
+share_placed parts part (offer ∷ behind) =
+    pick (part_of offer.key.name parts == part) (placed_in parts offer) (filter (λ (one : Placed). one.part == part) (map (placed_in parts) behind)) (lying_in parts part behind) (share_placed parts part behind)
+
+share_same : (octets zone : List ℕ) (parts part at : ℕ) (bounds : Bounds) (reading : Reading) (is : IsReading octets zone parts at bounds reading) → share_of part reading.placed.items ≡ lying_in parts part is.offers
+share_same octets zone parts part at bounds reading is = ap (share_of part) is.placed ∙ share_placed parts part is.offers
+
+pub share_is_part : ShareIsPart
+share_is_part octets zone parts part at line bounds reading counts old new is takes =
+    record {
+      offers = is.offers;
+      offered = is.offered;
+      takes = subst (λ offers. TakesAll line offers counts old new) (share_same octets zone parts part at bounds reading is) takes;
+    }
+
+is_part : (octets zone : List ℕ) (parts part at : ℕ) (bounds : Bounds) (reading : Reading) → IsReading octets zone parts at bounds reading → part < reading.parts → IsPart parts part
+is_part octets zone parts part at bounds reading is below = record { some = is.are_parts.some; few = is.are_parts.few; below = subst (λ n. part < n) is.parts_are below }
+
+is_no_part : (parts part all : ℕ) → all ≡ parts → all ≤ part → IsPart parts part → ⊥
+is_no_part parts part all same above fit = let below = fit.below in omega (arith, same, above, below)
+
+pub refused_share_is_part : RefusedShareIsPart
+refused_share_is_part octets zone number parts part at line bounds reading counts old new is (inl (none, inl (told, above))) = inl (none, inl (told, is_no_part parts part reading.parts is.parts_are above))
+refused_share_is_part octets zone number parts part at line bounds reading counts old new is (inl (none, inr (below, memory))) =
+    inl (none, inr (is_part octets zone parts part at bounds reading is below, inr (is.are_limits, inl (inl memory))))
+refused_share_is_part octets zone number parts part at line bounds reading counts old new is (inr beginning) =
+    let same = share_same octets zone parts part at bounds reading is in
+    let moment = All-filter _ (λ (offer : OfferOf). offer.moment ≡ at) is.offers is.moment in
+    inr (record {
+      is_part = is_part octets zone parts part at bounds reading is beginning.below;
+      offers = is.offers;
+      offered = is.offered;
+      takes = subst (λ offers. AreAt at offers → TakesFirst number line at offers counts old new) same (beginning.takes at) moment;
+    })
+
+-- ---- bits
+
+next_power : (part : ℕ) → 2 ^ (part + 1) ≡ 2 ^ part + 2 ^ part
+next_power part = let next : part + 1 ≡ suc part = omega arith in ap (λ n. 2 ^ n) next ∙ two-pow-succ part
+
+small_bit : (has : Bool) (part : ℕ) → (if has then 2 ^ part else 0) ≤ 2 ^ part
+small_bit true part = omega arith
+small_bit false part = omega arith
+
+next_below : (placed : List Placed) (part : ℕ) → parts_below placed (part + 1) ≡ parts_below placed part + bit_of placed part
+next_below placed part = let next : part + 1 ≡ suc part = omega arith in ap (parts_below placed) next
+
+-- the bits of one more part
+pub bits_more : (placed : List Placed) (part bits bit : ℕ) → (bits ≡ parts_below placed part) × (bits < 2 ^ part) → bit ≡ bit_of placed part
+    → (bits + bit ≡ parts_below placed (part + 1)) × (bits + bit < 2 ^ (part + 1))
+bits_more placed part bits bit (are, small) is =
+    let most = small_bit (has_part placed part) part in let power = next_power part in
+    ((λ i. are i + is i) ∙ sym (next_below placed part), omega (arith, small, is, most, power))
+
+-- they are still bits of 64
+pub bits_fit : (placed : List Placed) (part bits bit : ℕ) → bits < 2 ^ part → bit ≡ bit_of placed part → part < 64 → bits + bit < 2 ^ 64
+bits_fit placed part bits bit small is below =
+    let most = small_bit (has_part placed part) part in let power : 2 ^ part ≤ 2 ^ 63 = pow_mono {i = part} {j = 63} (omega (arith, below)) in omega (arith, small, is, most, power)

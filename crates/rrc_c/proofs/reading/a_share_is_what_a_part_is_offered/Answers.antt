@@ -1,0 +1,5 @@
+use Rattle.rrc_c.proofs.Sharing.{share_is_part}
+use Rattle.rrc_c.proofs.reading.a_share_is_what_a_part_is_offered.Goals as goal
+
+pub returns : goal.returns
+returns c = share_is_part

@@ -1,0 +1,50 @@
+# SPDX-License-Identifier: MIT
+"""The offers of a message that was read once, for several parts."""
+from __future__ import annotations
+
+from ctypes import c_uint32, c_uint64, c_void_p
+from types import TracebackType
+
+from .library import call, sized, told
+from .names import to_wire
+from .replies import Limits
+
+
+class Offers:
+    """What a response says that servers of a zone sent, read once and for no shelf:
+    `Shelf.offer_read` then offers the share of a part. It is for one thread at a time. A `with`
+    frees it at its end.
+
+    `concerned` are the parts, of 1 to 64, that the response has something for.
+
+    >>> message = bytes([0x12, 0x34, 0x84, 0, 0, 1, 0, 0, 0, 0, 0, 0])
+    >>> message += b"\\3www\\7example\\0\\0\\1\\0\\1"
+    >>> with Offers(message, "example.", 16, moment=1000) as offers:
+    ...     offers.concerned
+    []
+    """
+
+    def __init__(self, message: bytes, zone: str | bytes, parts: int, moment: int,
+                 limits: Limits = Limits()) -> None:
+        # A handle that begins with a null pointer holds no offers.
+        self._handle = (c_void_p * 2)()
+        bits = told("rrc_read_message", c_uint64, self._handle, *sized(message),
+                    *sized(to_wire(zone)), parts, moment, (c_uint32 * 3)(*limits))
+        self.concerned = [part for part in range(parts) if bits >> part & 1]
+
+    def close(self) -> None:
+        """Frees the offers; they may be closed again. Offering them after that raises
+        `NoOffers`."""
+        if self._handle[0]:
+            call("rrc_free_offers", self._handle)
+
+    def __del__(self) -> None:
+        if hasattr(self, "_handle"):
+            self.close()
+
+    def __enter__(self) -> Offers:
+        return self
+
+    def __exit__(self, kind: type[BaseException] | None, fault: BaseException | None,
+                 trace: TracebackType | None) -> None:
+        self.close()
