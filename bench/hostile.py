@@ -125,8 +125,8 @@ def offer_apart(message, parts):
 
 
 def worst(inputs, call, *, shelf=None, runs=3):
-    """The name of the input for which a call takes longest, its milliseconds, and the octets that
-    the call leaves. Each call has a shelf of its own, which `shelf` fills."""
+    """The milliseconds of the input for which a call takes longest, and its name. Each call has a
+    shelf of its own, which `shelf` fills."""
     found = []
     for name, it in inputs.items():
         took = []
@@ -134,16 +134,14 @@ def worst(inputs, call, *, shelf=None, runs=3):
             with rrcache.Shelf(MOST_KEYS, MOST_KEYS) as own:
                 if shelf:
                     shelf(own, it)
-                before = memory()
                 took.append(timed(call, own, it)[0])
-                kept = memory() - before
-        found.append((min(took), name, kept))
+        found.append((min(took), name))
     return max(found)
 
 
 def tell_calls(size, runs):
-    """For each call of the library: which of some inputs of a size takes it longest, how long, and
-    how many octets it leaves."""
+    """For each call of the library: which of some inputs of a size takes it longest, and how
+    long."""
     messages = {it.__name__: it(size) for it in MESSAGES}
     sets = {"one RRset of rdata of two octets": data_of(size), "one rdata": [bytes(size - 2)]}
     names = {kind: label(0, 4) + end for kind, end in ENDS.items()}
@@ -168,8 +166,8 @@ def tell_calls(size, runs):
         "rrcache_free": worst(messages, lambda shelf, _: shelf.close(), shelf=offered, runs=runs),
     }
     print(f"the input that each call took longest for, of {size:,} octets where it is a message:")
-    for name, (took, what, kept) in calls.items():
-        print(f"  {name:32}{what:36}{took:8.3f} ms{kept:12,} octets stay", flush=True)
+    for name, (took, what) in calls.items():
+        print(f"  {name:32}{what:36}{took:8.3f} ms", flush=True)
 
 
 def tell_all(size, keys, runs):

@@ -102,11 +102,12 @@ def chained(count):
     return record(".", TXT, 60, bytes(2) + pointers), pointer(28 + 2 * count)
 
 
-def behind_pointers(size):
+def behind_pointers(size, is_direct=False):
     """As many records of three names as fit, each name behind one chain of the most pointers that
-    names of a message of this size can be behind."""
+    names of a message of this size can be behind; or, where `is_direct`, behind its first one."""
     first, last = chained(min(MOST_REACHED, size // 2) // 2 - 15)
-    names = record(last, MINFO, 60, last + last)
+    name = pointer(30) if is_direct else last
+    names = record(name, MINFO, 60, name + name)
     return filled(size, question(".", A), itertools.chain([first], itertools.repeat(names)))
 
 
