@@ -110,6 +110,9 @@ def tell_traces(size):
     tell_trace("one_key and 50 asks", (one + 50 * f"ask 1 {LONG} 14 any none\n").encode())
     tell_trace("1,024 puts and 10,000 checkpoints", (puts + 10_000 * "checkpoint\n").encode())
     tell_trace("10,000 sweeps of 64 parts", 10_000 * b"sweep 0\n", "--parts", "64")
+    names = (wire(".".join(["x" * 63, "x" * 63, "x" * 60, str(it)])) for it in range(256))
+    alike = f"put 0 . 2 4 600 {','.join(it.hex() for it in names)}\n"
+    tell_trace("100 puts of 256 rdata that begin alike", 100 * alike.encode())
 
 
 def data_of(size):
