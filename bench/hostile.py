@@ -158,7 +158,8 @@ def tell_calls(size, runs):
     calls = {
         "rrcache_fault": worst(messages, lambda _, it: rrcache.fault(it), runs=runs),
         "rrcache_offer_message": worst(messages, offered, runs=runs),
-        "rrcache_offer_part, 16 shelves": worst(messages, lambda _, it: offer_apart(it, 16), runs=1),
+        "rrcache_offer_part, 16 shelves": worst(messages, lambda _, it: offer_apart(it, 16),
+                                                runs=1),
         "rrcache_offer_set": worst(sets, lambda shelf, it: shelf.offer_set("a.", TXT, 4, 60, it, 0),
                                    runs=runs),
         "rrcache_ask": worst({"one_key": messages["one_key"]},

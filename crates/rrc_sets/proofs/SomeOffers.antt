@@ -1,5 +1,5 @@
 -- What is relevant of a message is some of what it offers.
-use Rattle.std.proofs.Common.{◌≡◌, ℕ, List, [], ◌++◌, Bool, true, false, cond, refl, sym, subst, ◌∙◌, append_assoc}
+use Rattle.std.proofs.Common.{ℕ, List, [], ◌++◌, Bool, true, false, cond, refl, sym, subst, append_assoc}
 use Rattle.std.specs.Prelude.{filter, ◌||◌, ◌==◌, ◌&&◌}
 use Rattle.std.specs.Option.{option_to_list}
 use Rattle.rrc_history.specs.Fits.{OfferOf}
@@ -8,11 +8,11 @@ use Rattle.rrc_sets.specs.declared.limits.Limits.{Limits}
 use Rattle.rrc_sets.specs.declared.relevance.RelevanceLimits.{RelevanceLimits}
 use Rattle.rrc_sets.specs.declared.rank.Section.TheVariants.{Answer, Authority, Additional}
 use Rattle.rrc_sets.specs.Uniques.{AreSomeOf}
-use Rattle.rrc_sets.specs.Aliases.{final_name, question_names}
+use Rattle.rrc_sets.specs.Aliases.{final_name}
 use Rattle.rrc_sets.specs.Denials.{negative_offer}
 use Rattle.rrc_sets.specs.Classes.{in_own_class}
 use Rattle.rrc_sets.specs.Offers.{section_offers, answer_offers, failure_offers, is_silent, offers_of}
-use Rattle.rrc_sets.specs.Relevant.{is_on_chain, is_of_final_zone, is_address_of, is_measured, same_type, hosts_named, relevant_answer, relevant_authority, relevant_additional, relevant_offers, relevant_of}
+use Rattle.rrc_sets.specs.Relevant.{is_of_final_zone, is_measured, same_type, relevant_answer, relevant_authority, relevant_additional, relevant_offers, relevant_of}
 use Rattle.rrc_sets.proofs.Subsets.{whole, of_filter, of_uniques, of_some, of_append}
 
 module _ (message : Message) (zone : List ℕ) (moment : ℕ) (limits : Limits) (relevance : RelevanceLimits) where

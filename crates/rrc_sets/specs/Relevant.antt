@@ -1,12 +1,11 @@
 -- Which offers of a response are relevant to its question: those that a resolver needs which asked it (RFC 5452 6, ours).
-use Rattle.std.specs.Prelude.{ℕ, zero, suc, List, [], ◌∷◌, ◌++◌, length, map, take, drop, filter, Bool, true, false, ◌&&◌, ◌||◌, not, ◌==◌, nat_le, if◌then◌else◌, Option, Some, None}
+use Rattle.std.specs.Prelude.{ℕ, List, [], ◌++◌, length, map, take, drop, filter, Bool, true, false, ◌&&◌, ◌||◌, not, ◌==◌, nat_le, if◌then◌else◌, Option, Some, None}
 use Rattle.std.specs.List.{list_any, list_all, sum_by, flat_map}
 use Rattle.std.specs.Option.{option_map_or, option_to_list}
-use Rattle.rrc_name.specs.declared.slot.Slot.{Slot}
-use Rattle.rrc_name.specs.declared.slot.Slot.TheVariants.{Set, Nx, Failed}
+use Rattle.rrc_name.specs.declared.slot.Slot.TheVariants.{Set}
 use Rattle.rrc_name.specs.Wire.{same_name}
 use Rattle.rrc_name.specs.Order.{is_at_or_below}
-use Rattle.rrc_name.specs.Key.{KeyOf, slot_eq}
+use Rattle.rrc_name.specs.Key.{slot_eq}
 use Rattle.rrc_wire.specs.declared.message.Message.{Message}
 use Rattle.rrc_history.specs.declared.body.Body.{Body}
 use Rattle.rrc_history.specs.declared.body.Body.TheVariants.{Positive, Negative, Failure}

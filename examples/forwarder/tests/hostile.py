@@ -1,5 +1,5 @@
 # SPDX-License-Identifier: MIT
-"""What an attacker sends in an upstream's place, and an upstream that answers wrongly on purpose."""
+"""What an attacker sends in an upstream's place, and an upstream that answers wrongly."""
 import concurrent.futures
 import random
 import re

@@ -145,7 +145,7 @@ def under_flood(kind, rate, program="forwarder"):
               f"{sum(missing)} are missing; {grown} MB more")
         wanted(counters["connections" if kind == "connections" else "queries"] > rate, "a flood")
         wanted(max(slowest) < MOST_SECONDS, f"answers in time, and not after {max(slowest):.1f} s")
-        wanted(sum(missing) <= OTHERS * TURNS // 20, f"answers, of which {sum(missing)} are missing")
+        wanted(sum(missing) <= OTHERS * TURNS // 20, f"answers, and not {sum(missing)} missing")
         wanted(grown < MOST_MEMORY[program], f"little memory, and not {grown} MB")
 
 

@@ -1,6 +1,5 @@
-use Rattle.std.proofs.Common.{◌≡◌, ◌++◌, ℕ, List, Bool, rules, refl, sym, ap, subst, ◌∙◌}
-use Rattle.std.specs.Prelude.{filter, ◌&&◌, IfOk}
-use Rattle.std.specs.List.{All}
+use Rattle.std.proofs.Common.{ℕ, List, Bool, rules, ap, ◌∙◌}
+use Rattle.std.specs.Prelude.{filter, ◌&&◌}
 use Rattle.std.proofs.lemmas.Fn.{filter_same}
 use Rattle.rrc_history.specs.Fits.{OfferOf}
 use Rattle.rrc_sets.specs.declared.rank.Section.TheVariants.{Answer}

@@ -1,5 +1,4 @@
 use Rattle.std.proofs.Common.{◌≡◌, sym, subst}
-use Rattle.std.specs.List.{All}
 use Rattle.rrc_history.specs.Fits.{OfferOf}
 use Rattle.rrc_sets.specs.Uniques.{AreSomeOf}
 use Rattle.rrc_sets.specs.Offers.{offers_of}
