@@ -91,16 +91,23 @@ lean_done seen part told number next rules before after event is tells holds ope
 
 -- ---- an ask in two halves
 
+-- what an ask was answered, and from where, by the history
+pub answered_by_history : (part : PartOf) (rules : Rules) (entries : List Entry) (ask : AskOf) (reply : Reply) (slot : Option Slot) → rules ≡ part.snapshot.rules
+    → AreContents part.snapshot (past_of part) entries → IsAnswered rules.stale ask entries reply slot
+    → (reply ≡ reply_to part.snapshot (past_of part) ask) × IsPick part ask slot
+answered_by_history part rules entries ask reply slot ruled contents answered =
+    let same : found_among entries ask ≡ found part.snapshot (past_of part) ask = found-contents part.snapshot (past_of part) ask entries contents in
+    let told : reply ≡ reply_to part.snapshot (past_of part) ask =
+    answered.answered ∙ (ap (λ (r : Rules). reply_by r.stale (found_among entries ask) ask) ruled ∙ ap (λ f. reply_by part.snapshot.rules.stale f ask) same) in
+    (told, answered.from ∙ (ap (λ f. key_in (answering f ask reply)) same ∙ ap (λ r. key_in (answering (found part.snapshot (past_of part) ask) ask r)) told))
+
 -- the slot that was told is that of the entry that answers by the history
 pub picked : (part : PartOf) (rules : Rules) (entries : List Entry) (ask : AskOf) (reply : Reply) (answering' : Option Entry) (slot : Option Slot) → rules ≡ part.snapshot.rules
     → AreContents part.snapshot (past_of part) entries → reply ≡ reply_by rules.stale (found_among entries ask) ask
     → answering' ≡ answering (found_among entries ask) ask reply → slot ≡ slot_of answering' → IsPick part ask slot
 picked part rules entries ask reply answering' slot ruled contents answered gave is =
-    let same : found_among entries ask ≡ found part.snapshot (past_of part) ask = found-contents part.snapshot (past_of part) ask entries contents in
-    let told : reply ≡ reply_to part.snapshot (past_of part) ask =
-    answered ∙ (ap (λ (r : Rules). reply_by r.stale (found_among entries ask) ask) ruled ∙ ap (λ f. reply_by part.snapshot.rules.stale f ask) same) in
-    (answered_at rules.stale ask entries reply answering' slot answered gave is).from
-    ∙ (ap (λ f. key_in (answering f ask reply)) same ∙ ap (λ r. key_in (answering (found part.snapshot (past_of part) ask) ask r)) told)
+    let taken : IsAnswered rules.stale ask entries reply slot = answered_at rules.stale ask entries reply answering' slot answered gave is in
+    (answered_by_history part rules entries ask reply slot ruled contents taken).1
 
 -- and so the ask is answered by the entries from that one
 pub pick_answers : (part : PartOf) (rules : Rules) (entries : List Entry) (ask : AskOf) (slot : Option Slot) → rules ≡ part.snapshot.rules

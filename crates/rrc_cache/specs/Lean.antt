@@ -1,10 +1,12 @@
 -- A part that keeps no events: what its history is told, and what it keeps of that.
-use Rattle.std.specs.Prelude.{◌≡◌, ℕ, ◌^◌, ◌<◌, ◌≤◌, [], ◌∷◌, ◌++◌, Option, Result, Ok, Err}
+use Rattle.std.specs.Prelude.{◌≡◌, ℕ, ◌+◌, ◌^◌, ◌<◌, ◌≤◌, List, [], ◌∷◌, ◌++◌, length, Option, Result, Ok, Err}
 use Rattle.std.specs.Option.{option_map}
 use Rattle.rrc_name.specs.declared.slot.Slot.{Slot}
 use Rattle.rrc_history.specs.declared.event.Event.{Event}
 use Rattle.rrc_history.specs.declared.rules.Rules.{Rules}
+use Rattle.rrc_history.specs.declared.snapshot.Snapshot.{Snapshot}
 use Rattle.rrc_history.specs.Asked.{AskOf}
+use Rattle.rrc_history.specs.Chapters.{IsChapter}
 use Rattle.rrc_history.specs.Judged.{answering, key_in}
 use Rattle.rrc_history.specs.Lives.{LAST_MOMENT}
 use Rattle.rrc_history.specs.Past.{found, key_at, reply_to}
@@ -22,6 +24,10 @@ first_chapter rules = record { number = 1; snapshot = record { rules = rules; fi
 -- one more event
 abbrev pub with_event : PartOf → Event → PartOf
 with_event part event = record { number = part.number; snapshot = part.snapshot; events = part.events ++ event ∷ [] }
+
+-- the next chapter, which begins with what the one before left
+abbrev pub next_chapter : PartOf → Snapshot → PartOf
+next_chapter part closing = record { number = part.number + 1; snapshot = closing; events = [] }
 
 -- the slot is that of the entry that answers an ask, and none where none answers
 abbrev pub IsPick : PartOf → AskOf → Option Slot → Type 0
@@ -55,3 +61,14 @@ pub record HoldsLean (part : PartOf) (number next : ℕ) (rules : Rules) (store 
   pub chapter : number ≡ part.number
   pub following : next ≡ next_number part
   pub ruled : rules ≡ part.snapshot.rules
+
+-- the chapter that was open ends with what the part holds, and the next one begins with that
+pub record Shuts (old new : PartOf) (closing : Snapshot) : Type 0 where
+  pub closes : IsChapter (record { number = old.number; snapshot = old.snapshot; events = old.events; closing = closing })
+  pub next : new ≡ next_chapter old closing
+
+-- the history of a part is recorded: the snapshot and the events are kept, and are no more than the rules say
+pub record IsRecorded (part : PartOf) (opening : Snapshot) (written : List Event) : Type 0 where
+  pub snapshot : part.snapshot ≡ opening
+  pub events : part.events ≡ written
+  pub few : length part.events ≤ part.snapshot.rules.chapter

@@ -9,14 +9,10 @@ use Rattle.rrc_history.specs.declared.event.Reply.{Reply}
 use Rattle.rrc_history.specs.declared.event.Tag.{Tag}
 use Rattle.rrc_history.specs.Lives.{LAST_MOMENT}
 use Rattle.rrc_history.specs.Laws.{KeepsLaws}
-use Rattle.rrc_history.specs.Past.{AreContents}
 use Rattle.rrc_history.specs.Right.{IsRight, IsLegal}
 use Rattle.rrc_history.specs.Chapters.{ChapterOf, IsChapter}
-use Rattle.rrc_history.specs.Sound.{AreSound}
 use Rattle.rrc_history.specs.declared.event.Event.{Event}
-use Rattle.rrc_history.specs.declared.snapshot.Entry.{Entry}
 use Rattle.rrc_history.specs.declared.snapshot.Snapshot.{Snapshot}
-use Rattle.rrc_cache.specs.Pairs.{StoreOf}
 use Rattle.rrc_cache.specs.declared.refusal.Refusal.{Refusal}
 use Rattle.rrc_cache.specs.declared.refusal.Refusal.TheVariants.{HistoryFull, MomentTooLarge, Memory}
 
@@ -102,14 +98,3 @@ pub record IsSound (part : PartOf) : Type 0 where
   pub few : length part.events ≤ part.snapshot.rules.chapter
   pub numbered : next_number part ≤ 2 ^ 62
   pub chapter : part.number ≤ 2 ^ 62
-
--- a part keeps what its history says, the key touched last first, and that may open a chapter
-pub record Keeps (part : PartOf) (entries : List Entry) : Type 0 where
-  pub sound : IsSound part
-  pub contents : AreContents part.snapshot (past_of part) entries
-  pub kept : AreSound part.snapshot.rules.capacity (next_number part) entries
-
--- a part keeps its entries in a store that knows its stale limit
-pub record Holds (part : PartOf) (store : StoreOf) : Type 0 where
-  pub keeps : Keeps part store.entries
-  pub stale : store.stale ≡ part.snapshot.rules.stale

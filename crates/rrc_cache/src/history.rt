@@ -2,7 +2,7 @@ ghost use Rattle.std.specs.Prelude.{◌≡◌};
 ghost use Rattle.std.specs.Borrow.{ftrue};
 ghost use Rattle.rrc_cache.specs.Part.{PartOf};
 
-use rrc_history::{Ask, Offer, Outcome, Rules, Tag};
+use rrc_history::{Ask, Offer, Outcome, Rules, Snapshot, Tag};
 use rrc_name::Key;
 use std::marker::Model;
 
@@ -23,7 +23,7 @@ unsafe impl Send for History {}
 
 unsafe impl Sync for History {}
 
-/// What a history is told: a call that was made, and what became of it. What an ask is answered
+/// What a history is told: a call that was made, and what became of it, or that a chapter ends. What an ask is answered
 /// follows from the history.
 #[derive(Clone, Copy, Drop)]
 pub(crate) enum Told<'a> {
@@ -42,6 +42,10 @@ pub(crate) enum Told<'a> {
         moment: u64,
         gone: &'a [Key],
     },
+    /// The chapter ends, and the next one begins with this.
+    Closed {
+        opening: &'a Snapshot,
+    },
 }
 
 impl History {
@@ -56,7 +60,7 @@ impl History {
         History {}
     }
 
-    /// The history with the event of a call.
+    /// The history with the event of a call, or in its next chapter.
     #[inline(always)]
     pub(crate) fn then(&self, _told: &Told<'_>) -> History
         ensures { result.part ≡ with_told self.now.part _told.now }

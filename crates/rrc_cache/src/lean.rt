@@ -1,4 +1,4 @@
-ghost use Rattle.std.specs.Prelude.{◌≡◌, ◌<◌, ◌≤◌, ◌^◌, ◌↔◌, [], IsTrue, IfOk, IfErr, OnErr, Err};
+ghost use Rattle.std.specs.Prelude.{◌≡◌, ◌<◌, ◌≤◌, ◌^◌, ◌↔◌, [], IsTrue, IfOk, IfErr, IfSome, IfNone, OnErr, Err};
 
 use crate::history::{History, Told};
 use crate::part::{KNOWN_SEED, SPENT};
@@ -6,9 +6,9 @@ use crate::refusal::Refusal;
 use crate::seeded::Seeded;
 use crate::store::Store;
 use crate::{ahead, answer, entries, judge, sweep};
-use rrc_history::{Ask, LAST_MOMENT, Offer, Outcome, Reply, ReplyRef, Rules, Tag};
-use rrc_name::{Key, Slot};
-use std::alloc::Global;
+use rrc_history::{Ask, Held, LAST_MOMENT, Offer, Outcome, Reply, ReplyRef, Rules, Snapshot, Tag};
+use rrc_name::{Key, KeyRef, Shared, Slot};
+use std::alloc::{AllocError, Global};
 use std::fmt::{self, Debug, Formatter, Write};
 use std::marker::Model;
 
@@ -41,10 +41,13 @@ impl Model for LeanPart {
 
 impl LeanPart {
     ghost use Rattle.rrc_history.specs.declared.event.Event.TheVariants.{Offered, Swept};
-    ghost use Rattle.rrc_history.specs.Past.{reply_to};
-    ghost use Rattle.rrc_history.specs.Views.{reply_in};
-    ghost use Rattle.rrc_cache.specs.Lean.{IsLeanDue, IsLeanOpen, IsLeanSound, IsPick};
-    ghost use Rattle.rrc_cache.specs.Part.{past_of, next_number, Adds, IsOfMoments, WritesOffer, WritesAsk, WritesSweep};
+    ghost use Rattle.rrc_history.specs.Past.{held, reply_to};
+    ghost use Rattle.rrc_history.specs.Views.{held_in, reply_in};
+    ghost use Rattle.rrc_name.specs.KeyRef.{key_of};
+    ghost use Rattle.std.specs.Option.{option_map};
+    ghost use Rattle.rrc_cache.specs.Expiry.{HoldsNothing, NoneDiesBefore};
+    ghost use Rattle.rrc_cache.specs.Lean.{IsLeanDue, IsLeanOpen, IsLeanSound, IsPick, Shuts};
+    ghost use Rattle.rrc_cache.specs.Part.{past_of, next_number, Adds, IsCloseDue, IsOfMoments, WritesOffer, WritesAsk, WritesSweep};
     ghost use Rattle.rrc_cache.specs.Sizes.{HoldsKeys};
 
     /// An empty part in the first chapter of its history. Its seed is known, as that of
@@ -91,6 +94,23 @@ impl LeanPart {
         ensures sound { IsLeanSound self.now }
     {
         self.store.len()
+    }
+
+    /// What a key holds, lent: the body, and the moment and the number of the event that stored it. It takes no memory and touches
+    /// nothing.
+    pub fn held(&self, key: KeyRef<'_>) -> Option<Held<'_>>
+        ensures { option_map held_in result ≡ held self.now.snapshot (past_of self.now) (key_of key.entry) }
+    {
+        self.store.get(self.store.hash_of(key.name), key)
+    }
+
+    /// A moment before which no key is dead, or `None` where the part holds none: the earliest at which a sweep may find something,
+    /// though not each such sweep does. It takes no memory.
+    pub fn next_expiry(&self) -> Option<u64>
+        ensures none { IfNone result (HoldsNothing self.now) }
+        ensures some { IfSome result (λ time. NoneDiesBefore self.now time) }
+    {
+        self.store.next_death()
     }
 
     /// Whether the numbers go on to another event. Only after 2^62 events they do not.
@@ -220,6 +240,40 @@ impl LeanPart {
         });
         self.next += 1;
         Ok(gone)
+    }
+
+    /// What `judge` tells, whatever the ask's moment is: the reply, the ask, as its event is to keep
+    /// them, and the slot.
+    pub(crate) fn answer(&self, ask: &Ask) -> Result<(Reply, Ask, Option<Slot>), AllocError>
+        ensures reply { IfOk result (λ told. told.0 ≡ reply_to self.now.snapshot (past_of self.now) ask.now) }
+        ensures asked { IfOk result (λ told. told.1 ≡ ask.now) }
+        ensures pick { IfOk result (λ told. IsPick self.now ask.now told.2) }
+    {
+        let hash = self.store.hash_of(&ask.name);
+        let (reply, asked, slot) = answer::answer(&self.store, hash, ask, self.rules.stale)?;
+        Ok((reply, asked, slot))
+    }
+
+    /// Ends the chapter with what the part holds, and begins the next one with it. It answers that
+    /// as a value of two owners.
+    ///
+    /// `HistoryFull` comes exactly where the chapter's number is 2^62, else `Memory`. A part that
+    /// refuses is as it was.
+    pub(crate) fn shut(&mut self) -> Result<(Shared<Snapshot>, Shared<Snapshot>), Refusal>
+        ensures ok { IfOk result (λ closings. Shuts self.old self.new closings.0) }
+        ensures same { IfOk result (λ closings. closings.1 ≡ closings.0) }
+        ensures err { OnErr result (self.new ≡ self.old) }
+        ensures due { IsCloseDue self.old result }
+    {
+        if self.number >= SPENT {
+            return Err(Refusal::HistoryFull);
+        }
+        let alloc = self.store.allocator();
+        let closing = self.store.close(alloc, self.rules, self.next)?;
+        let opening = closing.clone()?;
+        self.history = self.history.then(&Told::Closed { opening: &closing });
+        self.number += 1;
+        Ok((closing, opening))
     }
 
     /// Whether the part could take a call at this moment.

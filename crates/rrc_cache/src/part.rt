@@ -1,9 +1,8 @@
 ghost use Rattle.std.specs.Prelude.{◌≡◌, ◌<◌, ◌≤◌, ◌↔◌, ◌++◌, ◌∷◌, [], None, length, IsTrue, IfOk, IfErr, IfSome, IfNone, OnOk, OnErr, Err};
 
+use crate::lean::LeanPart;
 use crate::refusal::Refusal;
-use crate::seeded::Seeded;
-use crate::store::Store;
-use crate::{ahead, answer, closing, entries, judge, sweep};
+use crate::{answer, closing};
 use rrc_history::{
     Ask, Chapter, Event, Held, LAST_MOMENT, Offer, Outcome, Reply, ReplyRef, Rules, Snapshot, Tag,
 };
@@ -22,26 +21,26 @@ pub(crate) const KNOWN_SEED: [u8; 16] = [0; 16];
 /// the events since.
 #[derive(Debug, Drop)]
 pub struct Part {
-    number: u64,
+    /// What the calls are made on. Its history is that of the open chapter.
+    lean: LeanPart,
     /// What the part held when the chapter began. The chapter before ends with it, and shares it.
     snapshot: Shared<Snapshot>,
     events: Vec<Event>,
-    /// What is kept, the key touched last first.
-    store: Store,
 }
 
 impl Model for Part {
-    ghost use Rattle.rrc_cache.specs.Part.{PartOf, Holds};
+    ghost use Rattle.rrc_cache.specs.Part.{PartOf};
+    ghost use Rattle.rrc_cache.specs.Lean.{IsRecorded};
 
     ghost Value = { PartOf };
 
-    ghost view = { λ p. record { number = p.number; snapshot = p.snapshot; events = p.events.items } };
+    ghost view = { λ p. p.lean };
 
-    ghost invariant = { λ p. Holds (record { number = p.number; snapshot = p.snapshot; events = p.events.items }) p.store };
+    ghost invariant = { λ p. IsRecorded p.lean p.snapshot p.events.items };
 }
 
 impl Part {
-    ghost use Rattle.rrc_cache.specs.Part.{past_of, next_number, Closes, HasRoom, IsCloseDue, IsDue, IsOfMoments, IsSound, WritesOffer, WritesAsk, WritesSweep};
+    ghost use Rattle.rrc_cache.specs.Part.{past_of, Closes, HasRoom, IsCloseDue, IsDue, IsOfMoments, IsSound, WritesOffer, WritesAsk, WritesSweep};
     ghost use Rattle.rrc_cache.specs.Sizes.{HoldsKeys};
     ghost use Rattle.rrc_cache.specs.Expiry.{HoldsNothing, NoneDiesBefore};
     ghost use Rattle.rrc_history.specs.Past.{held, reply_to};
@@ -69,10 +68,9 @@ impl Part {
         ensures memory { OnErr result (result ≡ Err Refusal.Memory) }
     {
         Ok(Part {
-            number: 1,
+            lean: LeanPart::seeded(alloc, rules, seed)?,
             snapshot: closing::nothing(alloc, rules)?,
             events: Vec::new(alloc),
-            store: Store::new(alloc, Seeded::new(seed), rules)?,
         })
     }
 
@@ -81,7 +79,7 @@ impl Part {
         ensures value { result ≡ self.now.number }
         ensures sound { IsSound self.now }
     {
-        self.number
+        self.lean.number()
     }
 
     /// The events of the chapter that is open, the oldest first.
@@ -89,6 +87,8 @@ impl Part {
         ensures value { result.now ≡ self.now.events }
         ensures sound { IsSound self.now }
     {
+        // The number is read for what it tells: the history is legal.
+        let _ = self.lean.number();
         self.events.as_slice()
     }
 
@@ -97,6 +97,8 @@ impl Part {
         ensures value { result.now ≡ self.now.snapshot }
         ensures sound { IsSound self.now }
     {
+        // The number is read for what it tells: the history is legal.
+        let _ = self.lean.number();
         &self.snapshot
     }
 
@@ -106,7 +108,7 @@ impl Part {
         ensures few { result ≤ self.now.snapshot.rules.capacity }
         ensures sound { IsSound self.now }
     {
-        self.store.len()
+        self.lean.len()
     }
 
     /// What a key holds, lent: the body, and the moment and the number of the event that stored it. It takes no memory and touches
@@ -114,7 +116,7 @@ impl Part {
     pub fn held(&self, key: KeyRef<'_>) -> Option<Held<'_>>
         ensures { option_map held_in result ≡ held self.now.snapshot (past_of self.now) (key_of key.entry) }
     {
-        self.store.get(self.store.hash_of(key.name), key)
+        self.lean.held(key)
     }
 
     /// A moment before which no key is dead, or `None` where the part holds none: the earliest at which a sweep may find something,
@@ -123,14 +125,14 @@ impl Part {
         ensures none { IfNone result (HoldsNothing self.now) }
         ensures some { IfSome result (λ time. NoneDiesBefore self.now time) }
     {
-        self.store.next_death()
+        self.lean.next_expiry()
     }
 
     /// Whether the chapter has room for another event.
     pub fn has_room(&self) -> bool
         ensures { IsTrue result ↔ HasRoom self.now }
     {
-        (self.events.len() as u64) < self.snapshot.rules().chapter && self.next_number() < SPENT
+        (self.events.len() as u64) < self.snapshot.rules().chapter && self.lean.has_room()
     }
 
     /// The reply that `ask` would give to this ask now. It comes whatever the ask's moment is, also above the last one, and in a
@@ -138,8 +140,7 @@ impl Part {
     pub fn would_answer(&self, ask: &Ask) -> ReplyRef<'_>
         ensures { reply_in result ≡ reply_to self.now.snapshot (past_of self.now) ask.now }
     {
-        let hash = self.store.hash_of(&ask.name);
-        judge::judge(&self.store, hash, ask, self.snapshot.rules().stale).0
+        self.lean.would_answer(ask)
     }
 
     /// Keeps the body of an offer under its key, or says why not, and appends one event that tells it.
@@ -150,16 +151,9 @@ impl Part {
         ensures err { OnErr result (self.new ≡ self.old) }
         ensures due { IsDue self.old offer.moment result }
     {
-        ahead::load_data(&offer.body);
         self.admit(offer.moment)?;
-        let number = self.next_number();
         self.events.reserve(1)?;
-        let (outcome, evicted) = entries::take(
-            &mut self.store,
-            &offer,
-            number,
-            self.snapshot.rules().capacity,
-        )?;
+        let (outcome, evicted) = self.lean.take(tag, &offer)?;
         self.events.push_reserved(Event::Offered {
             tag,
             offer,
@@ -177,11 +171,9 @@ impl Part {
     {
         self.admit(ask.moment)?;
         self.events.reserve(1)?;
-        let stale = self.snapshot.rules().stale;
-        let hash = self.store.hash_of(&ask.name);
-        let (reply, asked, slot) = answer::answer(&self.store, hash, ask, stale)?;
+        let (reply, asked, slot) = self.lean.answer(ask)?;
         let event = answer::event_of(tag, asked, &reply)?;
-        answer::touch(&mut self.store, hash, ask, slot);
+        self.lean.note_asked(tag, ask, slot);
         self.events.push_reserved(event);
         Ok(reply)
     }
@@ -194,9 +186,8 @@ impl Part {
         ensures due { IsDue self.old moment result }
     {
         self.admit(moment)?;
-        let gone = sweep::dead_keys(*self.events.allocator(), &mut self.store, moment)?;
         self.events.reserve(1)?;
-        sweep::remove(&mut self.store, gone.as_slice());
+        let gone = self.lean.clear(tag, moment)?;
         let removed = gone.len();
         self.events.push_reserved(Event::Swept {
             tag,
@@ -214,28 +205,15 @@ impl Part {
         ensures err { OnErr result (self.new ≡ self.old) }
         ensures due { IsCloseDue self.old result }
     {
-        if self.number >= SPENT {
-            return Err(Refusal::HistoryFull);
-        }
+        let number = self.lean.number();
+        let (closing, opening) = self.lean.shut()?;
         let alloc = *self.events.allocator();
-        let (rules, first) = (self.snapshot.rules(), self.next_number());
-        let closing = self.store.close(alloc, rules, first)?;
-        let opening = closing.clone()?;
-        let number = self.number;
-        self.number = number + 1;
         Ok(Chapter {
             number,
             snapshot: mem::replace(&mut self.snapshot, opening),
             events: Sequence::from_vec(mem::replace(&mut self.events, Vec::new(alloc))),
             closing,
         })
-    }
-
-    /// The number of the next event.
-    fn next_number(&self) -> u64
-        ensures { result ≡ next_number self.now }
-    {
-        self.snapshot.first + self.events.len() as u64
     }
 
     /// Whether the part could take a call at this moment.

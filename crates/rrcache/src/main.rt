@@ -2,12 +2,14 @@
 #![tactic(auto)]
 
 mod options;
+mod progress;
 
+use crate::options::Asked;
+use crate::progress::Progress;
 use clap::ArgMatches;
 use clap::error::ErrorKind;
-use rrc_replay::report::Config;
 use rrc_replay::trace::ReplayFault;
-use rrc_replay::{Audit, OpenGate};
+use rrc_replay::{Gate, OpenGate};
 use std::io::BufReader;
 use std::process::ExitCode;
 use std::random::RandomSource;
@@ -44,15 +46,15 @@ fn random_seed(rt: &HostRuntime) -> io::Result<[u8; 16]> {
 
 /// What the arguments ask for.
 enum Wanted {
-    Replay(Config, Audit),
+    Replay(Asked),
     /// Nothing more is done: the help was told, or what is wrong with them.
     End(ExitCode),
 }
 
 /// What arguments that fit the command line ask for.
 fn wanted_by(matches: &ArgMatches<'_>) -> Wanted {
-    match options::config_in(matches) {
-        Some(config) => Wanted::Replay(config, options::audit_in(matches)),
+    match options::asked_in(matches) {
+        Some(asked) => Wanted::Replay(asked),
         None => Wanted::End(ExitCode::from(WRONG_ARGUMENTS)),
     }
 }
@@ -78,12 +80,12 @@ fn read_arguments(rt: &HostRuntime, words: &[String]) -> Result<Wanted, ReplayFa
 }
 
 /// Replays the trace on standard input, with threads from a handle that may start them.
-fn replayed<T: Threads + Wait + Sync>(
+fn replayed<T: Threads + Wait + Sync, G: Gate + Sync>(
     rt: &HostRuntime,
     threads: &T,
-    config: &Config,
-    audit: Audit,
+    asked: &Asked,
     seed: [u8; 16],
+    gate: &G,
 ) -> Result<(), ReplayFault> {
     let alloc = rt.alloc();
     let mut reader = BufReader::new(alloc, rt.reader()).map_err(|_| ReplayFault::Memory)?;
@@ -93,10 +95,10 @@ fn replayed<T: Threads + Wait + Sync>(
         alloc,
         &mut reader,
         &mut writer,
-        config,
+        &asked.config,
         seed,
-        audit,
-        &OpenGate,
+        asked.audit,
+        gate,
     )
 }
 
@@ -106,15 +108,18 @@ fn ended<T: Threads + Wait + Sync>(
     threads: &T,
     words: &[String],
 ) -> Result<ExitCode, ReplayFault> {
-    let (config, audit) = match read_arguments(rt, words)? {
-        Wanted::Replay(config, audit) => (config, audit),
+    let asked = match read_arguments(rt, words)? {
+        Wanted::Replay(asked) => asked,
         Wanted::End(code) => return Ok(code),
     };
     let Ok(seed) = random_seed(rt) else {
         let _ = eprintln!(rt; "rrcache: the system gave no random octets");
         return Ok(ExitCode::from(FAULT));
     };
-    replayed(rt, threads, &config, audit, seed)?;
+    match Progress::new(rt) {
+        Ok(progress) if asked.progress => replayed(rt, threads, &asked, seed, &progress)?,
+        _ => replayed(rt, threads, &asked, seed, &OpenGate)?,
+    }
     Ok(ExitCode::SUCCESS)
 }
 

@@ -54,6 +54,13 @@ fn audit<'a>(alloc: Global) -> Arg<'a> {
         .action(ArgAction::SetTrue)
 }
 
+fn progress<'a>(alloc: Global) -> Arg<'a> {
+    Arg::new(alloc, "progress")
+        .long("progress")
+        .help("Tells on standard error, once a second at most, at which line the replay is")
+        .action(ArgAction::SetTrue)
+}
+
 fn program<'a>(alloc: Global) -> Command<'a> {
     Command::new(alloc, "rrcache").about(
         "Replays a trace of cache operations from standard input, and writes its report to standard output",
@@ -68,11 +75,21 @@ pub(crate) fn command<'a>(alloc: Global) -> Result<Command<'a>, AllocError> {
         .arg(capacity(alloc))?
         .arg(chapter(alloc))?
         .arg(stale(alloc))?
-        .arg(audit(alloc))
+        .arg(audit(alloc))?
+        .arg(progress(alloc))
+}
+
+/// What the arguments ask for.
+#[derive(Drop)]
+pub(crate) struct Asked {
+    pub(crate) config: Config,
+    pub(crate) audit: Audit,
+    /// Whether the progress of the replay is told.
+    pub(crate) progress: bool,
 }
 
 /// The workers, the parts and the rules that the arguments give, with the usual limits.
-pub(crate) fn config_in(matches: &ArgMatches<'_>) -> Option<Config> {
+fn config_in(matches: &ArgMatches<'_>) -> Option<Config> {
     let workers = matches.get_one::<u64>("workers")?;
     let parts = matches.get_one::<u64>("parts")?;
     let capacity = matches.get_one::<u64>("capacity")?;
@@ -83,12 +100,21 @@ pub(crate) fn config_in(matches: &ArgMatches<'_>) -> Option<Config> {
 }
 
 /// Whether the arguments want an audit.
-pub(crate) fn audit_in(matches: &ArgMatches<'_>) -> Audit {
+fn audit_in(matches: &ArgMatches<'_>) -> Audit {
     if matches.get_flag("audit") {
         Audit::Made
     } else {
         Audit::Skipped
     }
+}
+
+/// What the arguments ask for, where their numbers are within the ranges.
+pub(crate) fn asked_in(matches: &ArgMatches<'_>) -> Option<Asked> {
+    Some(Asked {
+        config: config_in(matches)?,
+        audit: audit_in(matches),
+        progress: matches.get_flag("progress"),
+    })
 }
 
 #[cfg(test)]

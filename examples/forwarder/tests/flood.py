@@ -3,8 +3,8 @@
 
 It sends so many queries a second and reads no reply: for one name that is cached (hits), for ever
 new names whose servers are dead (names), or each on a connection of its own, of which it keeps
-those of the last two seconds (connections). It is a process of its own, so that it is as fast as
-its rate says.
+those of the last two seconds (connections). Once it sends it prints a line. It is a process of its
+own, so that it is as fast as its rate says.
 """
 import collections
 import itertools
@@ -51,6 +51,7 @@ def main(port, kind, rate):
     calls = {"hits": lambda: datagrams(port, itertools.repeat("a0.example")),
              "names": lambda: datagrams(port, (f"x{n}.dead.example" for n in itertools.count())),
              "connections": lambda: connections(port, min(2 * rate, 400))}
+    print("floods", flush=True)
     began = time.monotonic()
     for n, _ in enumerate(calls[kind]()):
         if n % BURST == 0:

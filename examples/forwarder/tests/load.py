@@ -83,14 +83,15 @@ def test_load_by_udp_and_tcp_with_threads_watched():
 
 @contextlib.contextmanager
 def flood(port, kind, rate):
-    process = subprocess.Popen([sys.executable, FLOOD, str(port), kind, str(rate)])
+    process = subprocess.Popen([sys.executable, FLOOD, str(port), kind, str(rate)],
+                               stdout=subprocess.PIPE)
     try:
-        time.sleep(0.3)
+        wanted(process.stdout.readline(), "a flood")
         yield
         wanted(process.poll() is None, "a flood to the end")
     finally:
         process.kill()
-        process.wait()
+        process.communicate()
 
 
 def patient(port, text, is_tcp):
@@ -143,7 +144,8 @@ def under_flood(kind, rate, program="forwarder"):
               f"{counters['connections'] / seconds:,.0f} connections a second; of "
               f"{OTHERS * TURNS} other answers the slowest took {max(slowest):.1f} seconds, and "
               f"{sum(missing)} are missing; {grown} MB more")
-        wanted(counters["connections" if kind == "connections" else "queries"] > rate, "a flood")
+        made = counters["connections" if kind == "connections" else "queries"]
+        wanted(made > 2 * OTHERS, f"a flood, and not {made:,} {kind} of all clients")
         wanted(max(slowest) < MOST_SECONDS, f"answers in time, and not after {max(slowest):.1f} s")
         wanted(sum(missing) <= OTHERS * TURNS // 20, f"answers, and not {sum(missing)} missing")
         wanted(grown < MOST_MEMORY[program], f"little memory, and not {grown} MB")
@@ -167,5 +169,5 @@ def test_flood_of_connections():
 @once
 def test_floods_with_addresses_and_threads_watched():
     for program in ("forwarder-checked", "forwarder-threads"):
-        for kind, rate in (("names", 500), ("connections", 100)):
+        for kind, rate in (("names", 500), ("connections", 200)):
             under_flood(kind, rate, program)

@@ -75,6 +75,22 @@ fn an_audit_is_made_where_it_is_wanted(rt: HostRuntime) -> Result<(), Fail> {
 }
 
 #[test]
+fn progress_is_told_where_it_is_wanted(rt: HostRuntime) -> Result<(), Fail> {
+    let alloc = rt.alloc();
+    for (words, wanted) in [
+        (&["rrcache"][..], false),
+        (&["rrcache", "--progress"][..], true),
+    ] {
+        let Ok(matches) = command(alloc)?.try_get_matches_from(words) else {
+            return Err("the words are arguments".into());
+        };
+        let asked = asked_in(&matches).ok_or("the numbers are in range")?;
+        assert_eq!(rt; asked.progress, wanted);
+    }
+    Ok(())
+}
+
+#[test]
 fn help_is_no_fault(rt: HostRuntime) -> Result<(), Fail> {
     match command(rt.alloc())?.try_get_matches_from(&["rrcache", "--help"][..]) {
         Ok(_) => Err("help is asked for".into()),
