@@ -4,3 +4,12 @@ mod orders;
 mod parts;
 mod sequences;
 mod shared_values;
+
+use rrc_name::Name;
+use std::alloc::Global;
+use std::process::Abort;
+
+/// The name of a text.
+pub(crate) fn name(rt: &impl Abort, alloc: Global, text: &str) -> Name {
+    Name::from_text(alloc, text).expect(rt, text)
+}

@@ -6,7 +6,7 @@ use super::{Kept, sound};
 use rrc_history::name::{Sequence, Shared};
 use rrc_history::{ChainFault, Chapter, Snapshot, Whole, chain, join_chained};
 use std::alloc::{AllocError, Global};
-use std::test::Fail;
+use std::process::Abort;
 
 /// A chapter in which nothing happens: its number, the capacity, the number of its first event, and
 /// what it holds.
@@ -20,12 +20,12 @@ const LOW: &[Kept<'static>] = &[("a.example.", 60, 10, 0)];
 const HIGH: &[Kept<'static>] = &[("A.example.", 60, 10, 0)];
 
 /// Three chapters, where each goes on from the one before it.
-const THREE: &[Quiet<'static>] = &[(7, 2, 3, LOW), (8, 2, 3, LOW), (9, 2, 3, LOW)];
+static THREE: [Quiet<'static>; 3] = [(7, 2, 3, LOW), (8, 2, 3, LOW), (9, 2, 3, LOW)];
 
-/// The chapter of no events that begins and ends with a snapshot.
-fn around(alloc: Global, number: u64, closing: Shared<Snapshot>) -> Result<Chapter, Fail> {
+/// The chapter of no events that begins and ends with a snapshot. Its number is below 2^62.
+fn around(alloc: Global, number: u64, closing: Shared<Snapshot>) -> Result<Chapter, AllocError> {
     if number >= 1 << 62 {
-        return Err("no chapter has this number".into());
+        return Err(AllocError);
     }
     // The rules are read for what they tell: the entries are sound.
     let _ = closing.rules();
@@ -38,30 +38,22 @@ fn around(alloc: Global, number: u64, closing: Shared<Snapshot>) -> Result<Chapt
     })
 }
 
-fn quiet(alloc: Global, quiet: Quiet<'_>) -> Result<Chapter, Fail> {
-    let (number, capacity, first, kept) = quiet;
-    let held = sound(alloc, capacity, first, kept)?;
-    around(alloc, number, Shared::new(alloc, held)?)
+fn quiet(rt: &impl Abort, alloc: Global, (number, capacity, first, kept): Quiet<'_>) -> Chapter {
+    let held = sound(rt, alloc, capacity, first, kept);
+    let closing = Shared::new(alloc, held).expect(rt, "a snapshot");
+    around(alloc, number, closing).expect(rt, "a chapter")
 }
 
-fn listed(alloc: Global, quiets: &[Quiet<'_>]) -> Result<Vec<Chapter>, Fail> {
+fn listed(rt: &impl Abort, alloc: Global, quiets: &[Quiet<'_>]) -> Vec<Chapter> {
     let mut chapters = Vec::new(alloc);
     for each in quiets {
-        chapters.push(quiet(alloc, *each)?)?;
+        chapters.push(quiet(rt, alloc, *each)).expect(rt, "a place");
     }
-    Ok(chapters)
+    chapters
 }
 
-fn chained(alloc: Global, quiets: &[Quiet<'_>]) -> Result<Result<Whole, ChainFault>, Fail> {
-    Ok(chain(listed(alloc, quiets)?))
-}
-
-/// The fault of a chain of these chapters, if it has one.
-fn fault(alloc: Global, quiets: &[Quiet<'_>]) -> Result<Option<ChainFault>, Fail> {
-    match chained(alloc, quiets)? {
-        Ok(_) => Ok(None),
-        Err(fault) => Ok(Some(fault)),
-    }
+fn chained(rt: &impl Abort, alloc: Global, quiets: &[Quiet<'_>]) -> Result<Whole, ChainFault> {
+    chain(listed(rt, alloc, quiets))
 }
 
 /// Whether a chapter is the seventh, and nothing happens in it behind event 3 where a set is held.
@@ -78,15 +70,15 @@ fn is_quiet(whole: &Whole) -> bool {
 }
 
 #[test]
-fn reads_a_chapter(rt: HostRuntime) -> Result<(), Fail> {
-    assert!(rt; is_seventh(&quiet(rt.alloc(), (7, 2, 3, LOW))?));
-    Ok(())
+fn reads_a_chapter(rt: HostRuntime) {
+    let chapter = quiet(&rt, rt.alloc(), (7, 2, 3, LOW));
+    assert!(rt; is_seventh(&chapter));
 }
 
 #[test]
-fn chains_chapters(rt: HostRuntime) -> Result<(), Fail> {
-    assert!(rt; is_quiet(&chained(rt.alloc(), THREE)??));
-    Ok(())
+fn chains_chapters(rt: HostRuntime) {
+    let whole = chained(&rt, rt.alloc(), &THREE).expect(&rt, "no history");
+    assert!(rt; is_quiet(&whole));
 }
 
 /// Whether a chapter goes on from the one before it.
@@ -108,24 +100,16 @@ fn go_on(chapters: &[Chapter]) -> bool
     }
 }
 
-/// The history of three chapters, where each goes on from the one before it.
-fn joined(chapters: Vec<Chapter>) -> Result<Option<Whole>, AllocError> {
-    if go_on(chapters.as_slice()) {
-        Ok(Some(join_chained(chapters)?))
-    } else {
-        Ok(None)
-    }
-}
-
 #[test]
-fn joins_chapters_that_chain(rt: HostRuntime) -> Result<(), Fail> {
-    let whole = joined(listed(rt.alloc(), THREE)?)?;
-    assert!(rt; is_quiet(&whole.ok_or("the chapters do not chain")?));
-    Ok(())
+fn joins_chapters_that_chain(rt: HostRuntime) {
+    let chapters = listed(&rt, rt.alloc(), &THREE);
+    assert!(rt; go_on(chapters.as_slice()));
+    let whole = join_chained(chapters).expect(&rt, "no history");
+    assert!(rt; is_quiet(&whole));
 }
 
 /// Chapters that are no history, each with its first fault.
-const FAULTS: [(ChainFault, &[Quiet<'static>]); 8] = [
+static FAULTS: [(ChainFault, &[Quiet<'static>]); 8] = [
     (ChainFault::NumberGap(0), &[]),
     (
         ChainFault::NumberGap(1),
@@ -154,23 +138,12 @@ const FAULTS: [(ChainFault, &[Quiet<'static>]); 8] = [
     ),
 ];
 
-/// The first of these faults that chapters are to have, and don't.
-fn astray(
-    alloc: Global,
-    faults: &[(ChainFault, &[Quiet<'_>])],
-) -> Result<Option<ChainFault>, Fail> {
-    for (wanted, quiets) in faults {
-        if fault(alloc, quiets)? != Some(*wanted) {
-            return Ok(Some(*wanted));
-        }
-    }
-    Ok(None)
-}
-
 #[test]
-fn answers_the_first_fault_of_a_chain(rt: HostRuntime) -> Result<(), Fail> {
-    assert_eq!(rt; astray(rt.alloc(), &FAULTS)?, None);
-    Ok(())
+fn answers_the_first_fault_of_a_chain(rt: HostRuntime) {
+    for (place, (wanted, quiets)) in FAULTS.iter().enumerate() {
+        let fault = chained(&rt, rt.alloc(), quiets).err();
+        assert!(rt; fault == Some(*wanted), "row {place}");
+    }
 }
 
 #[test]
@@ -180,5 +153,5 @@ fn numbers_the_faults_of_a_chain(rt: HostRuntime) {
         ChainFault::NotTheSameContents(7).number(),
         ChainFault::Memory.number(),
     ];
-    assert_eq!(rt; numbers, [1, 2, 3]);
+    assert!(rt; numbers == [1, 2, 3]);
 }

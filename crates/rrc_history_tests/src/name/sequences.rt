@@ -1,39 +1,31 @@
 use rrc_name::{Octets, Sequence};
-use std::alloc::{AllocError, Global};
-use std::test::Fail;
+use std::alloc::Global;
+use std::process::Abort;
 
-/// Whether octets are the same after a clone and a vector.
-fn are_kept(octets: &Octets) -> Result<bool, AllocError> {
-    let copy = Octets::from_vec(octets.clone()?.into_vec()?);
-    Ok(copy == *octets && !copy.is_empty())
+/// Asserts that octets are the same after a clone and a vector.
+fn are_kept(rt: &impl Abort, octets: &Octets) {
+    let copy = octets.clone().expect(rt, "a clone");
+    let copy = Octets::from_vec(copy.into_vec().expect(rt, "a vector"));
+    assert!(rt; copy == *octets && !copy.is_empty());
 }
 
 #[test]
-fn holds_octets(rt: HostRuntime) -> Result<(), Fail> {
-    let octets = Octets::from_slice(rt.alloc(), b"wWw")?;
+fn holds_octets(rt: HostRuntime) {
+    let octets = Octets::from_slice(rt.alloc(), b"wWw").expect(&rt, "octets");
     assert!(rt; octets.as_slice() == b"wWw".as_slice() && octets.len() == 3);
-    assert!(rt; octets.lowered()?.as_slice() == b"www".as_slice());
-    assert!(rt; are_kept(&octets)?);
+    let lowered = octets.lowered().expect(&rt, "lowered octets");
+    assert!(rt; lowered.as_slice() == b"www".as_slice());
+    are_kept(&rt, &octets);
     assert!(rt; Octets::new(octets.alloc()).is_empty());
-    Ok(())
 }
 
 /// A sequence of these values.
-fn sequence(alloc: Global, values: &[u8]) -> Result<Sequence<u8>, Fail> {
+fn sequence(rt: &impl Abort, alloc: Global, values: &[u8]) -> Sequence<u8> {
     let mut sequence = Sequence::new(alloc);
     for value in values {
-        sequence.push(*value)?;
+        sequence.push(*value).expect(rt, "a value");
     }
-    Ok(sequence)
-}
-
-/// What a walk over a sequence meets.
-fn met(alloc: Global, values: &Sequence<u8>) -> Result<Vec<u8>, AllocError> {
-    let mut met = Vec::new(alloc);
-    for value in values {
-        met.push(*value)?;
-    }
-    Ok(met)
+    sequence
 }
 
 /// Whether a sequence shows these values, by each way to look at it.
@@ -44,21 +36,30 @@ fn shows(values: &Sequence<u8>, wanted: &[u8]) -> bool {
         && values.iter().next() == wanted.first()
 }
 
-/// Whether a sequence is the same after a clone and a vector.
-fn is_kept(values: &Sequence<u8>) -> Result<bool, AllocError> {
-    Ok(Sequence::from_vec(values.clone()?.into_vec()) == *values)
+/// Whether a walk over a sequence meets these values.
+fn meets(values: &Sequence<u8>, wanted: &[u8]) -> bool {
+    let mut left = wanted.iter();
+    for value in values {
+        if left.next() != Some(value) {
+            return false;
+        }
+    }
+    left.next().is_none()
 }
 
-/// Whether a sequence of these values holds them in order.
-fn is_held(alloc: Global, wanted: &[u8]) -> Result<bool, Fail> {
-    let values = sequence(alloc, wanted)?;
-    let met = met(alloc, &values)?;
-    Ok(shows(&values, wanted) && met.as_slice() == wanted && is_kept(&values)?)
+/// Asserts that a sequence of these values holds them in order, and so does a clone by a vector.
+fn is_held(rt: &impl Abort, alloc: Global, wanted: &[u8]) {
+    let values = sequence(rt, alloc, wanted);
+    assert!(rt;
+        shows(&values, wanted) && meets(&values, wanted),
+        "{wanted:?}"
+    );
+    let copy = values.clone().expect(rt, "a clone").into_vec();
+    assert!(rt; Sequence::from_vec(copy) == values, "{wanted:?}");
 }
 
 #[test]
-fn holds_values_in_order(rt: HostRuntime) -> Result<(), Fail> {
-    assert!(rt; is_held(rt.alloc(), &[3, 1, 2])?);
-    assert!(rt; is_held(rt.alloc(), &[])?);
-    Ok(())
+fn holds_values_in_order(rt: HostRuntime) {
+    is_held(&rt, rt.alloc(), &[3, 1, 2]);
+    is_held(&rt, rt.alloc(), &[]);
 }
