@@ -21,6 +21,7 @@ use rrc_history::{
 };
 use rrc_name::{Key, Name, NameFault, Octets, Sequence, Shared, Slot};
 use std::alloc::{AllocError, Global};
+use std::process::Abort;
 use std::test::Fail;
 use sweeps::{Often, put_often};
 
@@ -29,7 +30,7 @@ const AA: Trust = Trust::AuthoritativeAnswer;
 const KEPT: Result<Outcome, Refusal> = Ok(Outcome::Kept);
 
 /// Rules for as many keys, in chapters for as many events.
-fn rules(capacity: u64, chapter: u64) -> Result<Rules, Fail> {
+pub(crate) fn rules(capacity: u64, chapter: u64) -> Result<Rules, Fail> {
     Ok(Rules::new(capacity, chapter, 86_400).ok_or("no rules")?)
 }
 
@@ -43,41 +44,51 @@ fn key(alloc: Global, name: &str, slot: Slot) -> Result<Key, NameFault> {
     Ok(Key::of(&name, 1, slot)?)
 }
 
-/// The one address 192.0.2.`host`.
-fn address(alloc: Global, host: u8) -> Result<Shared<Sequence<Octets>>, AllocError> {
+fn one_item(alloc: Global, octets: &[u8]) -> Result<Shared<Sequence<Octets>>, AllocError> {
     let mut items = Sequence::new(alloc);
-    items.push(Octets::from_slice(alloc, &[192, 0, 2, host])?)?;
+    items.push(Octets::from_slice(alloc, octets)?)?;
     Ok(Shared::new(alloc, items)?)
 }
 
-/// The address of an owner.
-fn set(alloc: Global, owner: &str, host: u8) -> Result<RrSet, NameFault> {
+/// The set of an owner, of one datum.
+fn set(alloc: Global, owner: &str, octets: &[u8]) -> Result<RrSet, NameFault> {
     let owner = Name::from_text(alloc, owner)?;
-    let items = address(alloc, host)?;
+    let items = one_item(alloc, octets)?;
     Ok(RrSet { owner, items })
 }
 
-/// The SOA record of an owner, whose data end with an octet.
-fn soa(alloc: Global, owner: &str, last: u8) -> Result<Soa, NameFault> {
+/// The address 192.0.2.`host` of an owner.
+fn address(alloc: Global, owner: &str, host: u8) -> Result<RrSet, NameFault> {
+    set(alloc, owner, &[192, 0, 2, host])
+}
+
+/// The SOA record of an owner, with its data.
+fn soa(alloc: Global, owner: &str, data: &[u8]) -> Result<Soa, NameFault> {
     let owner = Name::from_text(alloc, owner)?;
-    let octets = Octets::from_slice(alloc, &[0, 0, 1, last])?;
+    let octets = Octets::from_slice(alloc, data)?;
     let octets = Shared::new(alloc, octets)?;
     Ok(Soa { owner, octets })
 }
 
+/// The SOA record of an owner, whose data, here in short, end with an octet.
+fn short_soa(alloc: Global, owner: &str, last: u8) -> Result<Soa, NameFault> {
+    soa(alloc, owner, &[0, 0, 1, last])
+}
+
 /// What is offered for a name, in short.
 #[derive(Clone, Copy)]
-enum Held {
+pub(crate) enum Held {
     /// The address 192.0.2.`host`: the rank, the seconds and the host.
     Set(Trust, u32, u8),
-    /// That what a slot is for does not exist, from an authoritative answer, for 300 seconds.
+    /// That what a slot is for does not exist, from an authoritative answer, for 300 seconds. The SOA
+    /// record ends with the octet 44.
     Denial(Slot),
     /// That asking for addresses failed, for some seconds.
     Failure(u32),
 }
 
 /// An offer, in short: the moment, the name, and what is offered for it.
-type Offered<'a> = (u64, &'a str, Held);
+pub(crate) type Offered<'a> = (u64, &'a str, Held);
 
 fn slot_of(held: Held) -> Slot {
     match held {
@@ -87,40 +98,36 @@ fn slot_of(held: Held) -> Slot {
     }
 }
 
-fn positive(
-    alloc: Global,
-    owner: &str,
-    (trust, ttl, host): (Trust, u32, u8),
-) -> Result<Body, NameFault> {
-    let RrSet { owner, items } = set(alloc, owner, host)?;
-    Ok(Body::Positive {
+fn positive(set: RrSet, trust: Trust, ttl: u32) -> Body {
+    let RrSet { owner, items } = set;
+    Body::Positive {
         trust,
         ttl,
         owner,
         items,
-    })
+    }
 }
 
-/// A negative answer, whose SOA record ends with the octet 44.
-fn negative(alloc: Global) -> Result<Body, NameFault> {
-    let Soa { owner, octets } = soa(alloc, "example.", 44)?;
-    Ok(Body::Negative {
+/// An authoritative negative answer, for 300 seconds.
+fn negative(soa: Soa) -> Body {
+    let Soa { owner, octets } = soa;
+    Body::Negative {
         trust: AA,
         ttl: 300,
         soa_owner: owner,
         soa: octets,
-    })
+    }
 }
 
 fn body(alloc: Global, owner: &str, held: Held) -> Result<Body, NameFault> {
     match held {
-        Held::Set(trust, ttl, host) => positive(alloc, owner, (trust, ttl, host)),
-        Held::Denial(_) => negative(alloc),
+        Held::Set(trust, ttl, host) => Ok(positive(address(alloc, owner, host)?, trust, ttl)),
+        Held::Denial(_) => Ok(negative(short_soa(alloc, "example.", 44)?)),
         Held::Failure(ttl) => Ok(Body::Failure { ttl }),
     }
 }
 
-fn offer(alloc: Global, offered: Offered<'_>) -> Result<Offer, Fail> {
+pub(crate) fn offer(alloc: Global, offered: Offered<'_>) -> Result<Offer, Fail> {
     let (moment, name, held) = offered;
     let key = key(alloc, name, slot_of(held))?;
     let body = body(alloc, name, held)?;
@@ -128,16 +135,11 @@ fn offer(alloc: Global, offered: Offered<'_>) -> Result<Offer, Fail> {
 }
 
 /// A question: the moment, the name, the type, the purpose and the mode.
-type Question<'a> = (u64, &'a str, u16, Purpose, Mode);
+pub(crate) type Question<'a> = (u64, &'a str, u16, Purpose, Mode);
 
-fn question(alloc: Global, asked: Question<'_>) -> Result<Ask, NameFault> {
-    let key = key(alloc, asked.1, Slot::Nx)?;
-    Ok(question_of(&key, asked)?)
-}
-
-/// A question for the name of a key.
-fn question_of(key: &Key, asked: Question<'_>) -> Result<Ask, AllocError> {
-    let (moment, _, rtype, purpose, mode) = asked;
+pub(crate) fn question(alloc: Global, asked: Question<'_>) -> Result<Ask, NameFault> {
+    let (moment, name, rtype, purpose, mode) = asked;
+    let key = key(alloc, name, Slot::Nx)?;
     Ok(Ask {
         name: key.name().clone()?,
         class: 1,
@@ -162,19 +164,19 @@ enum Replied<'a> {
 fn reply(alloc: Global, replied: Replied<'_>) -> Result<Reply, NameFault> {
     match replied {
         Replied::Fresh(owner, host, left) => {
-            let set = set(alloc, owner, host)?;
+            let set = address(alloc, owner, host)?;
             Ok(Reply::Fresh { set, left })
         }
         Replied::Stale(owner, host, left) => {
-            let set = set(alloc, owner, host)?;
+            let set = address(alloc, owner, host)?;
             Ok(Reply::Stale { set, left })
         }
         Replied::NoData(owner, last, left) => {
-            let soa = soa(alloc, owner, last)?;
+            let soa = short_soa(alloc, owner, last)?;
             Ok(Reply::NoData { soa, left })
         }
         Replied::NxDomain(owner, last, left) => {
-            let soa = soa(alloc, owner, last)?;
+            let soa = short_soa(alloc, owner, last)?;
             Ok(Reply::NxDomain { soa, left })
         }
         Replied::Miss(retry_from) => Ok(Reply::Miss { retry_from }),
@@ -363,6 +365,8 @@ fn has_only(part: &Part, line: u64) -> bool {
 /// A call of a part with what it is to answer, or what a part is to tell of itself.
 #[derive(Clone, Copy)]
 enum Step<'a> {
+    /// An authoritative address is kept: the moment, the name, the seconds and the host.
+    Keep(u64, &'a str, u32, u8),
     Offer(Offered<'a>, Result<Outcome, Refusal>),
     /// Offers at moment 100 that so many names do not exist, none of which is refused.
     Deny(u64),
@@ -393,6 +397,15 @@ enum Step<'a> {
 /// Whether a step goes as it is to, as line `line` of a trace.
 fn goes(alloc: Global, part: &mut Part, line: u64, step: Step<'_>) -> Result<bool, Fail> {
     match step {
+        Step::Keep(moment, name, ttl, host) => {
+            takes(
+                alloc,
+                part,
+                line,
+                (moment, name, Held::Set(AA, ttl, host)),
+                KEPT,
+            )
+        }
         Step::Offer(offered, wanted) => takes(alloc, part, line, offered, wanted),
         Step::Deny(names) => deny_many(alloc, part, names),
         Step::Often(often) => put_often(alloc, part, often),
@@ -411,28 +424,26 @@ fn goes(alloc: Global, part: &mut Part, line: u64, step: Step<'_>) -> Result<boo
     }
 }
 
-/// The place of the first step that goes otherwise than it is to. The steps are the lines of a
-/// trace, from line 0 on.
-fn astray_in(alloc: Global, part: &mut Part, steps: &[Step<'_>]) -> Result<Option<usize>, Fail> {
+/// Each step goes as it is to. The steps are the lines of a trace, from line 0 on.
+fn go(rt: &impl Abort, alloc: Global, part: &mut Part, steps: &[Step<'_>]) -> Result<(), Fail> {
     for (line, step) in steps.iter().enumerate() {
-        if !goes(alloc, part, line as u64, *step)? {
-            return Ok(Some(line));
-        }
+        assert!(rt; goes(alloc, part, line as u64, *step)?, "step {line}");
     }
-    Ok(None)
+    Ok(())
 }
 
 /// The same in a part that is let go then.
-fn astray_of(alloc: Global, mut part: Part, steps: &[Step<'_>]) -> Result<Option<usize>, Fail> {
-    astray_in(alloc, &mut part, steps)
+fn go_in(rt: &impl Abort, alloc: Global, mut part: Part, steps: &[Step<'_>]) -> Result<(), Fail> {
+    go(rt, alloc, &mut part, steps)
 }
 
 /// The same in a new part for as many keys, in a chapter for as many events.
-fn astray(
+fn test_steps(
+    rt: &impl Abort,
     alloc: Global,
     capacity: u64,
     chapter: u64,
     steps: &[Step<'_>],
-) -> Result<Option<usize>, Fail> {
-    astray_of(alloc, part(alloc, capacity, chapter)?, steps)
+) -> Result<(), Fail> {
+    go_in(rt, alloc, part(alloc, capacity, chapter)?, steps)
 }

@@ -1,10 +1,8 @@
-use super::{AA, Held, KEPT, Opened, Question, Replied, Step, astray};
+use super::{Opened, Question, Replied, Step, test_steps};
 use rrc_cache::{Part, Refusal};
 use rrc_history::{Chapter, Mode, Purpose, chain};
 use std::alloc::Global;
 use std::test::Fail;
-
-const SET: Held = Held::Set(AA, 60, 1);
 
 const ASKED: Question<'static> = (14, "a.example.", 1, Purpose::Answer, Mode::NoStale);
 
@@ -15,32 +13,31 @@ const B: Opened<'static> = ("b.example.", 13, 3);
 const C: Opened<'static> = ("c.example.", 12, 2);
 
 const RENEWING: [Step<'static>; 13] = [
-    Step::Offer((10, "a.example.", SET), KEPT),
-    Step::Offer((11, "b.example.", Held::Set(AA, 60, 2)), KEPT),
-    Step::Offer((12, "c.example.", Held::Set(AA, 60, 3)), KEPT),
+    Step::Keep(10, "a.example.", 60, 1),
+    Step::Keep(11, "b.example.", 60, 2),
+    Step::Keep(12, "c.example.", 60, 3),
     Step::Close((1, 0, 3, 3)),
-    Step::Offer((13, "b.example.", Held::Set(AA, 60, 4)), KEPT),
+    Step::Keep(13, "b.example.", 60, 4),
     Step::Close((2, 3, 1, 3)),
     Step::Opens(3, &[B, C, A]),
     Step::Ask(ASKED, Ok(Replied::Fresh("a.example.", 1, 56))),
     Step::Close((3, 4, 1, 3)),
     Step::Opens(4, &[A, B, C]),
-    Step::Offer((15, "d.example.", Held::Set(AA, 60, 5)), KEPT),
+    Step::Keep(15, "d.example.", 60, 5),
     Step::Close((4, 5, 1, 3)),
     Step::Opens(5, &[("d.example.", 15, 5), A, B]),
 ];
 
 #[test]
 fn a_closing_has_what_stayed_beside_what_is_new(rt: HostRuntime) -> Result<(), Fail> {
-    assert_eq!(rt; astray(rt.alloc(), 3, 4096, &RENEWING)?, None);
-    Ok(())
+    test_steps(&rt, rt.alloc(), 3, 4096, &RENEWING)
 }
 
 #[test]
 fn the_next_chapter_has_room(rt: HostRuntime) -> Result<(), Fail> {
     let asked = (101, "a.example.", 1, Purpose::Answer, Mode::NoStale);
     let steps = [
-        Step::Offer((100, "a.example.", SET), KEPT),
+        Step::Keep(100, "a.example.", 60, 1),
         Step::Ask(asked, Err(Refusal::HistoryFull)),
         Step::Close((1, 0, 1, 1)),
         Step::Room(true),
@@ -51,8 +48,7 @@ fn the_next_chapter_has_room(rt: HostRuntime) -> Result<(), Fail> {
         Step::Close((3, 2, 0, 1)),
         Step::Opens(4, &[("a.example.", 100, 0)]),
     ];
-    assert_eq!(rt; astray(rt.alloc(), 1024, 1, &steps)?, None);
-    Ok(())
+    test_steps(&rt, rt.alloc(), 1024, 1, &steps)
 }
 
 /// The next two chapters of a part.
@@ -72,7 +68,6 @@ pub(super) fn chain_to(alloc: Global, part: &mut Part, events: usize) -> Result<
 
 #[test]
 fn chapters_of_one_part_chain(rt: HostRuntime) -> Result<(), Fail> {
-    let steps = [Step::Offer((10, "a.example.", SET), KEPT), Step::Chain(1)];
-    assert_eq!(rt; astray(rt.alloc(), 1024, 4096, &steps)?, None);
-    Ok(())
+    let steps = [Step::Keep(10, "a.example.", 60, 1), Step::Chain(1)];
+    test_steps(&rt, rt.alloc(), 1024, 4096, &steps)
 }

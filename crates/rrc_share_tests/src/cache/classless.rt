@@ -1,12 +1,12 @@
-use super::{AA, key as now_key, rules};
+use super::{AA, address, closed, key as now_key, negative, positive, question, rules, set, soa};
 use rrc_cache::{ChapterFault, classless_chapter, recheck};
 use rrc_history::classless::{Ask, Chapter, Event, Key, Offer, Snapshot};
-use rrc_history::name::{Key as NowKey, Name, NameFault, Octets, Sequence, Shared, Slot};
+use rrc_history::name::{Name, NameFault, Slot};
 use rrc_history::{
-    Body, Event as NowEvent, FirstBad, Mode, Outcome, Purpose, Reply, RrSet, Soa, Tag, Trust,
-    audit, from_classless,
+    Body, Event as NowEvent, FirstBad, Mode, Outcome, Purpose, Reply, Tag, Trust, audit,
+    from_classless,
 };
-use std::alloc::{AllocError, Global};
+use std::alloc::Global;
 use std::test::Fail;
 
 // The trace and the report of the row later-nxdomain-governs-an-unexpired-address.
@@ -19,52 +19,85 @@ const SOA: [u8; 38] = [
 
 const TAG: Tag = Tag { line: 0, place: 0 };
 
-fn key(alloc: Global, name: &str, slot: Slot) -> Result<Key, NameFault> {
-    Ok(Key::of(&Name::from_text(alloc, name)?, slot)?)
+/// What the row offers and is answered.
+#[derive(Clone, Copy)]
+enum Data {
+    /// The address of `a.example.`.
+    Address,
+    /// The SOA record of `example.` as a set.
+    Soa,
+    /// That `a.example.` does not exist, as the SOA record says.
+    NoName,
+    Miss,
 }
 
-fn one_item(alloc: Global, octets: &[u8]) -> Result<Shared<Sequence<Octets>>, AllocError> {
-    let mut items = Sequence::new(alloc);
-    items.push(Octets::from_slice(alloc, octets)?)?;
-    Ok(Shared::new(alloc, items)?)
+fn body(alloc: Global, data: Data) -> Result<Body, NameFault> {
+    match data {
+        Data::Address => Ok(positive(address(alloc, "a.example.", 1)?, AA, 604_800)),
+        Data::Soa => Ok(positive(set(alloc, "example.", &SOA)?, Trust::Authority, 3600)),
+        _ => Ok(negative(soa(alloc, "example.", &SOA)?)),
+    }
 }
 
-/// The set of an owner, of one datum.
-fn set(
+/// The answer of the row's report.
+fn reply(alloc: Global, data: Data) -> Result<Reply, NameFault> {
+    match data {
+        Data::NoName => Ok(Reply::NxDomain {
+            soa: soa(alloc, "example.", &SOA)?,
+            left: 1,
+        }),
+        Data::Soa => Ok(Reply::Fresh {
+            set: set(alloc, "example.", &SOA)?,
+            left: 3300,
+        }),
+        _ => Ok(Reply::Miss { retry_from: None }),
+    }
+}
+
+/// The offers of the row: the moment, the name, its slot, and what is offered.
+const OFFERS: [(u64, &str, Slot, Data); 3] = [
+    (1000, "a.example.", Slot::Set(1), Data::Address),
+    (2000, "example.", Slot::Set(6), Data::Soa),
+    (2000, "a.example.", Slot::Nx, Data::NoName),
+];
+
+fn offer(
     alloc: Global,
-    owner: &str,
-    (trust, ttl): (Trust, u32),
-    octets: &[u8],
-) -> Result<Body, NameFault> {
-    Ok(Body::Positive {
-        trust,
-        ttl,
-        owner: Name::from_text(alloc, owner)?,
-        items: one_item(alloc, octets)?,
-    })
+    (moment, name, slot, data): (u64, &str, Slot, Data),
+) -> Result<Offer, Fail> {
+    let name = Name::from_text(alloc, name)?;
+    let key = Key::of(&name, slot)?;
+    Ok(Offer::new(key, body(alloc, data)?, moment)?)
 }
 
-/// That a name does not exist, as the SOA record says, for 300 seconds.
-fn denial(alloc: Global) -> Result<Body, NameFault> {
-    Ok(Body::Negative {
-        trust: AA,
-        ttl: 300,
-        soa_owner: Name::from_text(alloc, "example.")?,
-        soa: Shared::new(alloc, Octets::from_slice(alloc, &SOA)?)?,
-    })
+/// Puts the offers of the row behind events, of which the first has this outcome.
+fn push_offers(alloc: Global, events: &mut Vec<Event>, first: Outcome) -> Result<(), Fail> {
+    let mut outcome = first;
+    for offered in OFFERS {
+        events.push(Event::Offered {
+            tag: TAG,
+            offer: offer(alloc, offered)?,
+            outcome,
+            evicted: None,
+        })?;
+        outcome = Outcome::Kept;
+    }
+    Ok(())
 }
 
-fn offered(key: Key, body: Body, moment: u64, outcome: Outcome) -> Result<Event, Fail> {
-    Ok(Event::Offered {
-        outcome,
-        tag: TAG,
-        offer: Offer::new(key, body, moment)?,
-        evicted: None,
-    })
-}
+/// The questions of the row, which are a client's: the moment, the name, the type, the mode, and the
+/// answer.
+const ASKS: [(u64, &str, u16, Mode, Data); 3] = [
+    (2299, "a.example.", 1, Mode::NoStale, Data::NoName),
+    (2300, "a.example.", 1, Mode::Now, Data::Miss),
+    (2300, "example.", 6, Mode::NoStale, Data::Soa),
+];
 
-/// A question of a client's for the name of a key.
-fn ask_of(key: &NowKey, rtype: u16, moment: u64, mode: Mode) -> Result<Ask, AllocError> {
+fn ask(
+    alloc: Global,
+    (moment, name, rtype, mode, _): (u64, &str, u16, Mode, Data),
+) -> Result<Ask, NameFault> {
+    let key = now_key(alloc, name, Slot::Nx)?;
     Ok(Ask {
         name: key.name().clone()?,
         rtype,
@@ -74,150 +107,97 @@ fn ask_of(key: &NowKey, rtype: u16, moment: u64, mode: Mode) -> Result<Ask, Allo
     })
 }
 
-/// A question of a client's for the address of `a.example.`.
-fn question(alloc: Global, moment: u64, mode: Mode) -> Result<Ask, NameFault> {
-    let key = now_key(alloc, "a.example.", Slot::Nx)?;
-    Ok(ask_of(&key, 1, moment, mode)?)
-}
-
-/// The first answer of the row's report.
-fn no_such_name(alloc: Global) -> Result<Reply, NameFault> {
-    Ok(Reply::NxDomain {
-        soa: Soa {
-            owner: Name::from_text(alloc, "example.")?,
-            octets: Shared::new(alloc, Octets::from_slice(alloc, &SOA)?)?,
-        },
-        left: 1,
-    })
-}
-
-fn asked(ask: Ask, reply: Reply) -> Event {
-    Event::Asked {
-        tag: TAG,
-        ask,
-        reply,
+/// Puts the questions of the row behind events.
+fn push_asks(alloc: Global, events: &mut Vec<Event>) -> Result<(), Fail> {
+    for asked in ASKS {
+        let ask = ask(alloc, asked)?;
+        events.push(Event::Asked {
+            tag: TAG,
+            ask,
+            reply: reply(alloc, asked.4)?,
+        })?;
     }
-}
-
-/// The last question of the row, with its answer.
-fn asked_for_soa(alloc: Global) -> Result<Event, NameFault> {
-    let key = now_key(alloc, "example.", Slot::Nx)?;
-    let ask = ask_of(&key, 6, 2300, Mode::NoStale)?;
-    let set = RrSet {
-        owner: Name::from_text(alloc, "example.")?,
-        items: one_item(alloc, &SOA)?,
-    };
-    Ok(asked(ask, Reply::Fresh { set, left: 3300 }))
+    Ok(())
 }
 
 /// The events of the row, of which the first has this outcome.
 fn events(alloc: Global, first: Outcome) -> Result<Vec<Event>, Fail> {
     let mut events = Vec::new(alloc);
-    let address = set(alloc, "a.example.", (AA, 604_800), &[192, 0, 2, 1])?;
-    let soa = set(alloc, "example.", (Trust::Authority, 3600), &SOA)?;
-    let denial = denial(alloc)?;
-    events.push(offered(
-        key(alloc, "a.example.", Slot::Set(1))?,
-        address,
-        1000,
-        first,
-    )?)?;
-    events.push(offered(
-        key(alloc, "example.", Slot::Set(6))?,
-        soa,
-        2000,
-        Outcome::Kept,
-    )?)?;
-    events.push(offered(
-        key(alloc, "a.example.", Slot::Nx)?,
-        denial,
-        2000,
-        Outcome::Kept,
-    )?)?;
-    events.push(asked(question(alloc, 2299, Mode::NoStale)?, no_such_name(alloc)?))?;
-    events.push(asked(
-        question(alloc, 2300, Mode::Now)?,
-        Reply::Miss { retry_from: None },
-    ))?;
-    events.push(asked_for_soa(alloc)?)?;
+    push_offers(alloc, &mut events, first)?;
+    push_asks(alloc, &mut events)?;
     Ok(events)
 }
 
-/// A chapter of these events from a snapshot of nothing.
+/// A chapter of those events from a snapshot of nothing.
 fn chapter(
     alloc: Global,
     number: u64,
-    events: Vec<Event>,
+    first: Outcome,
 ) -> Result<Result<Chapter, ChapterFault>, Fail> {
     let snapshot = Snapshot::new(rules(16, 4096)?, 0, Vec::new(alloc))?;
-    Ok(classless_chapter(alloc, number, snapshot, events))
+    Ok(classless_chapter(alloc, number, snapshot, events(alloc, first)?))
 }
 
-/// The first question of the row in a class, with an answer.
-fn asked_in(alloc: Global, class: u16, reply: Reply) -> Result<NowEvent, NameFault> {
-    let Ask {
-        name,
-        rtype,
-        moment,
-        purpose,
-        mode,
-    } = question(alloc, 2299, Mode::NoStale)?;
-    let ask = rrc_history::Ask {
-        name,
-        class,
-        rtype,
-        moment,
-        purpose,
-        mode,
-    };
-    Ok(NowEvent::Asked {
-        tag: TAG,
-        ask,
-        reply,
-    })
-}
-
-/// What an audit says of the image of the row's chapter, where the first question is asked once more behind it.
-fn said_of(alloc: Global, class: u16, reply: Reply) -> Result<Result<(), FirstBad>, Fail> {
-    let made = from_classless(alloc, &chapter(alloc, 7, events(alloc, Outcome::Kept)?)??)?;
-    let rrc_history::Chapter {
-        snapshot,
-        events,
-        ..
-    } = made;
-    let mut events = events.into_vec();
-    events.push(asked_in(alloc, class, reply)?)?;
-    Ok(audit(&snapshot, events.as_slice()))
+/// The image of the row's chapter.
+fn image(alloc: Global) -> Result<rrc_history::Chapter, Fail> {
+    let before = chapter(alloc, 7, Outcome::Kept)??;
+    Ok(from_classless(alloc, &before)?)
 }
 
 #[test]
 fn image_of_a_classless_chapter_is_legal(rt: HostRuntime) -> Result<(), Fail> {
-    let alloc = rt.alloc();
-    let before = chapter(alloc, 7, events(alloc, Outcome::Kept)?)??;
-    let made = from_classless(alloc, &before)?;
-    assert_eq!(rt; made.number(), 7);
-    assert_eq!(rt; made.events().len(), 6);
-    assert_eq!(rt; made.closing().entries.len(), 3);
-    assert_eq!(rt; made.closing().first, 6);
-    assert_eq!(rt; audit(made.snapshot(), made.events()), Ok(()));
-    assert_eq!(rt; recheck(alloc, made.snapshot(), made.events()), Ok(()));
+    let made = image(rt.alloc())?;
+    assert!(rt; closed(&made) == (7, 0, 6, 3) && made.closing().first == 6);
+    assert!(rt; audit(made.snapshot(), made.events()) == Ok(()));
+    assert!(rt; recheck(rt.alloc(), made.snapshot(), made.events()) == Ok(()));
     Ok(())
+}
+
+/// The first question of the row in a class, with an answer.
+fn asked_in(alloc: Global, class: u16, data: Data) -> Result<NowEvent, NameFault> {
+    let mut ask = question(
+        alloc,
+        (2299, "a.example.", 1, Purpose::Answer, Mode::NoStale),
+    )?;
+    ask.class = class;
+    Ok(NowEvent::Asked {
+        tag: TAG,
+        ask,
+        reply: reply(alloc, data)?,
+    })
+}
+
+/// What an audit says of the image, where the first question is asked once more behind it.
+fn said_of(alloc: Global, class: u16, data: Data) -> Result<Result<(), FirstBad>, Fail> {
+    let asked = asked_in(alloc, class, data)?;
+    let rrc_history::Chapter {
+        snapshot,
+        events,
+        ..
+    } = image(alloc)?;
+    let mut events = events.into_vec();
+    events.push(asked)?;
+    Ok(audit(&snapshot, events.as_slice()))
 }
 
 #[test]
 fn image_answers_in_class_in_alone(rt: HostRuntime) -> Result<(), Fail> {
-    let alloc = rt.alloc();
-    let miss = Reply::Miss { retry_from: None };
-    assert_eq!(rt; said_of(alloc, 1, no_such_name(alloc)?)?, Ok(()));
-    assert_eq!(rt; said_of(alloc, 1, miss.clone()?)?, Err(FirstBad(6)));
-    assert_eq!(rt; said_of(alloc, 3, no_such_name(alloc)?)?, Err(FirstBad(6)));
-    assert_eq!(rt; said_of(alloc, 3, miss)?, Ok(()));
+    for (class, data, wanted) in [
+        (1, Data::NoName, Ok(())),
+        (1, Data::Miss, Err(FirstBad(6))),
+        (3, Data::NoName, Err(FirstBad(6))),
+        (3, Data::Miss, Ok(())),
+    ] {
+        assert!(rt;
+            said_of(rt.alloc(), class, data)? == wanted,
+            "{wanted:?} in class {class}"
+        );
+    }
     Ok(())
 }
 
 #[test]
 fn tells_why_events_are_no_classless_chapter(rt: HostRuntime) -> Result<(), Fail> {
-    let alloc = rt.alloc();
     for (number, first, fault) in [
         (0, Outcome::Kept, Some((ChapterFault::BadNumber, 1))),
         (1, Outcome::Kept, None),
@@ -226,8 +206,11 @@ fn tells_why_events_are_no_classless_chapter(rt: HostRuntime) -> Result<(), Fail
         (0, Outcome::Cleared, Some((ChapterFault::BadNumber, 1))),
         (1, Outcome::Cleared, Some((ChapterFault::NotLegal(0), 2))),
     ] {
-        let told = chapter(alloc, number, events(alloc, first)?)?;
-        assert_eq!(rt; told.err().map(|fault| (fault, fault.number())), fault);
+        let told = chapter(rt.alloc(), number, first)?.err();
+        assert!(rt;
+            told.map(|fault| (fault, fault.number())) == fault,
+            "{number}: {told:?}"
+        );
     }
     Ok(())
 }

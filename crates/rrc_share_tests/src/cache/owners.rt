@@ -1,4 +1,4 @@
-use super::{AA, Held, KEPT, Question, Step, ask, astray};
+use super::{Question, Step, ask, test_steps};
 use rrc_cache::Part;
 use rrc_history::{Mode, Purpose, Reply};
 use std::alloc::Global;
@@ -28,10 +28,9 @@ pub(super) fn has_owners(
 fn an_answer_shares_what_is_kept(rt: HostRuntime) -> Result<(), Fail> {
     let asked = (101, "a.example.", 1, Purpose::Answer, Mode::NoStale);
     let steps = [
-        Step::Offer((100, "A.example.", Held::Set(AA, 60, 1)), KEPT),
+        Step::Keep(100, "A.example.", 60, 1),
         // The offer and the answer as they were written, what is kept, and the answer handed out.
         Step::Owners(asked, (4, 4)),
     ];
-    assert_eq!(rt; astray(rt.alloc(), 4, 8, &steps)?, None);
-    Ok(())
+    test_steps(&rt, rt.alloc(), 4, 8, &steps)
 }

@@ -1,4 +1,4 @@
-use super::{AA, Held, KEPT, Replied, Step, astray};
+use super::{Held, KEPT, Replied, Step, test_steps};
 use rrc_history::{Mode, Purpose};
 use rrc_name::Slot;
 use std::test::Fail;
@@ -8,15 +8,14 @@ fn would_answer_what_ask_answers(rt: HostRuntime) -> Result<(), Fail> {
     let fresh = (159, "a.example.", 1, Purpose::Answer, Mode::NoStale);
     let stale = (160, "a.example.", 1, Purpose::Answer, Mode::Now);
     let steps = [
-        Step::Offer((100, "a.example.", Held::Set(AA, 60, 1)), KEPT),
+        Step::Keep(100, "a.example.", 60, 1),
         Step::Would(fresh, Replied::Fresh("a.example.", 1, 1)),
         Step::Would(stale, Replied::Stale("a.example.", 1, 30)),
         Step::Only(0),
         Step::Ask(fresh, Ok(Replied::Fresh("a.example.", 1, 1))),
         Step::Ask(stale, Ok(Replied::Stale("a.example.", 1, 30))),
     ];
-    assert_eq!(rt; astray(rt.alloc(), 1024, 4096, &steps)?, None);
-    Ok(())
+    test_steps(&rt, rt.alloc(), 1024, 4096, &steps)
 }
 
 #[test]
@@ -32,6 +31,5 @@ fn lends_negative_answers_and_misses(rt: HostRuntime) -> Result<(), Fail> {
         Step::Would(other, Replied::NxDomain("example.", 44, 1)),
         Step::Would(past, Replied::Miss(Some(420))),
     ];
-    assert_eq!(rt; astray(rt.alloc(), 1024, 4096, &steps)?, None);
-    Ok(())
+    test_steps(&rt, rt.alloc(), 1024, 4096, &steps)
 }

@@ -1,4 +1,4 @@
-use super::{AA, Held, Replied, deny, gets, give, part, rules};
+use super::{Question, Replied, Step, deny, rules, test_steps};
 use rrc_cache::Part;
 use rrc_history::{Mode, Purpose};
 use std::alloc::{AllocError, Global};
@@ -60,18 +60,18 @@ fn another_seed_parts_keys_that_were_picked(rt: HostRuntime) -> Result<(), Fail>
 /// A key of SipHash whose octets count up, as in the vectors of its authors.
 const COUNTED: [u8; 16] = [0, 1, 2, 3, 4, 5, 6, 7, 8, 9, 10, 11, 12, 13, 14, 15];
 
-/// The lowest ten bits of SipHash-1-3 of the wire forms of `0.example.` to `7.example.`: under the
+/// A number, and the lowest ten bits of SipHash-1-3 of the wire form of `NUMBER.example.`: under the
 /// key of zeros, as CPython 3.11 hashes these octets with PYTHONHASHSEED=0, and under the counted
 /// key, by a program that was held against CPython and the vector of the authors' paper.
-const PLACES: &[(usize, usize)] = &[
-    (763, 827),
-    (97, 358),
-    (684, 835),
-    (975, 231),
-    (971, 689),
-    (625, 285),
-    (706, 237),
-    (408, 228),
+const PLACES: &[(u64, usize, usize)] = &[
+    (0, 763, 827),
+    (1, 97, 358),
+    (2, 684, 835),
+    (3, 975, 231),
+    (4, 971, 689),
+    (5, 625, 285),
+    (6, 706, 237),
+    (7, 408, 228),
 ];
 
 /// The place, among 1,024, where a part behind a seed marks the name of a number. In a part's text
@@ -83,48 +83,41 @@ fn place_of(alloc: Global, seed: [u8; 16], number: u64) -> Result<usize, Fail> {
 
 #[test]
 fn names_are_hashed_by_siphash_1_3_under_the_seed(rt: HostRuntime) -> Result<(), Fail> {
-    let mut number = 0u64;
-    for (zeros, counted) in PLACES {
-        let place = place_of(rt.alloc(), [0; 16], number)?;
-        assert!(rt; place == *zeros, "{place} for {number}");
-        let place = place_of(rt.alloc(), COUNTED, number)?;
-        assert!(rt; place == *counted, "{place} for {number}, counted");
-        number = number.saturating_add(1);
+    for (number, zeros, counted) in PLACES {
+        let by_zeros = place_of(rt.alloc(), [0; 16], *number)?;
+        let by_counted = place_of(rt.alloc(), COUNTED, *number)?;
+        let is_right = by_zeros == *zeros && by_counted == *counted;
+        assert!(rt; is_right, "{by_zeros} and {by_counted} for {number}");
     }
     Ok(())
 }
 
 /// Names of which a fast hasher with a known multiplier makes one hash, whatever it is fed before:
 /// some of their octets cancel the others.
-const ALIKE: &[(&str, u8)] = &[
-    (
-        "annkksu\\021\\124j\\127\\185y7\\158\\040\\210\\152\\187\\245\\021\\009\\044\\021\\124j\\127\\185y7\\158aaaaaaaa.example.",
-        1,
-    ),
-    (
-        "m8nlmyt\\021\\124j\\127\\185y7\\158h\\243\\152\\0594\\031\\233\\236\\021\\124j\\127\\185y7\\158aaaaaaaa.example.",
-        2,
-    ),
-    (
-        "bx0kjqe\\021\\124j\\127\\185y7\\158h\\210\\154\\2195\\215\\002\\012\\021\\124j\\127\\185y7\\158aaaaaaaa.example.",
-        3,
-    ),
-    (
-        "vtavetw\\021\\124j\\127\\185y7\\158\\201\\146\\152\\091\\183\\246\\168\\239\\021\\124j\\127\\185y7\\158aaaaaaaa.example.",
-        4,
-    ),
+const ALIKE: [&str; 4] = [
+    "annkksu\\021\\124j\\127\\185y7\\158\\040\\210\\152\\187\\245\\021\\009\\044\\021\\124j\\127\\185y7\\158aaaaaaaa.example.",
+    "m8nlmyt\\021\\124j\\127\\185y7\\158h\\243\\152\\0594\\031\\233\\236\\021\\124j\\127\\185y7\\158aaaaaaaa.example.",
+    "bx0kjqe\\021\\124j\\127\\185y7\\158h\\210\\154\\2195\\215\\002\\012\\021\\124j\\127\\185y7\\158aaaaaaaa.example.",
+    "vtavetw\\021\\124j\\127\\185y7\\158\\201\\146\\152\\091\\183\\246\\168\\239\\021\\124j\\127\\185y7\\158aaaaaaaa.example.",
 ];
+
+/// A client's question for the address of a name.
+fn asked(name: &str) -> Question<'_> {
+    (100, name, 1, Purpose::Answer, Mode::NoStale)
+}
 
 #[test]
 fn names_that_were_picked_to_be_alike_have_their_own_sets(rt: HostRuntime) -> Result<(), Fail> {
-    let mut part = part(rt.alloc(), 16, 64)?;
-    for (name, host) in ALIKE {
-        give(rt.alloc(), &mut part, (100, name, Held::Set(AA, 60, *host)))?;
-    }
-    for (name, host) in ALIKE {
-        let asked = (100, *name, 1, Purpose::Answer, Mode::NoStale);
-        let wanted = Ok(Replied::Fresh(name, *host, 60));
-        assert!(rt; gets(rt.alloc(), &mut part, 0, asked, wanted)?, "{host}");
-    }
-    Ok(())
+    let [a, b, c, d] = ALIKE;
+    let steps = [
+        Step::Keep(100, a, 60, 1),
+        Step::Keep(100, b, 60, 2),
+        Step::Keep(100, c, 60, 3),
+        Step::Keep(100, d, 60, 4),
+        Step::Ask(asked(a), Ok(Replied::Fresh(a, 1, 60))),
+        Step::Ask(asked(b), Ok(Replied::Fresh(b, 2, 60))),
+        Step::Ask(asked(c), Ok(Replied::Fresh(c, 3, 60))),
+        Step::Ask(asked(d), Ok(Replied::Fresh(d, 4, 60))),
+    ];
+    test_steps(&rt, rt.alloc(), 16, 64, &steps)
 }

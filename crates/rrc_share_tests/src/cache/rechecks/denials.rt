@@ -1,4 +1,4 @@
-use super::{History, LATE, MISS, Told, Turned, astray, first_bad};
+use super::{History, LATE, MISS, Told, Turn, Turned, test_turned};
 use crate::cache::{AA, Held, Question, Replied};
 use rrc_history::{Mode, Outcome, Purpose};
 use rrc_name::Slot;
@@ -49,162 +49,77 @@ const EVENTS: [Told<'static>; 9] = [
     Told::Asked(FRESH_ALONE, RETRY),
 ];
 
-#[test]
-fn takes_a_legal_history(rt: HostRuntime) -> Result<(), Fail> {
-    assert_eq!(rt; first_bad(rt.alloc(), LEGAL, (0, EVENTS[0]))?, None);
-    Ok(())
-}
-
 const OFFERS: [Turned<'static>; 8] = [
-    (
-        0,
-        Told::Offered((105, "c.example.", NX), Outcome::Cleared, None),
-    ),
-    (
-        0,
-        Told::Offered((105, "c.example.", NX), Outcome::LessTrusted, None),
-    ),
-    (
-        1,
-        Told::Offered((105, "d.example.", NO_ADDRESS), Outcome::Cleared, None),
-    ),
-    (
-        1,
-        Told::Offered((105, "d.example.", NO_ADDRESS), Outcome::LessTrusted, None),
-    ),
-    (
-        1,
-        Told::Offered((LATE, "d.example.", NO_ADDRESS), Outcome::Kept, None),
-    ),
-    (
-        6,
-        Told::Offered((170, "a.example.", FAILURE), Outcome::Cleared, None),
-    ),
-    (
-        6,
-        Told::Offered((170, "a.example.", FAILURE), Outcome::LessTrusted, None),
-    ),
-    (
-        6,
-        Told::Offered((LATE, "a.example.", FAILURE), Outcome::Kept, None),
-    ),
+    (0, Turn::Outcome(Outcome::Cleared)),
+    (0, Turn::Outcome(Outcome::LessTrusted)),
+    (1, Turn::Outcome(Outcome::Cleared)),
+    (1, Turn::Outcome(Outcome::LessTrusted)),
+    (1, Turn::Moment(LATE)),
+    (6, Turn::Outcome(Outcome::Cleared)),
+    (6, Turn::Outcome(Outcome::LessTrusted)),
+    (6, Turn::Moment(LATE)),
 ];
 
 #[test]
 fn finds_a_denial_or_a_failure_offered_with_one_field_turned(rt: HostRuntime) -> Result<(), Fail> {
-    assert_eq!(rt; astray(rt.alloc(), LEGAL, &OFFERS)?, None);
-    Ok(())
+    test_turned(&rt, rt.alloc(), LEGAL, &OFFERS)
 }
 
 const DENIALS: [Turned<'static>; 14] = [
-    (
-        2,
-        Told::Asked(NO_NAME, Replied::NxDomain("Example.", 44, 295)),
-    ),
-    (
-        2,
-        Told::Asked(NO_NAME, Replied::NxDomain("example.", 45, 295)),
-    ),
-    (
-        2,
-        Told::Asked(NO_NAME, Replied::NxDomain("example.", 44, 294)),
-    ),
-    (2, Told::Asked(NO_NAME, NO_DATA)),
-    (2, Told::Asked(NO_NAME, MISS)),
-    (2, Told::Asked(NO_SET, NX_DOMAIN)),
-    (
-        2,
-        Told::Asked(
-            (111, "c.example.", 1, Purpose::Answer, Mode::NoStale),
-            NX_DOMAIN,
-        ),
-    ),
-    (3, Told::Asked(NO_SET, Replied::NoData("Example.", 44, 295))),
-    (3, Told::Asked(NO_SET, Replied::NoData("example.", 45, 295))),
-    (3, Told::Asked(NO_SET, Replied::NoData("example.", 44, 294))),
-    (3, Told::Asked(NO_SET, NX_DOMAIN)),
-    (3, Told::Asked(NO_SET, MISS)),
-    (3, Told::Asked(NO_NAME, NO_DATA)),
-    (
-        3,
-        Told::Asked(
-            (110, "d.example.", 28, Purpose::Answer, Mode::NoStale),
-            NO_DATA,
-        ),
-    ),
+    (2, Turn::Reply(Replied::NxDomain("Example.", 44, 295))),
+    (2, Turn::Reply(Replied::NxDomain("example.", 45, 295))),
+    (2, Turn::Reply(Replied::NxDomain("example.", 44, 294))),
+    (2, Turn::Reply(NO_DATA)),
+    (2, Turn::Reply(MISS)),
+    (2, Turn::Name("d.example.")),
+    (2, Turn::Moment(111)),
+    (3, Turn::Reply(Replied::NoData("Example.", 44, 295))),
+    (3, Turn::Reply(Replied::NoData("example.", 45, 295))),
+    (3, Turn::Reply(Replied::NoData("example.", 44, 294))),
+    (3, Turn::Reply(NX_DOMAIN)),
+    (3, Turn::Reply(MISS)),
+    (3, Turn::Name("c.example.")),
+    (3, Turn::Type(28)),
 ];
 
 #[test]
 fn finds_a_denial_with_one_field_turned(rt: HostRuntime) -> Result<(), Fail> {
-    assert_eq!(rt; astray(rt.alloc(), LEGAL, &DENIALS)?, None);
-    Ok(())
+    test_turned(&rt, rt.alloc(), LEGAL, &DENIALS)
 }
 
 const STALE_ANSWERS: [Turned<'static>; 13] = [
-    (5, Told::Asked(NOW, Replied::Fresh("a.example.", 1, 30))),
-    (5, Told::Asked(NOW, Replied::Stale("a.example.", 1, 29))),
-    (5, Told::Asked(NOW, Replied::Stale("A.example.", 1, 30))),
-    (5, Told::Asked(NOW, Replied::Stale("a.example.", 2, 30))),
-    (5, Told::Asked(NOW, MISS)),
-    (
-        5,
-        Told::Asked((164, "a.example.", 1, Purpose::Answer, Mode::Now), STALE),
-    ),
-    (
-        5,
-        Told::Asked((86_565, "a.example.", 1, Purpose::Answer, Mode::Now), STALE),
-    ),
+    (5, Turn::Reply(Replied::Fresh("a.example.", 1, 30))),
+    (5, Turn::Reply(Replied::Stale("a.example.", 1, 29))),
+    (5, Turn::Reply(Replied::Stale("A.example.", 1, 30))),
+    (5, Turn::Reply(Replied::Stale("a.example.", 2, 30))),
+    (5, Turn::Reply(MISS)),
+    (5, Turn::Moment(164)),
+    (5, Turn::Moment(86_565)),
     // No failure is recent yet, and that of event 6 is over at 200.
-    (
-        5,
-        Told::Asked((165, "a.example.", 1, Purpose::Answer, Mode::Failed), STALE),
-    ),
-    (
-        7,
-        Told::Asked((200, "a.example.", 1, Purpose::Answer, Mode::Failed), STALE),
-    ),
-    (7, Told::Asked(FRESH_ALONE, STALE)),
-    (
-        7,
-        Told::Asked(AFTER_FAILURE, Replied::Fresh("a.example.", 1, 30)),
-    ),
-    (
-        7,
-        Told::Asked(AFTER_FAILURE, Replied::Stale("a.example.", 1, 29)),
-    ),
-    (7, Told::Asked(AFTER_FAILURE, RETRY)),
+    (5, Turn::Mode(Mode::Failed)),
+    (7, Turn::Moment(200)),
+    (7, Turn::Mode(Mode::NoStale)),
+    (7, Turn::Reply(Replied::Fresh("a.example.", 1, 30))),
+    (7, Turn::Reply(Replied::Stale("a.example.", 1, 29))),
+    (7, Turn::Reply(RETRY)),
 ];
 
 #[test]
 fn finds_a_stale_answer_with_one_field_turned(rt: HostRuntime) -> Result<(), Fail> {
-    assert_eq!(rt; astray(rt.alloc(), LEGAL, &STALE_ANSWERS)?, None);
-    Ok(())
+    test_turned(&rt, rt.alloc(), LEGAL, &STALE_ANSWERS)
 }
 
 const MISSES: [Turned<'static>; 7] = [
-    (8, Told::Asked(FRESH_ALONE, MISS)),
-    (8, Told::Asked(FRESH_ALONE, Replied::Miss(Some(199)))),
-    (8, Told::Asked(FRESH_ALONE, Replied::Miss(Some(201)))),
-    (8, Told::Asked(FRESH_ALONE, STALE)),
-    (8, Told::Asked(AFTER_FAILURE, RETRY)),
-    (
-        8,
-        Told::Asked(
-            (200, "a.example.", 1, Purpose::Answer, Mode::NoStale),
-            RETRY,
-        ),
-    ),
-    (
-        8,
-        Told::Asked(
-            (180, "a.example.", 28, Purpose::Answer, Mode::NoStale),
-            RETRY,
-        ),
-    ),
+    (8, Turn::Reply(MISS)),
+    (8, Turn::Reply(Replied::Miss(Some(199)))),
+    (8, Turn::Reply(Replied::Miss(Some(201)))),
+    (8, Turn::Reply(STALE)),
+    (8, Turn::Mode(Mode::Failed)),
+    (8, Turn::Moment(200)),
+    (8, Turn::Type(28)),
 ];
 
 #[test]
 fn finds_a_miss_with_one_field_turned(rt: HostRuntime) -> Result<(), Fail> {
-    assert_eq!(rt; astray(rt.alloc(), LEGAL, &MISSES)?, None);
-    Ok(())
+    test_turned(&rt, rt.alloc(), LEGAL, &MISSES)
 }
