@@ -1,3 +1,4 @@
+// SPDX-License-Identifier: MIT
 // What the arguments tell.
 
 use anyhow::Result;

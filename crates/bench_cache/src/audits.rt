@@ -1,3 +1,4 @@
+// SPDX-License-Identifier: MIT
 // The audits whose time is taken.
 
 use anyhow::Result;

@@ -1,3 +1,4 @@
+// SPDX-License-Identifier: MIT
 // The calls whose time is taken.
 
 use crate::made::{PickedAsk, PickedOffer, offer_a_tenth};

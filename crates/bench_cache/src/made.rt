@@ -1,3 +1,4 @@
+// SPDX-License-Identifier: MIT
 // What is asked and offered, each made before the time is taken: the addresses of `www{n % 7}.zone{n}.example.` for numbers n.
 
 use crate::calls::{TAG, ask_part};

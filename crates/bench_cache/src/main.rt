@@ -1,3 +1,4 @@
+// SPDX-License-Identifier: MIT
 //! Calls parts of the cache many times and prints what it counted, and on standard error the nanoseconds of processor time that
 //! the calls took, for a script that compares: `bench_cache TASK KEYS CALLS [PARTS]`, where TASK is `hit`, `shelf`, `miss`, `would`,
 //! `room`, `replace`, `evict`, `sweep`, `load`, `audit` or `recheck`. KEYS is how many each part holds. A call of `shelf` is an ask of

@@ -1,3 +1,4 @@
+// SPDX-License-Identifier: MIT
 // Numbers in no order that shows, the same in each run.
 
 /// What makes the numbers: a linear congruential generator.

@@ -1,3 +1,4 @@
+// SPDX-License-Identifier: MIT
 // Calls a shared cache by several threads at once.
 
 mod calls;

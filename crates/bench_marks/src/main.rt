@@ -1,3 +1,4 @@
+// SPDX-License-Identifier: MIT
 //! Draws and marks by one, two or four threads at once, counted, for a script that times them: `bench_marks WHAT THREADS COUNT`, where WHAT is `draws`, `pairs` or `shares` and each thread does COUNT. Without arguments it does a few of each.
 #![tactic(auto)]
 

@@ -1,3 +1,4 @@
+// SPDX-License-Identifier: MIT
 // What each thread does, and how the work is spread over one, two or four threads.
 ghost use Rattle.std.specs.Prelude.{◌≡◌, ◌+◌, ◌*◌, ◌^◌, ◌<◌, ◌≤◌, [], length};
 ghost use Rattle.std.specs.Thread.{IsSync};

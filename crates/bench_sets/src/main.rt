@@ -1,3 +1,4 @@
+// SPDX-License-Identifier: MIT
 //! Reads messages of the DNS many times, or makes their offers, and prints what it counted, for scripts that time it:
 //! `bench_sets TASK PASSES [FILE]`, where TASK is `read` or `offer`. The file, or standard input, has one message in hexadecimal on each
 //! line. For `offer` the messages are read once, beforehand, and the nanoseconds of processor time that the offers took are on standard

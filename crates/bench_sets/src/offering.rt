@@ -1,3 +1,4 @@
+// SPDX-License-Identifier: MIT
 // The offers of messages, whose time is taken.
 
 use crate::reading::octets_in;

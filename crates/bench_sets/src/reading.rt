@@ -1,3 +1,4 @@
+// SPDX-License-Identifier: MIT
 // Reading messages, alone.
 
 use anyhow::{Context, Result};

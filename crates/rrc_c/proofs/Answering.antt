@@ -1,3 +1,4 @@
+-- SPDX-License-Identifier: MIT
 -- What a shelf answers is the reply that it had.
 use Rattle.std.proofs.Common.{◌≡◌, ap, subst, ◌∙◌, inl, inr}
 use Rattle.rrc_history.specs.Asked.{AskOf}

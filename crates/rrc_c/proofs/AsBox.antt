@@ -1,3 +1,4 @@
+-- SPDX-License-Identifier: MIT
 -- What a seal holds, and its parts, own what a box at the same types owns.
 use Rattle.std.specs.Prelude.{◌≡◌, None, Some, IsSome, refl}
 use Rattle.rrc_c.specs.Sealed.{Held}

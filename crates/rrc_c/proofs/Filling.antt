@@ -1,3 +1,4 @@
+-- SPDX-License-Identifier: MIT
 -- Writing into a buffer, one piece behind another.
 use Rattle.std.proofs.Common.{◌≡◌, ℕ, ◌+◌, ◌≤◌, List, [], ◌∷◌, ◌++◌, length, take, drop, get_or, sym, ap, subst, ◌∙◌, append_assoc, append-nil, arith, ◌/◌, ◌%◌, ◌<◌, zero, suc, not-suc-le-zero, le_of_suc-le-suc}
 use Rattle.std.proofs.lemmas.List.{take_at, take_more, length-append, drop-drop}

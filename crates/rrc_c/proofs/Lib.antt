@@ -1,3 +1,4 @@
+-- SPDX-License-Identifier: MIT
 pub mod AsBox
 pub mod ReadingAsBox
 pub mod Filling

@@ -1,3 +1,4 @@
+-- SPDX-License-Identifier: MIT
 -- What the seal of a reading holds, and its parts, own what a box at the same types owns.
 use Rattle.std.specs.Prelude.{◌≡◌, None, Some, IsSome, refl}
 use Rattle.rrc_c.specs.SealedReading.{Held}

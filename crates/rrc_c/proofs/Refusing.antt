@@ -1,3 +1,4 @@
+-- SPDX-License-Identifier: MIT
 -- Why calls are refused.
 use Rattle.std.proofs.Common.{◌≡◌, ℕ, ◌+◌, ◌^◌, ◌<◌, ◌≤◌, List, [], ◌∷◌, ◌++◌, length, drop, get_or, refl, sym, ap, subst, inl, inr, arith, Option, Some, Result, Ok, Err}
 use Rattle.std.proofs.lemmas.List.{drop_all}

@@ -1,3 +1,4 @@
+-- SPDX-License-Identifier: MIT
 -- What a reading offers by parts is what the message offers by them, and which parts those are.
 use Rattle.std.proofs.Common.{◌≡◌, ℕ, suc, ◌+◌, ◌^◌, ◌<◌, ◌≤◌, List, [], ◌∷◌, ◌==◌, Bool, true, false, cond, if◌then◌else◌, map, filter, refl, sym, ap, subst, ◌∙◌, inl, inr, arith}
 use Rattle.std.proofs.Math.Nat.{two-pow-succ}

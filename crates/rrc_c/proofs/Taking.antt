@@ -1,3 +1,4 @@
+-- SPDX-License-Identifier: MIT
 -- Offers that are made one after another.
 use Rattle.std.proofs.Common.{◌≡◌, ℕ, ◌+◌, List, [], ◌∷◌, ◌++◌, length, reverse, take, drop, get_or, ◌<◌, Result, Ok, Err, sym, ap, subst, ◌∙◌, arith}
 use Rattle.std.proofs.lemmas.List.{length-reverse, reverse-append, length-append, take-append-drop, drop_more}

@@ -1,3 +1,4 @@
+-- SPDX-License-Identifier: MIT
 -- What C asks, and what it is told.
 use Rattle.std.specs.Prelude.{◌≡◌, ℕ, ◌<◌, ◌≤◌, List, length, Bool, true, false, if◌then◌else◌, ◌==◌}
 use Rattle.rrc_name.specs.Wire.{folded}

@@ -1,3 +1,4 @@
+-- SPDX-License-Identifier: MIT
 -- What a handle holds before and after a call.
 use Rattle.std.specs.Prelude.{◌≡◌, ℕ, Option, None, Some}
 use Rattle.rrc_share.specs.Shelf.{ShelfOf, IsLeft}

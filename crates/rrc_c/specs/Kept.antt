@@ -1,3 +1,4 @@
+-- SPDX-License-Identifier: MIT
 -- What C is told of octets, and of what a shelf holds.
 use Rattle.std.specs.Prelude.{◌≡◌, ℕ, ◌⊎◌, List, [], length}
 use Rattle.rrc_cache.specs.Expiry.{NoneDiesBefore}

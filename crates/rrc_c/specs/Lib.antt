@@ -1,3 +1,4 @@
+-- SPDX-License-Identifier: MIT
 pub mod Sealed
 pub mod SealedReading
 pub mod Statuses

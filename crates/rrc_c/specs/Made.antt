@@ -1,3 +1,4 @@
+-- SPDX-License-Identifier: MIT
 -- The shelf that a handle holds when it was made.
 use Rattle.std.specs.Prelude.{◌≡◌, ℕ, [], Option, None, Some}
 use Rattle.rrc_history.specs.Limits.{Are}

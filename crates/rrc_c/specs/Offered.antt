@@ -1,3 +1,4 @@
+-- SPDX-License-Identifier: MIT
 -- What C offers, and what it is told of it.
 use Rattle.std.specs.Prelude.{◌≡◌, ℕ, ◌+◌, ◌⊎◌, List, [], ◌∷◌, ◌++◌, length, reverse, if◌then◌else◌, ◌==◌}
 use Rattle.std.specs.List.{All}

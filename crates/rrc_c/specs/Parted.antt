@@ -1,3 +1,4 @@
+-- SPDX-License-Identifier: MIT
 -- What C offers of a message to a shelf that is one of many: that of the names which lie in its part.
 use Rattle.std.specs.Prelude.{ℕ, ◌<◌, ◌≤◌, ◌⊎◌, ◌==◌, List, filter}
 use Rattle.rrc_history.specs.Fits.{OfferOf}

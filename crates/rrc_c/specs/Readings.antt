@@ -1,3 +1,4 @@
+-- SPDX-License-Identifier: MIT
 -- What one reading of a message holds: its offers, each beside the part that its name lies in.
 use Rattle.std.specs.Prelude.{◌≡◌, ℕ, zero, suc, ◌+◌, ◌^◌, ◌<◌, ◌≤◌, ◌⊎◌, ◌==◌, List, Bool, Option, None, Some, map, filter, if◌then◌else◌}
 use Rattle.std.specs.List.{list_any}

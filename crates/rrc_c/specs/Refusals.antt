@@ -1,3 +1,4 @@
+-- SPDX-License-Identifier: MIT
 -- Why calls are refused. A number is that of a status, and what is said of a refusal is a fact of the number.
 use Rattle.std.specs.Prelude.{◌≡◌, ℕ, ◌+◌, ◌*◌, ◌<◌, ◌≤◌, ◌⊎◌, List, [], ◌++◌, length, slice_index, true, false, Option, None, Some, Bool, if◌then◌else◌, ◌==◌}
 use Rattle.std.specs.List.{AllByRecursion}

@@ -1,3 +1,4 @@
+-- SPDX-License-Identifier: MIT
 -- What a seal owns: nothing, or the same as a box with a reading in it.
 use base.Fml.{Fml, ftrue}
 use base.Stored.{Coded}

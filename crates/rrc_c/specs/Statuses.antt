@@ -1,3 +1,4 @@
+-- SPDX-License-Identifier: MIT
 -- The statuses that calls answer: 0 where a call was done, and else why it was not.
 use Rattle.std.specs.Prelude.{◌≡◌, ℕ, Bool, true, false, Result, Ok, Err}
 use Rattle.rrc_cache.specs.declared.refusal.Refusal.{Refusal}

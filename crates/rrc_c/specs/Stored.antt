@@ -1,3 +1,4 @@
+-- SPDX-License-Identifier: MIT
 -- What C is told of what a key holds.
 use Rattle.std.specs.Prelude.{◌≡◌, ℕ, List, Option, Some, None}
 use Rattle.rrc_name.specs.Wire.{folded}

@@ -1,3 +1,4 @@
+-- SPDX-License-Identifier: MIT
 -- A reply as C is told it: a record of numbers, and the octets of a buffer.
 use Rattle.std.specs.Prelude.{◌≡◌, ℕ, ◌/◌, ◌%◌, ◌^◌, ◌<◌, ◌≤◌, List, [], ◌∷◌, ◌++◌, length, drop, None, Some}
 use Rattle.rrc_history.specs.declared.event.Reply.{Reply}

@@ -1,3 +1,4 @@
+// SPDX-License-Identifier: MIT
 ghost use Rattle.std.specs.Prelude.{◌≡◌, ◌+◌, ◌≤◌, ◌↔◌, length, IsTrue, IfOk, IfErr, OnOk, OnErr};
 ghost use Rattle.rrc_c.specs.Asked.{asked, purpose_of, mode_of, reply_of, AreKept, AnswersOr, ShowsOr};
 ghost use Rattle.rrc_c.specs.Refusals.{AskDue, IsQuestion, NameRefused, PeekDue, QuestionRefused, ReplyRefused, TellingThen, WriteDue};

@@ -1,3 +1,4 @@
+// SPDX-License-Identifier: MIT
 ghost use Rattle.std.specs.Prelude.{◌≡◌, ◌<◌, ◌⊎◌, None, IfOk, OnErr, length};
 ghost use Rattle.rrc_c.specs.Statuses.{number_of_call, number_of_reply, OnDone, OnNoShelf, OnRefused, OnSmall, OnUntold};
 ghost use Rattle.rrc_c.specs.Handles.{BothHold, HoldsNone, IsKept, TellsNone};

@@ -1,3 +1,4 @@
+// SPDX-License-Identifier: MIT
 ghost use Rattle.std.specs.Prelude.{◌≡◌, ◌≤◌, ◌<◌, IfOk, IfErr, OnOk, OnErr};
 ghost use Rattle.rrc_cache.specs.Expiry.{NoneDiesBefore};
 ghost use Rattle.rrc_c.specs.Kept.{TellsFault};

@@ -1,3 +1,4 @@
+// SPDX-License-Identifier: MIT
 //! The cache for resolvers that are written in C.
 #![tactic(auto)]
 

@@ -1,3 +1,4 @@
+// SPDX-License-Identifier: MIT
 ghost use Rattle.std.specs.Prelude.{◌≡◌, IfOk};
 ghost use Rattle.std.specs.Option.{option_map};
 ghost use Rattle.rrc_c.specs.Refusals.{StoredDue};

@@ -1,3 +1,4 @@
+// SPDX-License-Identifier: MIT
 ghost use Rattle.std.specs.Prelude.{◌≡◌, ◌↔◌, None, IfOk};
 ghost use Rattle.rrc_c.specs.Refusals.{MakingDue, NewDue};
 ghost use Rattle.rrc_c.specs.Statuses.{number_of_call, OnDone, OnRefused};

@@ -1,3 +1,4 @@
+// SPDX-License-Identifier: MIT
 ghost use Rattle.std.specs.Prelude.{◌≡◌, ◌≤◌, ◌<◌, [], map, IfOk, IfErr, OnOk, OnErr};
 ghost use Rattle.rrc_c.specs.Readings.{bit_of, has_part, parts_below, placed_in, share_of, IsReading, ReadingRefused, ShareIsPart, RefusedShareIsPart, ShareRefused, TakesShare, TakesSomeOfShare};
 ghost use Rattle.rrc_c.specs.Refusals.{AreParts, Because, OutOfMemory};

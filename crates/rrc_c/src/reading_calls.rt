@@ -1,3 +1,4 @@
+// SPDX-License-Identifier: MIT
 ghost use Rattle.std.specs.Prelude.{◌≡◌, ◌<◌, ◌⊎◌, None};
 ghost use Rattle.rrc_c.specs.Handles.{TellsNone};
 ghost use Rattle.rrc_c.specs.Readings.{parts_below, AllHold, HoldsReading, IfRead, IsReading, OneLacks, ReadingDue, TakesShare, TakesSomeOfShare, TellsNoOffers};

@@ -1,3 +1,4 @@
+// SPDX-License-Identifier: MIT
 ghost use Rattle.std.specs.Prelude.{◌≡◌, ◌+◌, ◌≤◌, ◌++◌, length, take, drop, IfSome, IfNone};
 ghost use Rattle.rrc_c.specs.Told.{datum, data_text, AreNarrow, AreTellable, IsFilled, WritesOn};
 

@@ -1,3 +1,4 @@
+// SPDX-License-Identifier: MIT
 ghost use Rattle.std.specs.Prelude.{◌≡◌, IfSome, IfNone};
 ghost use Rattle.rrc_c.specs.Told.{owner_of, data_of, kind_of, left_of, retry_of, told_of, AreTellable};
 

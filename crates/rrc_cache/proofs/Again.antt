@@ -1,3 +1,4 @@
+-- SPDX-License-Identifier: MIT
 -- Whether a call wrote just the event that is told, by its parts.
 use Rattle.std.specs.Bool.{Decides}
 use Rattle.std.specs.Prelude.{◌≡◌, ℕ, ◌&&◌, List, Bool, true, Option, Some, None}

@@ -1,3 +1,4 @@
+-- SPDX-License-Identifier: MIT
 -- What a past leaves after an ask.
 use Rattle.std.proofs.Common.{◌≡◌, ℕ, ◌^◌, ◌<◌, ◌≤◌, List, ◌∷◌, length, Option, Some, None, ◌||◌, true, false, ◌⊎◌, inl, inr, Bool, refl, sym, ap, subst, ◌∙◌, arith}
 use Rattle.std.specs.Prelude.{IfSome}

@@ -1,3 +1,4 @@
+-- SPDX-License-Identifier: MIT
 -- What a part keeps when a chapter is closed, and that it is the chapter's closing.
 use Rattle.std.proofs.Common.{◌≡◌, ℕ, ◌+◌, ◌^◌, ◌<◌, List, sym, ap, subst, ◌∙◌, arith}
 use Rattle.rrc_history.specs.declared.rules.Rules.{Rules}

@@ -1,3 +1,4 @@
+-- SPDX-License-Identifier: MIT
 -- Deaths that move: which of them come by a time is told alike.
 use Rattle.std.proofs.Common.{◌≡◌, List, [], ◌∷◌, ◌++◌, Bool, true, false, ◌||◌, Result, Ok, Err, OnOk, refl, sym, ap, ◌∙◌}
 use Rattle.std.specs.Result.{IsOk}

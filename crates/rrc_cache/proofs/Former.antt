@@ -1,3 +1,4 @@
+-- SPDX-License-Identifier: MIT
 -- What a history before keys had a class leads to, or the first event of it that is not right, by what its image is.
 use Rattle.std.specs.Prelude.{reverse, Result, Ok, Err, IfErr, IsErrAnd}
 use Rattle.rrc_cache.specs.declared.classless.ChapterFault.{ChapterFault}

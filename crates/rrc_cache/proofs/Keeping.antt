@@ -1,3 +1,4 @@
+-- SPDX-License-Identifier: MIT
 -- The past of a part, and the number of its next event.
 use Rattle.std.proofs.Common.{◌≡◌, ◌+◌, ◌∷◌, ap}
 use Rattle.std.proofs.lemmas.List.{length-reverse}

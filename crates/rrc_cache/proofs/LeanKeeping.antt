@@ -1,3 +1,4 @@
+-- SPDX-License-Identifier: MIT
 -- What a part that keeps no events keeps is what its history leaves, through every event.
 use Rattle.std.proofs.Common.{◌≡◌, ℕ, ◌+◌, ◌<◌, ◌^◌, List, [], ◌∷◌, ◌++◌, length, Option, refl, sym, ap, subst, ◌∙◌, arith}
 use Rattle.std.proofs.lemmas.List.{length-append}

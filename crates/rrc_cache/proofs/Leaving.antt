@@ -1,3 +1,4 @@
+-- SPDX-License-Identifier: MIT
 -- What a legal past leaves, through one more event.
 use Rattle.std.proofs.Common.{◌≡◌, ℕ, ◌+◌, ◌^◌, ◌<◌, ◌≤◌, List, [], ◌∷◌, length, Option, true, refl, sym, ap, subst, ◌∙◌, arith}
 use Rattle.rrc_name.specs.Key.{KeyOf}

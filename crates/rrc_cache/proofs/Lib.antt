@@ -1,3 +1,4 @@
+-- SPDX-License-Identifier: MIT
 pub mod Paired
 pub mod Plain
 pub mod Turned

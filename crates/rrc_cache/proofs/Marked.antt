@@ -1,3 +1,4 @@
+-- SPDX-License-Identifier: MIT
 -- That the names of what is kept beside the sets are marked.
 use Rattle.std.proofs.Common.{◌≡◌, ℕ, List, [], ◌∷◌, ◌++◌, true, false, Option, Some, None, refl, sym, ap, subst, ◌∙◌}
 use Rattle.std.specs.Prelude.{IfSome}

@@ -1,3 +1,4 @@
+-- SPDX-License-Identifier: MIT
 -- What the calls of a map of entries by their keys leave of the entries, in the words of a history.
 use Rattle.std.proofs.Common.{◌≡◌, ℕ, zero, suc, ◌+◌, ◌-◌, ◌<◌, List, [], ◌∷◌, ◌++◌, length, take, Bool, true, false, ◌||◌, Option, Some, None, refl, sym, ap, subst, ◌∙◌, arith}
 use Rattle.std.specs.Prelude.{cond, is_some, IsSome}

@@ -1,3 +1,4 @@
+-- SPDX-License-Identifier: MIT
 -- What a map of keys with their hashes does is what a map of the keys would do.
 use Rattle.std.proofs.Common.{◌≡◌, ℕ, zero, suc, ◌-◌, List, [], ◌∷◌, length, take, Bool, true, false, ◌&&◌, Option, Some, None, refl, sym, ap, subst, ◌∙◌, arith}
 use Rattle.std.specs.Prelude.{cond, nat_eq, IfSome, IsSome, Result, Ok, Err, OnOk, OnErr}

@@ -1,3 +1,4 @@
+-- SPDX-License-Identifier: MIT
 -- An entry comes in front, in the place of the one that its key had.
 use Rattle.std.proofs.Common.{◌≡◌, ℕ, Bool, ◌∷◌, ◌^◌, ◌<◌, ◌||◌, length, List, Option, None, true, false, refl, ap, sym, subst, ◌∙◌, arith}
 use Rattle.std.specs.List.{IsDistinct}

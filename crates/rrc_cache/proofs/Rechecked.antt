@@ -1,3 +1,4 @@
+-- SPDX-License-Identifier: MIT
 -- A recheck goes through the events one by one.
 use Rattle.std.specs.Prelude.{reverse}
 use Rattle.std.proofs.Common.{◌≡◌, ℕ, ◌+◌, ◌<◌, List, [], ◌∷◌, ◌++◌, length, take, drop, get_or, sym, ap, subst, ◌∙◌, refl, arith}

@@ -1,3 +1,4 @@
+-- SPDX-License-Identifier: MIT
 -- What holds of the entries that a part keeps, besides what its history says of them, so that they may close a chapter.
 use Rattle.std.proofs.Common.{◌≡◌, ℕ, ◌+◌, ◌<◌, ◌≤◌, List, [], ◌∷◌, length, Option, Some, None, Bool, true, false, refl, ap, subst, arith}
 use Rattle.std.specs.Prelude.{◌==◌, ◌||◌, find, IfSome}

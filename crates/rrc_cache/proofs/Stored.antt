@@ -1,3 +1,4 @@
+-- SPDX-License-Identifier: MIT
 -- What the calls of a store keep of its invariant.
 use Rattle.std.proofs.Common.{◌≡◌, ℕ, List, Bool, Some, None, true, false, ◌||◌, refl, sym, ap, subst, ◌∙◌}
 use Rattle.lru.specs.LruCache.{LruCache}

@@ -1,3 +1,4 @@
+-- SPDX-License-Identifier: MIT
 -- What a past leaves after a sweep.
 use Rattle.std.proofs.Common.{◌≡◌, ℕ, ◌^◌, ◌<◌, List, [], ◌∷◌, ◌++◌, length, ◌≤◌, ◌||◌, None, Bool, true, false, refl, sym, ap, subst, ◌∙◌, arith}
 use Rattle.std.specs.Prelude.{filter}

@@ -1,3 +1,4 @@
+-- SPDX-License-Identifier: MIT
 -- Events are kept with the newest at the end, and defined with the newest first.
 use Rattle.std.proofs.Common.{◌≡◌, ℕ, ◌+◌, ◌<◌, List, [], ◌∷◌, ◌++◌, length, reverse, take, drop, get_or, sym, ap, ◌∙◌}
 use Rattle.std.proofs.lemmas.List.{reverse-append, take_more, drop_more, take-append-drop}

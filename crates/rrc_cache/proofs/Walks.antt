@@ -1,3 +1,4 @@
+-- SPDX-License-Identifier: MIT
 -- A step that the walks of `src/history.rt` share: the value of a struct that has no octets. Assumes `Logic`.
 use Rattle.std.proofs.Common.{List, [], ◌∷◌, refl}
 use seplogic.Ra.Ura.{Ura}

@@ -1,3 +1,4 @@
+-- SPDX-License-Identifier: MIT
 -- What a call wrote is right, and leaves what it left; and what is right it would have written.
 use Rattle.std.proofs.Common.{◌≡◌, ◌^◌, ◌<◌, ◌≤◌, List, ◌∷◌, Bool, true, false, sym, ap, subst, ◌∙◌, arith}
 use Rattle.rrc_history.specs.declared.event.Event.{Event}

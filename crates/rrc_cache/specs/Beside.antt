@@ -1,3 +1,4 @@
+-- SPDX-License-Identifier: MIT
 -- What is kept beside the sets of a name: that it does not exist, that asking for a type of it failed.
 use Rattle.std.specs.Prelude.{◌≡◌, ℕ, ◌-◌, bit_and, List, length, Bool, true, false, slice_index_or}
 use Rattle.std.specs.List.{AllByRecursion}

@@ -1,3 +1,4 @@
+-- SPDX-License-Identifier: MIT
 -- What a legal past leaves, and what the call of an event makes of that.
 use Rattle.std.specs.Prelude.{◌≡◌, ℕ, List, Bool, true, false, Option, Some, None}
 use Rattle.std.specs.Bool.{Decides}

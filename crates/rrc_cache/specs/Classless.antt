@@ -1,3 +1,4 @@
+-- SPDX-License-Identifier: MIT
 -- Chapters that were made before keys had a class: which numbers they may have, and why events are none.
 use Rattle.std.specs.Prelude.{◌≡◌, ◌⊎◌, ◌<◌, ◌≤◌, ◌^◌, ℕ, List}
 use Rattle.rrc_history.specs.declared.classless.Event.{Event}

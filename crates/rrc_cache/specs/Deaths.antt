@@ -1,3 +1,4 @@
+-- SPDX-License-Identifier: MIT
 -- The deaths of entries.
 use Rattle.std.specs.Prelude.{◌≡◌, ℕ, List, Bool, false, true, ◌&&◌, ◌||◌, nat_le, Option, Some, None, map, filter}
 use Rattle.std.specs.declared.cmp.Ordering.{Ordering}

@@ -1,3 +1,4 @@
+-- SPDX-License-Identifier: MIT
 -- When an entry dies.
 use Rattle.std.specs.Prelude.{ℕ, ◌+◌, ◌-◌, ◌^◌, ◌==◌, min, if◌then◌else◌}
 use Rattle.rrc_history.specs.declared.body.Body.{Body}

@@ -1,3 +1,4 @@
+-- SPDX-License-Identifier: MIT
 -- When the keys of a part die next.
 use Rattle.std.specs.Prelude.{◌≡◌, ℕ, ◌<◌, ◌≤◌, false, None}
 use Rattle.rrc_name.specs.Key.{KeyOf}

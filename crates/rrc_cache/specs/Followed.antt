@@ -1,3 +1,4 @@
+-- SPDX-License-Identifier: MIT
 -- What became of the entries with which a chapter began.
 use Rattle.std.specs.Prelude.{◌≡◌, ℕ, ◌+◌, ◌≤◌, List, [], ◌∷◌, ◌++◌, Option, Some, None}
 use Rattle.std.specs.List.{AllByRecursion}

@@ -1,3 +1,4 @@
+-- SPDX-License-Identifier: MIT
 -- Entries that are kept by key, each key beside the hash of its name.
 use Rattle.std.specs.Prelude.{◌≡◌, ℕ, ◌&&◌, Bool, List, map, nat_eq, bit_xor}
 use Rattle.std.specs.List.{AllByRecursion}

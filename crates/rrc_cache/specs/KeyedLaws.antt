@@ -1,3 +1,4 @@
+-- SPDX-License-Identifier: MIT
 -- The comparison of hashed keys is an equivalence, and equal ones are hashed alike.
 use Rattle.std.specs.Prelude.{◌≡◌, true, nat_eq}
 use Rattle.std.specs.Cmp.{first_so, second_so, IsEquivalence, nat_eq_equiv, on_equiv}

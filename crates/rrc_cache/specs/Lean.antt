@@ -1,3 +1,4 @@
+-- SPDX-License-Identifier: MIT
 -- A part that keeps no events: what its history is told, and what it keeps of that.
 use Rattle.std.specs.Prelude.{◌≡◌, ℕ, ◌+◌, ◌^◌, ◌<◌, ◌≤◌, List, [], ◌∷◌, ◌++◌, length, Option, Result, Ok, Err}
 use Rattle.std.specs.Option.{option_map}

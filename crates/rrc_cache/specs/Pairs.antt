@@ -1,3 +1,4 @@
+-- SPDX-License-Identifier: MIT
 -- Entries that are kept by key.
 use Rattle.std.specs.Prelude.{◌≡◌, ℕ, ◌-◌, ◌^◌, ◌≤◌, List, map}
 use Rattle.std.specs.List.{AllByRecursion}

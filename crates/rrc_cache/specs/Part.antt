@@ -1,3 +1,4 @@
+-- SPDX-License-Identifier: MIT
 -- A part of the cache, as its callers see it: the chapter of its history that is open.
 use Rattle.std.specs.Prelude.{◌≡◌, ℕ, ◌+◌, ◌^◌, ◌<◌, ◌≤◌, ◌⊎◌, List, [], ◌∷◌, ◌++◌, length, reverse, Option, Result, Ok, Err}
 use Rattle.rrc_name.specs.Key.{KeyOf}

@@ -1,3 +1,4 @@
+-- SPDX-License-Identifier: MIT
 -- Rechecks: why a history was not found legal.
 use Rattle.std.specs.Prelude.{List}
 use Rattle.rrc_history.specs.declared.event.Event.{Event}

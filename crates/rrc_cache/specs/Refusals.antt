@@ -1,3 +1,4 @@
+-- SPDX-License-Identifier: MIT
 -- The numbers of refusals.
 use Rattle.std.specs.Prelude.{ℕ}
 use Rattle.rrc_cache.specs.declared.refusal.Refusal.{Refusal}

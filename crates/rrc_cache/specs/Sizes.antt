@@ -1,3 +1,4 @@
+-- SPDX-License-Identifier: MIT
 -- How many keys a part holds.
 use Rattle.std.specs.Prelude.{◌≡◌, ℕ, List, length}
 use Rattle.rrc_history.specs.declared.snapshot.Entry.{Entry}

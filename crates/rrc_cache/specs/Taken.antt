@@ -1,3 +1,4 @@
+-- SPDX-License-Identifier: MIT
 -- What the calls of a part do to its entries, the key touched last first.
 use Rattle.std.specs.Prelude.{◌≡◌, ℕ, ◌∷◌, List, Bool, Option}
 use Rattle.std.specs.Option.{option_map}

@@ -1,3 +1,4 @@
+-- SPDX-License-Identifier: MIT
 -- What a history that only proofs read becomes of what it is told.
 use Rattle.rrc_history.specs.declared.event.Event.TheVariants.{Offered, Asked, Swept}
 use Rattle.rrc_history.specs.Past.{reply_to}

@@ -1,3 +1,4 @@
+// SPDX-License-Identifier: MIT
 ghost use Rattle.std.specs.Prelude.{◌≡◌, ◌<◌, ℕ, length, true, false};
 ghost use Rattle.rrc_cache.specs.Beside.{is_beside, is_marked, place_of};
 

@@ -1,3 +1,4 @@
+// SPDX-License-Identifier: MIT
 //! Chapters that were made before keys had a class.
 ghost use Rattle.std.specs.Prelude.{◌≡◌, ◌+◌, length, reverse, IfOk, IfErr, OnOk};
 ghost use Rattle.rrc_history.specs.Right.{IsLegal};

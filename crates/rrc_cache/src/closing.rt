@@ -1,3 +1,4 @@
+// SPDX-License-Identifier: MIT
 ghost use Rattle.std.specs.Prelude.{◌≡◌, [], IfOk};
 
 use rrc_history::{EntryList, Rules, Snapshot};

@@ -1,3 +1,4 @@
+// SPDX-License-Identifier: MIT
 ghost use Rattle.std.specs.Prelude.{◌≡◌, ◌≤◌, length, true, IfOk, OnErr};
 ghost use Rattle.rrc_history.specs.Fits.{fits};
 ghost use Rattle.rrc_history.specs.Past.{entry_of};

@@ -1,3 +1,4 @@
+// SPDX-License-Identifier: MIT
 ghost use Rattle.std.specs.Prelude.{◌≡◌, ◌<◌, ◌≤◌, ◌^◌, ◌↔◌, [], IsTrue, IfOk, IfErr, IfSome, IfNone, OnErr, Err};
 
 use crate::history::{History, Told};

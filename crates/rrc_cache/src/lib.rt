@@ -1,3 +1,4 @@
+// SPDX-License-Identifier: MIT
 //! A part of the cache, lent to one thread: each call appends one event to its history and answers what stands in it.
 #![tactic(auto)]
 

@@ -1,3 +1,4 @@
+// SPDX-License-Identifier: MIT
 ghost use Rattle.std.specs.Prelude.{◌≡◌, IfSome, IsSome, OnOk, OnErr};
 ghost use Rattle.std.specs.Map.{lookup, set_value};
 ghost use Rattle.lru.specs.LruCache.{lru_cache, promoted};

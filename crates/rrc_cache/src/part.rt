@@ -1,3 +1,4 @@
+// SPDX-License-Identifier: MIT
 ghost use Rattle.std.specs.Prelude.{◌≡◌, ◌<◌, ◌≤◌, ◌↔◌, ◌++◌, ◌∷◌, [], None, length, IsTrue, IfOk, IfErr, IfSome, IfNone, OnOk, OnErr, Err};
 
 use crate::lean::LeanPart;

@@ -1,3 +1,4 @@
+// SPDX-License-Identifier: MIT
 ghost use Rattle.std.specs.Prelude.{◌≡◌, ◌∷◌, ◌&&◌, ◌≤◌, reverse, true, false, IfOk, IfErr, OnOk};
 ghost use Rattle.rrc_history.specs.Auditing.{outcome_eq};
 ghost use Rattle.rrc_history.specs.Lives.{LAST_MOMENT};

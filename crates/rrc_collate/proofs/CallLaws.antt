@@ -1,3 +1,4 @@
+-- SPDX-License-Identifier: MIT
 -- calls that are the same are one
 use Rattle.std.proofs.Common.{◌≡◌, Bool, true, ◌&&◌, refl, sym, ap, subst}
 use Rattle.std.specs.Prelude.{◌==◌, nat_eq}

@@ -1,3 +1,4 @@
+-- SPDX-License-Identifier: MIT
 -- the table of the classes in which values stand, one value more at a time
 use Rattle.std.proofs.Common.{◌≡◌, ◌≢◌, ℕ, ◌<◌, true, false, cond, eqb, List, [], ◌∷◌, ◌++◌, length, get_or, set, take, map, Option, Some, None, Result, Ok, Err, zero, suc, refl, sym, ◌∙◌, ap, subst, arith, ⊎_elim, IsTrue, ◌↔◌}
 use Rattle.std.specs.Prelude.{slice_get, is_some, IsSome, IfOk, IfSome}

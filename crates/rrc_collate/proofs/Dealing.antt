@@ -1,3 +1,4 @@
+-- SPDX-License-Identifier: MIT
 -- hands of queues, as the lists that contracts see
 use Rattle.std.proofs.Common.{◌≡◌, ℕ, ◌+◌, ◌<◌, ◌≤◌, List, [], ◌∷◌, ◌++◌, length, get_or, set, map, drop, take, replicate, zero, suc, refl, sym, ◌∙◌, ap, subst, arith, ⊎_elim}
 use Rattle.std.specs.Prelude.{filter, slice_get, Bool, true, false, cond, Some}

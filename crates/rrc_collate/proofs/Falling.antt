@@ -1,3 +1,4 @@
+-- SPDX-License-Identifier: MIT
 -- the loop of `never_falls` over a table of the last value of each class
 use Rattle.std.proofs.Common.{◌≡◌, ℕ, ◌+◌, ◌<◌, ◌≤◌, Bool, true, false, cond, ltb, List, [], ◌∷◌, length, get_or, set, replicate, drop, IsTrue, ◌↔◌, refl, sym, ◌∙◌, ap, arith, ⊎_elim}
 use Rattle.std.proofs.lemmas.Bool.{lt-ltb, ltb-true, ltb-false, false≢true, cases_eq, cases_Bool}

@@ -1,3 +1,4 @@
+-- SPDX-License-Identifier: MIT
 -- the fetches and the joins of tasks, as values of classes
 use Rattle.std.proofs.Common.{◌≡◌, ℕ, ◌<◌, Bool, false, List, [], ◌∷◌, ◌++◌, Option, Some, None, Result, Ok, Err, refl, sym, ◌∙◌, ap, subst, arith, ⊎_elim, IsTrue, ◌↔◌}
 use Rattle.std.specs.Prelude.{IfOk, IfSome}

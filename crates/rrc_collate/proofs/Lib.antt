@@ -1,3 +1,4 @@
+-- SPDX-License-Identifier: MIT
 pub mod Pairs
 pub mod Falling
 pub mod Classes

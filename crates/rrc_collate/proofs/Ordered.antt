@@ -1,3 +1,4 @@
+-- SPDX-License-Identifier: MIT
 -- what is written with a table of owners, and what is in order
 use Rattle.std.proofs.Common.{◌≡◌, ℕ, ◌<◌, Bool, true, false, cond, eqb, List, [], ◌∷◌, get_or, Option, Some, None, Result, Ok, Err, refl, sym, ◌∙◌, ap, subst, ⊎_elim, arith}
 use Rattle.std.specs.Prelude.{filter, slice_get, IfOk, IfSome, IfNone}

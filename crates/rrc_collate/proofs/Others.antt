@@ -1,3 +1,4 @@
+-- SPDX-License-Identifier: MIT
 -- the tables of `have_others`
 use Rattle.std.proofs.Common.{◌≡◌, ◌≢◌, ℕ, ◌<◌, true, cond, eqb, not, List, [], ◌∷◌, length, get_or, zero, suc, refl, sym, ◌∙◌, ap, arith, inl, inr, ◌⊎◌, ⊎_elim}
 use Rattle.std.proofs.lemmas.Bool.{false≢true, cases_eq, eq-eqb, ne_eqb, cond-true, cond-false}

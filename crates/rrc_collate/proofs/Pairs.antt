@@ -1,3 +1,4 @@
+-- SPDX-License-Identifier: MIT
 -- any two of a list: its first with each behind it, and any two behind it
 use Rattle.std.proofs.Common.{zero, suc, List, [], ◌∷◌, arith}
 use Rattle.std.specs.List.{All, AllPairs}

@@ -1,3 +1,4 @@
+-- SPDX-License-Identifier: MIT
 -- one task more takes its events from the hands
 use Rattle.std.proofs.Common.{◌≡◌, ℕ, true, false, cond, eqb, List, [], ◌∷◌, ◌++◌, refl, sym, ◌∙◌, ap, ⊎_elim}
 use Rattle.std.specs.List.{AllZip}

@@ -1,3 +1,4 @@
+-- SPDX-License-Identifier: MIT
 -- the tables of fates and of turns
 use Rattle.std.proofs.Common.{◌≡◌, ℕ, ◌+◌, ◌<◌, ◌≤◌, zero, suc, Bool, true, false, cond, eqb, List, [], ◌∷◌, ◌++◌, length, get_or, Option, Some, None, Result, Ok, Err, refl, sym, ◌∙◌, ap, subst, ⊎_elim, arith, IsTrue, ◌↔◌}
 use Rattle.std.specs.Prelude.{IfOk, IfSome}

@@ -1,3 +1,4 @@
+-- SPDX-License-Identifier: MIT
 -- what is written into the parts, and the hands that are dealt from them
 use Rattle.std.proofs.Common.{◌≡◌, ℕ, ◌<◌, ◌≤◌, true, false, cond, eqb, List, [], ◌∷◌, ◌++◌, length, get_or, take, drop, zero, suc, refl, sym, ◌∙◌, ap, subst, ⊎_elim, arith}
 use Rattle.std.specs.List.{All, AllZip}

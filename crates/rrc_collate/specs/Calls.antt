@@ -1,3 +1,4 @@
+-- SPDX-License-Identifier: MIT
 -- Calls on the parts of a cache: those that events are of, and those that the operations of a line make.
 use Rattle.std.specs.Prelude.{◌≡◌, ℕ, ◌+◌, ◌==◌, List, [], ◌∷◌, if◌then◌else◌}
 use Rattle.rrc_history.specs.declared.event.Event.{Event}

@@ -1,3 +1,4 @@
+-- SPDX-License-Identifier: MIT
 -- When what workers say that they did fits the histories of the parts.
 use Rattle.std.specs.Prelude.{◌≡◌, ◌≢◌, ◌<◌, ℕ, zero, suc, ◌==◌, List, [], ◌∷◌, ◌++◌, length, map, filter, slice_index_or, Bool, if◌then◌else◌}
 use Rattle.std.specs.List.{All, AllZip, Contains}

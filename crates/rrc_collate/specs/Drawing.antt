@@ -1,3 +1,4 @@
+-- SPDX-License-Identifier: MIT
 -- What the operations of a line take from the hands of its worker.
 use Rattle.std.specs.Prelude.{◌≡◌, ◌≢◌, ℕ, List, [], ◌++◌, length, slice_get, slice_index_or, Some}
 use Rattle.rrc_history.specs.declared.event.Event.{Event}

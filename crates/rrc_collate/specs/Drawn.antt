@@ -1,3 +1,4 @@
+-- SPDX-License-Identifier: MIT
 -- The events of a line, however they are held.
 use Rattle.std.specs.Prelude.{List, [], ◌∷◌}
 use Rattle.std.specs.Borrow.{Bor}

@@ -1,3 +1,4 @@
+-- SPDX-License-Identifier: MIT
 -- Who fetched a question, and who joined a fetch of it.
 use Rattle.std.specs.Prelude.{◌<◌, ℕ, List, [], ◌∷◌, ◌++◌, Option, Some, None}
 use Rattle.rrc_collate.specs.declared.valued.Valued.{Valued}

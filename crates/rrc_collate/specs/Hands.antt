@@ -1,3 +1,4 @@
+-- SPDX-License-Identifier: MIT
 -- The events of a part, as the workers that took their lines have them.
 use Rattle.std.specs.Prelude.{◌≡◌, ◌<◌, ℕ, ◌==◌, List, [], length, filter, slice_get, slice_index_or, Bool, false, Option, Some, None}
 use Rattle.std.specs.List.{All}

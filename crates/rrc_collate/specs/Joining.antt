@@ -1,3 +1,4 @@
+-- SPDX-License-Identifier: MIT
 -- Whether a class has another value than one.
 use Rattle.std.specs.Prelude.{◌≡◌, ◌≢◌, ◌<◌, ℕ, ◌==◌, List, [], ◌∷◌, length, slice_index_or, Bool, true, false, not, if◌then◌else◌}
 use Rattle.std.specs.List.{Contains}

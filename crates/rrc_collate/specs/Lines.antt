@@ -1,3 +1,4 @@
+-- SPDX-License-Identifier: MIT
 -- What the parts have of each line, where their histories are what the workers wrote.
 use Rattle.std.specs.Prelude.{◌≡◌, ◌<◌, ℕ, ◌==◌, List, [], length, filter, slice_index_or, Bool}
 use Rattle.rrc_history.specs.declared.event.Event.{Event}

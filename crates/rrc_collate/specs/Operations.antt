@@ -1,3 +1,4 @@
+-- SPDX-License-Identifier: MIT
 -- The operations of a line, however they are held.
 use Rattle.std.specs.Prelude.{List, [], ◌∷◌}
 use Rattle.rrc_collate.specs.declared.script.Operation.{Operation}

@@ -1,3 +1,4 @@
+-- SPDX-License-Identifier: MIT
 -- Which calls are the same, octet for octet.
 use Rattle.std.specs.Prelude.{Bool, true, false, ◌&&◌, ◌==◌, nat_eq}
 use Rattle.std.specs.Cmp.Lexicographic.{pointwise}

@@ -1,3 +1,4 @@
+-- SPDX-License-Identifier: MIT
 -- Tasks: the lines that workers say they did, worker by worker, and the events of their operations.
 use Rattle.std.specs.Prelude.{◌≡◌, ℕ, ◌==◌, List, [], ◌∷◌, ◌++◌, length, slice_index_or, if◌then◌else◌}
 use Rattle.std.specs.List.{AllZip}

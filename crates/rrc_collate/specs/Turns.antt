@@ -1,3 +1,4 @@
+-- SPDX-License-Identifier: MIT
 -- Tables of what became of each line, and of the turns of fetches.
 use Rattle.std.specs.Prelude.{◌≡◌, ◌<◌, ℕ, ◌+◌, ◌==◌, List, [], ◌∷◌, ◌++◌, length, slice_index_or, Bool, true, false, Option, Some, None, if◌then◌else◌}
 use Rattle.rrc_history.specs.declared.event.Event.{Event}

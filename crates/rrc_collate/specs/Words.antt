@@ -1,3 +1,4 @@
+-- SPDX-License-Identifier: MIT
 -- Words on values of classes: lines that workers took, turns of questions.
 use Rattle.std.specs.Prelude.{◌≡◌, ◌≢◌, ◌≤◌, ◌<◌, ℕ, ◌==◌, List, [], ◌∷◌, length, slice_get, slice_index_or, Option, Some, None, IsSome, if◌then◌else◌}
 use Rattle.std.specs.List.{All, AllPairs}

@@ -1,3 +1,4 @@
+// SPDX-License-Identifier: MIT
 ghost use Rattle.std.specs.Prelude.{◌≡◌, ◌<◌, ◌↔◌, [], length, drop, map, slice_set, slice_index_or, IfOk, IfSome, IfNone, IsTrue};
 ghost use Rattle.std.specs.List.{All};
 ghost use Rattle.rrc_collate.specs.Drawing.{IsNext, IsFirst, HasNoFirst, IsDrawn, IsOnlyDraw, CanNotDraw};

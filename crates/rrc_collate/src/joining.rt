@@ -1,3 +1,4 @@
+// SPDX-License-Identifier: MIT
 ghost use Rattle.std.specs.Prelude.{◌≡◌, ◌<◌, ◌↔◌, length, slice_index_or, IfOk, IsTrue};
 ghost use Rattle.std.specs.List.{All};
 ghost use Rattle.rrc_collate.specs.Joining.{HasOther, AreSeen, after, has_other};

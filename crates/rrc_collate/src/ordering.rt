@@ -1,3 +1,4 @@
+// SPDX-License-Identifier: MIT
 ghost use Rattle.std.specs.Prelude.{◌≡◌, List, ◌<◌, ◌↔◌, [], length, map, is_some, IfOk, IfSome, IfNone, IsTrue};
 ghost use Rattle.std.specs.List.{All, AllZip};
 ghost use Rattle.rrc_history.specs.declared.event.Event.{Event};

@@ -1,3 +1,4 @@
+// SPDX-License-Identifier: MIT
 use crate::operations::Operations;
 
 /// What became of a line that may be a fetch.

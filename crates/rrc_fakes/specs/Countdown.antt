@@ -1,3 +1,4 @@
+-- SPDX-License-Identifier: MIT
 -- How many calls come before the one that goes wrong, while that is to come.
 use Rattle.std.specs.Prelude.{ℕ, ◌==◌, ◌-◌, Bool, false, Option, Some, None, if◌then◌else◌}
 

@@ -1,3 +1,4 @@
+-- SPDX-License-Identifier: MIT
 -- What a write meets that goes wrong.
 use Rattle.std.specs.Prelude.{◌≡◌, ℕ, Result, IsErr, IsOkAnd}
 use Rattle.rrc_fakes.specs.declared.writer.Stumble.{Stumble}

@@ -1,3 +1,4 @@
+// SPDX-License-Identifier: MIT
 ghost use Rattle.std.specs.Prelude.{◌≡◌};
 ghost use Rattle.rrc_fakes.specs.Countdown.{is_due, behind};
 

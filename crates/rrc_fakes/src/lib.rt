@@ -1,3 +1,4 @@
+// SPDX-License-Identifier: MIT
 //! A reader and a writer for tests: one call fails, and those behind it go on.
 #![tactic(auto)]
 

@@ -1,3 +1,4 @@
+-- SPDX-License-Identifier: MIT
 -- An audit's test of an event decides whether it is right, and its count of keys goes on.
 use Rattle.std.specs.Prelude.{◌≡◌, ℕ, ◌+◌, ◌-◌, ◌<◌, ◌≤◌, ◌^◌, List, [], ◌∷◌, ◌++◌, length, reverse, Bool, true, false, ◌&&◌, nat_lt, nat_le, Option}
 use Rattle.std.specs.Bool.{Decides}

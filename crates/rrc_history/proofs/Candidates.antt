@@ -1,3 +1,4 @@
+-- SPDX-License-Identifier: MIT
 -- Every key that is held is one of the snapshot's or of an offer's.
 use Rattle.std.specs.Prelude.{◌≡◌, ℕ, List, [], ◌∷◌, reverse, Bool, true, false, ◌||◌, if◌then◌else◌, Option, None}
 use Rattle.std.proofs.Common.{refl, sym, ap, ◌∙◌}

@@ -1,3 +1,4 @@
+-- SPDX-License-Identifier: MIT
 -- How many keys are held after an event.
 use Rattle.std.specs.Prelude.{◌≡◌, ℕ, ◌+◌, ◌-◌, List, [], ◌∷◌, length, Bool, true, false, ◌||◌, ◌==◌, Option, Some, None, filter}
 use Rattle.std.specs.List.{AllByRecursion, IsDistinct}

@@ -1,3 +1,4 @@
+-- SPDX-License-Identifier: MIT
 -- The key that was touched least recently, and whether an offer evicted what it had to.
 use Rattle.std.specs.Prelude.{◌≡◌, ℕ, ◌<◌, ◌≤◌, List, [], ◌∷◌, length, reverse, Bool, true, false, not, ◌&&◌, ◌==◌, nat_lt, if◌then◌else◌, Option, Some, None}
 use Rattle.std.specs.Bool.{Decides}

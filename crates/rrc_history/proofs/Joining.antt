@@ -1,3 +1,4 @@
+-- SPDX-License-Identifier: MIT
 -- Chapters that chain are joined one by one.
 use Rattle.std.specs.Prelude.{◌≡◌, ℕ, ◌+◌, List, [], ◌∷◌, ◌++◌, reverse, Bool, true, false, Option, Some, None, Result, Ok, Err, IfOk}
 use Rattle.std.proofs.Common.{refl, sym, ap, subst, ◌∙◌, append_assoc}

@@ -1,3 +1,4 @@
+-- SPDX-License-Identifier: MIT
 pub mod Audited
 pub mod Candidates
 pub mod Counting

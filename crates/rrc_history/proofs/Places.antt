@@ -1,3 +1,4 @@
+-- SPDX-License-Identifier: MIT
 -- What places name in batches of entries.
 use Rattle.std.specs.Prelude.{◌≡◌, ℕ, zero, suc, ◌+◌, ◌-◌, ◌<◌, ◌≤◌, Bool, true, false, not, ◌&&◌, Option, Some, None, IsSome, List, [], ◌∷◌, ◌++◌, length, slice_get}
 use Rattle.std.proofs.Common.{refl, arith, sym, ap, subst, ◌∙◌, get_or, drop}

@@ -1,3 +1,4 @@
+-- SPDX-License-Identifier: MIT
 -- Whether a sweep removed what it had to, and lists it in order.
 use Rattle.std.specs.Prelude.{◌≡◌, ℕ, List, [], ◌∷◌, reverse, Bool, true, false, not, ◌&&◌, ◌||◌, None}
 use Rattle.std.specs.Bool.{Decides}

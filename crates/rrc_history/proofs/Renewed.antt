@@ -1,3 +1,4 @@
+-- SPDX-License-Identifier: MIT
 -- What a list keeps of an earlier one, and what stands in front of it.
 use Rattle.std.specs.Prelude.{◌≡◌, ℕ, zero, suc, ◌+◌, ◌<◌, Bool, true, false, not, ◌||◌, ◌==◌, cond, Option, Some, None, IsSome, List, [], ◌∷◌, ◌++◌, length, take, slice_get}
 use Rattle.std.proofs.Common.{refl, arith, sym, ap, subst, ◌∙◌, get_or}

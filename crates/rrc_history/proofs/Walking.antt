@@ -1,3 +1,4 @@
+-- SPDX-License-Identifier: MIT
 -- A walk over events, the oldest first, has the events behind it with the newest first.
 use Rattle.std.specs.Prelude.{◌≡◌, ℕ, ◌+◌, ◌<◌, ◌≤◌, Option, Bool, true, false, if◌then◌else◌, List, [], ◌∷◌, ◌++◌, length, reverse}
 use Rattle.std.proofs.Common.{refl, arith, sym, ap, ◌∙◌, take, drop, get_or}

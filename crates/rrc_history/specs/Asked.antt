@@ -1,3 +1,4 @@
+-- SPDX-License-Identifier: MIT
 -- Questions to a cache.
 use Rattle.std.specs.Prelude.{ℕ, List}
 use Rattle.rrc_history.specs.declared.ask.Purpose.{Purpose}

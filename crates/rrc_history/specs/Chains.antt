@@ -1,3 +1,4 @@
+-- SPDX-License-Identifier: MIT
 -- Chapters that chain: where one doesn't go on from the one before it, and the whole history that they are else.
 use Rattle.std.specs.Prelude.{◌≡◌, ◌⊎◌, ℕ, ◌+◌, List, [], ◌∷◌, ◌++◌, Bool, not, ◌&&◌, ◌==◌, if◌then◌else◌, Option, Some, None}
 use Rattle.std.specs.Option.{option_or}

@@ -1,3 +1,4 @@
+-- SPDX-License-Identifier: MIT
 -- Chapters of a history: a snapshot, the events since, and the snapshot that they lead to.
 use Rattle.std.specs.Prelude.{◌≡◌, ℕ, ◌^◌, ◌<◌, List, [], reverse}
 use Rattle.rrc_history.specs.declared.event.Event.{Event}

@@ -1,3 +1,4 @@
+-- SPDX-License-Identifier: MIT
 -- What the calls leave of a list of entries, the key touched last first.
 use Rattle.std.specs.Prelude.{◌≡◌, ℕ, List, [], ◌∷◌, Bool, false, not, ◌||◌, Option, Some, None, filter, map}
 use Rattle.std.specs.List.{AllByRecursion}

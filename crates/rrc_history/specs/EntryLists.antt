@@ -1,3 +1,4 @@
+-- SPDX-License-Identifier: MIT
 -- Lists of entries that share what they have in common: each names an entry by its place in a batch of entries.
 use Rattle.std.specs.Prelude.{ℕ, List, [], Option, Some, None, IsSome, Bool, false, not, ◌==◌, filter, filter_map, slice_get, slice_index_or}
 use Rattle.std.specs.List.{AllByRecursion, list_any}

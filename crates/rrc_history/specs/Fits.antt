@@ -1,3 +1,4 @@
+-- SPDX-License-Identifier: MIT
 -- Offers, and which bodies fit a key.
 use Rattle.std.specs.Prelude.{ℕ, ◌^◌, List, [], ◌∷◌, Bool, true, false, ◌&&◌, not, nat_eq, nat_lt}
 use Rattle.std.specs.Cmp.Lexicographic.{pointwise}

@@ -1,3 +1,4 @@
+-- SPDX-License-Identifier: MIT
 -- What holds between histories made before keys had a class and their images.
 use Rattle.std.specs.Prelude.{◌≡◌, ◌↔◌, List, false, ◌==◌, None, map, reverse}
 use Rattle.rrc_history.specs.declared.classless.Event.{Event}

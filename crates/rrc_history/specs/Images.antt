@@ -1,3 +1,4 @@
+-- SPDX-License-Identifier: MIT
 -- Which histories those are now that were made before keys had a class: all their keys and asks are of class IN (RFC 1035 section
 -- 3.2.4), and all else is equal.
 use Rattle.std.specs.Prelude.{map}

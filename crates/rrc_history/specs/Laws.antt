@@ -1,3 +1,4 @@
+-- SPDX-License-Identifier: MIT
 -- What every legal history keeps: no unexpired data give way to less trusted ones, and no answer outlives its time.
 use Rattle.std.specs.Prelude.{◌≡◌, ℕ, ◌+◌, ◌<◌, ◌≤◌, ◌⊎◌, List, [], ◌∷◌, true, false, Some}
 use Rattle.rrc_name.specs.Key.{KeyOf, key_eq}

@@ -1,3 +1,4 @@
+-- SPDX-License-Identifier: MIT
 pub mod Fits
 pub mod Faults
 pub mod Asked

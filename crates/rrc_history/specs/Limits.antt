@@ -1,3 +1,4 @@
+-- SPDX-License-Identifier: MIT
 -- The ranges of a part's rules.
 use Rattle.std.specs.Prelude.{◌≡◌, ℕ, ◌≤◌}
 use Rattle.rrc_history.specs.declared.rules.Rules.{Rules}

@@ -1,3 +1,4 @@
+-- SPDX-License-Identifier: MIT
 -- How long a body lives, and how far it is trusted.
 use Rattle.std.specs.Prelude.{ℕ, ◌+◌, ◌-◌, ◌^◌, ◌≤◌, Bool, nat_lt, nat_le}
 use Rattle.rrc_history.specs.declared.body.Body.{Body}

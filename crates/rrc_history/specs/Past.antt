@@ -1,3 +1,4 @@
+-- SPDX-License-Identifier: MIT
 -- What a history says: the events since a snapshot, the newest first.
 use Rattle.std.specs.Prelude.{◌≡◌, ℕ, ◌+◌, ◌<◌, List, [], ◌∷◌, length, Bool, false, ◌==◌, not, if◌then◌else◌, Option, Some, None, find, filter}
 use Rattle.std.specs.List.{list_any}

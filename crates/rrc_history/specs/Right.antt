@@ -1,3 +1,4 @@
+-- SPDX-License-Identifier: MIT
 -- Which histories are legal.
 use Rattle.std.specs.Prelude.{◌≡◌, ℕ, ◌^◌, ◌<◌, ◌≤◌, List, [], ◌∷◌, Bool, false, Option, Some, None}
 use Rattle.std.specs.List.Sorted.{IsStrictlySortedBy}

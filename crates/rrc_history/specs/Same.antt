@@ -1,3 +1,4 @@
+-- SPDX-License-Identifier: MIT
 -- Which bodies, entries and snapshots are the same, octet for octet.
 use Rattle.std.specs.Prelude.{◌≡◌, Bool, false, ◌&&◌, ◌==◌, nat_eq}
 use Rattle.std.specs.Bool.{Decides}

@@ -1,3 +1,4 @@
+-- SPDX-License-Identifier: MIT
 -- What holds of the entries of every snapshot.
 use Rattle.std.specs.Prelude.{◌≡◌, ◌↔◌, ℕ, ◌<◌, ◌≤◌, List, [], ◌∷◌, length, true, false, ◌==◌, None}
 use Rattle.std.specs.List.{AllByRecursion}

@@ -1,3 +1,4 @@
+-- SPDX-License-Identifier: MIT
 -- What is borrowed where it is kept, as the definitions speak of it.
 use Rattle.std.specs.Option.{option_map}
 use Rattle.rrc_history.specs.declared.event.Reply.{Reply}

@@ -1,3 +1,4 @@
+-- SPDX-License-Identifier: MIT
 -- The laws of whole histories: they keep the laws of trust and of life, and their calls determine them.
 use Rattle.std.specs.Prelude.{◌≡◌, List, [], ◌∷◌}
 use Rattle.rrc_history.specs.declared.event.Event.{Event}

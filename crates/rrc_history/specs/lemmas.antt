@@ -1,3 +1,4 @@
+-- SPDX-License-Identifier: MIT
 -- What follows from the definitions: the laws of a history, and what each call leaves of the entries that a part keeps.
 pub mod EntryLaws
 pub mod ContentsLaws

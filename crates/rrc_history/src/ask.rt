@@ -1,3 +1,4 @@
+// SPDX-License-Identifier: MIT
 use rrc_name::{KeyRef, Name, Slot};
 use std::alloc::AllocError;
 use std::marker::Model;

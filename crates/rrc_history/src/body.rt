@@ -1,3 +1,4 @@
+// SPDX-License-Identifier: MIT
 use rrc_name::{Name, Octets, Sequence, Shared};
 use std::alloc::AllocError;
 

@@ -1,3 +1,4 @@
+// SPDX-License-Identifier: MIT
 //! Histories as they were made before keys had a class. `from_classless` makes of them what they are now.
 ghost use Rattle.std.specs.Prelude.{◌≡◌, true, false, IfOk, IfErr, OnOk, OnErr};
 ghost use Rattle.rrc_history.specs.Fits.{is_set, is_failed, is_lifetime};

@@ -1,3 +1,4 @@
+// SPDX-License-Identifier: MIT
 use crate::ask::Ask;
 use crate::offer::Offer;
 use rrc_name::{Key, Name, Octets, Sequence, Shared};

@@ -1,3 +1,4 @@
+// SPDX-License-Identifier: MIT
 ghost use Rattle.std.specs.Prelude.{◌≡◌, ◌≤◌, IfSome};
 ghost use Rattle.std.specs.Option.{option_map};
 ghost use Rattle.rrc_history.specs.Lives.{ttl_of, rank, rank_of, is_unexpired, is_dead, span, IsTimely};

@@ -1,3 +1,4 @@
+// SPDX-License-Identifier: MIT
 ghost use Rattle.rrc_history.specs.Chapters.{SoundLeadsToItself};
 ghost use Rattle.rrc_history.specs.Same.{SameAreOne};
 ghost use Rattle.rrc_history.specs.Sound.{SoundWithNoFault};

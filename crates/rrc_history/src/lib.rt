@@ -1,3 +1,4 @@
+// SPDX-License-Identifier: MIT
 //! What a cache was told and what it answered: bodies, offers, asks, and the events of its history.
 #![tactic(auto)]
 

@@ -1,3 +1,4 @@
+// SPDX-License-Identifier: MIT
 ghost use Rattle.std.specs.Prelude.{◌≡◌, ◌≤◌, ◌<◌, ◌++◌, [], length, take, slice_index_or, IfOk};
 ghost use Rattle.rrc_history.specs.declared.snapshot.Entry.{Entry};
 ghost use Rattle.rrc_history.specs.EntryLists.{entries_at, AreFilled, has_number, without, staying};

@@ -1,3 +1,4 @@
+// SPDX-License-Identifier: MIT
 ghost use Rattle.std.specs.Prelude.{◌≡◌, IfOk};
 ghost use Rattle.rrc_history.specs.Auditing.{set_eq, soa_eq, reply_eq};
 ghost use Rattle.rrc_history.specs.Views.{reply_in};

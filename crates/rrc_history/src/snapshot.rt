@@ -1,3 +1,4 @@
+// SPDX-License-Identifier: MIT
 ghost use Rattle.std.specs.Prelude.{◌≡◌, Some, None, IfOk, IfErr, OnOk};
 ghost use Rattle.rrc_history.specs.Snapshots.{has_key, has_number, entry_fault, snapshot_fault};
 ghost use Rattle.rrc_history.specs.Same.{rules_eq};

@@ -1,3 +1,4 @@
+// SPDX-License-Identifier: MIT
 mod audits;
 mod chains;
 mod entry_lists;

@@ -1,3 +1,4 @@
+// SPDX-License-Identifier: MIT
 //! Tests of `rrc_name` and `rrc_history`, by their public calls.
 #![tactic(auto)]
 

@@ -1,3 +1,4 @@
+// SPDX-License-Identifier: MIT
 mod keys;
 mod names;
 mod orders;

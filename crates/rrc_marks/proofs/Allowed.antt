@@ -1,3 +1,4 @@
+-- SPDX-License-Identifier: MIT
 -- What each step on the table asks: whatever the table is, the pass has a new view that keeps the rule, and what the step tells is true.
 use Rattle.std.proofs.Common.{◌≡◌, ◌≢◌, ℕ, ◌+◌, ◌%◌, ◌^◌, ◌<◌, ◌≤◌, List, [], ◌∷◌, ◌++◌, length, get_or, set, eqb, refl, sym, ap, ◌∙◌, subst, arith, eq-eqb, ne_eqb}
 use Rattle.std.proofs.lemmas.List.{set-get_or}

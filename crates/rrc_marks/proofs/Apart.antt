@@ -1,3 +1,4 @@
+-- SPDX-License-Identifier: MIT
 -- What the rule says of passes beside one another.
 use Rattle.std.proofs.Common.{ℕ, get_or, arith}
 use Rattle.rrc_marks.specs.Views.{times}

@@ -1,3 +1,4 @@
+-- SPDX-License-Identifier: MIT
 -- After each step a pass still counts what it has.
 use Rattle.std.proofs.Common.{◌≡◌, ℕ, ◌+◌, ◌<◌, length, sym, ap, ◌∙◌, subst, arith, length-append}
 use mathlib.Core.Logic.{dite}

@@ -1,3 +1,4 @@
+-- SPDX-License-Identifier: MIT
 pub mod Counts
 pub mod Totals
 pub mod Keeps

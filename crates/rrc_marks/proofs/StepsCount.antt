@@ -1,3 +1,4 @@
+-- SPDX-License-Identifier: MIT
 -- A step of any kind is counted once.
 use Rattle.std.proofs.Common.{◌≡◌, ◌≢◌, ℕ, ◌+◌, List, [], ◌∷◌, ◌++◌, get_or, set, refl, sym, ◌∙◌, subst, arith}
 use mathlib.Core.Option.{some}

@@ -1,3 +1,4 @@
+-- SPDX-License-Identifier: MIT
 -- A step of any kind keeps the rule.
 use Rattle.std.proofs.Common.{sym, subst}
 use Rattle.rrc_marks.specs.Steps.{draws, wins, loses, finishes, splits, joins, looks}

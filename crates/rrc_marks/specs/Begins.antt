@@ -1,3 +1,4 @@
+-- SPDX-License-Identifier: MIT
 -- What a try to begin a mark does.
 use Rattle.std.specs.Prelude.{◌≡◌, ℕ}
 use Rattle.rrc_marks.specs.declared.rule.View.{View}

@@ -1,3 +1,4 @@
+-- SPDX-License-Identifier: MIT
 -- What the words of a table are at its end.
 use Rattle.std.specs.Prelude.{◌≡◌, ℕ, ◌+◌, ◌<◌, List, length, slice_index}
 use Rattle.std.specs.Global.{Global}

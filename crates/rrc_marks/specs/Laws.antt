@@ -1,3 +1,4 @@
+-- SPDX-License-Identifier: MIT
 -- The laws of a table of marks: what keeps its rule, and what the rule says of its passes.
 use Rattle.std.specs.Prelude.{◌≡◌, ◌≢◌, ℕ, ◌+◌, ◌<◌, [], slice_index}
 use mathlib.Core.Option.{some}

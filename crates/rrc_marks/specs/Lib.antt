@@ -1,3 +1,4 @@
+-- SPDX-License-Identifier: MIT
 pub mod Views
 pub mod Rule
 pub mod Steps

@@ -1,3 +1,4 @@
+-- SPDX-License-Identifier: MIT
 -- The limits of the numbers of a table.
 use Rattle.std.specs.Prelude.{◌≡◌, ℕ, ◌^◌, Bool, true, false, ◌&&◌, nat_le}
 use Rattle.rrc_marks.specs.declared.fault.MarksFault.{MarksFault}

@@ -1,3 +1,4 @@
+-- SPDX-License-Identifier: MIT
 -- The rule of a table of marks: a fact about its words and about what all passes know, at every moment between two steps.
 use Rattle.std.specs.Prelude.{◌≡◌, ℕ, ◌+◌, ◌^◌, ◌<◌, ◌≤◌, ◌⊎◌, List, [], ◌∷◌, length, slice_index}
 use mathlib.Core.Option.{some}

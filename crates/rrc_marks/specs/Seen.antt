@@ -1,3 +1,4 @@
+-- SPDX-License-Identifier: MIT
 -- What contracts see of a table of marks and of a pass, and what the types of both keep.
 use Rattle.std.specs.Prelude.{◌≡◌, ℕ, ◌+◌, ◌^◌, ◌<◌, ◌≤◌, [], length}
 use Rattle.atomic_table.specs.Seated.{TableId}

@@ -1,3 +1,4 @@
+-- SPDX-License-Identifier: MIT
 -- The kinds of step on a table of marks, each on one word by one pass.
 use Rattle.std.specs.Prelude.{◌≡◌, ◌≢◌, ℕ, ◌+◌, ◌<◌, ◌≤◌, List, [], ◌∷◌, ◌++◌, slice_index, slice_set}
 use mathlib.Core.Option.{some}

@@ -1,3 +1,4 @@
+-- SPDX-License-Identifier: MIT
 -- What each kind of step tells the pass that steps: of the step, what the pass knew, the number found, and what it knows then.
 use Rattle.std.specs.Prelude.{◌≡◌, ◌≢◌, ℕ, ◌+◌, ◌^◌, ◌<◌, ◌≤◌, All, length}
 use Rattle.atomic_table.specs.Table.{Me, Step}

@@ -1,3 +1,4 @@
+-- SPDX-License-Identifier: MIT
 -- What a pass knows of its table, and how each kind of step changes it.
 use Rattle.std.specs.Prelude.{◌≡◌, ℕ, ◌+◌, ◌-◌, ◌<◌, ◌==◌, if◌then◌else◌, nat_lt, List, [], ◌∷◌, ◌++◌, length}
 use Rattle.rrc_marks.specs.declared.rule.View.{View}

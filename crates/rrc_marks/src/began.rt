@@ -1,3 +1,4 @@
+// SPDX-License-Identifier: MIT
 // What a try to begin a mark met.
 
 /// The answer to a try to begin a mark.

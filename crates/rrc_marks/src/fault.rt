@@ -1,3 +1,4 @@
+// SPDX-License-Identifier: MIT
 // Why no table of marks was made.
 use thiserror::Error;
 

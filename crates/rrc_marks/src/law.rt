@@ -1,3 +1,4 @@
+// SPDX-License-Identifier: MIT
 // The laws of the table, for whoever reads its rule.
 ghost use Rattle.rrc_marks.specs.Laws.{EachStepKeepsTheRule, EachStepIsCounted, EachMarkHasOneHolder, EachNumberIsDrawnOnce, NextNumberIsNew, AloneAtTheEnd};
 

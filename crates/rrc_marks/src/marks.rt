@@ -1,3 +1,4 @@
+// SPDX-License-Identifier: MIT
 // The table of marks, and its calls. Word 0 counts the draws, and word m + 1 is the mark m: 1 where a pass holds it, else 0.
 ghost use Rattle.std.specs.Prelude.{◌≡◌, ℕ, ◌<◌, ◌≤◌, [], true, false, length, IfOk, IfSome, IfNone, MatchResult};
 ghost use Rattle.rrc_marks.specs.Limits.{is_within_limits, IsFaultOf};

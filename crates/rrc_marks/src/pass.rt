@@ -1,3 +1,4 @@
+// SPDX-License-Identifier: MIT
 // A pass: the right to step on a table, and to use some of its turns.
 ghost use Rattle.std.specs.Prelude.{◌≡◌, length};
 

@@ -1,3 +1,4 @@
+// SPDX-License-Identifier: MIT
 // The rule of the table, and what each kind of step tells.
 ghost use Rattle.std.specs.Prelude.{ℕ};
 ghost use Rattle.rrc_marks.specs.Rule.{MarksKept};

@@ -1,3 +1,4 @@
+-- SPDX-License-Identifier: MIT
 -- Names by their labels, read from the left.
 use Rattle.std.proofs.Common.{◌≡◌, ℕ, ◌-◌, ◌≤◌, Bool, List, [], ◌∷◌, ◌++◌, length, take, drop, map, reverse, refl, sym, ap, ◌∙◌, arith, append_assoc, length-append, Decides, ◌⊎◌, inl, inr, ⊎_elim}
 use Rattle.std.specs.Ordering.{nat_cmp}

@@ -1,3 +1,4 @@
+-- SPDX-License-Identifier: MIT
 pub mod WireForms
 pub mod Spelling
 pub mod LabelOrder

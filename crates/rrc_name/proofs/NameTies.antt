@@ -1,3 +1,4 @@
+-- SPDX-License-Identifier: MIT
 -- The canonical order ties exactly where names are the same but for the case of letters.
 use Rattle.std.proofs.Common.{◌≡◌, ℕ, List, [], ◌∷◌, ◌++◌, map, reverse, refl, sym, ap, subst, ◌∙◌}
 use Rattle.std.specs.declared.cmp.Ordering.{Ordering}

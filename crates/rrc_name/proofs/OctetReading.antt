@@ -1,3 +1,4 @@
+-- SPDX-License-Identifier: MIT
 -- The octet that a text begins with, as it is read and by the grammar.
 use Rattle.std.proofs.Common.{◌≡◌, ◌≢◌, ℕ, ◌+◌, ◌-◌, ◌*◌, ◌<◌, ◌≤◌, true, false, List, [], ◌∷◌, ◌++◌, length, Option, Some, None, Err, refl, sym, ap, subst, ◌∙◌, arith, length-append, ◌==◌}
 use Rattle.std.specs.Char.{is_ascii_graphic, is_ascii_digit}

@@ -1,3 +1,4 @@
+-- SPDX-License-Identifier: MIT
 -- What is printed of a name spells the name.
 use Rattle.std.proofs.Common.{◌≡◌, ◌≢◌, ℕ, ◌<◌, ◌≤◌, Bool, true, false, List, [], ◌∷◌, length, refl, sym, ap, subst, arith, ◌==◌, ⊎_elim, inl, inr}
 use Rattle.std.specs.List.{AllByRecursion, flat_map}

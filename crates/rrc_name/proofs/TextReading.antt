@@ -1,3 +1,4 @@
+-- SPDX-License-Identifier: MIT
 -- What is read of a text is the name that it spells, or its first fault.
 use Rattle.std.proofs.Common.{◌≡◌, ◌≢◌, ◌⊎◌, ℕ, zero, suc, ◌+◌, ◌<◌, ◌≤◌, true, false, List, [], ◌∷◌, ◌++◌, length, Option, Some, None, Result, Ok, Err, MatchResult, refl, sym, ap, subst, ◌∙◌, arith, inl, inr, append_assoc, length-append, ◌==◌, ⊎_elim}
 use Rattle.std.specs.List.{AllByRecursion}

@@ -1,3 +1,4 @@
+-- SPDX-License-Identifier: MIT
 -- A text that spells a name is read as that name, and a text that has a first fault as that fault.
 use Rattle.std.proofs.Common.{◌≡◌, ◌≢◌, ◌⊎◌, ℕ, ◌+◌, ◌<◌, ◌≤◌, Bool, true, false, List, [], ◌∷◌, ◌++◌, length, Option, Some, None, Ok, Err, refl, sym, ap, ◌∙◌, arith, inl, inr, append_assoc, length-append, ◌==◌, if◌then◌else◌}
 use Rattle.std.specs.List.{AllByRecursion}

@@ -1,3 +1,4 @@
+-- SPDX-License-Identifier: MIT
 -- Whole labels in wire form make a name.
 use Rattle.std.proofs.Common.{◌≡◌, ℕ, zero, suc, ◌-◌, ◌<◌, ◌≤◌, List, [], ◌∷◌, ◌++◌, length, map, refl, sym, ap, subst, ◌∙◌, arith, append_assoc, length-append, get_or, take, drop, false, ◌==◌}
 use Rattle.std.specs.List.{AllByRecursion}

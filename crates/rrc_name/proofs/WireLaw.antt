@@ -1,3 +1,4 @@
+-- SPDX-License-Identifier: MIT
 -- Octets are the wire form of a name, or they have one first fault, and never both.
 use Rattle.std.proofs.Common.{◌≡◌, ◌⊎◌, ℕ, zero, suc, ◌+◌, ◌-◌, ◌≤◌, true, false, List, [], ◌∷◌, ◌++◌, length, take, drop, Option, Some, None, refl, sym, ap, ◌∙◌, arith, inl, inr, append_assoc, length-append, if◌then◌else◌, ◌==◌, ⊎_elim}
 use Rattle.std.specs.List.{AllByRecursion}

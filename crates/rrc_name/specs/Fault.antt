@@ -1,3 +1,4 @@
+-- SPDX-License-Identifier: MIT
 -- The numbers of the faults of a name's text and of its wire form.
 use Rattle.std.specs.Prelude.{ℕ}
 use Rattle.rrc_name.specs.declared.fault.NameFault.{NameFault}

@@ -1,3 +1,4 @@
+-- SPDX-License-Identifier: MIT
 -- Which keys those are now that were made before keys had a class: the keys of class IN (RFC 1035 section 3.2.4).
 use Rattle.std.specs.Prelude.{ℕ}
 use Rattle.rrc_name.specs.Key.{KeyOf}

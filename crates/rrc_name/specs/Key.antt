@@ -1,3 +1,4 @@
+-- SPDX-License-Identifier: MIT
 -- The keys of a cache: a folded name, a class, and what of them is kept.
 use Rattle.std.specs.Prelude.{◌≡◌, ℕ, ◌/◌, List, ◌∷◌, ◌++◌, Bool, true, false, ◌&&◌, ◌==◌, nat_eq}
 use Rattle.std.specs.declared.cmp.Ordering.{Ordering}

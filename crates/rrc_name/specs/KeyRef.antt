@@ -1,3 +1,4 @@
+-- SPDX-License-Identifier: MIT
 -- Keys that are looked up.
 use Rattle.rrc_name.specs.Key.{KeyOf}
 use Rattle.rrc_name.specs.declared.key_ref.KeyRef.{KeyRef}

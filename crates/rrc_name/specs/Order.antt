@@ -1,3 +1,4 @@
+-- SPDX-License-Identifier: MIT
 -- The canonical order of names (RFC 4034 6.1), and which names a zone holds.
 use Rattle.std.specs.Prelude.{◌≡◌, ℕ, List, [], ◌∷◌, ◌++◌, Bool, map, reverse, nat_eq}
 use Rattle.std.specs.declared.cmp.Ordering.{Ordering}

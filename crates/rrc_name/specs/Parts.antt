@@ -1,3 +1,4 @@
+-- SPDX-License-Identifier: MIT
 -- The parts of a cache: all keys of a name lie in one.
 use Rattle.std.specs.Prelude.{ℕ, ◌+◌, ◌*◌, ◌%◌, ◌^◌, List, fold}
 use Rattle.rrc_name.specs.Wire.{folded}

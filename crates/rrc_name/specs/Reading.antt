@@ -1,3 +1,4 @@
+-- SPDX-License-Identifier: MIT
 -- How the text of a name is read, octet by octet. What a text spells, and what its first fault is, stands in Text.
 use Rattle.std.specs.Prelude.{ℕ, ◌+◌, ◌-◌, ◌*◌, List, [], ◌∷◌, ◌++◌, length, if◌then◌else◌, ◌==◌, nat_lt, nat_le, bytes_eq, Result, Ok, Err, MatchResult}
 use Rattle.std.specs.Char.{is_ascii_graphic, is_ascii_digit}

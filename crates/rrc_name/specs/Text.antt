@@ -1,3 +1,4 @@
+-- SPDX-License-Identifier: MIT
 -- The text of a name (RFC 1035 5.1): labels with a dot between them, and escapes for octets that have no letter.
 use Rattle.std.specs.Prelude.{◌≡◌, ◌≢◌, ◌<◌, ◌≤◌, ◌⊎◌, ℕ, ◌+◌, ◌*◌, ◌/◌, ◌%◌, List, [], ◌∷◌, ◌++◌, length, if◌then◌else◌, ◌==◌, ◌||◌}
 use Rattle.std.specs.List.{flat_map}

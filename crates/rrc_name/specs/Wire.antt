@@ -1,3 +1,4 @@
+-- SPDX-License-Identifier: MIT
 -- The wire form of a name (RFC 1035 3.1): each label behind its length, and a zero octet at the end.
 use Rattle.std.specs.Prelude.{◌≡◌, ℕ, zero, suc, ◌<◌, ◌≤◌, List, [], ◌∷◌, ◌++◌, length, take, drop, map, if◌then◌else◌, ◌==◌, Bool, nat_eq}
 use Rattle.std.specs.Cmp.Lexicographic.{pointwise}

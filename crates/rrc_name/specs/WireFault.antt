@@ -1,3 +1,4 @@
+-- SPDX-License-Identifier: MIT
 -- What is wrong with octets that are not the wire form of a name (RFC 1035 3.1).
 use Rattle.std.specs.Prelude.{◌≡◌, ◌<◌, ◌≤◌, ◌⊎◌, ℕ, ◌+◌, List, [], ◌∷◌, ◌++◌, length}
 use Rattle.std.specs.List.{AllByRecursion}

@@ -1,3 +1,4 @@
+// SPDX-License-Identifier: MIT
 //! Keys as they were before they had a class, for histories that were made then.
 ghost use Rattle.std.specs.Prelude.{◌≡◌, IfOk};
 ghost use Rattle.rrc_name.specs.Wire.{folded};

@@ -1,3 +1,4 @@
+// SPDX-License-Identifier: MIT
 use std::alloc::{AllocError, AllocFailed};
 use thiserror::Error;
 

@@ -1,3 +1,4 @@
+// SPDX-License-Identifier: MIT
 use crate::key::Key;
 use crate::name::Name;
 use crate::slot::Slot;

@@ -1,3 +1,4 @@
+// SPDX-License-Identifier: MIT
 ghost use Rattle.std.specs.Prelude.{◌≡◌, ◌<◌, [], length, IfSome, IfNone};
 ghost use Rattle.rrc_name.specs.Wire.{labels_of, IsWireForm, BeginsWith};
 

@@ -1,3 +1,4 @@
+// SPDX-License-Identifier: MIT
 ghost use Rattle.rrc_name.specs.Reading.{IsReadAsSpelled};
 ghost use Rattle.rrc_name.specs.Text.{IsReadAgain, OneNameOrFault};
 ghost use Rattle.rrc_name.specs.WireFault.{OneFormOrFault};

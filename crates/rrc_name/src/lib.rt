@@ -1,3 +1,4 @@
+// SPDX-License-Identifier: MIT
 //! Names of the DNS, and the keys under which a cache keeps what it knows of them.
 #![tactic(auto)]
 

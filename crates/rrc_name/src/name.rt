@@ -1,3 +1,4 @@
+// SPDX-License-Identifier: MIT
 ghost use Rattle.std.specs.Prelude.{◌≡◌, ◌⊎◌, ◌↔◌, [], ◌∷◌, length, string_bytes, IsTrue, IfOk, IfErr};
 ghost use Rattle.rrc_name.specs.Wire.{folded, IsWireForm, IsSameName, same_name};
 ghost use Rattle.rrc_name.specs.Key.{IsFolded};

@@ -1,3 +1,4 @@
+// SPDX-License-Identifier: MIT
 ghost use Rattle.std.specs.Prelude.{◌≡◌, ◌↔◌, length, drop, IsTrue};
 ghost use Rattle.rrc_name.specs.Order.{label_order, canonical_order, outweighed, IsAtOrBelow, is_at_or_below};
 ghost use Rattle.rrc_name.specs.Wire.{labels_of, IsWireForm, IsSameName};

@@ -1,3 +1,4 @@
+// SPDX-License-Identifier: MIT
 ghost use Rattle.std.specs.Prelude.{◌≡◌, ◌≤◌, ◌<◌};
 ghost use Rattle.rrc_name.specs.Parts.{hash_of, part_of};
 ghost use Rattle.rrc_name.specs.Wire.{folded};

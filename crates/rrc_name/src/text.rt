@@ -1,3 +1,4 @@
+// SPDX-License-Identifier: MIT
 ghost use Rattle.std.specs.Prelude.{◌≡◌, ◌⊎◌, [], ◌++◌, ◌∷◌, IfOk, IfErr, OnErr, MatchResult, bytes_eq, Err};
 ghost use Rattle.rrc_name.specs.Reading.{spelled_by, with_label, name_from, name_ends};
 

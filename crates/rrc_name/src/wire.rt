@@ -1,3 +1,4 @@
+// SPDX-License-Identifier: MIT
 ghost use Rattle.std.specs.Prelude.{◌≡◌, ◌≢◌, ◌≤◌, [], ◌∷◌, IfOk, IfErr};
 ghost use Rattle.rrc_name.specs.Wire.{IsWireForm};
 ghost use Rattle.rrc_name.specs.WireFault.{IsFaultyBehind, IsFirstFaultOfWire, LabelStands};

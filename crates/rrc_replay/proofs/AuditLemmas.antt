@@ -1,3 +1,4 @@
+-- SPDX-License-Identifier: MIT
 -- A legal history has no event that is not right.
 use Rattle.std.proofs.Common.{◌≡◌, ℕ, List, [], ◌∷◌, ◌++◌, reverse, ap, subst, ◌∙◌, append_assoc}
 use Rattle.std.proofs.lemmas.List.{reverse-append}

@@ -1,3 +1,4 @@
+-- SPDX-License-Identifier: MIT
 pub mod OfferMoments
 pub mod AuditLemmas
 pub mod QuestionNumbers

@@ -1,3 +1,4 @@
+-- SPDX-License-Identifier: MIT
 -- What a line offers at a moment that a part takes is of such a moment.
 use Rattle.std.proofs.Common.{◌≡◌, ℕ, List, [], ◌∷◌, ◌≤◌, Option, Some, None, subst, sym, inl, inr}
 use Rattle.std.specs.List.{All}

@@ -1,3 +1,4 @@
+-- SPDX-License-Identifier: MIT
 -- The question of each fetch of a trace has a number.
 use Rattle.std.proofs.Common.{◌≡◌, suc, ◌+◌, ◌<◌, ◌||◌, List, [], ◌∷◌, ◌++◌, length, Option, Some, None, Bool, true, false, not, cond, refl, subst, ◌∙◌, arith, nat_lt, position}
 use Rattle.std.specs.Prelude.{IfSome}

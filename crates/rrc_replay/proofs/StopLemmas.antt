@@ -1,3 +1,4 @@
+-- SPDX-License-Identifier: MIT
 -- Which line is told where workers stopped.
 use Rattle.std.proofs.Common.{◌≡◌, ℕ, ◌<◌, ◌≤◌, List, ◌∷◌, ◌+◌, length, drop, get_or, ap, ◌∙◌, Bool, true, false, cond, nat_lt, if◌then◌else◌, Option, Some, None, option_map, refl, subst, sym, arith}
 use Rattle.std.proofs.lemmas.List.{drop_all, drop_more}

@@ -1,3 +1,4 @@
+-- SPDX-License-Identifier: MIT
 -- The limits by which a trace is replayed.
 use Rattle.std.proofs.Math.Dec.{lit≤}
 use Rattle.rrc_sets.specs.declared.limits.Limits.{Limits}

@@ -1,3 +1,4 @@
+-- SPDX-License-Identifier: MIT
 -- What a run reads and writes.
 use Rattle.std.specs.Prelude.{ℕ, ◌≤◌, List, length, Option}
 use Rattle.std.specs.Io.KnownBytes.{Appends, Keeps}

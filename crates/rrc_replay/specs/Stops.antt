@@ -1,3 +1,4 @@
+-- SPDX-License-Identifier: MIT
 -- Where the workers of a replay stopped, and what is told of it.
 use Rattle.std.specs.Prelude.{◌≡◌, ◌⊎◌, ℕ, List, [], ◌∷◌, Option, Some, None, nat_lt, cond, if◌then◌else◌, option_map}
 use Rattle.rrc_trace.specs.declared.fault.ReplayFault.{ReplayFault}

@@ -1,3 +1,4 @@
+// SPDX-License-Identifier: MIT
 ghost use Rattle.std.specs.Prelude.{◌≡◌, IfErr};
 
 use rrc_cache::{RecheckFault, recheck_seeded};

@@ -1,3 +1,4 @@
+// SPDX-License-Identifier: MIT
 //! Replays traces by many workers on one cache that they share, and a whole run from its trace to its report.
 #![tactic(auto)]
 

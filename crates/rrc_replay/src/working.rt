@@ -1,3 +1,4 @@
+// SPDX-License-Identifier: MIT
 ghost use Rattle.std.specs.Prelude.{◌≡◌, ◌<◌, ◌≤◌, [], length};
 ghost use Rattle.rrc_marks.specs.Seen.{IsPassOf};
 ghost use Rattle.rrc_trace.specs.Questions.{questions_of};

@@ -1,3 +1,4 @@
+// SPDX-License-Identifier: MIT
 //! Tests of `rrc_marks` and `rrc_replay`, by their public calls.
 #![tactic(auto)]
 

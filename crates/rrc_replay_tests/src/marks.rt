@@ -1,3 +1,4 @@
+// SPDX-License-Identifier: MIT
 use rrc_marks::{Began, Marks, MarksFault};
 use std::test::Fail;
 

@@ -1,3 +1,4 @@
+// SPDX-License-Identifier: MIT
 mod gates;
 
 use gates::{Crowd, Pair};

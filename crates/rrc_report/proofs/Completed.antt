@@ -1,3 +1,4 @@
+-- SPDX-License-Identifier: MIT
 -- What workers say that they did, completed by events, and the report that holds it.
 use Rattle.std.proofs.Common.{◌≡◌, ℕ, ◌+◌, List, [], ◌∷◌, length, map, Some, sym, ap, ◌∙◌}
 use Rattle.std.specs.Prelude.{slice_get}

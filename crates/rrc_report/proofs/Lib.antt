@@ -1,3 +1,4 @@
+-- SPDX-License-Identifier: MIT
 pub mod ScriptKeys
 pub mod Tasked
 pub mod TaskLemmas

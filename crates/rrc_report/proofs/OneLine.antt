@@ -1,3 +1,4 @@
+-- SPDX-License-Identifier: MIT
 -- One line: behind the same pasts of the parts it has one answer, one list of operations, and one list of events.
 use Rattle.std.proofs.Common.{◌≡◌, ◌⊎◌, ℕ, zero, suc, ◌+◌, ◌<◌, ◌≤◌, List, [], ◌∷◌, ◌++◌, map, Some, None, refl, sym, ap, subst, ◌∙◌, inl, inr, Err, Result, arith}
 use Rattle.std.proofs.lemmas.Nat.{mod_below}

@@ -1,3 +1,4 @@
+-- SPDX-License-Identifier: MIT
 -- With one worker a trace has one report.
 use Rattle.std.proofs.Common.{◌≡◌, ℕ, zero, suc, ◌+◌, ◌<◌, ◌≤◌, Bool, true, eqb, List, [], ◌∷◌, ◌++◌, map, reverse, length, get_or, slice_get, filter, Some, All, refl, sym, ap, subst, ◌∙◌, ⊎_elim, arith}
 use Rattle.std.specs.List.{AllZip}

@@ -1,3 +1,4 @@
+-- SPDX-License-Identifier: MIT
 -- the report that is made of what was handed in, and that there is none where a step finds none
 use Rattle.std.proofs.Common.{◌≡◌, ℕ, List, [], ◌∷◌, length, map, Option, Some, None, refl, sym, ◌∙◌, ap, subst}
 use Rattle.std.specs.Prelude.{IfSome, IfNone}

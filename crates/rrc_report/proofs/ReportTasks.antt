@@ -1,3 +1,4 @@
+-- SPDX-License-Identifier: MIT
 -- tasks of what workers say that they did: from a report, and to one
 use Rattle.std.proofs.Common.{◌≡◌, List, [], ◌∷◌, map, Some, refl, sym, ◌∙◌, ap, subst}
 use Rattle.std.specs.Prelude.{slice_get}

@@ -1,3 +1,4 @@
+-- SPDX-License-Identifier: MIT
 -- The script of a line is the same whatever keys were evicted.
 use Rattle.std.proofs.Common.{List}
 use Rattle.rrc_name.specs.Key.{KeyOf}

@@ -1,3 +1,4 @@
+-- SPDX-License-Identifier: MIT
 -- The tasks of lines, one after another, and of workers.
 use Rattle.std.proofs.Common.{◌≡◌, ◌<◌, ℕ, suc, ◌+◌, List, [], ◌∷◌, ◌++◌, length, map, take, drop, get_or, sym, ap, subst, ◌∙◌, arith}
 use Rattle.std.specs.List.{AllZip}

@@ -1,3 +1,4 @@
+-- SPDX-License-Identifier: MIT
 -- What the tasks of workers are known to be: their workers, parts and questions are within their bounds, and their lines are the workers'.
 use Rattle.std.proofs.Common.{◌≡◌, ◌<◌, ◌≤◌, ℕ, zero, suc, ◌+◌, List, [], ◌∷◌, ◌++◌, length, map, Some, refl, sym, ap, subst, ◌∙◌, arith}
 use Rattle.std.specs.List.{All, AllZip}

@@ -1,3 +1,4 @@
+-- SPDX-License-Identifier: MIT
 -- The answer that events complete is the one that they tell and that was given.
 use Rattle.std.proofs.Common.{◌≡◌, ℕ, Bool, true, false, cond, List, [], ◌∷◌, length, map, Option, Some, None, refl, sym, ap, subst, ◌∙◌}
 use Rattle.std.specs.Prelude.{◌&&◌, Result, Ok, Err, IfOk, IfSome, IfNone}

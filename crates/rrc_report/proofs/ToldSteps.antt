@@ -1,3 +1,4 @@
+-- SPDX-License-Identifier: MIT
 -- One event more of those that tell what became of offers, or how many keys sweeps removed.
 use Rattle.std.proofs.Common.{◌≡◌, ℕ, zero, suc, ◌<◌, Bool, true, false, cond, List, [], ◌∷◌, ◌++◌, length, get_or, map, Option, Some, None, take, refl, sym, ap, ◌∙◌, ◌+◌, arith}
 use Rattle.std.specs.Prelude.{◌&&◌}

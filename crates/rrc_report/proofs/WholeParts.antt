@@ -1,3 +1,4 @@
+-- SPDX-License-Identifier: MIT
 -- The whole histories of shelves, one after another.
 use Rattle.std.proofs.Common.{◌≡◌, ◌^◌, ℕ, Bool, true, false, List, [], ◌∷◌, ◌++◌, reverse, refl, sym, ap, subst, ◌∙◌}
 use Rattle.std.specs.Prelude.{None, Result, Ok, Err, IfErr}

@@ -1,3 +1,4 @@
+-- SPDX-License-Identifier: MIT
 -- Two lists, place by place, and elements of a list.
 use Rattle.std.proofs.Common.{◌≡◌, ℕ, zero, suc, ◌<◌, List, [], ◌∷◌, ◌++◌, length, get_or, take, drop, map, refl, sym, ap, subst, ◌∙◌, arith}
 use Rattle.std.proofs.lemmas.List.{append-nil, drop_all, take_all}

@@ -1,3 +1,4 @@
+-- SPDX-License-Identifier: MIT
 -- What a line got, as the events of its operations tell it.
 use Rattle.std.specs.Prelude.{◌≡◌, ℕ, List, [], ◌∷◌, length, map, Some, None}
 use Rattle.rrc_history.specs.declared.event.Event.{Event}

@@ -1,3 +1,4 @@
+-- SPDX-License-Identifier: MIT
 -- Why what the workers say gives no report.
 use Rattle.std.specs.Prelude.{◌≡◌, ◌^◌, List, length}
 use Rattle.std.specs.List.{Any}

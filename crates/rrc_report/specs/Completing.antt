@@ -1,3 +1,4 @@
+-- SPDX-License-Identifier: MIT
 -- The answer that events complete, if there is one. The clauses of private functions alone cite these words.
 use Rattle.std.specs.Prelude.{ℕ, List, [], ◌∷◌, length, Bool, true, false, ◌&&◌, ◌==◌, if◌then◌else◌, Option, Some, None}
 use Rattle.std.specs.Option.{option_map}

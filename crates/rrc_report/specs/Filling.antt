@@ -1,3 +1,4 @@
+-- SPDX-License-Identifier: MIT
 -- A table with a place for the answer of each line. The clauses of private functions alone cite these words.
 use Rattle.std.specs.Prelude.{◌≡◌, ◌<◌, ℕ, List, [], ◌∷◌, ◌++◌, length, slice_get, slice_index_or, Some}
 use Rattle.std.specs.List.{AllZip}

@@ -1,3 +1,4 @@
+-- SPDX-License-Identifier: MIT
 pub mod Answers
 pub mod Reports
 pub mod Collates

@@ -1,3 +1,4 @@
+-- SPDX-License-Identifier: MIT
 -- What a worker alone makes of a trace.
 use Rattle.std.specs.Prelude.{◌≡◌, List}
 use Rattle.rrc_trace.specs.declared.line.Line.{Line}

@@ -1,3 +1,4 @@
+-- SPDX-License-Identifier: MIT
 -- When a report is that of a trace: what many workers got, and the histories of the parts that tell it.
 use Rattle.std.specs.Prelude.{◌≡◌, ℕ, ◌+◌, List, [], ◌∷◌, ◌++◌, length, map, reverse, slice_get, Some}
 use Rattle.std.specs.List.{All, AllZip}

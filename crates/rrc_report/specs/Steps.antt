@@ -1,3 +1,4 @@
+-- SPDX-License-Identifier: MIT
 -- Steps from what workers say that they did to a report. The clauses of private functions alone cite these words.
 use Rattle.std.specs.Prelude.{◌≡◌, ℕ, ◌+◌, ◌^◌, List, [], ◌∷◌, ◌++◌, length, map, slice_get, Some}
 use Rattle.std.specs.List.{All, AllZip, Any}

@@ -1,3 +1,4 @@
+-- SPDX-License-Identifier: MIT
 -- The whole history of one shelf. The clauses of private functions alone cite this word.
 use Rattle.std.specs.Prelude.{reverse}
 use Rattle.rrc_history.specs.Chains.{WholeOf}

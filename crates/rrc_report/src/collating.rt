@@ -1,3 +1,4 @@
+// SPDX-License-Identifier: MIT
 ghost use Rattle.std.specs.Prelude.{◌≡◌, List, length, map, IfOk, IfErr, IfSome, IfNone};
 ghost use Rattle.rrc_history.specs.declared.event.Event.{Event};
 ghost use Rattle.rrc_trace.specs.declared.fault.ReplayFault.TheVariants as faults;

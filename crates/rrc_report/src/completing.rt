@@ -1,3 +1,4 @@
+// SPDX-License-Identifier: MIT
 ghost use Rattle.std.specs.Prelude.{◌≡◌, ◌≢◌, ◌<◌, List, length, map, IfOk, IfSome, IfNone, true, false};
 ghost use Rattle.std.specs.List.{All, AllPairs};
 ghost use Rattle.rrc_trace.specs.declared.answer.Answer.{Answer};

@@ -1,3 +1,4 @@
+// SPDX-License-Identifier: MIT
 use rrc_name::Sequence;
 use rrc_trace::Answer;
 

@@ -1,3 +1,4 @@
+// SPDX-License-Identifier: MIT
 ghost use Rattle.rrc_report.specs.OneWorker.{OneReportByOneWorker};
 
 use rrc_wire::one_message_or_fault;

@@ -1,3 +1,4 @@
+// SPDX-License-Identifier: MIT
 //! The report of a replay by many workers: whether what the workers say they did is just what the
 //! lines of a trace call for.
 #![tactic(auto)]

@@ -1,3 +1,4 @@
+// SPDX-License-Identifier: MIT
 ghost use Rattle.std.specs.Prelude.{◌≡◌, List, map, IfOk, IfErr, IfSome, IfNone};
 ghost use Rattle.rrc_trace.specs.declared.fault.ReplayFault.TheVariants as faults;
 ghost use Rattle.rrc_collate.specs.declared.task.Task.{Task};

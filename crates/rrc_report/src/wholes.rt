@@ -1,3 +1,4 @@
+// SPDX-License-Identifier: MIT
 ghost use Rattle.std.specs.Prelude.{◌≡◌, List, [], ◌∷◌, IfOk, IfErr, IfSome, IfNone, OnOk};
 ghost use Rattle.rrc_history.specs.Chains.{WholeOf};
 ghost use Rattle.rrc_history.specs.Same.{snapshot_eq};

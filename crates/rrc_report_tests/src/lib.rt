@@ -1,3 +1,4 @@
+// SPDX-License-Identifier: MIT
 //! Tests of `rrc_trace`, `rrc_collate` and `rrc_report`, by their public calls.
 #![tactic(auto)]
 

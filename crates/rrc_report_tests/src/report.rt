@@ -1,3 +1,4 @@
+// SPDX-License-Identifier: MIT
 mod fetches;
 mod histories;
 mod lines;

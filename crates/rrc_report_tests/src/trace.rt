@@ -1,3 +1,4 @@
+// SPDX-License-Identifier: MIT
 mod fakes;
 mod faults;
 mod questions;

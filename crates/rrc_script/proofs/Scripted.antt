@@ -1,3 +1,4 @@
+-- SPDX-License-Identifier: MIT
 -- A line has one script for an answer.
 use Rattle.std.proofs.Common.{◌≡◌, ◌⊎◌, ℕ, List, [], ◌∷◌, map, sym, ap, ◌∙◌, inl, inr, Option, Some, None}
 use Rattle.rrc_name.specs.Key.{KeyOf}

@@ -1,3 +1,4 @@
+-- SPDX-License-Identifier: MIT
 -- How a trace may be replayed.
 use Rattle.std.specs.Prelude.{◌≡◌, ℕ, ◌≤◌}
 use Rattle.rrc_history.specs.declared.rules.Rules.{Rules}

@@ -1,3 +1,4 @@
+-- SPDX-License-Identifier: MIT
 -- What a line of a trace calls for: its operations, in order of place, and what becomes of it as a fetch.
 use Rattle.std.specs.Prelude.{◌≡◌, ◌⊎◌, ℕ, zero, suc, ◌+◌, List, [], ◌∷◌, ◌++◌, map, Option, Some, None}
 use Rattle.rrc_name.specs.Wire.{folded}

@@ -1,3 +1,4 @@
+// SPDX-License-Identifier: MIT
 //! What a line of a trace calls for: its offers and its asks, and the operations that they are.
 #![tactic(auto)]
 

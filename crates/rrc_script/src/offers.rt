@@ -1,3 +1,4 @@
+// SPDX-License-Identifier: MIT
 ghost use Rattle.std.specs.Prelude.{◌≡◌, [], ◌∷◌, true, IfOk, IfErr};
 ghost use Rattle.rrc_history.specs.Fits.{has_items};
 ghost use Rattle.rrc_script.specs.Scripts.{offer_of, failure_of, failure_by, ask_of, Fetches};

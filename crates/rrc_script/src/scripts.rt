@@ -1,3 +1,4 @@
+// SPDX-License-Identifier: MIT
 ghost use Rattle.std.specs.Prelude.{◌≡◌, [], ◌∷◌, ◌++◌, map, IfOk, IfErr, IfSome, IfNone};
 ghost use Rattle.rrc_wire.specs.Message.{FirstFault};
 ghost use Rattle.rrc_trace.specs.Lawful.{IsLawful};

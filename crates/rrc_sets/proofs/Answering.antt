@@ -1,3 +1,4 @@
+-- SPDX-License-Identifier: MIT
 -- Why octets bring nothing that is relevant to a query.
 use Rattle.std.proofs.Common.{◌≡◌, ◌⊎◌, List, ℕ, Option, Some, None, Result, Ok, Err, inl, inr, refl, sym, ap, ◌∙◌}
 use Rattle.std.specs.Prelude.{IfErr}

@@ -1,3 +1,4 @@
+-- SPDX-License-Identifier: MIT
 -- Steps that are counted down, as a loop counts them up.
 use Rattle.std.proofs.Common.{◌≡◌, ℕ, suc, ◌+◌, ◌-◌, ◌<◌, ◌≤◌, List, Some, None, refl, ap, arith}
 use Rattle.std.specs.Option.{option_map_or}

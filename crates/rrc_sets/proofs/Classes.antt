@@ -1,3 +1,4 @@
+-- SPDX-License-Identifier: MIT
 -- A message all of whose records are of its question's class is left as it is by dropping the others.
 use Rattle.std.proofs.Common.{◌≡◌, Bool, true, cond, List, [], ◌∷◌, refl, ap, ◌∙◌}
 use Rattle.std.specs.Prelude.{◌&&◌, filter}

@@ -1,3 +1,4 @@
+-- SPDX-License-Identifier: MIT
 -- What trees find in the sets, and what they find once a record is put in.
 use Rattle.std.proofs.Common.{◌≡◌, ℕ, zero, suc, ◌+◌, ◌<◌, List, [], ◌∷◌, ◌++◌, length, get_or, Option, Some, None, Bool, true, false, cond, not, ◌&&◌, ◌||◌, nat_eq, refl, sym, ap, subst, ◌∙◌, arith}
 use Rattle.std.specs.List.{list_any, position_or_len}

@@ -1,3 +1,4 @@
+-- SPDX-License-Identifier: MIT
 -- The bodies that a message offers fit their keys.
 use Rattle.std.proofs.Common.{◌≡◌, ◌≤◌, ℕ, List, true, false, not, ◌&&◌, Some, ap, ◌∙◌, arith}
 use Rattle.std.proofs.lemmas.Bool.Decides.{nat_tests}

@@ -1,3 +1,4 @@
+-- SPDX-License-Identifier: MIT
 -- The sets of some records and one more are the sets of those records with that one put in.
 use Rattle.std.proofs.Common.{◌≡◌, List, [], ◌∷◌, ◌++◌, Bool, true, false, cond, not, ◌||◌, refl, sym, ap, ◌∙◌, map}
 use Rattle.std.specs.Cmp.{IsEquivalence}

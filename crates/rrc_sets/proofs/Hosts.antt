@@ -1,3 +1,4 @@
+-- SPDX-License-Identifier: MIT
 -- Lists that grow while they are not too long.
 use Rattle.std.proofs.Common.{◌≡◌, ℕ, zero, suc, ◌<◌, ◌≤◌, List, [], ◌∷◌, ◌++◌, length, take, refl, sym, ap, ◌∙◌, arith, length-append, append_assoc}
 use Rattle.std.specs.List.{flat_map}

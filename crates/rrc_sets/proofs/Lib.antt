@@ -1,3 +1,4 @@
+-- SPDX-License-Identifier: MIT
 pub mod Growing
 pub mod Places
 pub mod Finding

@@ -1,3 +1,4 @@
+-- SPDX-License-Identifier: MIT
 -- The names of a chain of aliases, as a loop puts them one behind the other.
 use Rattle.std.proofs.Common.{◌≡◌, ℕ, suc, ◌+◌, ◌-◌, ◌<◌, ◌≤◌, List, [], ◌∷◌, Some, None, refl, ap, arith}
 use Rattle.std.specs.Option.{option_map_or}

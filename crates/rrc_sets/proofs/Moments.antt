@@ -1,3 +1,4 @@
+-- SPDX-License-Identifier: MIT
 -- What a message offers is offered at one moment.
 use Rattle.std.proofs.Common.{◌≡◌, ℕ, List, [], ◌∷◌, ◌++◌, Bool, true, false, cond, Option, Some, None, option_map, option_and_then, refl}
 use Rattle.std.specs.Prelude.{IfSome, ◌||◌, ◌==◌}

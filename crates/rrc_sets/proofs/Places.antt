@@ -1,3 +1,4 @@
+-- SPDX-License-Identifier: MIT
 -- The place of the set that a record is one of.
 use Rattle.std.proofs.Common.{◌≡◌, ℕ, suc, ◌+◌, ◌<◌, ◌≤◌, List, [], ◌∷◌, ◌++◌, length, get_or, Some, None, Bool, true, false, cond, not, refl, ap, subst, arith, position, nat_lt}
 use Rattle.std.specs.List.{position_or_len, slice_set}

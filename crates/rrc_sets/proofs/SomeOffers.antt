@@ -1,3 +1,4 @@
+-- SPDX-License-Identifier: MIT
 -- What is relevant of a message is some of what it offers.
 use Rattle.std.proofs.Common.{ℕ, List, [], ◌++◌, Bool, true, false, cond, refl, sym, subst, append_assoc}
 use Rattle.std.specs.Prelude.{filter, ◌||◌, ◌==◌, ◌&&◌}

@@ -1,3 +1,4 @@
+-- SPDX-License-Identifier: MIT
 -- Lists of which some is left out.
 use Rattle.std.proofs.Common.{◌≡◌, Bool, true, false, cond, not, List, [], ◌∷◌, ◌++◌, inl, inr, refl, sym, ap, subst}
 use Rattle.std.specs.Prelude.{filter}

@@ -1,3 +1,4 @@
+-- SPDX-License-Identifier: MIT
 -- Where the question's name is no alias, the answer ends with it.
 use Rattle.std.proofs.Common.{◌≡◌, Bool, true, false, cond, ◌||◌, ◌==◌, Some, None, refl, sym, arith}
 use Rattle.rrc_wire.specs.declared.message.Message.{Message}

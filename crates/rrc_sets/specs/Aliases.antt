@@ -1,3 +1,4 @@
+-- SPDX-License-Identifier: MIT
 -- Where the aliases of an answer lead (RFC 2308 1).
 use Rattle.std.specs.Prelude.{ℕ, zero, suc, List, [], ◌∷◌, Bool, ◌&&◌, ◌||◌, ◌==◌, if◌then◌else◌, Option, Some, None, find, option_map}
 use Rattle.std.specs.Option.{option_map_or}

@@ -1,3 +1,4 @@
+-- SPDX-License-Identifier: MIT
 -- The class that a message is about (RFC 1035 3.2.4).
 use Rattle.std.specs.Prelude.{ℕ, List, Bool, ◌&&◌, ◌==◌, filter}
 use Rattle.std.specs.List.{list_all}

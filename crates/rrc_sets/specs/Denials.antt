@@ -1,3 +1,4 @@
+-- SPDX-License-Identifier: MIT
 -- Negative answers (RFC 2308).
 use Rattle.std.specs.Prelude.{ℕ, ◌-◌, min, List, length, ◌&&◌, not, ◌==◌, if◌then◌else◌, Option, Some, None, find, option_and_then}
 use Rattle.std.specs.List.{list_any}

@@ -1,3 +1,4 @@
+-- SPDX-License-Identifier: MIT
 -- Sets that grow record by record.
 use Rattle.std.specs.Prelude.{List, [], ◌∷◌, ◌++◌, Bool, ◌&&◌, ◌==◌, if◌then◌else◌}
 use Rattle.std.specs.List.{list_any}

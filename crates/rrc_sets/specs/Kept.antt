@@ -1,3 +1,4 @@
+-- SPDX-License-Identifier: MIT
 -- What a message offers is of kept types, and its data are plain, since those of its records are.
 use Rattle.std.specs.Prelude.{◌≡◌, ℕ, true, List}
 use Rattle.std.specs.List.{AllByRecursion}

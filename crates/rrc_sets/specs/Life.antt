@@ -1,3 +1,4 @@
+-- SPDX-License-Identifier: MIT
 -- How long data live (RFC 2181 8, RFC 8767 4).
 use Rattle.std.specs.Prelude.{ℕ, min, List, slice_index, Bool, ◌||◌, ◌==◌, fold, if◌then◌else◌, Option, Some, None}
 use Rattle.std.specs.List.{list_all}

@@ -1,3 +1,4 @@
+-- SPDX-License-Identifier: MIT
 -- The ranges of limits.
 use Rattle.std.specs.Prelude.{◌≡◌, ℕ, ◌≤◌}
 use Rattle.rrc_sets.specs.declared.limits.Limits.{Limits}

@@ -1,3 +1,4 @@
+-- SPDX-License-Identifier: MIT
 -- What octets offer that are to be a message.
 use Rattle.std.specs.Prelude.{◌≡◌, ℕ, List}
 use Rattle.rrc_wire.specs.declared.message.Message.{Message}

@@ -1,3 +1,4 @@
+-- SPDX-License-Identifier: MIT
 -- What a response offers to a cache.
 use Rattle.std.specs.Prelude.{ℕ, List, [], ◌∷◌, ◌++◌, Bool, ◌||◌, not, ◌==◌, if◌then◌else◌, Option, None, option_map}
 use Rattle.std.specs.List.{filter_map}

@@ -1,3 +1,4 @@
+-- SPDX-License-Identifier: MIT
 -- Whether a message answers what was asked (RFC 5452 9.1).
 use Rattle.std.specs.Prelude.{Bool, ◌&&◌, not, ◌==◌, Option, Some, None, if◌then◌else◌}
 use Rattle.rrc_name.specs.Wire.{same_name}

@@ -1,3 +1,4 @@
+-- SPDX-License-Identifier: MIT
 -- How far the places of a reply are trusted (RFC 2181 5.4.1).
 use Rattle.std.specs.Prelude.{Bool, true, false}
 use Rattle.rrc_history.specs.declared.body.Trust.{Trust}

@@ -1,3 +1,4 @@
+-- SPDX-License-Identifier: MIT
 -- How much of a response is relevant, where its caller says nothing else (ours).
 use Rattle.std.specs.Prelude.{◌≡◌}
 use Rattle.rrc_sets.specs.declared.relevance.RelevanceLimits.{RelevanceLimits}

@@ -1,3 +1,4 @@
+-- SPDX-License-Identifier: MIT
 -- Which offers of a response are relevant to its question: those that a resolver needs which asked it (RFC 5452 6, ours).
 use Rattle.std.specs.Prelude.{ℕ, List, [], ◌++◌, length, map, take, drop, filter, Bool, true, false, ◌&&◌, ◌||◌, not, ◌==◌, nat_le, if◌then◌else◌, Option, Some, None}
 use Rattle.std.specs.List.{list_any, list_all, sum_by, flat_map}

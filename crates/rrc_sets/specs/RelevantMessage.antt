@@ -1,3 +1,4 @@
+-- SPDX-License-Identifier: MIT
 -- What of octets is relevant to a query that are to be a message.
 use Rattle.std.specs.Prelude.{◌≡◌, ℕ, List, Some, None}
 use Rattle.rrc_wire.specs.declared.fault.WireFault.{WireFault}

@@ -1,3 +1,4 @@
+-- SPDX-License-Identifier: MIT
 -- The comparison of records is an equivalence.
 use Rattle.std.specs.Cmp.{IsEquivalence, nat_eq_equiv, on_equiv}
 use Rattle.std.specs.Cmp.Lexicographic.{lists_equiv}

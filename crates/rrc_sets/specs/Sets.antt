@@ -1,3 +1,4 @@
+-- SPDX-License-Identifier: MIT
 -- The RRsets of a section (RFC 2181 5).
 use Rattle.std.specs.Prelude.{ℕ, List, Bool, ◌&&◌, ◌==◌, map, filter}
 use Rattle.rrc_name.specs.Wire.{same_name}

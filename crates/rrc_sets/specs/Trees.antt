@@ -1,3 +1,4 @@
+-- SPDX-License-Identifier: MIT
 -- Ordered trees in which the set of a record, and its data, are found.
 use Rattle.std.specs.Prelude.{◌≡◌, ℕ, zero, suc, List, [], ◌∷◌, Bool, false, ◌&&◌, ◌==◌, nat_eq, Option, Some, None, if◌then◌else◌}
 use Rattle.std.specs.declared.cmp.Ordering.{Ordering}

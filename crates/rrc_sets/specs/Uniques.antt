@@ -1,3 +1,4 @@
+-- SPDX-License-Identifier: MIT
 -- Lists without repeats, and lists of which some is left out.
 use Rattle.std.specs.Prelude.{◌≡◌, ◌⊎◌, List, [], ◌∷◌, Bool, not, filter}
 

@@ -1,3 +1,4 @@
+// SPDX-License-Identifier: MIT
 ghost use Rattle.std.specs.Prelude.{◌≡◌, IfOk, IfSome, option_map, find};
 ghost use Rattle.std.specs.Option.{option_copied};
 ghost use Rattle.rrc_name.specs.Wire.{same_name, IsWireForm};

@@ -1,3 +1,4 @@
+// SPDX-License-Identifier: MIT
 ghost use Rattle.std.specs.Prelude.{◌≡◌, IfOk, filter};
 ghost use Rattle.std.specs.List.{list_all};
 ghost use Rattle.rrc_sets.specs.Classes.{is_of_class, in_own_class, has_one_class};

@@ -1,3 +1,4 @@
+// SPDX-License-Identifier: MIT
 ghost use Rattle.std.specs.Prelude.{◌≡◌, ◌≤◌, ◌++◌, IfOk, OnOk, length, map, take, drop, [], ◌∷◌};
 ghost use Rattle.rrc_sets.specs.Relevant.{host_place, hosts_of, hosts_named};
 

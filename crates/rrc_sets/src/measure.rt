@@ -1,3 +1,4 @@
+// SPDX-License-Identifier: MIT
 ghost use Rattle.std.specs.Prelude.{◌≡◌, ◌≤◌, nat_le, length};
 ghost use Rattle.std.specs.List.{list_all, sum_by};
 ghost use Rattle.rrc_sets.specs.Relevant.{is_set_of, items_of, length_of, has_length, is_measured};

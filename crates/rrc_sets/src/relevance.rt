@@ -1,3 +1,4 @@
+// SPDX-License-Identifier: MIT
 ghost use Rattle.std.specs.Prelude.{◌≡◌};
 
 /// How much of a response is relevant at most. They bound the time that it takes to tell, which is in proportion to the octets of the

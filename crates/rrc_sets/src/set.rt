@@ -1,3 +1,4 @@
+// SPDX-License-Identifier: MIT
 ghost use Rattle.std.specs.Prelude.{◌≡◌, OnOk, IfOk, not, true};
 ghost use Rattle.std.specs.List.{list_any};
 ghost use Rattle.rrc_wire.specs.Same.{same_rdata};

@@ -1,3 +1,4 @@
+// SPDX-License-Identifier: MIT
 ghost use Rattle.std.specs.Prelude.{◌≡◌, ◌≤◌, IfSome, slice_index};
 ghost use Rattle.rrc_sets.specs.Life.{life, lowest_life, are_one, set_life};
 

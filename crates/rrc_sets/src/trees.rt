@@ -1,3 +1,4 @@
+// SPDX-License-Identifier: MIT
 ghost use Rattle.std.specs.Prelude.{◌≡◌, [], IfOk, OnOk, not, length};
 ghost use Rattle.std.specs.Option.{unwrap_or};
 ghost use Rattle.rrc_name.specs.Wire.{folded};

@@ -1,3 +1,4 @@
+// SPDX-License-Identifier: MIT
 ghost use Rattle.std.specs.Prelude.{◌≡◌, ◌<◌, OnOk, IfOk, IfSome, position, length, count_by};
 ghost use Rattle.rrc_sets.specs.Sets.{same_set, sets_of};
 ghost use Rattle.rrc_sets.specs.Gathering.{holds, with_record};

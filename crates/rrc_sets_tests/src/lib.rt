@@ -1,3 +1,4 @@
+// SPDX-License-Identifier: MIT
 //! Tests of `rrc_wire` and `rrc_sets`, by their public calls.
 #![tactic(auto)]
 

@@ -1,3 +1,4 @@
+// SPDX-License-Identifier: MIT
 mod limits;
 mod messages;
 mod relevant;

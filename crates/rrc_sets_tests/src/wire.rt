@@ -1,3 +1,4 @@
+// SPDX-License-Identifier: MIT
 mod layouts;
 mod messages;
 mod plain;

@@ -1,3 +1,4 @@
+-- SPDX-License-Identifier: MIT
 -- What the calls on a shared cache tell, whatever lies under its locks.
 use Rattle.std.specs.Prelude.{◌≡◌, ℕ, ◌<◌, ◌≤◌, List, [], ◌∷◌, None, Result, Ok, Err}
 use Rattle.rrc_history.specs.Chapters.{ChapterOf}

@@ -1,3 +1,4 @@
+-- SPDX-License-Identifier: MIT
 -- A part of the cache with the chapters that it closed.
 use Rattle.std.specs.Prelude.{◌≡◌, ℕ, ◌+◌, ◌^◌, ◌<◌, ◌≤◌, ◌⊎◌, List, [], ◌∷◌, ◌++◌, length, reverse, Option, None, Result, Ok, Err}
 use Rattle.rrc_name.specs.Key.{KeyOf}

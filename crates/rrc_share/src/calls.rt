@@ -1,3 +1,4 @@
+// SPDX-License-Identifier: MIT
 ghost use Rattle.std.specs.Prelude.{◌≡◌, ◌↔◌, IsTrue, IfErr, IfOk, OnOk, OnErr, Err};
 ghost use Rattle.rrc_cache.specs.Part.{IsCloseDue, IsOfMoments, IsSound};
 ghost use Rattle.rrc_share.specs.Shelf.{AppendsAsk, AppendsOffer, AppendsSweep, CanWrite, HasMadeRoom, IsDue, IsLeft, Shuts};

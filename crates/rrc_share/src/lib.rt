@@ -1,3 +1,4 @@
+// SPDX-License-Identifier: MIT
 //! The cache that threads share: parts under locks, each on a shelf with the chapters that it closed.
 #![tactic(auto)]
 

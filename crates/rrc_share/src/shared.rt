@@ -1,3 +1,4 @@
+// SPDX-License-Identifier: MIT
 ghost use Rattle.std.specs.Prelude.{◌≡◌, ◌<◌, ◌≤◌, Err, All, length, IfErr, IfOk, OnErr};
 ghost use Rattle.rrc_share.specs.Shelf.{IsShelf};
 

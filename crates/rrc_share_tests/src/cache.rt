@@ -1,3 +1,4 @@
+// SPDX-License-Identifier: MIT
 mod beside;
 mod chapters;
 mod classless;

@@ -1,3 +1,4 @@
+// SPDX-License-Identifier: MIT
 //! Tests of `rrc_cache` and `rrc_share`, by their public calls.
 #![tactic(auto)]
 

@@ -1,3 +1,4 @@
+// SPDX-License-Identifier: MIT
 mod shared;
 mod shelf;
 

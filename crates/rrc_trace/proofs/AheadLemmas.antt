@@ -1,3 +1,4 @@
+-- SPDX-License-Identifier: MIT
 -- Octets ahead of those that were taken.
 use Rattle.std.proofs.Common.{◌≡◌, ℕ, ◌+◌, ◌-◌, ◌≤◌, List, length, take, drop, slice_range, arith, sym, ap, ◌∙◌, length-take, length-drop, drop-drop}
 use Rattle.std.proofs.lemmas.List.{drop-take}

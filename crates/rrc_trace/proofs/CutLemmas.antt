@@ -1,3 +1,4 @@
+-- SPDX-License-Identifier: MIT
 -- A piece grows by what is cut from the octets ahead, to its LF.
 use Rattle.std.proofs.Common.{◌≡◌, ◌==◌, ℕ, suc, zero, ◌+◌, ◌<◌, ◌≤◌, Bool, true, false, List, [], ◌∷◌, ◌++◌, length, take, get_or, position, nat_lt, cond, Option, Some, None, refl, sym, ap, subst, ◌∙◌, arith, append_assoc}
 use Rattle.std.specs.List.{position_or_len}

@@ -1,3 +1,4 @@
+-- SPDX-License-Identifier: MIT
 -- What digits spell, and which octets spell nothing.
 use Rattle.std.proofs.Common.{◌≡◌, ℕ, ◌+◌, ◌*◌, List, Some, None, Ok, Err, Result, refl}
 use Rattle.std.specs.List.{AllPass}

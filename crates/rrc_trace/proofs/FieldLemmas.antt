@@ -1,3 +1,4 @@
+-- SPDX-License-Identifier: MIT
 -- The fields of octets, found one after another, are those of the grammar.
 use Rattle.std.proofs.Common.{◌≡◌, ◌≢◌, ◌==◌, ℕ, suc, List, [], ◌∷◌, ◌++◌, length, take, drop, Option, Some, None, Bool, true, false, not, cond, position, option_map, is_some, refl, sym, ap, subst, ◌∙◌, arith, inl, inr, eqb-true, ne_eqb, eq-eqb}
 use Rattle.std.proofs.lemmas.Bool.{eqb-false}

@@ -1,3 +1,4 @@
+-- SPDX-License-Identifier: MIT
 -- Octets say a line of each form, as they are read, exactly where their fields are that line by the grammar.
 use Rattle.std.proofs.Common.{◌≡◌, ℕ, List, [], ◌∷◌, Option, Some, codes, refl, ap, subst, ◌∙◌}
 use Rattle.rrc_name.specs.Text.{Spells}

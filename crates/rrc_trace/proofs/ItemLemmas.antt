@@ -1,3 +1,4 @@
+-- SPDX-License-Identifier: MIT
 -- Items are read piece by piece.
 use Rattle.std.proofs.Common.{◌≡◌, ℕ, ◌+◌, ◌<◌, ◌≤◌, List, [], ◌∷◌, length, take, drop, Option, Some, None, true, false, Bool, refl, sym, ap, subst, ◌∙◌, arith, cond, position, nat_lt, nat_le, not, option_map, unwrap_or, Err}
 use Rattle.std.specs.List.{slice_split, position_or_len, onto_first}

@@ -1,3 +1,4 @@
+-- SPDX-License-Identifier: MIT
 -- The items of a put by the grammar are lawful.
 use Rattle.std.proofs.Common.{◌≡◌, ℕ, ◌≤◌, ◌+◌, List, [], ◌∷◌, ◌++◌, length, Bool, true, false, fold, refl, sym, subst, arith, length-append}
 use Rattle.std.specs.List.{All, AllByRecursion, IsDistinct, list_any}

@@ -1,3 +1,4 @@
+-- SPDX-License-Identifier: MIT
 -- A line by the grammar is lawful.
 use Rattle.std.proofs.Common.{◌≡◌, ℕ, List, Some}
 use Rattle.rrc_trace.specs.declared.line.Line.{Line}

@@ -1,3 +1,4 @@
+-- SPDX-License-Identifier: MIT
 pub mod CutLemmas
 pub mod DigitLemmas
 pub mod AheadLemmas

@@ -1,3 +1,4 @@
+-- SPDX-License-Identifier: MIT
 -- A piece of a text says a line, as it is read, exactly where it is that line by the grammar.
 use Rattle.std.proofs.Common.{◌≡◌, ◌==◌, ◌<◌, ◌≤◌, ◌↔◌, ℕ, ◌+◌, ◌-◌, List, [], ◌∷◌, ◌++◌, length, take, slice_index, get_or, Option, Some, None, Bool, true, false, refl, sym, ap, subst, ◌∙◌, arith, nat_le, leb-true, le-leb, eqb-true, eq-eqb, ne_eqb, append_assoc, length-append, get_or-append-add, take_at, take_all}
 use Rattle.std.proofs.lemmas.Bool.Decides.{nat_tests}

@@ -1,3 +1,4 @@
+-- SPDX-License-Identifier: MIT
 -- Names in lines.
 use Rattle.std.proofs.Common.{◌≡◌, ℕ, ◌<◌, ◌+◌, List, [], ◌∷◌, Some, None, Result, Ok, Err, refl, subst, arith}
 use Rattle.std.specs.Str.{IsAscii}

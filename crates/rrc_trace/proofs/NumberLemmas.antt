@@ -1,3 +1,4 @@
+-- SPDX-License-Identifier: MIT
 -- A number that is too large stays so behind more digits.
 use Rattle.std.proofs.Common.{◌≡◌, ℕ, zero, suc, ◌+◌, ◌-◌, ◌*◌, ◌<◌, List, [], ◌∷◌, length, drop, get_or, None, true, false, refl, arith, cond}
 use Rattle.std.specs.Char.{is_ascii_digit}

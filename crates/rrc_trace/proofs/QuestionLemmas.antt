@@ -1,3 +1,4 @@
+-- SPDX-License-Identifier: MIT
 -- Questions, and the numbers under which a map has them.
 use Rattle.std.proofs.Common.{◌≡◌, ℕ, suc, ◌≤◌, ◌||◌, List, [], ◌∷◌, ◌++◌, length, length-append, Option, Some, None, Bool, true, false, cond, refl, sym, ap, ◌∙◌, arith, position}
 use Rattle.std.specs.List.{list_any}

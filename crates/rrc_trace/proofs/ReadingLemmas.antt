@@ -1,3 +1,4 @@
+-- SPDX-License-Identifier: MIT
 -- A trace is read piece by piece.
 use Rattle.std.proofs.Common.{◌≡◌, ◌≢◌, ℕ, suc, ◌+◌, ◌-◌, ◌<◌, ◌≤◌, List, [], ◌∷◌, ◌++◌, length, take, get_or, Option, Some, None, Result, Ok, Err, true, false, refl, sym, ap, subst, ◌∙◌, arith, append_assoc, length-append, length-take, nat_le, ◌==◌, Bool, cond, slice_index, zero}
 use Rattle.std.specs.Prelude.{⊤}

@@ -1,3 +1,4 @@
+-- SPDX-License-Identifier: MIT
 -- What a tree of items finds, and what it finds once one more is in it.
 use Rattle.std.proofs.Common.{◌≡◌, ℕ, List, [], ◌∷◌, ◌++◌, Some, Bool, true, false, cond, ◌||◌, nat_eq, refl, sym, ap, subst, ◌∙◌}
 use Rattle.std.specs.List.{list_any}

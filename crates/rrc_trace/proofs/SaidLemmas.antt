@@ -1,3 +1,4 @@
+-- SPDX-License-Identifier: MIT
 -- What is said, step by step.
 use Rattle.std.proofs.Common.{◌≡◌, ℕ, List, Option, Some, None, refl, ap, ◌∙◌}
 use Rattle.rrc_trace.specs.Gives.{◌>>=◌}

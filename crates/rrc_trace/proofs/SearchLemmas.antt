@@ -1,3 +1,4 @@
+-- SPDX-License-Identifier: MIT
 -- What a search finds is the first place.
 use Rattle.std.proofs.Common.{◌≡◌, ◌==◌, ◌+◌, ℕ, suc, Bool, true, false, List, ◌∷◌, length, position, option_map, Option, Some, None, cond, refl, ap, nat_lt, arith, le_refl, ⊎_elim}
 use Rattle.std.specs.List.{position_or_len}

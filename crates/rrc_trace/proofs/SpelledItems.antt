@@ -1,3 +1,4 @@
+-- SPDX-License-Identifier: MIT
 -- What a field says as it is read is what it says by the grammar: octets in hexadecimal, and the items of a put.
 use Rattle.std.proofs.Common.{◌≡◌, ◌==◌, ◌<◌, ◌≤◌, ℕ, ◌+◌, List, [], ◌∷◌, length, get_or, Option, Some, None, Result, Ok, Err, Bool, true, false, cond, fold, refl, sym, ap, subst, ◌∙◌, arith, nat_le, bytes_eq, leb-true, le-leb, ne_eqb}
 use Rattle.std.specs.List.{All, AllZip, AllByRecursion, AllPass, join_with_byte, slice_split, count_by}

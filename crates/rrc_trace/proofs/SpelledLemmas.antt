@@ -1,3 +1,4 @@
+-- SPDX-License-Identifier: MIT
 -- What a field says as it is read is what it says by the grammar: numbers and words.
 use Rattle.std.proofs.Common.{◌≡◌, ◌≢◌, ◌⊎◌, ◌==◌, ◌≤◌, ◌^◌, ℕ, suc, ◌+◌, ◌-◌, ◌*◌, List, [], ◌∷◌, ◌++◌, Option, Some, None, Bool, true, false, cond, option_and_then, refl, sym, ap, subst, ◌∙◌, arith, inl, inr, nat_le, bytes_eq, codes, if◌then◌else◌, length, take, drop, option_map, append-nil, append_assoc, eqb-true, ne_eqb, leb-true, le-leb}
 use Rattle.std.specs.Char.{is_ascii_digit}

@@ -1,3 +1,4 @@
+-- SPDX-License-Identifier: MIT
 -- Every text is the text of one list of lines, or it has one first fault, and never both: what is read of it is the one or the other.
 use Rattle.std.proofs.Common.{◌≡◌, ℕ, ◌⊎◌, List, Result, Ok, Err, refl, inl, inr}
 use Rattle.rrc_trace.specs.declared.line.Line.{Line}

@@ -1,3 +1,4 @@
+-- SPDX-License-Identifier: MIT
 -- A text is read piece by piece, and what is read of it is its trace, or its first fault.
 use Rattle.std.proofs.Common.{◌≡◌, ℕ, ◌+◌, ◌<◌, ◌≤◌, List, [], ◌∷◌, ◌++◌, length, Option, Some, None, Result, Ok, Err, Bool, true, false, refl, sym, ap, subst, ◌∙◌, arith, nat_le, if◌then◌else◌, leb-true, leb-false, append_assoc, append-nil, length-append}
 use Rattle.std.specs.List.{AllZip}

@@ -1,3 +1,4 @@
+-- SPDX-License-Identifier: MIT
 -- The numbers of faults.
 use Rattle.std.specs.Prelude.{ℕ}
 use Rattle.rrc_trace.specs.declared.fault.ReplayFault.{ReplayFault}

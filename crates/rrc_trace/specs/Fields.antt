@@ -1,3 +1,4 @@
+-- SPDX-License-Identifier: MIT
 -- How the fields of a line are found, one after another: what private contracts say. What fields are stands in Grammar.
 use Rattle.std.specs.Prelude.{ℕ, List, [], Bool, take, drop, not, position, is_some, Option, Some, None, option_map, ◌==◌}
 use Rattle.rrc_trace.specs.Gives.{◌>>=◌}

@@ -1,3 +1,4 @@
+-- SPDX-License-Identifier: MIT
 -- What a function that reads octets answers.
 use Rattle.std.specs.Prelude.{◌≡◌, Option, Some, None, option_and_then, Result, Ok, Err}
 use Rattle.rrc_trace.specs.declared.line_fault.LineFault.{LineFault}

@@ -1,3 +1,4 @@
+-- SPDX-License-Identifier: MIT
 -- The lines of a trace, apart from how they are read: the tables of docs/FORMATS.md, "Traces".
 use Rattle.std.specs.Prelude.{◌≡◌, ◌≢◌, ◌≤◌, ◌⊎◌, ℕ, ◌+◌, ◌*◌, List, [], ◌∷◌, ◌++◌, length, Option, Some, None, Ok, true, fold, codes, if◌then◌else◌}
 use Rattle.std.specs.List.{AllZip, AllByRecursion, join_with_byte, list_any}

@@ -1,3 +1,4 @@
+-- SPDX-License-Identifier: MIT
 -- How the items of a put are read, piece by piece: what private contracts say.
 use Rattle.std.specs.Prelude.{ℕ, List, Bool, option_map, [], ◌∷◌, length, take, drop, position, ◌+◌, Option, Some, None, ◌==◌, nat_le, if◌then◌else◌}
 use Rattle.std.specs.List.{slice_split}

@@ -1,3 +1,4 @@
+-- SPDX-License-Identifier: MIT
 -- What holds of every line of a trace.
 use Rattle.std.specs.Prelude.{◌≡◌, ℕ, ◌≤◌, List, length, true}
 use Rattle.std.specs.List.{All, IsDistinct}

@@ -1,3 +1,4 @@
+-- SPDX-License-Identifier: MIT
 pub mod Grammar
 pub mod Gives
 pub mod Fields

@@ -1,3 +1,4 @@
+-- SPDX-License-Identifier: MIT
 -- How a line is read, field after field: what private contracts say. What a line is stands in Grammar.
 use Rattle.std.specs.Prelude.{ℕ, ◌-◌, List, length, take, slice_index, Option, Some, None, unwrap_or, ◌==◌, nat_le, if◌then◌else◌}
 use Rattle.rrc_name.specs.Wire.{folded}

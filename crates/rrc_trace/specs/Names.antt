@@ -1,3 +1,4 @@
+-- SPDX-License-Identifier: MIT
 -- How the names of a line are read: what private contracts say, and the law that it is what they spell.
 use Rattle.std.specs.Prelude.{◌≡◌, ◌↔◌, ℕ, List, Option, Some}
 use Rattle.std.specs.Result.{result_ok}

@@ -1,3 +1,4 @@
+-- SPDX-License-Identifier: MIT
 -- How the numbers of a line are read, digit by digit: what private contracts say. What digits spell stands in Grammar.
 use Rattle.std.specs.Prelude.{ℕ, ◌+◌, ◌-◌, ◌*◌, ◌^◌, List, [], ◌∷◌, take, drop, position, Option, Some, None, option_and_then, ◌==◌, nat_le, if◌then◌else◌}
 use Rattle.std.specs.Char.{is_ascii_digit}

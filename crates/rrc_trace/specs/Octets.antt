@@ -1,3 +1,4 @@
+-- SPDX-License-Identifier: MIT
 -- How octets that stand in a line in hexadecimal are read: what private contracts say.
 use Rattle.std.specs.Prelude.{ℕ, List, [], ◌∷◌, length, Option, Some, None, ◌==◌, bytes_eq, if◌then◌else◌}
 use Rattle.std.specs.Result.{result_ok}

@@ -1,3 +1,4 @@
+-- SPDX-License-Identifier: MIT
 -- What became of a text that goes to a writer through a buffer.
 use Rattle.std.specs.Prelude.{◌≡◌, ℕ, List, ◌++◌, Option, Bool, true, false}
 use Rattle.std.specs.Io.KnownBytes.{Appends}

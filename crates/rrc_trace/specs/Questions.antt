@@ -1,3 +1,4 @@
+-- SPDX-License-Identifier: MIT
 -- The questions that the lines of a trace fetch.
 use Rattle.std.specs.BTreeMap as map
 use Rattle.std.specs.Prelude.{◌≡◌, ℕ, List, [], ◌∷◌, ◌++◌, position, Option, Some, None, if◌then◌else◌}

@@ -1,3 +1,4 @@
+-- SPDX-License-Identifier: MIT
 -- An ordered tree in which an item is found that is the same as another.
 use Rattle.std.specs.Prelude.{◌≡◌, ℕ, List, Bool, nat_eq, Option, IfSome}
 use Rattle.std.specs.declared.cmp.Ordering.{Ordering}

@@ -1,3 +1,4 @@
+-- SPDX-License-Identifier: MIT
 -- The text of a report: one line for each line of the trace.
 use Rattle.std.specs.Prelude.{ℕ, ◌+◌, List, [], ◌∷◌, ◌++◌, length, Option, Some, None, codes, ◌==◌, if◌then◌else◌}
 use Rattle.std.specs.Fmt.{decimal}

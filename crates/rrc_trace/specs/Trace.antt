@@ -1,3 +1,4 @@
+-- SPDX-License-Identifier: MIT
 -- A trace: the pieces of a text are the lines of the grammar, or one of them is its first fault.
 use Rattle.std.specs.Prelude.{◌≡◌, ◌<◌, ◌≤◌, ◌⊎◌, ℕ, List, [], ◌∷◌, ◌++◌, length, ◌==◌, if◌then◌else◌}
 use Rattle.std.specs.List.{AllZip}

@@ -1,3 +1,4 @@
+-- SPDX-License-Identifier: MIT
 -- How the words of a line are read: what private contracts say.
 use Rattle.std.specs.Prelude.{ℕ, List, Option, Some, None, bytes_eq, codes, if◌then◌else◌}
 use Rattle.rrc_trace.specs.declared.word.Form.{Form}

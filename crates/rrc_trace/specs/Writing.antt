@@ -1,3 +1,4 @@
+-- SPDX-License-Identifier: MIT
 -- What a writer holds after a part of a text was written.
 use Rattle.std.specs.Prelude.{ℕ, List, take, Option}
 use Rattle.std.specs.Io.KnownBytes.{Appends, Keeps}

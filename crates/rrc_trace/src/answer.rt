@@ -1,3 +1,4 @@
+// SPDX-License-Identifier: MIT
 use rrc_history::{Outcome, Reply};
 use rrc_name::{Key, Sequence};
 use rrc_wire::WireFault;

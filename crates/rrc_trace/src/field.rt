@@ -1,3 +1,4 @@
+// SPDX-License-Identifier: MIT
 ghost use Rattle.std.specs.Prelude.{◌≡◌, ◌==◌, ◌<◌, length, position, IfSome};
 ghost use Rattle.rrc_trace.specs.Fields.{field_at, field_in_front, first_unspaced, has_field};
 ghost use Rattle.rrc_trace.specs.Gives.{Gives};

@@ -1,3 +1,4 @@
+// SPDX-License-Identifier: MIT
 //! Traces of cache operations and reports of their answers: reading the one, and writing the text of the other.
 #![tactic(auto)]
 

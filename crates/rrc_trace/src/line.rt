@@ -1,3 +1,4 @@
+// SPDX-License-Identifier: MIT
 ghost use Rattle.std.specs.Prelude.{◌≡◌, option_map};
 ghost use Rattle.rrc_trace.specs.Gives.{Gives};
 ghost use Rattle.rrc_trace.specs.Lines.{question_at, kept_of, put_of, manner_of, ask_of, fail_of, response_of, sent_of, fetch_of, sweep_of, ended, line_of, before_last, without_cr, bounded, line_of_piece};

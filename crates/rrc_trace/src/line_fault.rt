@@ -1,3 +1,4 @@
+// SPDX-License-Identifier: MIT
 use std::alloc::{AllocError, AllocFailed};
 
 /// Why octets are not read as a line, or as a part of one.

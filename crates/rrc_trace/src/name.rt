@@ -1,3 +1,4 @@
+// SPDX-License-Identifier: MIT
 ghost use Rattle.std.specs.Prelude.{◌≡◌};
 ghost use Rattle.rrc_trace.specs.Gives.{Gives};
 ghost use Rattle.rrc_trace.specs.Names.{name_of, SaysWhatIsSpelled};

@@ -1,3 +1,4 @@
+// SPDX-License-Identifier: MIT
 ghost use Rattle.std.specs.Prelude.{◌≡◌, Some, IfSome};
 ghost use Rattle.rrc_trace.specs.Fields.{said_at};
 ghost use Rattle.rrc_trace.specs.Gives.{Gives};

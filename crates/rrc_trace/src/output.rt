@@ -1,3 +1,4 @@
+// SPDX-License-Identifier: MIT
 ghost use Rattle.std.specs.Prelude.{◌≡◌, ◌+◌, ◌≤◌, false, [], length, OnOk, OnErr, IfErr};
 ghost use Rattle.rrc_trace.specs.Output.{Puts, Ends, EndsFront};
 

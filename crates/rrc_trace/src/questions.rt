@@ -1,3 +1,4 @@
+// SPDX-License-Identifier: MIT
 ghost use Rattle.std.specs.Prelude.{◌≡◌, [], length, IfOk, OnOk, OnErr};
 ghost use Rattle.rrc_trace.specs.Questions.{question_of, fetched_by, with_question, number_among};
 

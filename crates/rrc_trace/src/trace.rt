@@ -1,3 +1,4 @@
+// SPDX-License-Identifier: MIT
 use crate::line::Line;
 use crate::questions::Questions;
 use rrc_name::Sequence;

@@ -1,3 +1,4 @@
+-- SPDX-License-Identifier: MIT
 -- A chain of pointers leads to one place, and a name goes on there as it does at the chain's first place.
 use Rattle.std.proofs.Common.{length-append, ◌≡◌, ◌⊎◌, ℕ, zero, suc, ◌+◌, ◌^◌, ◌<◌, ◌≤◌, List, [], ◌∷◌, ◌++◌, length, min, slice_index, get_or, Some, Result, Ok, Err, refl, sym, subst, ◌∙◌, arith, inl, inr, below_more}
 use Rattle.std.proofs.lemmas.List.{get_or_push, get_or_append_left}

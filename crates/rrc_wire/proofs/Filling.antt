@@ -1,3 +1,4 @@
+-- SPDX-License-Identifier: MIT
 -- Data of a layout, as they are put together: fixed octets, one name after another, fixed octets.
 use Rattle.std.proofs.Common.{◌≡◌, ℕ, ◌+◌, ◌*◌, ◌≤◌, Bool, true, false, cond, List, [], ◌∷◌, ◌++◌, length, Option, Some, None, Result, Ok, Err, refl, sym, ap, subst, ◌∙◌, arith, append_assoc, length-append, MatchOption}
 use Rattle.std.specs.Prelude.{⊤, IfOk}

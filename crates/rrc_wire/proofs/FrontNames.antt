@@ -1,3 +1,4 @@
+-- SPDX-License-Identifier: MIT
 -- Names at the front of octets, with others behind them.
 use Rattle.std.proofs.Common.{◌≡◌, ℕ, zero, suc, ◌+◌, ◌-◌, ◌<◌, ◌≤◌, List, [], ◌∷◌, ◌++◌, length, refl, sym, ap, subst, ◌∙◌, arith, append_assoc, length-append, get_or, take, drop, false, ◌==◌}
 use Rattle.std.specs.List.{AllByRecursion, concat}

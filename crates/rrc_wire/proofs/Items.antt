@@ -1,3 +1,4 @@
+-- SPDX-License-Identifier: MIT
 -- What the items of a name say of the message.
 use Rattle.std.proofs.Common.{◌≡◌, ℕ, suc, ◌+◌, ◌-◌, ◌<◌, ◌≤◌, List, ◌∷◌, length, drop, slice_index, get_or, Ok, refl, arith, length-drop, length-take}
 use Rattle.std.specs.Prelude.{slice_range}

@@ -1,3 +1,4 @@
+-- SPDX-License-Identifier: MIT
 -- All octets begin with one message, or have one first fault.
 use Rattle.std.proofs.Common.{◌≡◌, ◌⊎◌, ℕ, List, Result, Ok, Err, refl, sym, ◌∙◌, inl, inr}
 use Rattle.std.specs.Prelude.{IfOk, IfErr}

@@ -1,3 +1,4 @@
+-- SPDX-License-Identifier: MIT
 pub mod Items
 pub mod NameLoop
 pub mod Pieces

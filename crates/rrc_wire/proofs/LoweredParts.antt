@@ -1,3 +1,4 @@
+-- SPDX-License-Identifier: MIT
 -- Lowering the names of plain data keeps their parts apart.
 use Rattle.std.proofs.Common.{◌≡◌, ℕ, ◌-◌, ◌≤◌, Bool, true, false, cond, true≢false, ◌⊎◌, ⊎_elim, List, [], ◌∷◌, ◌++◌, length, map, Option, Some, None, refl, sym, ap, subst, ◌∙◌, arith, length-append, take, drop, Decides, MatchOption}
 use Rattle.std.specs.Prelude.{⊤, nat_eq}

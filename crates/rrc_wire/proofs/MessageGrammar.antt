@@ -1,3 +1,4 @@
+-- SPDX-License-Identifier: MIT
 -- A message is read where the octets begin with one, and only there.
 use Rattle.std.proofs.Common.{◌≡◌, ℕ, ◌≤◌, Bool, true, false, cond, List, length, Result, Ok, Err, refl, sym, ap, subst, ◌∙◌, eqb, nat_lt}
 use Rattle.std.specs.Prelude.{not}

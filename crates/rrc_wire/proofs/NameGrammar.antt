@@ -1,3 +1,4 @@
+-- SPDX-License-Identifier: MIT
 -- A name is read where one stands, and only there.
 use Rattle.std.proofs.Common.{◌≡◌, ℕ, zero, suc, ◌+◌, ◌-◌, ◌<◌, ◌≤◌, List, [], ◌∷◌, ◌++◌, length, Option, Some, None, Result, Ok, Err, refl, sym, ap, subst, ◌∙◌, arith, append_assoc, length-append, unwrap_or, slice_index}
 use Rattle.std.specs.Prelude.{slice_range}

@@ -1,3 +1,4 @@
+-- SPDX-License-Identifier: MIT
 -- What one item does to a name that is read.
 use Rattle.std.proofs.Common.{◌≡◌, ℕ, zero, suc, ◌+◌, ◌-◌, ◌<◌, ◌≤◌, List, [], ◌∷◌, ◌++◌, length, Option, Some, None, Ok, Err, refl, sym, ap, subst, ◌∙◌, arith, length-append, unwrap_or, MatchOption, slice_index}
 use Rattle.std.specs.Prelude.{slice_range}

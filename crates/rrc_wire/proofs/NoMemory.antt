@@ -1,3 +1,4 @@
+-- SPDX-License-Identifier: MIT
 -- Reading needs no memory: that fault is the reader's own.
 use Rattle.std.proofs.Common.{◌≡◌, ◌≢◌, ℕ, zero, suc, ◌+◌, Bool, true, false, cond, List, [], ◌∷◌, ◌++◌, length, Option, Some, None, Result, Ok, Err, refl, nat_le, nat_lt, eqb, unwrap_or, arith}
 use Rattle.std.specs.Prelude.{slice_range, not}

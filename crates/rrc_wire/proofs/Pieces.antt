@@ -1,3 +1,4 @@
+-- SPDX-License-Identifier: MIT
 -- Pieces that are read one after another, as a loop does.
 use Rattle.std.proofs.Common.{◌≡◌, ℕ, suc, ◌+◌, ◌-◌, ◌<◌, ◌≤◌, List, ◌++◌, Result, Ok, Err, refl, arith}
 use Rattle.rrc_wire.specs.declared.fault.WireFault.{WireFault}

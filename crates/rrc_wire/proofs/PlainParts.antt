@@ -1,3 +1,4 @@
+-- SPDX-License-Identifier: MIT
 -- Octets have the parts of a layout in one way, and the tests tell whether they do.
 use Rattle.std.proofs.Common.{◌≡◌, ℕ, ◌-◌, ◌<◌, ◌≤◌, Bool, false, List, [], ◌∷◌, ◌++◌, length, Option, Some, None, refl, sym, ap, subst, ◌∙◌, arith, append_assoc, length-append, take, drop, Decides, MatchOption}
 use Rattle.std.specs.Prelude.{⊤, nat_lt, nat_le, nat_eq, ◌==◌, ◌&&◌}

@@ -1,3 +1,4 @@
+-- SPDX-License-Identifier: MIT
 -- A name that begins with a pointer is the name at the pointer's target.
 use Rattle.std.proofs.Common.{◌≡◌, ℕ, zero, suc, ◌+◌, ◌-◌, ◌≤◌, List, [], ◌++◌, length, Option, Some, None, Result, Ok, Err, refl, ◌∙◌, arith, length-append, unwrap_or}
 use Rattle.std.specs.Prelude.{slice_range}

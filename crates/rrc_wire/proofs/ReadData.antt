@@ -1,3 +1,4 @@
+-- SPDX-License-Identifier: MIT
 -- The data that stand in a message are plain, once their names are expanded.
 use Rattle.std.proofs.Common.{◌≡◌, ℕ, ◌+◌, ◌-◌, ◌<◌, ◌≤◌, List, [], ◌∷◌, ◌++◌, length, Option, Some, None, refl, sym, ap, subst, ◌∙◌, arith, append_assoc, drop, MatchOption}
 use Rattle.std.specs.Prelude.{slice_range}

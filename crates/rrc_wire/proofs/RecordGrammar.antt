@@ -1,3 +1,4 @@
+-- SPDX-License-Identifier: MIT
 -- Data, records and questions are read where they stand, and only there.
 use Rattle.std.proofs.Common.{◌≡◌, ℕ, ◌+◌, ◌≤◌, Bool, true, false, cond, List, [], ◌∷◌, ◌++◌, length, Option, Some, None, Result, Ok, Err, refl, sym, ap, subst, ◌∙◌, arith, nat_le, eqb, MatchOption}
 use Rattle.std.specs.Prelude.{slice_range}

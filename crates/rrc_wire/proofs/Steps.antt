@@ -1,3 +1,4 @@
+-- SPDX-License-Identifier: MIT
 -- A step of a reader that did not fail.
 use Rattle.std.proofs.Common.{◌≡◌, ℕ, zero, suc, ◌+◌, ◌≤◌, Bool, true, false, cond, List, [], ◌++◌, length, Result, Ok, Err, refl, sym, ap, ◌∙◌, append_assoc, arith, nat_lt, nat_le, eqb}
 use Rattle.std.proofs.lemmas.Bool.Decides.{nat_tests}

@@ -1,3 +1,4 @@
+-- SPDX-License-Identifier: MIT
 -- Where pointers lead that follow each other with no label on the way (RFC 1035 4.1.4).
 use Rattle.std.specs.Prelude.{◌≡◌, ◌<◌, ◌≤◌, ℕ, ◌+◌, ◌^◌, min, List, length, slice_index}
 use Rattle.rrc_wire.specs.Item.{target_at}

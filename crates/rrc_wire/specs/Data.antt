@@ -1,3 +1,4 @@
+-- SPDX-License-Identifier: MIT
 -- Reading the data of a record.
 use Rattle.std.specs.Prelude.{ℕ, ◌+◌, ◌==◌, nat_le, List, ◌++◌, slice_range, Option, Some, None, if◌then◌else◌, Result, Ok, Err}
 use Rattle.rrc_wire.specs.declared.fault.WireFault.{WireFault}

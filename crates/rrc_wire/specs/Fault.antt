@@ -1,3 +1,4 @@
+-- SPDX-License-Identifier: MIT
 -- The faults of messages by their numbers.
 use Rattle.std.specs.Prelude.{ℕ}
 use Rattle.rrc_wire.specs.declared.fault.WireFault.{WireFault}

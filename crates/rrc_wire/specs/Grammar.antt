@@ -1,3 +1,4 @@
+-- SPDX-License-Identifier: MIT
 -- What stands where in a response (RFC 1035 4.1), apart from how it is read.
 use Rattle.std.specs.Prelude.{◌≡◌, ◌<◌, ◌≤◌, ℕ, zero, suc, ◌+◌, ◌/◌, ◌%◌, ◌^◌, true, false, List, [], ◌∷◌, ◌++◌, length, slice_index, slice_range, MatchOption}
 use Rattle.rrc_name.specs.Wire.{wire_of}

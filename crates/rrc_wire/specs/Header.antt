@@ -1,3 +1,4 @@
+-- SPDX-License-Identifier: MIT
 -- The header of a response (RFC 1035 4.1.1).
 use Rattle.std.specs.Prelude.{ℕ, ◌/◌, ◌%◌, ◌^◌, Bool, not, ◌==◌, nat_lt, List, length, if◌then◌else◌, Result, Ok, Err}
 use Rattle.rrc_wire.specs.declared.fault.WireFault.{WireFault}

@@ -1,3 +1,4 @@
+-- SPDX-License-Identifier: MIT
 -- The items of a name, in the order of their faults (RFC 1035 4.1.4).
 use Rattle.std.specs.Prelude.{ℕ, ◌+◌, ◌%◌, ◌^◌, ◌==◌, nat_lt, nat_le, List, slice_index, length, if◌then◌else◌, Result, Ok, Err}
 use Rattle.rrc_wire.specs.declared.fault.WireFault.{WireFault}

@@ -1,3 +1,4 @@
+-- SPDX-License-Identifier: MIT
 -- Records that are kept, as contracts see them (RFC 1035 3.2.1).
 use Rattle.std.specs.Prelude.{◌≡◌, ℕ, true, List}
 use Rattle.rrc_wire.specs.Layout.{is_kept}

@@ -1,3 +1,4 @@
+-- SPDX-License-Identifier: MIT
 -- The name that a source remembers.
 use Rattle.std.specs.Prelude.{ℕ, List, Option}
 use Rattle.std.specs.Option.{IfSome}

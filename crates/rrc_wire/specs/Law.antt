@@ -1,3 +1,4 @@
+-- SPDX-License-Identifier: MIT
 -- Octets begin with a message, or have a first fault, and never both.
 use Rattle.std.specs.Prelude.{◌≡◌, ◌≢◌, ℕ, List}
 use Rattle.rrc_wire.specs.declared.fault.WireFault.{WireFault}

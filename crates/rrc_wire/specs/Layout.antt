@@ -1,3 +1,4 @@
+-- SPDX-License-Identifier: MIT
 -- Which records are kept, and how the data of each type stand in a message.
 use Rattle.std.specs.Prelude.{ℕ, Bool, ◌||◌, ◌&&◌, not, ◌==◌, nat_le, List, [], ◌∷◌, Option, Some, None, if◌then◌else◌}
 use Rattle.std.specs.List.{list_any}

@@ -1,3 +1,4 @@
+-- SPDX-License-Identifier: MIT
 pub mod Fault
 pub mod Reading
 pub mod Layout

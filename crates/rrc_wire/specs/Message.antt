@@ -1,3 +1,4 @@
+-- SPDX-License-Identifier: MIT
 -- Reading a message whole (RFC 1035 4.1), and its first fault.
 use Rattle.std.specs.Prelude.{◌≡◌, ℕ, List, Result, Ok, Err}
 use Rattle.rrc_wire.specs.declared.fault.WireFault.{WireFault}

@@ -1,3 +1,4 @@
+-- SPDX-License-Identifier: MIT
 -- Reading a name, item by item (RFC 1035 4.1.4).
 use Rattle.std.specs.Prelude.{◌≡◌, ℕ, zero, suc, ◌+◌, List, [], ◌∷◌, ◌++◌, length, slice_range, Option, Some, None, unwrap_or, Result, Ok, Err}
 use Rattle.rrc_wire.specs.declared.fault.WireFault.{WireFault}

@@ -1,3 +1,4 @@
+-- SPDX-License-Identifier: MIT
 -- Plain data, as they stand outside of a message: their names are whole, and no pointer leads elsewhere.
 use Rattle.std.specs.Prelude.{◌≡◌, ◌≤◌, ℕ, zero, suc, ◌-◌, ◌==◌, nat_eq, nat_lt, nat_le, Bool, true, ◌&&◌, List, [], ◌∷◌, ◌++◌, length, take, drop, Option, Some, None, MatchOption, ⊤}
 use Rattle.std.specs.Cmp.Lexicographic.{pointwise}

@@ -1,3 +1,4 @@
+-- SPDX-License-Identifier: MIT
 -- Reading the question (RFC 1035 4.1.2).
 use Rattle.std.specs.Prelude.{ℕ, ◌+◌, List, Result, Ok}
 use Rattle.rrc_wire.specs.declared.fault.WireFault.{WireFault}

@@ -1,3 +1,4 @@
+-- SPDX-License-Identifier: MIT
 -- The data of a message's records are plain: their names are expanded.
 use Rattle.std.specs.Prelude.{ℕ, List, ◌<◌}
 use Rattle.std.specs.List.{AllByRecursion}

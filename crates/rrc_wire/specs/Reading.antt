@@ -1,3 +1,4 @@
+-- SPDX-License-Identifier: MIT
 -- Reading goes on behind what was read, and ends at the first fault.
 use Rattle.std.specs.Prelude.{◌≡◌, ◌⊎◌, ℕ, zero, suc, ◌+◌, ◌*◌, List, ◌++◌, length, slice_index, nat_le, if◌then◌else◌, Result, Ok, Err}
 use Rattle.rrc_wire.specs.declared.fault.WireFault.{WireFault}

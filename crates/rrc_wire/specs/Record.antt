@@ -1,3 +1,4 @@
+-- SPDX-License-Identifier: MIT
 -- Reading a record, and a section of records (RFC 1035 4.1.3).
 use Rattle.std.specs.Prelude.{ℕ, ◌+◌, Bool, List, [], ◌∷◌, if◌then◌else◌, Result, Ok}
 use Rattle.rrc_wire.specs.declared.fault.WireFault.{WireFault}

@@ -1,3 +1,4 @@
+-- SPDX-License-Identifier: MIT
 -- Which data are the same: the case of letters in names is nothing to a name, and every other octet counts.
 use Rattle.std.specs.Prelude.{◌≡◌, ◌≤◌, ℕ, nat_eq, Bool, List, length, map, Option, Some, None, if◌then◌else◌}
 use Rattle.std.specs.Cmp.Lexicographic.{pointwise}

@@ -1,3 +1,4 @@
+-- SPDX-License-Identifier: MIT
 -- Sameness of data is an equivalence: two data are the same where what they are lowered to is the same.
 use Rattle.std.specs.Prelude.{ℕ, List}
 use Rattle.std.specs.Cmp.{IsEquivalence, on_equiv, nat_eq_equiv}

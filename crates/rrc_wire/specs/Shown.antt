@@ -1,3 +1,4 @@
+-- SPDX-License-Identifier: MIT
 -- The reader's own types as the definitions have them. The clauses of its private functions alone cite these words.
 use Rattle.rrc_wire.specs.declared.header.Header.{Header}
 use Rattle.rrc_wire.specs.declared.item.Item.{Item}

@@ -1,3 +1,4 @@
+// SPDX-License-Identifier: MIT
 ghost use Rattle.std.specs.Prelude.{◌≡◌, ◌<◌, ◌≤◌, length};
 ghost use Rattle.rrc_wire.specs.Item.{item_at, label_at, pointer_at, to_end, in_data};
 ghost use Rattle.rrc_wire.specs.Reading.{Agrees};

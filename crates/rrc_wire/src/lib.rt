@@ -1,3 +1,4 @@
+// SPDX-License-Identifier: MIT
 //! The message reader: a response of the DNS read whole and exactly, or its first fault.
 //!
 //! The addresses that a response has in its answer:

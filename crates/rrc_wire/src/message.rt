@@ -1,3 +1,4 @@
+// SPDX-License-Identifier: MIT
 ghost use Rattle.std.specs.Prelude.{◌≡◌, ◌⊎◌, ℕ, List, IfOk, IfErr};
 ghost use Rattle.rrc_wire.specs.Reading.{Gives};
 ghost use Rattle.rrc_wire.specs.Message.{message_in, FirstFault};

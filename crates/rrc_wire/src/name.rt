@@ -1,3 +1,4 @@
+// SPDX-License-Identifier: MIT
 ghost use Rattle.std.specs.Prelude.{◌≡◌, ◌≤◌, length, IfOk};
 ghost use Rattle.rrc_name.specs.Wire.{IsWireForm};
 ghost use Rattle.rrc_wire.specs.Reading.{Gives};

@@ -1,3 +1,4 @@
+// SPDX-License-Identifier: MIT
 ghost use Rattle.std.specs.Prelude.{◌≡◌, ◌⊎◌, ℕ, List, IfOk, IfErr, OnOk, IfSome, IfNone};
 ghost use Rattle.rrc_wire.specs.Shown.{as_layout};
 ghost use Rattle.rrc_wire.specs.Plain.{IsNameThen, AreNamesThen, is_filled, IsPlain, is_plain};

@@ -1,3 +1,4 @@
+// SPDX-License-Identifier: MIT
 ghost use Rattle.std.specs.Prelude.{◌≡◌, ◌^◌, length, min, IfOk, IfErr, MatchOption};
 ghost use Rattle.std.specs.Option.{IfSome};
 ghost use Rattle.rrc_wire.specs.Chain.{PointsTo, PointsNowhere, Leads, AreEnds};

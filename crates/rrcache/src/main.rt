@@ -1,3 +1,4 @@
+// SPDX-License-Identifier: MIT
 //! Replays a trace of cache operations from standard input by many workers, and writes its report to standard output.
 #![tactic(auto)]
 

@@ -1,3 +1,4 @@
+// SPDX-License-Identifier: MIT
 use clap::{Arg, ArgAction, ArgMatches, Command, value_parser};
 use rrc_history::Rules;
 use rrc_replay::report::Config;

@@ -1,3 +1,4 @@
+// SPDX-License-Identifier: MIT
 use rrc_replay::Gate;
 use std::io;
 use std::sync::atomic::{AtomicU64, Ordering};

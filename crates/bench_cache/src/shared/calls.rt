@@ -1,3 +1,4 @@
+// SPDX-License-Identifier: MIT
 // The calls by threads, whose time is taken.
 
 use crate::calls::TAG;

@@ -1,3 +1,4 @@
+// SPDX-License-Identifier: MIT
 // What threads call, made before the time is taken.
 
 use crate::calls::TAG;

@@ -1,3 +1,4 @@
+-- SPDX-License-Identifier: MIT
 -- Audits: the first event of a history that is not right after those before it.
 use Rattle.std.specs.Prelude.{◌≡◌, ℕ, List, ◌∷◌, ◌++◌, length, reverse}
 use Rattle.rrc_history.specs.declared.classless.Event.{Event}

@@ -1,3 +1,4 @@
+-- SPDX-License-Identifier: MIT
 -- Offers, and which bodies fit a key.
 use Rattle.std.specs.Prelude.{ℕ, Bool, ◌&&◌, not, nat_eq}
 use Rattle.std.specs.Cmp.Lexicographic.{pointwise}

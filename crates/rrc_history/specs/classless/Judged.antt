@@ -1,3 +1,4 @@
+-- SPDX-License-Identifier: MIT
 -- What becomes of an offer, and what an ask is answered, by what the keys hold.
 use Rattle.std.specs.Prelude.{ℕ, ◌+◌, Bool, true, false, ◌&&◌, ◌==◌, nat_lt, if◌then◌else◌, Option, Some, None}
 use Rattle.rrc_name.specs.classless.Key.{KeyOf}

@@ -1,3 +1,4 @@
+-- SPDX-License-Identifier: MIT
 -- How long an entry lives.
 use Rattle.std.specs.Prelude.{ℕ, ◌-◌, ◌≤◌, Bool, nat_lt, nat_le}
 use Rattle.rrc_history.specs.declared.classless.Entry.{Entry}

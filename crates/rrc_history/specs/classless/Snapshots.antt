@@ -1,3 +1,4 @@
+-- SPDX-License-Identifier: MIT
 -- Snapshots: what a part held when a chapter of its history began, and what holds of its entries.
 use Rattle.std.specs.Prelude.{ℕ, List, [], ◌∷◌, ◌++◌, length, Bool, not, ◌||◌, ◌==◌, nat_le, nat_lt, if◌then◌else◌, Option, Some, None}
 use Rattle.std.specs.List.{list_any}

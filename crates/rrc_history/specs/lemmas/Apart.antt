@@ -1,3 +1,4 @@
+-- SPDX-License-Identifier: MIT
 -- Entries of which no two have the same key.
 use Rattle.std.specs.Prelude.{◌≡◌, ℕ, ◌≤◌, List, [], ◌∷◌, ◌++◌, Bool, true, false, not, ◌||◌, Some, None}
 use Rattle.std.proofs.Common.{refl, ap, ◌∙◌, arith}

@@ -1,3 +1,4 @@
+-- SPDX-License-Identifier: MIT
 -- What an ask leaves of the contents.
 use Rattle.std.specs.Prelude.{◌≡◌, List, ◌∷◌, Bool, true, false, ◌||◌, if◌then◌else◌, Option, Some, None}
 use Rattle.std.proofs.Common.{refl, sym, ap, subst, ◌∙◌, inl, inr}

@@ -1,3 +1,4 @@
+-- SPDX-License-Identifier: MIT
 -- A past that goes on from the closing of another is one past with it: the same is held, touched in the same order, and right.
 use Rattle.std.specs.Prelude.{◌≡◌, ℕ, ◌<◌, ◌≤◌, ◌⊎◌, List, [], ◌∷◌, ◌++◌, length, reverse, Bool, true, false, if◌then◌else◌, Option, Some, None}
 use Rattle.std.specs.List.{AllByRecursion}

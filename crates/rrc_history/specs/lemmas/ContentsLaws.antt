@@ -1,3 +1,4 @@
+-- SPDX-License-Identifier: MIT
 -- What an event leaves of the contents.
 use Rattle.std.specs.Prelude.{◌≡◌, ℕ, ◌≤◌, List, [], ◌∷◌, Bool, true, false, if◌then◌else◌, Some, None, filter}
 use Rattle.std.proofs.Common.{subst, refl, sym, ap, ◌∙◌, arith}

@@ -1,3 +1,4 @@
+-- SPDX-License-Identifier: MIT
 -- An answer has the data of its entry, whole.
 use Rattle.std.specs.Prelude.{◌≡◌, ℕ, ◌+◌, ◌-◌, List, Bool, true, false, ◌&&◌, nat_lt, Option, Some, None}
 use Rattle.std.proofs.Common.{refl, subst}

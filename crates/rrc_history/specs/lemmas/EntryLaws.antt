@@ -1,3 +1,4 @@
+-- SPDX-License-Identifier: MIT
 -- What is found under a key after an edit of the entries.
 use Rattle.std.specs.Prelude.{◌≡◌, List, [], ◌∷◌, Bool, true, false, not, if◌then◌else◌, Some, None, find, filter}
 use Rattle.std.proofs.Common.{refl, sym, ap, subst, ◌∙◌}

@@ -1,3 +1,4 @@
+-- SPDX-License-Identifier: MIT
 -- What is found and held after a history made before keys had a class is what is found and held after its image.
 use Rattle.std.specs.Prelude.{◌≡◌, ℕ, ◌+◌, List, [], ◌∷◌, Bool, true, false, ◌==◌, if◌then◌else◌, Option, Some, None, map}
 use Rattle.std.specs.Option.{option_map}

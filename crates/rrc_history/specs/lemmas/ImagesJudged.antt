@@ -1,3 +1,4 @@
+-- SPDX-License-Identifier: MIT
 -- Offers and asks made before they had a class are judged as their images are.
 use Rattle.std.specs.Prelude.{◌≡◌, ℕ, List, Bool, true, false, ◌&&◌, nat_lt, if◌then◌else◌, Option, Some, None, map}
 use Rattle.std.specs.Option.{option_map}

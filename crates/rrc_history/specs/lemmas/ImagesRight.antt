@@ -1,3 +1,4 @@
+-- SPDX-License-Identifier: MIT
 -- An event made before keys had a class is right after others exactly where its image is right after theirs.
 use Rattle.std.specs.Prelude.{◌≡◌, ℕ, ◌<◌, ◌^◌, List, [], ◌∷◌, Option, Some, None, map}
 use Rattle.std.specs.Option.{option_map}

@@ -1,3 +1,4 @@
+-- SPDX-License-Identifier: MIT
 -- When keys were touched, and what the contents are, is the same of a history made before keys had a class and of its image.
 use Rattle.std.specs.Prelude.{◌≡◌, ℕ, ◌<◌, List, [], ◌∷◌, length, Bool, true, false, ◌==◌, if◌then◌else◌, Option, Some, None, map}
 use Rattle.std.specs.Option.{option_map}

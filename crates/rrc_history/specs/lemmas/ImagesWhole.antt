@@ -1,3 +1,4 @@
+-- SPDX-License-Identifier: MIT
 -- The images of a snapshot and of a chapter made before keys had a class are a snapshot and a chapter.
 use Rattle.std.specs.Prelude.{◌≡◌, ℕ, List, [], ◌∷◌, ◌++◌, ◌||◌, ◌==◌, None, map, reverse}
 use Rattle.std.proofs.Common.{refl, sym, ap, subst, ◌∙◌}

@@ -1,3 +1,4 @@
+-- SPDX-License-Identifier: MIT
 -- The laws hold of every event that is right, and of every legal history.
 use Rattle.std.specs.Prelude.{◌≡◌, ℕ, ◌⊎◌, List, [], ◌∷◌, Bool, true, false, Option, Some, None}
 use Rattle.std.proofs.Common.{refl, sym, ap, ◌∙◌, inl, inr}

@@ -1,3 +1,4 @@
+-- SPDX-License-Identifier: MIT
 -- The laws of life hold: an entry was stored, and its answers keep to its time.
 use Rattle.std.specs.Prelude.{◌≡◌, ℕ, ◌+◌, ◌-◌, ◌<◌, ◌⊎◌, List, [], ◌∷◌, Bool, true, false, ◌&&◌, nat_lt, if◌then◌else◌, Option, Some, None}
 use Rattle.std.proofs.Common.{refl, subst, arith, inl, inr}

@@ -1,3 +1,4 @@
+-- SPDX-License-Identifier: MIT
 -- The calls determine the history: what became of each is right in one way alone.
 use Rattle.std.specs.Prelude.{◌≡◌, ℕ, ◌<◌, ◌≤◌, List, [], ◌∷◌, Bool, true, false, Option, Some, None}
 use Rattle.std.specs.declared.cmp.Ordering.{Ordering}

@@ -1,3 +1,4 @@
+-- SPDX-License-Identifier: MIT
 -- A snapshot is the contents of the past of no events.
 use Rattle.std.specs.Prelude.{◌≡◌, ℕ, ◌+◌, ◌<◌, ◌≤◌, List, [], ◌∷◌, ◌++◌, length, Bool, true, false, not, ◌==◌, filter}
 use Rattle.std.specs.List.{AllByRecursion}

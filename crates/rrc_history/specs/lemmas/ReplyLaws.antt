@@ -1,3 +1,4 @@
+-- SPDX-License-Identifier: MIT
 -- Outcomes and replies that are the same are one.
 use Rattle.std.specs.Prelude.{◌≡◌, ℕ, Bool, true, ◌==◌, nat_eq, Option, Some, None}
 use Rattle.std.specs.Bool.{Decides}

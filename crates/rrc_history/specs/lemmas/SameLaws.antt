@@ -1,3 +1,4 @@
+-- SPDX-License-Identifier: MIT
 -- Bodies, entries and snapshots that are the same are one.
 use Rattle.std.specs.Prelude.{◌≡◌, ℕ, ◌≤◌, List, Bool, true, ◌&&◌, ◌==◌, nat_eq}
 use Rattle.std.specs.Bool.{Decides}

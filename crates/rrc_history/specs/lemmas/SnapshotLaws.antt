@@ -1,3 +1,4 @@
+-- SPDX-License-Identifier: MIT
 -- Where no entry of a snapshot is wrong, they are what they ought to be.
 use Rattle.std.specs.Prelude.{◌≡◌, ℕ, ◌<◌, ◌≤◌, List, [], ◌∷◌, ◌++◌, length, Bool, true, false, ◌||◌, ◌==◌, nat_le, nat_lt, Option, Some, None}
 use Rattle.std.specs.List.{AllByRecursion}

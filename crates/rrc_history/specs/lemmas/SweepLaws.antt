@@ -1,3 +1,4 @@
+-- SPDX-License-Identifier: MIT
 -- What a sweep leaves of the contents.
 use Rattle.std.specs.Prelude.{◌≡◌, ℕ, List, [], ◌∷◌, ◌++◌, Bool, true, false, not, cond, filter}
 use Rattle.std.proofs.Common.{refl, sym, ap, subst, ◌∙◌, append_assoc}

@@ -1,3 +1,4 @@
+-- SPDX-License-Identifier: MIT
 -- The laws of trust hold: of what offers replace, of what answers are from, of what keys stop holding.
 use Rattle.std.specs.Prelude.{◌≡◌, ℕ, ◌<◌, ◌≤◌, ◌⊎◌, List, Bool, true, false, ◌&&◌, nat_lt, ◌==◌, if◌then◌else◌, Option, Some, None}
 use Rattle.std.proofs.Common.{refl, sym, ap, subst, ◌∙◌, arith, inl, inr}

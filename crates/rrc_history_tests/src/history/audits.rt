@@ -1,3 +1,4 @@
+// SPDX-License-Identifier: MIT
 use super::{addresses, key, sound};
 use crate::name::name;
 use rrc_history::name::Slot;

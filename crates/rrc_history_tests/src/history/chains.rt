@@ -1,3 +1,4 @@
+// SPDX-License-Identifier: MIT
 ghost use Rattle.std.specs.Prelude.{◌≡◌, ◌&&◌, None, IsTrue};
 ghost use Rattle.rrc_history.specs.Chains.{follows, chain_fault};
 ghost use Rattle.rrc_history.specs.Same.{snapshot_eq};

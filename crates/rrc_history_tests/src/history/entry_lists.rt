@@ -1,3 +1,4 @@
+// SPDX-License-Identifier: MIT
 use super::entry;
 use rrc_history::{Body, Entry, EntryList};
 use std::alloc::Global;

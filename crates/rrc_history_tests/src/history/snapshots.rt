@@ -1,3 +1,4 @@
+// SPDX-License-Identifier: MIT
 use super::{Kept, snapshot, sound};
 use rrc_history::Snapshot;
 

@@ -1,3 +1,4 @@
+// SPDX-License-Identifier: MIT
 use super::name;
 use lru::LruCache;
 use rrc_name::{Key, KeyRef, Slot};

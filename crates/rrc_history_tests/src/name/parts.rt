@@ -1,3 +1,4 @@
+// SPDX-License-Identifier: MIT
 use super::name;
 use rrc_name::part_of;
 

@@ -1,3 +1,4 @@
+// SPDX-License-Identifier: MIT
 use rrc_name::{Octets, Sequence};
 use std::alloc::Global;
 use std::process::Abort;

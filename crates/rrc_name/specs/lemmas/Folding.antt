@@ -1,3 +1,4 @@
+-- SPDX-License-Identifier: MIT
 -- Folding a name.
 use Rattle.std.specs.Prelude.{◌≡◌, ℕ, List, [], ◌∷◌}
 use Rattle.std.proofs.Common.{refl}

@@ -1,3 +1,4 @@
+-- SPDX-License-Identifier: MIT
 -- Images of keys are equal, and ordered, as the keys are; a key of another class is no image.
 use Rattle.std.specs.Prelude.{◌≡◌, Bool, true, false, ◌&&◌, ◌==◌, nat_eq}
 use Rattle.std.specs.Cmp.{IsEquivalence, nat_eq_equiv, on_equiv}

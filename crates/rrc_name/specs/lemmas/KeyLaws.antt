@@ -1,3 +1,4 @@
+-- SPDX-License-Identifier: MIT
 -- The keys' comparison is an equivalence, equal keys are one, and the keys' order is total and ties where they are equal.
 use Rattle.std.specs.Prelude.{◌≡◌, ℕ, List, true, ◌==◌, reverse, nat_eq}
 use Rattle.std.specs.Cmp.{first_so, second_so, IsEquivalence, IsTotalOrder, nat_eq_equiv, nat_cmp_total, on_equiv, on_total, then_total, both_tied, unsigned_ties}

@@ -1,3 +1,4 @@
+// SPDX-License-Identifier: MIT
 use rrc_replay::Gate;
 use std::sync::atomic::AtomicU64;
 use std::sync::atomic::Ordering::SeqCst;

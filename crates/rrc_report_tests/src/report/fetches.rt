@@ -1,3 +1,4 @@
+// SPDX-License-Identifier: MIT
 use super::{Case, Said, test_cases};
 use std::test::Fail;
 

@@ -1,3 +1,4 @@
+// SPDX-License-Identifier: MIT
 use super::{Said, report_of, rules, shelves};
 use rrc_share::on_shelf_checkpoint;
 use rrc_trace::ReplayFault;

@@ -1,3 +1,4 @@
+// SPDX-License-Identifier: MIT
 // Lines that fetch nothing.
 
 use super::{Case, Said, report_of, rules, shelves, test_cases};

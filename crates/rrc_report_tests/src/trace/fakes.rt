@@ -1,3 +1,4 @@
+// SPDX-License-Identifier: MIT
 use std::io;
 use std::io::{Read, Write};
 

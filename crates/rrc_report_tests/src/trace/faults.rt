@@ -1,3 +1,4 @@
+// SPDX-License-Identifier: MIT
 use rrc_trace::ReplayFault;
 use std::alloc::{AllocError, Global};
 use std::process::Abort;

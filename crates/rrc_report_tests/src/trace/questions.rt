@@ -1,3 +1,4 @@
+// SPDX-License-Identifier: MIT
 use rrc_trace::{Line, Questions, ReplayFault, Trace, read_trace};
 use std::alloc::{AllocError, Global};
 use std::process::Abort;

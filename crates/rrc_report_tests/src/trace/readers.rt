@@ -1,3 +1,4 @@
+// SPDX-License-Identifier: MIT
 use super::fakes::Endless;
 use rrc_fakes::FailsOnce;
 use rrc_trace::{ReplayFault, read_trace};

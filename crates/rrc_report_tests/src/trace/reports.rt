@@ -1,3 +1,4 @@
+// SPDX-License-Identifier: MIT
 use rrc_history::{Outcome, Reply, Soa};
 use rrc_name::{Key, Name, Octets, Shared, Slot};
 use rrc_trace::{Answer, ReplayFault, Told, write_report};

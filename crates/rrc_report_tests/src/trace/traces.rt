@@ -1,3 +1,4 @@
+// SPDX-License-Identifier: MIT
 use rrc_history::Ask;
 use rrc_name::{Name, Octets};
 use rrc_trace::{Failed, Fetch, Line, Put, Response, Trace, read_trace};

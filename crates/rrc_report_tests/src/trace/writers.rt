@@ -1,3 +1,4 @@
+// SPDX-License-Identifier: MIT
 use super::fakes::Sparing;
 use rrc_fakes::{Stumble, Stumbling};
 use rrc_history::Reply;

@@ -1,3 +1,4 @@
+// SPDX-License-Identifier: MIT
 use rrc_sets::{Limits, life};
 use std::test::Fail;
 

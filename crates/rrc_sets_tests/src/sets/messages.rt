@@ -1,3 +1,4 @@
+// SPDX-License-Identifier: MIT
 // What the messages that this repository's documents know by name offer.
 
 use rrc_history::{Body, Offer};

@@ -1,3 +1,4 @@
+// SPDX-License-Identifier: MIT
 // Which offers of a response are relevant to its question.
 
 use crate::sets::messages::{SOA_DATA, octets_of, offered, shown};

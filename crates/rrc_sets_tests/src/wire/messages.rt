@@ -1,3 +1,4 @@
+// SPDX-License-Identifier: MIT
 // The messages that this repository's documents and tests know by name, and the faults of octets
 // that are no message.
 

@@ -1,3 +1,4 @@
+// SPDX-License-Identifier: MIT
 // Data by hand, in hexadecimal behind their type: which are plain, which are the same, and what
 // they are lowered to.
 

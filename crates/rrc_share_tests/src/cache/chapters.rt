@@ -1,3 +1,4 @@
+// SPDX-License-Identifier: MIT
 use super::{Opened, Question, Replied, Step, test_steps};
 use rrc_cache::{Part, Refusal};
 use rrc_history::{Chapter, Mode, Purpose, chain};

@@ -1,3 +1,4 @@
+// SPDX-License-Identifier: MIT
 use super::{AA, address, closed, key as now_key, negative, positive, question, rules, set, soa};
 use rrc_cache::{ChapterFault, classless_chapter, recheck};
 use rrc_history::classless::{Ask, Chapter, Event, Key, Offer, Snapshot};

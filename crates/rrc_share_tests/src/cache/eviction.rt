@@ -1,3 +1,4 @@
+// SPDX-License-Identifier: MIT
 use super::{Replied, Step, go_in, rules, test_steps};
 use rrc_cache::Part;
 use rrc_history::{Mode, Purpose};

@@ -1,3 +1,4 @@
+// SPDX-License-Identifier: MIT
 use super::{AA, Held, KEPT, Offered, Question, Replied, is_answer, offer, question, reply, rules};
 use rrc_cache::{LeanPart, Refusal};
 use rrc_history::{Ask, Mode, Outcome, Purpose, Reply, Tag};

@@ -1,3 +1,4 @@
+// SPDX-License-Identifier: MIT
 use super::{AA, Held, KEPT, Replied, Step, test_steps};
 use rrc_cache::Refusal;
 use rrc_history::{Mode, Purpose};

@@ -1,3 +1,4 @@
+// SPDX-License-Identifier: MIT
 use super::{AA, Held, Offered, give, key, part};
 use rrc_cache::Part;
 use rrc_name::{KeyRef, Slot};

@@ -1,3 +1,4 @@
+// SPDX-License-Identifier: MIT
 use super::{Question, Step, ask, test_steps};
 use rrc_cache::Part;
 use rrc_history::{Mode, Purpose, Reply};

@@ -1,3 +1,4 @@
+// SPDX-License-Identifier: MIT
 mod denials;
 mod numbers;
 mod sets;

@@ -1,3 +1,4 @@
+// SPDX-License-Identifier: MIT
 use super::{Held, KEPT, Replied, Step, test_steps};
 use rrc_history::{Mode, Purpose};
 use rrc_name::Slot;

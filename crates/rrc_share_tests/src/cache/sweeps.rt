@@ -1,3 +1,4 @@
+// SPDX-License-Identifier: MIT
 use super::{AA, Held, KEPT, Step, give, test_steps};
 use rrc_cache::Part;
 use std::alloc::Global;

@@ -1,3 +1,4 @@
+// SPDX-License-Identifier: MIT
 ghost use Rattle.std.specs.Prelude.{◌<◌};
 
 use super::{TAG, events_of, failure, is_retried_from, opens_with_event_0, question, rules, stand};

@@ -1,3 +1,4 @@
+// SPDX-License-Identifier: MIT
 use super::{TAG, events_of, is_retried_from, question, stand, told};
 use rrc_cache::Refusal;
 use rrc_history::{Ask, ChainFault};

@@ -1,3 +1,4 @@
+// SPDX-License-Identifier: MIT
 use super::*;
 use std::test::Fail;
 

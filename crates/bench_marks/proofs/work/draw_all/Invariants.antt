@@ -1,3 +1,4 @@
+-- SPDX-License-Identifier: MIT
 use Rattle.rrc_marks.specs.Seen.{KeepsShare}
 use Rattle.bench_marks.proofs.work.draw_all.Given as goal
 

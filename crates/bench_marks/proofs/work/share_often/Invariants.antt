@@ -1,3 +1,4 @@
+-- SPDX-License-Identifier: MIT
 use Rattle.std.proofs.Common.{◌≤◌}
 use Rattle.rrc_marks.specs.Seen.{KeepsShare}
 use Rattle.bench_marks.proofs.work.share_often.Given as goal

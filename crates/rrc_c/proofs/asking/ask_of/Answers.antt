@@ -1,3 +1,4 @@
+-- SPDX-License-Identifier: MIT
 use Rattle.std.proofs.Common.{sym, subst}
 use Rattle.rrc_name.specs.Key.{IsFolded}
 use Rattle.rrc_name.specs.lemmas.Folding.{folded-folded}

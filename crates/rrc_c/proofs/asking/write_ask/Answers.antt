@@ -1,3 +1,4 @@
+-- SPDX-License-Identifier: MIT
 use Rattle.rrc_c.proofs.Answering.{answers_what_it_had}
 use Rattle.rrc_c.proofs.asking.write_ask.Goals as goal
 

@@ -1,3 +1,4 @@
+-- SPDX-License-Identifier: MIT
 use Rattle.std.proofs.Common.{length, Some, ap, ◌∙◌}
 use Rattle.rrc_share.specs.Shelf.{ShelfOf}
 use Rattle.rrc_c.specs.Refusals.{PeekDue}

@@ -1,3 +1,4 @@
+-- SPDX-License-Identifier: MIT
 use Rattle.std.proofs.Common.{[], ◌∙◌}
 use Rattle.rrc_c.proofs.making.new_shelf.Goals as goal
 

@@ -1,3 +1,4 @@
+-- SPDX-License-Identifier: MIT
 use Rattle.std.proofs.Common.{inr}
 use Rattle.rrc_c.proofs.Taking.{map_ok, map_err}
 use Rattle.rrc_c.proofs.offering.offer_message.Goals as goal

@@ -1,3 +1,4 @@
+-- SPDX-License-Identifier: MIT
 use Rattle.std.proofs.Common.{◌≡◌, subst, inr}
 use Rattle.std.proofs.lemmas.List.Elements.{All-filter}
 use Rattle.rrc_history.specs.Fits.{OfferOf}

@@ -1,3 +1,4 @@
+-- SPDX-License-Identifier: MIT
 use Rattle.std.proofs.Common.{subst}
 use Rattle.rrc_sets.specs.Message.{Brings}
 use Rattle.rrc_c.proofs.offering.offers_in.Goals as goal

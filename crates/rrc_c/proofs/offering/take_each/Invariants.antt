@@ -1,3 +1,4 @@
+-- SPDX-License-Identifier: MIT
 use Rattle.std.proofs.Common.{◌≡◌, length}
 use Rattle.rrc_c.specs.Offered.{TakesAll, total}
 use Rattle.rrc_c.proofs.offering.take_each.Given as goal

@@ -1,3 +1,4 @@
+-- SPDX-License-Identifier: MIT
 use Rattle.std.proofs.Common.{inl}
 use Rattle.rrc_c.specs.Refusals.{DenialDue}
 use Rattle.rrc_c.proofs.Refusing.{refused_told}

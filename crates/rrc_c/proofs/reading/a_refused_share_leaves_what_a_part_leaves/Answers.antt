@@ -1,3 +1,4 @@
+-- SPDX-License-Identifier: MIT
 use Rattle.rrc_c.proofs.Sharing.{refused_share_is_part}
 use Rattle.rrc_c.proofs.reading.a_refused_share_leaves_what_a_part_leaves.Goals as goal
 

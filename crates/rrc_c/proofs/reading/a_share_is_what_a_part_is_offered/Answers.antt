@@ -1,3 +1,4 @@
+-- SPDX-License-Identifier: MIT
 use Rattle.rrc_c.proofs.Sharing.{share_is_part}
 use Rattle.rrc_c.proofs.reading.a_share_is_what_a_part_is_offered.Goals as goal
 

@@ -1,3 +1,4 @@
+-- SPDX-License-Identifier: MIT
 use Rattle.std.proofs.Common.{ℕ, subst, inr}
 use Rattle.rrc_c.specs.Offered.{AreAt, TakesAll, TakesFirst}
 use Rattle.rrc_c.specs.Statuses.{number_of}

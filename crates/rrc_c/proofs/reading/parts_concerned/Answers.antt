@@ -1,3 +1,4 @@
+-- SPDX-License-Identifier: MIT
 use Rattle.std.proofs.Common.{arith}
 use Rattle.rrc_c.proofs.Sharing.{bits_fit, bits_more}
 use Rattle.rrc_c.proofs.reading.parts_concerned.Goals as goal

@@ -1,3 +1,4 @@
+-- SPDX-License-Identifier: MIT
 -- the bits of the parts so far
 use Rattle.std.proofs.Common.{◌≡◌, ◌<◌, ◌^◌}
 use Rattle.rrc_c.specs.Readings.{parts_below}

@@ -1,3 +1,4 @@
+-- SPDX-License-Identifier: MIT
 -- each offer so far stands beside its part
 use Rattle.std.proofs.Common.{◌≡◌, map}
 use Rattle.rrc_c.specs.Readings.{placed_in}

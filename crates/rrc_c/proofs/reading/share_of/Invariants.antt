@@ -1,3 +1,4 @@
+-- SPDX-License-Identifier: MIT
 -- those of the part among the offers so far
 use Rattle.std.proofs.Common.{◌≡◌, take}
 use Rattle.rrc_c.specs.Readings.{share_of}

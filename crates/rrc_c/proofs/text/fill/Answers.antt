@@ -1,3 +1,4 @@
+-- SPDX-License-Identifier: MIT
 use Rattle.std.proofs.Common.{◌∙◌, arith}
 use Rattle.rrc_c.proofs.Filling.{room_for_next, narrow_next, fills_next}
 use Rattle.rrc_c.proofs.text.fill.Goals as goal

@@ -1,3 +1,4 @@
+-- SPDX-License-Identifier: MIT
 use Rattle.std.proofs.Common.{◌≡◌, ◌++◌, length, take}
 use Rattle.rrc_c.specs.Told.{data_text, IsFilled}
 use Rattle.rrc_c.proofs.text.fill.Given as goal

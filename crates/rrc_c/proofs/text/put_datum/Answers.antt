@@ -1,3 +1,4 @@
+-- SPDX-License-Identifier: MIT
 use Rattle.rrc_c.proofs.Filling.{writes_on, writes_both}
 use Rattle.rrc_c.proofs.text.put_datum.Goals as goal
 

@@ -1,3 +1,4 @@
+-- SPDX-License-Identifier: MIT
 use Rattle.std.proofs.Common.{arith}
 use Rattle.rrc_c.proofs.Refusing.{wide_next, tellable_whole}
 use Rattle.rrc_c.proofs.text.size_of_data.Goals as goal

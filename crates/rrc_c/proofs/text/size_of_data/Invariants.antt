@@ -1,3 +1,4 @@
+-- SPDX-License-Identifier: MIT
 use Rattle.std.proofs.Common.{◌≡◌, ◌+◌, ◌^◌, ◌<◌, length, drop}
 use Rattle.rrc_c.specs.Told.{data_text, AreNarrow}
 use Rattle.rrc_c.proofs.text.size_of_data.Given as goal

@@ -1,3 +1,4 @@
+-- SPDX-License-Identifier: MIT
 use Rattle.std.specs.Option.{option_map}
 use Rattle.rrc_history.specs.Views.{held_in, reply_in}
 use Rattle.rrc_cache.proofs.Answering.{answered_at}

@@ -1,3 +1,4 @@
+-- SPDX-License-Identifier: MIT
 use Rattle.std.proofs.Common.{◌+◌, List, length, ap, sym, subst, ◌∙◌}
 use Rattle.rrc_history.specs.declared.event.Event.{Event as Image}
 use Rattle.rrc_history.specs.classless.Chapters.{LeadTo}

@@ -1,3 +1,4 @@
+-- SPDX-License-Identifier: MIT
 use Rattle.rrc_cache.proofs.Rechecked.{rechecked_first, rechecked_more, first_bad}
 use Rattle.rrc_cache.proofs.classless.replayed.Goals as goal
 

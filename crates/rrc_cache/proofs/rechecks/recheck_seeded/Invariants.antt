@@ -1,3 +1,4 @@
+-- SPDX-License-Identifier: MIT
 -- the events so far are legal, and the store holds what they leave
 use Rattle.std.proofs.Common.{take}
 use Rattle.std.specs.Prelude.{reverse}

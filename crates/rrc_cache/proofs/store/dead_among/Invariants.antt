@@ -1,3 +1,4 @@
+-- SPDX-License-Identifier: MIT
 -- the keys so far are those of the deaths so far
 use Rattle.std.proofs.Common.{◌≡◌, take}
 use Rattle.rrc_cache.specs.Deaths.{dead_among}

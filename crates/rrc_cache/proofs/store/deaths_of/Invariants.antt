@@ -1,3 +1,4 @@
+-- SPDX-License-Identifier: MIT
 -- the deaths so far are those of the entries so far
 use Rattle.std.proofs.Common.{◌≡◌, map}
 use Rattle.std.specs.Map.Iter.{deref_pair}

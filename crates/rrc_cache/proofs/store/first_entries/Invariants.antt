@@ -1,3 +1,4 @@
+-- SPDX-License-Identifier: MIT
 -- what came stands in front of what is to come, and is no more than is wanted
 use Rattle.std.proofs.Common.{◌≡◌, ◌≤◌, ◌++◌, length}
 use Rattle.rrc_cache.specs.Keyed.{hashed_entries}

@@ -1,3 +1,4 @@
+-- SPDX-License-Identifier: MIT
 -- the names of the entries so far are marked
 use Rattle.std.proofs.Common.{map}
 use Rattle.std.specs.Map.Iter.{deref_pair}

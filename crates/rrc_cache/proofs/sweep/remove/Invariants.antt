@@ -1,3 +1,4 @@
+-- SPDX-License-Identifier: MIT
 -- the entries of the keys so far are gone
 use Rattle.std.proofs.Common.{◌≡◌, take}
 use Rattle.rrc_history.specs.Past.{is_among}

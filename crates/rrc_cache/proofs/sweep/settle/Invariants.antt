@@ -1,3 +1,4 @@
+-- SPDX-License-Identifier: MIT
 -- the store holds what it held
 use Rattle.std.proofs.Common.{◌≡◌}
 use Rattle.rrc_cache.proofs.sweep.settle.Given as goal

@@ -1,3 +1,4 @@
+-- SPDX-License-Identifier: MIT
 -- the tasks so far are done, and what fits all tasks is what they took and what fits the rest of them
 use Rattle.std.proofs.Common.{ℕ, List, take, drop}
 use Rattle.rrc_history.specs.declared.event.Event.{Event}

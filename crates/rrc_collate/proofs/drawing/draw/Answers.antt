@@ -1,3 +1,4 @@
+-- SPDX-License-Identifier: MIT
 use Rattle.std.proofs.Common.{◌≡◌, ◌<◌, ◌+◌, ◌++◌, ◌∷◌, [], List, Bor, length, get_or, set, take, drop, map, ap, subst, sym, ◌∙◌, arith}
 use Rattle.std.proofs.lemmas.List.{get_or_default, drop_more, drop_all, take_more, length-take-le, map-append}
 use Rattle.rrc_history.specs.declared.event.Event.{Event}

@@ -1,3 +1,4 @@
+-- SPDX-License-Identifier: MIT
 -- the events so far are drawn, and what fits the whole script is these and what fits the rest of it
 use Rattle.std.proofs.Common.{ℕ, List, take, drop, map}
 use Rattle.rrc_history.specs.declared.event.Event.{Event}

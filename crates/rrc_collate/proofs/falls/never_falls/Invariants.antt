@@ -1,3 +1,4 @@
+-- SPDX-License-Identifier: MIT
 -- what is left rises from the table exactly where all of the values rise from the first one
 use Rattle.std.proofs.Common.{◌≡◌, drop, replicate, length}
 use Rattle.rrc_collate.proofs.Falling.{rises}

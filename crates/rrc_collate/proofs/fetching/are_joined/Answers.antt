@@ -1,3 +1,4 @@
+-- SPDX-License-Identifier: MIT
 use Rattle.std.proofs.Common.{◌∙◌}
 use Rattle.rrc_collate.proofs.Fetched.{joined_by, fetches_below, joins_below}
 use Rattle.rrc_collate.proofs.fetching.are_joined.Goals as goal

@@ -1,3 +1,4 @@
+-- SPDX-License-Identifier: MIT
 -- what was picked of the tasks so far
 use Rattle.std.proofs.Common.{◌≡◌, take}
 use Rattle.rrc_collate.specs.Fetches.{fetch_by, picked}

@@ -1,3 +1,4 @@
+-- SPDX-License-Identifier: MIT
 -- the events so far name lines, and are dealt
 use Rattle.std.proofs.Common.{take, length}
 use Rattle.rrc_collate.specs.Hands.{AreNamed, AreDealt}

@@ -1,3 +1,4 @@
+-- SPDX-License-Identifier: MIT
 -- those so far have others
 use Rattle.std.proofs.Common.{take}
 use Rattle.std.specs.List.{All}

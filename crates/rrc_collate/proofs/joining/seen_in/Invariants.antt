@@ -1,3 +1,4 @@
+-- SPDX-License-Identifier: MIT
 -- what was seen so far, and what stands behind, is all that stands in a class
 use Rattle.std.proofs.Common.{◌≡◌, ◌<◌, ℕ, length, get_or, drop}
 use Rattle.rrc_collate.specs.declared.joining.Seen.TheVariants.{Nothing}

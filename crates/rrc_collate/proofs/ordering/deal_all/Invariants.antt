@@ -1,3 +1,4 @@
+-- SPDX-License-Identifier: MIT
 -- the parts so far are dealt
 use Rattle.std.proofs.Common.{take, length}
 use Rattle.std.specs.List.{All, AllZip}

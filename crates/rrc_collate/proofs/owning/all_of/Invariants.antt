@@ -1,3 +1,4 @@
+-- SPDX-License-Identifier: MIT
 -- what was found so far
 use Rattle.std.proofs.Common.{◌≡◌, take, map, Some}
 use Rattle.rrc_collate.proofs.owning.all_of.Given as goal

@@ -1,3 +1,4 @@
+-- SPDX-License-Identifier: MIT
 -- the values so far are apart, and the table has their classes
 use Rattle.std.proofs.Common.{take}
 use Rattle.rrc_collate.specs.Words.{AreApart, AreClasses}

@@ -1,3 +1,4 @@
+-- SPDX-License-Identifier: MIT
 use Rattle.std.proofs.Common.{ap, subst, sym}
 use Rattle.std.specs.Prelude.{IfSome, is_some}
 use Rattle.rrc_collate.specs.Words.{AreClasses}

@@ -1,3 +1,4 @@
+-- SPDX-License-Identifier: MIT
 use Rattle.rrc_collate.specs.Calls.{call_of}
 use Rattle.rrc_collate.proofs.CallLaws.{call_eq-Decides}
 use Rattle.rrc_collate.proofs.script.is_call_of.Goals as goal

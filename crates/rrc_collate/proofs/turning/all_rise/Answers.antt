@@ -1,3 +1,4 @@
+-- SPDX-License-Identifier: MIT
 use Rattle.std.proofs.Common.{◌<◌, subst, sym, ◌∙◌}
 use Rattle.std.specs.List.{All}
 use Rattle.rrc_collate.specs.declared.valued.Valued.{Valued}

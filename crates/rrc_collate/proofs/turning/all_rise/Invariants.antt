@@ -1,3 +1,4 @@
+-- SPDX-License-Identifier: MIT
 -- in the parts so far they rise
 use Rattle.std.proofs.Common.{take}
 use Rattle.std.specs.List.{All}

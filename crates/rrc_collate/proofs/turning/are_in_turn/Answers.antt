@@ -1,3 +1,4 @@
+-- SPDX-License-Identifier: MIT
 use Rattle.std.proofs.Common.{refl, subst, sym, ◌∙◌}
 use Rattle.std.specs.List.{All}
 use Rattle.rrc_history.specs.declared.chains.Whole.{Whole}

@@ -1,3 +1,4 @@
+-- SPDX-License-Identifier: MIT
 -- what is known of the tasks so far, and what stands behind, is what became of a line
 use Rattle.std.proofs.Common.{◌≡◌, ◌<◌, ℕ, length, get_or, drop, None}
 use Rattle.rrc_collate.specs.Turns.{fate_from}

@@ -1,3 +1,4 @@
+-- SPDX-License-Identifier: MIT
 -- none of those so far fetched a question
 use Rattle.std.proofs.Common.{◌≡◌, false, take}
 use Rattle.std.specs.List.{All}

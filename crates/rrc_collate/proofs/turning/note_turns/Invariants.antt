@@ -1,3 +1,4 @@
+-- SPDX-License-Identifier: MIT
 -- what is noted so far, and what stands behind, is a line's last event
 use Rattle.std.proofs.Common.{◌≡◌, ◌<◌, ℕ, length, get_or, drop, cond, None}
 use Rattle.rrc_collate.specs.Turns.{is_home, last_from}

@@ -1,3 +1,4 @@
+-- SPDX-License-Identifier: MIT
 -- what is noted of the parts so far, and what stands behind, is a line's turn
 use Rattle.std.proofs.Common.{◌≡◌, ◌<◌, ℕ, length, get_or, drop, None}
 use Rattle.rrc_collate.specs.Collated.{histories_of}

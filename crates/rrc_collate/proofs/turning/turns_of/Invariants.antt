@@ -1,3 +1,4 @@
+-- SPDX-License-Identifier: MIT
 -- what the events so far fetch
 use Rattle.std.proofs.Common.{◌≡◌, take}
 use Rattle.rrc_collate.specs.Turns.{turns_told}

@@ -1,3 +1,4 @@
+-- SPDX-License-Identifier: MIT
 use Rattle.std.proofs.Common.{◌≡◌, drop}
 use Rattle.rrc_history.specs.Auditing.{are_ordered}
 use Rattle.rrc_history.proofs.audits.are_ordered.Given as goal

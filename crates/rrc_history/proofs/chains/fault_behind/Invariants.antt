@@ -1,3 +1,4 @@
+-- SPDX-License-Identifier: MIT
 use Rattle.std.proofs.Common.{◌≡◌, ◌+◌, drop}
 use Rattle.rrc_history.specs.Chains.{fault_from}
 use Rattle.rrc_history.proofs.chains.fault_behind.Given as goal

@@ -1,3 +1,4 @@
+-- SPDX-License-Identifier: MIT
 use Rattle.std.specs.Vec.Iter.{into_iter_items}
 use Rattle.rrc_history.proofs.Joining.{IsJoined}
 use Rattle.rrc_history.proofs.chains.join.Given as goal

@@ -1,3 +1,4 @@
+-- SPDX-License-Identifier: MIT
 use Rattle.rrc_history.proofs.Joining.{laws_by}
 use Rattle.rrc_history.proofs.chains.join_chained.Goals as goal
 

@@ -1,3 +1,4 @@
+-- SPDX-License-Identifier: MIT
 use Rattle.std.proofs.Common.{◌≡◌, [], take, drop}
 use Rattle.rrc_history.specs.classless.Snapshots.{fault_behind}
 use Rattle.rrc_history.proofs.classless.first_fault.Given as goal

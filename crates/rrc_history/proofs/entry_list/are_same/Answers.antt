@@ -1,3 +1,4 @@
+-- SPDX-License-Identifier: MIT
 use Rattle.std.proofs.Common.{◌≡◌, true, false, arith}
 use Rattle.rrc_history.specs.Same.{entry_eq}
 use Rattle.rrc_history.proofs.Places.{unlike_at, like_at, denied, granted}

@@ -1,3 +1,4 @@
+-- SPDX-License-Identifier: MIT
 use Rattle.std.proofs.Common.{ap, ◌∙◌}
 use Rattle.rrc_history.specs.EntryLists.{entry_in}
 use Rattle.rrc_history.proofs.Places.{at_place}

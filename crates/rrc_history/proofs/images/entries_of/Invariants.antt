@@ -1,3 +1,4 @@
+-- SPDX-License-Identifier: MIT
 use Rattle.std.proofs.Common.{◌≡◌, map, take}
 use Rattle.rrc_history.specs.Images.{image_of_entry}
 use Rattle.rrc_history.proofs.images.entries_of.Given as goal

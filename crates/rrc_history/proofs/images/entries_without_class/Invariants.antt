@@ -1,3 +1,4 @@
+-- SPDX-License-Identifier: MIT
 use Rattle.std.proofs.Common.{◌≡◌, map, take}
 use Rattle.rrc_history.specs.Images.{entry_without_class}
 use Rattle.rrc_history.proofs.images.entries_without_class.Given as goal

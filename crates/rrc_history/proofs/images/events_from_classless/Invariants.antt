@@ -1,3 +1,4 @@
+-- SPDX-License-Identifier: MIT
 use Rattle.std.proofs.Common.{◌≡◌, map, take}
 use Rattle.rrc_history.specs.Images.{image_of_event}
 use Rattle.rrc_history.proofs.images.events_from_classless.Given as goal

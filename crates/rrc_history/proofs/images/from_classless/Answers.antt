@@ -1,3 +1,4 @@
+-- SPDX-License-Identifier: MIT
 use Rattle.std.proofs.Common.{◌≡◌, map, ap, ◌∙◌}
 use Rattle.rrc_history.specs.Images.{image_of_event, image_of_snapshot}
 use Rattle.rrc_history.specs.classless.Chapters.{ChapterOf}

@@ -1,3 +1,4 @@
+-- SPDX-License-Identifier: MIT
 use Rattle.rrc_history.specs.lemmas.ImagesJudged.{image-reply_to}
 use Rattle.rrc_history.specs.lemmas.ImagesRight.{right_where_image_is, legal_where_image_is}
 use Rattle.rrc_history.proofs.images.images_are_right_alike.Goals as goal

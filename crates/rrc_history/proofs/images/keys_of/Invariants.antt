@@ -1,3 +1,4 @@
+-- SPDX-License-Identifier: MIT
 use Rattle.std.proofs.Common.{◌≡◌, map, take}
 use Rattle.rrc_name.specs.Images.{image_of}
 use Rattle.rrc_history.proofs.images.keys_of.Given as goal

@@ -1,3 +1,4 @@
+-- SPDX-License-Identifier: MIT
 use Rattle.std.proofs.Common.{◌≡◌, ◌∙◌}
 use Rattle.rrc_name.specs.Images.{image_of}
 use Rattle.rrc_history.specs.lemmas.ImagesWhole.{image-fits}

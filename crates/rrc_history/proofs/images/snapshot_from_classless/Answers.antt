@@ -1,3 +1,4 @@
+-- SPDX-License-Identifier: MIT
 use Rattle.std.proofs.Common.{◌≡◌, map, ap, ◌∙◌}
 use Rattle.rrc_history.specs.Images.{image_of_entry}
 use Rattle.rrc_history.specs.lemmas.ImagesWhole.{image-snapshot_fault}

@@ -1,3 +1,4 @@
+-- SPDX-License-Identifier: MIT
 use Rattle.std.specs.Option.{option_map}
 use Rattle.std.proofs.Common.{ap, ◌+◌, ◌∙◌}
 use Rattle.rrc_name.specs.KeyRef.{key_of}

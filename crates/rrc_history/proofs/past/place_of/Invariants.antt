@@ -1,3 +1,4 @@
+-- SPDX-License-Identifier: MIT
 use Rattle.std.proofs.Common.{◌≡◌, length}
 use Rattle.rrc_history.specs.Past.{place_of}
 use Rattle.rrc_history.proofs.past.place_of.Given as goal

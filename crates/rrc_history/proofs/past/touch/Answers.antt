@@ -1,3 +1,4 @@
+-- SPDX-License-Identifier: MIT
 use Rattle.std.proofs.Common.{ℕ, ap, ◌+◌, ◌∙◌}
 use Rattle.rrc_history.specs.declared.snapshot.Snapshot.{Snapshot}
 use Rattle.rrc_history.proofs.Walking.{touch_start, touch_more, chosen_then, chosen_else}

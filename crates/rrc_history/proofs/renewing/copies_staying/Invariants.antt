@@ -1,3 +1,4 @@
+-- SPDX-License-Identifier: MIT
 use Rattle.std.proofs.Common.{◌≡◌, take}
 use Rattle.rrc_history.specs.EntryLists.{without}
 use Rattle.rrc_history.proofs.renewing.copies_staying.Given as goal

@@ -1,3 +1,4 @@
+-- SPDX-License-Identifier: MIT
 use Rattle.std.proofs.Common.{◌≡◌, take, [], slice_index_or}
 use Rattle.rrc_history.specs.EntryLists.{entries_at, AreFilled}
 use Rattle.rrc_history.proofs.renewing.places_in.Given as goal

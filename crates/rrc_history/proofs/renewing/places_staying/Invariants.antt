@@ -1,3 +1,4 @@
+-- SPDX-License-Identifier: MIT
 use Rattle.std.proofs.Common.{◌≡◌, take}
 use Rattle.rrc_history.specs.EntryLists.{staying}
 use Rattle.rrc_history.proofs.renewing.places_staying.Given as goal

@@ -1,3 +1,4 @@
+-- SPDX-License-Identifier: MIT
 use Rattle.std.proofs.Common.{rules, eqb, sym, ◌∙◌}
 use Rattle.std.specs.HashSet as bag
 use Rattle.std.proofs.lemmas.Result.{IfOk-weaker}

@@ -1,3 +1,4 @@
+-- SPDX-License-Identifier: MIT
 use Rattle.rrc_marks.proofs.Apart.{one_holder, drawn_once, next_is_new, ends_alone}
 use Rattle.rrc_marks.proofs.law.the_rule_tells_passes_apart.Goals as goal
 

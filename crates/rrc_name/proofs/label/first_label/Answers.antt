@@ -1,3 +1,4 @@
+-- SPDX-License-Identifier: MIT
 use Rattle.std.proofs.Common.{◌∙◌, length, sym, ap, arith}
 use Rattle.rrc_name.proofs.WireForms.{parted, behind_first}
 use Rattle.rrc_name.proofs.label.first_label.Goals as goal

@@ -1,3 +1,4 @@
+-- SPDX-License-Identifier: MIT
 use Rattle.rrc_name.proofs.TextLaw.{name_in-tells, name_or_fault}
 use Rattle.rrc_name.proofs.laws.one_name_or_fault.Goals as goal
 

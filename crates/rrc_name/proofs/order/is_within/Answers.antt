@@ -1,3 +1,4 @@
+-- SPDX-License-Identifier: MIT
 use Rattle.std.proofs.Common.{◌≡◌, ◌-◌, Decides, drop, length}
 use Rattle.std.proofs.lemmas.Bool.Decides.{same_from_decides}
 use Rattle.rrc_name.specs.Wire.{labels_of}

@@ -1,3 +1,4 @@
+-- SPDX-License-Identifier: MIT
 use Rattle.std.proofs.Common.{arith}
 use Rattle.rrc_name.proofs.LabelOrder.{length-labels_of}
 use Rattle.rrc_name.proofs.order.label_count.Goals as goal

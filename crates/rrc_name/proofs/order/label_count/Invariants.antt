@@ -1,3 +1,4 @@
+-- SPDX-License-Identifier: MIT
 use Rattle.std.proofs.Common.{◌≡◌, ◌+◌, length}
 use Rattle.rrc_name.specs.Wire.{labels_of, IsWireForm}
 use Rattle.rrc_name.proofs.order.label_count.Given as goal

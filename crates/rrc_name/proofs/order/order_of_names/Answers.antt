@@ -1,3 +1,4 @@
+-- SPDX-License-Identifier: MIT
 use Rattle.rrc_name.specs.Wire.{labels_of}
 use Rattle.rrc_name.proofs.LabelOrder.{outweighed-canonical}
 use Rattle.rrc_name.proofs.order.order_of_names.Goals as goal

@@ -1,3 +1,4 @@
+-- SPDX-License-Identifier: MIT
 -- the octets so far spell themselves
 use Rattle.std.proofs.Common.{◌≡◌, take}
 use Rattle.std.specs.List.{flat_map}

@@ -1,3 +1,4 @@
+-- SPDX-License-Identifier: MIT
 -- what is left of the name is printed behind what was printed
 use Rattle.std.proofs.Common.{◌≡◌, ◌++◌, string_bytes, length}
 use Rattle.rrc_name.specs.Text.{dotted}

@@ -1,3 +1,4 @@
+-- SPDX-License-Identifier: MIT
 -- what is left of the text says, behind what was read, what the whole text says
 use Rattle.std.proofs.Common.{◌≡◌, drop, []}
 use Rattle.rrc_name.specs.Reading.{name_from}

@@ -1,3 +1,4 @@
+-- SPDX-License-Identifier: MIT
 use Rattle.std.proofs.Common.{◌∙◌, ◌∷◌, ap, sym, arith}
 use Rattle.rrc_name.proofs.WireReading.{no_octet_left, more_behind, above_63, no_room, cut}
 use Rattle.rrc_name.proofs.wire.behind_label.Goals as goal

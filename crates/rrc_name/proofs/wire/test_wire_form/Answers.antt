@@ -1,3 +1,4 @@
+-- SPDX-License-Identifier: MIT
 use Rattle.std.proofs.Common.{◌≡◌, ◌+◌, ◌-◌, ◌∙◌, length, sym, subst, arith}
 use Rattle.std.proofs.lemmas.Result.{err_from_is_err_and}
 use Rattle.rrc_name.proofs.WireReading.{IsRead, nothing_read, label_read, end_read, fault_read, is_end, read_few, read_within, small_from_each}

@@ -1,3 +1,4 @@
+-- SPDX-License-Identifier: MIT
 use Rattle.std.proofs.Common.{length}
 use Rattle.rrc_name.proofs.WireReading.{IsRead}
 use Rattle.rrc_name.proofs.wire.test_wire_form.Given as goal

@@ -1,3 +1,4 @@
+-- SPDX-License-Identifier: MIT
 use Rattle.std.proofs.Common.{sym, ◌∙◌}
 use Rattle.rrc_replay.proofs.QuestionNumbers.{numbered}
 use Rattle.rrc_replay.proofs.answering.fetch_or_join.Goals as goal

@@ -1,3 +1,4 @@
+-- SPDX-License-Identifier: MIT
 use Rattle.std.proofs.Common.{ℕ, List, subst}
 use Rattle.rrc_history.specs.declared.event.Event.{Event}
 use Rattle.rrc_history.specs.declared.snapshot.Snapshot.{Snapshot}

@@ -1,3 +1,4 @@
+-- SPDX-License-Identifier: MIT
 use Rattle.std.proofs.Common.{◌≡◌, drop}
 use Rattle.rrc_replay.specs.Stops.{lower, lowest}
 use Rattle.rrc_replay.proofs.replaying.first_fault.Given as goal

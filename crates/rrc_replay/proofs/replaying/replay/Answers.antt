@@ -1,3 +1,4 @@
+-- SPDX-License-Identifier: MIT
 use Rattle.std.proofs.Common.{rules}
 use Rattle.rrc_replay.proofs.replaying.replay.Goals as goal
 

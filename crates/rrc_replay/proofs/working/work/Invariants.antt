@@ -1,3 +1,4 @@
+-- SPDX-License-Identifier: MIT
 use Rattle.std.proofs.Common.{◌≡◌, []}
 use Rattle.rrc_marks.specs.Seen.{IsPassOf}
 use Rattle.rrc_replay.proofs.working.work.Given as goal

@@ -1,3 +1,4 @@
+-- SPDX-License-Identifier: MIT
 -- `collate` from what its steps found
 use Rattle.std.proofs.Common.{◌≡◌, List, Vec, Global, length, map, ap, ◌∙◌, arith}
 use Rattle.rrc_history.specs.declared.event.Event.{Event}

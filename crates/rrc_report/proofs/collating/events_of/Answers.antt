@@ -1,3 +1,4 @@
+-- SPDX-License-Identifier: MIT
 -- the events that fit what workers say that they did, by the tasks that were found
 use Rattle.std.proofs.Common.{◌≡◌, List, Vec, Global, length, map, arith}
 use Rattle.rrc_history.specs.declared.event.Event.{Event}

@@ -1,3 +1,4 @@
+-- SPDX-License-Identifier: MIT
 -- the lines that were done so far
 use Rattle.std.proofs.Common.{◌≡◌, map, take}
 use Rattle.rrc_report.proofs.collating.share_of.Given as goal

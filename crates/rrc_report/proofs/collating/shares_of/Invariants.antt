@@ -1,3 +1,4 @@
+-- SPDX-License-Identifier: MIT
 -- the shares of the workers so far
 use Rattle.std.proofs.Common.{◌≡◌, map, take}
 use Rattle.rrc_report.specs.Reports.{lines_done}

@@ -1,3 +1,4 @@
+-- SPDX-License-Identifier: MIT
 -- what the workers so far say that they did, and then what the others say
 use Rattle.std.proofs.Common.{◌≡◌, ◌++◌}
 use Rattle.std.specs.Vec.Iter.{into_iter_items}

@@ -1,3 +1,4 @@
+-- SPDX-License-Identifier: MIT
 -- so many places
 use Rattle.std.proofs.Common.{◌≡◌, length}
 use Rattle.rrc_report.proofs.completing.blank_table.Given as goal

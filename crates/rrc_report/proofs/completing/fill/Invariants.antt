@@ -1,3 +1,4 @@
+-- SPDX-License-Identifier: MIT
 -- the answers of the lines so far stand in the table, and the others are still to come
 use Rattle.std.proofs.Common.{◌≡◌, ◌++◌, length, map, take}
 use Rattle.std.specs.Vec.Iter.{into_iter_items}

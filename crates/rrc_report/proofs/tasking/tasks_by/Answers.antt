@@ -1,3 +1,4 @@
+-- SPDX-License-Identifier: MIT
 use Rattle.std.proofs.Common.{◌≡◌, ap, length, arith, ◌<◌, ◌∙◌, get_or, ◌++◌, [], ◌∷◌, rules}
 use Rattle.rrc_collate.specs.declared.task.Task.{Task}
 use Rattle.rrc_report.specs.Steps.{given_by, IsTaskOf}

@@ -1,3 +1,4 @@
+-- SPDX-License-Identifier: MIT
 -- the tasks so far are those of the worker's first lines
 use Rattle.std.proofs.Common.{map, take}
 use Rattle.rrc_report.specs.Steps.{given_by, AreTasks}

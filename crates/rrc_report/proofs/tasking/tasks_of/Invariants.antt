@@ -1,3 +1,4 @@
+-- SPDX-License-Identifier: MIT
 -- the tasks so far are those of the first workers
 use Rattle.std.proofs.Common.{take}
 use Rattle.rrc_report.specs.Steps.{given_from, AreTasks}

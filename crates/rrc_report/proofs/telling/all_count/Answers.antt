@@ -1,3 +1,4 @@
+-- SPDX-License-Identifier: MIT
 use Rattle.std.proofs.Common.{◌<◌, length, Bor, sym, ◌∙◌, arith}
 use Rattle.rrc_history.specs.declared.event.Event.{Event}
 use Rattle.rrc_report.proofs.ToldSteps.{count_apart, count_off, count_on}

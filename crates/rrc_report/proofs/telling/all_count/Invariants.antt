@@ -1,3 +1,4 @@
+-- SPDX-License-Identifier: MIT
 -- so far each event tells its count
 use Rattle.std.proofs.Common.{◌≡◌, take, map, true}
 use Rattle.rrc_report.specs.Completing.{all_count}

@@ -1,3 +1,4 @@
+-- SPDX-License-Identifier: MIT
 use Rattle.std.proofs.Common.{◌<◌, length, Some, Bor, sym, ap, ◌∙◌, arith}
 use Rattle.rrc_history.specs.declared.event.Event.{Event}
 use Rattle.rrc_report.proofs.ToldSteps.{told_apart, told_off, told_on}

@@ -1,3 +1,4 @@
+-- SPDX-License-Identifier: MIT
 -- what was told so far
 use Rattle.std.proofs.Common.{◌≡◌, take, map, Some}
 use Rattle.rrc_report.specs.Completing.{all_told_by}

@@ -1,3 +1,4 @@
+-- SPDX-License-Identifier: MIT
 use Rattle.std.proofs.Common.{map}
 use Rattle.rrc_report.proofs.ToldLaws.{completed_some, completed_none}
 use Rattle.rrc_report.proofs.telling.completed.Goals as goal

@@ -1,3 +1,4 @@
+-- SPDX-License-Identifier: MIT
 use Rattle.rrc_report.proofs.ToldLaws.{complete-one}
 use Rattle.rrc_report.proofs.telling.one_completion.Goals as goal
 

@@ -1,3 +1,4 @@
+-- SPDX-License-Identifier: MIT
 use Rattle.std.proofs.Common.{Err, subst}
 use Rattle.rrc_cache.specs.Part.{IsCloseDue}
 use Rattle.rrc_report.proofs.WholeParts.{one_spent}

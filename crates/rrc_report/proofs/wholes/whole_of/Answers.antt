@@ -1,3 +1,4 @@
+-- SPDX-License-Identifier: MIT
 use Rattle.rrc_report.proofs.WholeParts.{shut_chained, shut_kept}
 use Rattle.rrc_report.proofs.wholes.whole_of.Goals as goal
 

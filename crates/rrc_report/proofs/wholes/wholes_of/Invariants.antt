@@ -1,3 +1,4 @@
+-- SPDX-License-Identifier: MIT
 -- the histories so far are those of the shelves so far, and the other shelves are still to come
 use Rattle.std.proofs.Common.{◌≡◌, ◌++◌}
 use Rattle.std.specs.Vec.Iter.{into_iter_items}

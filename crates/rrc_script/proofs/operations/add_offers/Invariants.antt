@@ -1,3 +1,4 @@
+-- SPDX-License-Identifier: MIT
 -- the offers so far stand behind the operations that there were
 use Rattle.std.proofs.Common.{◌≡◌, ◌++◌, map}
 use Rattle.rrc_script.specs.Scripts.{offering}

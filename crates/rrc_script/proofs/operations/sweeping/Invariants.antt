@@ -1,3 +1,4 @@
+-- SPDX-License-Identifier: MIT
 -- with the sweeps of the parts that are left, the operations are those of all parts
 use Rattle.std.proofs.Common.{◌≡◌, ℕ, ◌+◌, ◌++◌}
 use Rattle.rrc_script.specs.Scripts.{sweeping}

@@ -1,3 +1,4 @@
+-- SPDX-License-Identifier: MIT
 use Rattle.rrc_script.proofs.Scripted.{not_both}
 use Rattle.rrc_script.proofs.scripts.first_fault.Goals as goal
 

@@ -1,3 +1,4 @@
+-- SPDX-License-Identifier: MIT
 use Rattle.rrc_script.proofs.Scripted.{one_script}
 use Rattle.rrc_script.proofs.scripts.one_script.Goals as goal
 

@@ -1,3 +1,4 @@
+-- SPDX-License-Identifier: MIT
 use Rattle.std.proofs.Common.{subst, rules}
 use Rattle.rrc_wire.specs.Message.{FirstFault}
 use Rattle.rrc_script.proofs.Scripted.{not_both}

@@ -1,3 +1,4 @@
+-- SPDX-License-Identifier: MIT
 -- the names so far, and the chain that begins with the name after them
 use Rattle.std.proofs.Common.{◌≡◌, ◌-◌, ◌++◌}
 use Rattle.rrc_sets.specs.Aliases.{chain}

@@ -1,3 +1,4 @@
+-- SPDX-License-Identifier: MIT
 use Rattle.std.proofs.Common.{sym, ◌∙◌, arith}
 use Rattle.rrc_sets.proofs.Chains.{end_of_chain-None, end_of_chain-Some, end_of_chain-past}
 use Rattle.rrc_sets.proofs.alias.end_of_chain.Goals as goal

@@ -1,3 +1,4 @@
+-- SPDX-License-Identifier: MIT
 -- the chain goes on with the name
 use Rattle.std.proofs.Common.{◌≡◌, ◌-◌}
 use Rattle.rrc_name.specs.Wire.{IsWireForm}

@@ -1,3 +1,4 @@
+-- SPDX-License-Identifier: MIT
 use Rattle.std.proofs.Common.{◌≡◌, Some, None, ap, ◌∙◌, rules}
 use Rattle.rrc_sets.specs.Aliases.{target_of}
 use Rattle.rrc_sets.proofs.Unaliased.{unaliased}

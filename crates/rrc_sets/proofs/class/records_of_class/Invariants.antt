@@ -1,3 +1,4 @@
+-- SPDX-License-Identifier: MIT
 -- those of the class among the records so far
 use Rattle.std.proofs.Common.{◌≡◌, take}
 use Rattle.std.specs.Prelude.{filter}

@@ -1,3 +1,4 @@
+-- SPDX-License-Identifier: MIT
 use Rattle.std.proofs.Common.{ap, subst, ◌∙◌}
 use Rattle.rrc_wire.specs.Kept.{RrOf}
 use Rattle.rrc_wire.specs.Plain.{IsPlain}

@@ -1,3 +1,4 @@
+-- SPDX-License-Identifier: MIT
 use Rattle.std.proofs.Common.{ap, length, arith, ◌∙◌}
 use Rattle.rrc_wire.specs.Kept.{RrOf}
 use Rattle.rrc_sets.proofs.Records.{soa_is_long}

@@ -1,3 +1,4 @@
+-- SPDX-License-Identifier: MIT
 -- the hosts of the data so far, while they are not too many
 use Rattle.std.proofs.Common.{◌≡◌, ◌≤◌, ◌++◌, length, take, drop, map}
 use Rattle.rrc_sets.proofs.host.add_hosts.Given as goal

@@ -1,3 +1,4 @@
+-- SPDX-License-Identifier: MIT
 -- the hosts of the offers so far, while they are not too many
 use Rattle.std.proofs.Common.{◌≡◌, ◌≤◌, length, take}
 use Rattle.std.specs.List.{flat_map}

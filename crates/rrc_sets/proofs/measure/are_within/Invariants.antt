@@ -1,3 +1,4 @@
+-- SPDX-License-Identifier: MIT
 -- the octets of the data so far
 use Rattle.std.proofs.Common.{◌≡◌, ◌≤◌, length, take}
 use Rattle.std.specs.List.{sum_by}

@@ -1,3 +1,4 @@
+-- SPDX-License-Identifier: MIT
 use Rattle.rrc_sets.proofs.Answering.{map_err, unmade}
 use Rattle.rrc_sets.proofs.message.relevant_offers_in.Goals as goal
 

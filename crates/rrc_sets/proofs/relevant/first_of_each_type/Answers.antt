@@ -1,3 +1,4 @@
+-- SPDX-License-Identifier: MIT
 use Rattle.std.proofs.Common.{sym, ap, ◌∙◌}
 use Rattle.std.specs.Cmp.{IsEquivalence, on_equiv}
 use Rattle.rrc_name.specs.lemmas.KeyLaws.{slot_eq-laws}

@@ -1,3 +1,4 @@
+-- SPDX-License-Identifier: MIT
 -- the first of each type of the offers so far
 use Rattle.std.proofs.Common.{◌≡◌}
 use Rattle.rrc_sets.specs.Uniques.{uniques}

@@ -1,3 +1,4 @@
+-- SPDX-License-Identifier: MIT
 use Rattle.std.proofs.Common.{ℕ, List, Bool, rules, ap, ◌∙◌}
 use Rattle.std.specs.Prelude.{filter, ◌&&◌}
 use Rattle.std.proofs.lemmas.Fn.{filter_same}

@@ -1,3 +1,4 @@
+-- SPDX-License-Identifier: MIT
 -- the offers of the sets so far stand behind the others, and what is said of those is said of all
 use Rattle.std.proofs.Common.{◌≡◌, ◌++◌}
 use Rattle.std.specs.List.{All, filter_map}

@@ -1,3 +1,4 @@
+-- SPDX-License-Identifier: MIT
 use Rattle.rrc_sets.proofs.Moments.{of_one_moment}
 use Rattle.rrc_sets.proofs.reply.offers.Goals as goal
 

@@ -1,3 +1,4 @@
+-- SPDX-License-Identifier: MIT
 use Rattle.std.proofs.Common.{◌≡◌, IfOk, sym, subst, ◌∙◌}
 use Rattle.rrc_wire.specs.declared.message.Message.{Message}
 use Rattle.rrc_sets.specs.Offers.{answer_offers}

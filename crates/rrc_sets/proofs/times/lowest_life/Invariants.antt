@@ -1,3 +1,4 @@
+-- SPDX-License-Identifier: MIT
 -- the lowest life so far, which is not above the cap
 use Rattle.std.proofs.Common.{◌≡◌, ◌≤◌, take}
 use Rattle.rrc_sets.specs.Life.{lowest_life}

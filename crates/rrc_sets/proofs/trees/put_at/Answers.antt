@@ -1,3 +1,4 @@
+-- SPDX-License-Identifier: MIT
 use Rattle.std.proofs.Common.{◌≡◌, ◌∙◌, ◌++◌, ◌∷◌, [], ℕ, true, sym, ap, subst, not, length, get_or, ◌<◌, ◌≤◌, arith}
 use Rattle.std.specs.List.{position_or_len, slice_set, list_any}
 use Rattle.rrc_wire.specs.Same.{lowered_rdata, same_rdata}

@@ -1,3 +1,4 @@
+-- SPDX-License-Identifier: MIT
 -- the sets of the records so far
 use Rattle.std.proofs.Common.{◌≡◌, take}
 use Rattle.rrc_sets.specs.Sets.{sets_of}

@@ -1,3 +1,4 @@
+-- SPDX-License-Identifier: MIT
 -- those of the records so far
 use Rattle.std.proofs.Common.{◌≡◌, take, count_by}
 use Rattle.rrc_sets.specs.Sets.{same_set}

@@ -1,3 +1,4 @@
+-- SPDX-License-Identifier: MIT
 use Rattle.std.proofs.Common.{sym, subst}
 use Rattle.rrc_cache.specs.Part.{IsSound}
 use Rattle.rrc_share.specs.Shelf.{ShelfOf, HasMadeRoom}

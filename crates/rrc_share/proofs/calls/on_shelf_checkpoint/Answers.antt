@@ -1,3 +1,4 @@
+-- SPDX-License-Identifier: MIT
 use Rattle.std.proofs.Common.{◌++◌, ◌∷◌, [], ap, ◌∙◌}
 use Rattle.rrc_share.proofs.Shelved.{IsShut, is_shut}
 use Rattle.rrc_share.proofs.calls.on_shelf_checkpoint.Goals as goal

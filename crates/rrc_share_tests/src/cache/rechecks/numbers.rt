@@ -1,3 +1,4 @@
+// SPDX-License-Identifier: MIT
 use super::{MISS, asked, both_say};
 use crate::cache::{Question, rules};
 use rrc_cache::recheck;

@@ -1,3 +1,4 @@
+// SPDX-License-Identifier: MIT
 use super::{History, LATE, MISS, Told, Turn, Turned, test_turned};
 use crate::cache::{AA, Held, Question, Replied};
 use rrc_history::{Mode, Outcome, Purpose};

@@ -1,3 +1,4 @@
+-- SPDX-License-Identifier: MIT
 -- all is still true exactly where the octets so far are digits
 use Rattle.std.proofs.Common.{◌≡◌, ℕ, ◌<◌, true}
 use Rattle.std.specs.Prelude.{slice_index}

@@ -1,3 +1,4 @@
+-- SPDX-License-Identifier: MIT
 use Rattle.std.proofs.Common.{◌+◌, ◌*◌, arith}
 use Rattle.std.specs.Prelude.{slice_index}
 use Rattle.hex.proofs.Pairs.{decode_step, decode_done}

@@ -1,3 +1,4 @@
+-- SPDX-License-Identifier: MIT
 -- what is left of the digits spells what is left to write
 use Rattle.std.proofs.Common.{◌≡◌, ◌*◌, take, drop}
 use Rattle.hex.specs.Hex.{decode_pairs}

@@ -1,3 +1,4 @@
+-- SPDX-License-Identifier: MIT
 use Rattle.std.proofs.Common.{sym}
 use Rattle.rrc_trace.proofs.DigitLemmas.{others_spell_nothing}
 use Rattle.rrc_trace.proofs.digits.decoded.Goals as goal

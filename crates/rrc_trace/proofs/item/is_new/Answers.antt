@@ -1,3 +1,4 @@
+-- SPDX-License-Identifier: MIT
 use Rattle.std.proofs.Common.{◌∙◌, ap, subst, not}
 use Rattle.rrc_trace.specs.Repeats.{FindsRepeats}
 use Rattle.rrc_trace.proofs.RepeatLemmas.{has-same, finds-more}

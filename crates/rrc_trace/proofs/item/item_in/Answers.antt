@@ -1,3 +1,4 @@
+-- SPDX-License-Identifier: MIT
 use Rattle.std.proofs.Common.{◌≢◌, ⊎_elim, ◌∙◌, subst, rules}
 use Rattle.rrc_wire.specs.Plain.{IsPlain}
 use Rattle.rrc_wire.specs.declared.fault.WireFault.TheVariants.{Memory}

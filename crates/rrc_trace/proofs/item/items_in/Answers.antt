@@ -1,3 +1,4 @@
+-- SPDX-License-Identifier: MIT
 use Rattle.std.proofs.Common.{arith, sym}
 use Rattle.std.proofs.lemmas.Result.{err_from_is_err_and}
 use Rattle.rrc_trace.proofs.ItemLemmas.{IsRead-more, bad_piece, bad_last_piece, last_piece, too_many_pieces}

@@ -1,3 +1,4 @@
+-- SPDX-License-Identifier: MIT
 -- the pieces that are left say, behind the items so far, what all of them say; and the tree has these items
 use Rattle.rrc_trace.specs.Repeats.{FindsRepeats}
 use Rattle.rrc_trace.proofs.ItemLemmas.{IsRead}

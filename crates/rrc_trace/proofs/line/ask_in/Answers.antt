@@ -1,3 +1,4 @@
+-- SPDX-License-Identifier: MIT
 use Rattle.std.proofs.Common.{subst, sym}
 use Rattle.rrc_name.specs.lemmas.Folding.{folded-folded}
 use Rattle.rrc_name.specs.Key.{IsFolded}

@@ -1,3 +1,4 @@
+-- SPDX-License-Identifier: MIT
 -- what is left of the digits spells, behind the number so far, what all of them spell
 use Rattle.std.proofs.Common.{◌≡◌, ◌≤◌, drop}
 use Rattle.rrc_trace.specs.Numbers.{number_behind, number_of, at_most}

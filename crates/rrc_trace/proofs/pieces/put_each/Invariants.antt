@@ -1,3 +1,4 @@
+-- SPDX-License-Identifier: MIT
 -- the octets so far were put as they are spelled, and the others are left
 use Rattle.std.proofs.Common.{drop}
 use Rattle.std.specs.List.{flat_map}

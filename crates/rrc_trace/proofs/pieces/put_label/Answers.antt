@@ -1,3 +1,4 @@
+-- SPDX-License-Identifier: MIT
 use Rattle.rrc_trace.proofs.OutputLemmas.{then}
 use Rattle.rrc_trace.proofs.pieces.put_label.Goals as goal
 

@@ -1,3 +1,4 @@
+-- SPDX-License-Identifier: MIT
 -- the labels so far were put, and those of the name behind them are left
 use Rattle.std.proofs.Common.{length}
 use Rattle.rrc_name.specs.Text.{dotted}

@@ -1,3 +1,4 @@
+-- SPDX-License-Identifier: MIT
 -- the octets so far were put in hexadecimal, and the rest is left
 use Rattle.std.proofs.Common.{length}
 use Rattle.hex.specs.Hex.{encode_lower}

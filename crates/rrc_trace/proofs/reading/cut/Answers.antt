@@ -1,3 +1,4 @@
+-- SPDX-License-Identifier: MIT
 use Rattle.std.proofs.Common.{sym, ◌∙◌}
 use Rattle.rrc_trace.proofs.CutLemmas.{cut_at, uncut}
 use Rattle.rrc_trace.proofs.reading.cut.Goals as goal

@@ -1,3 +1,4 @@
+-- SPDX-License-Identifier: MIT
 use Rattle.rrc_trace.proofs.SearchLemmas.{found_place}
 use Rattle.rrc_trace.proofs.reading.first_lf.Goals as goal
 

@@ -1,3 +1,4 @@
+-- SPDX-License-Identifier: MIT
 use Rattle.std.specs.Io.KnownBytes.{prepend_known}
 use Rattle.rrc_trace.proofs.CutLemmas.{at_end, consumes_part, piece_cut, reads_to_lf}
 use Rattle.rrc_trace.proofs.reading.piece_from.Goals as goal

@@ -1,3 +1,4 @@
+-- SPDX-License-Identifier: MIT
 -- octets were read, none of which ends a line
 use Rattle.std.proofs.Common.{◌-◌, ◌≤◌, length}
 use Rattle.std.specs.Io.KnownBytes.{Consumes, prepend_known}

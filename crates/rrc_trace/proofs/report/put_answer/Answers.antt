@@ -1,3 +1,4 @@
+-- SPDX-License-Identifier: MIT
 use Rattle.std.proofs.Common.{◌∙◌, ◌∷◌, ◌++◌, subst, decimal}
 use Rattle.rrc_trace.specs.Output.{Puts}
 use Rattle.rrc_trace.specs.Report.{offers_text, reply_text}

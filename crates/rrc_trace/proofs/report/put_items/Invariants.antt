@@ -1,3 +1,4 @@
+-- SPDX-License-Identifier: MIT
 -- the items so far were put, and the others are left
 use Rattle.std.proofs.Common.{drop}
 use Rattle.rrc_trace.specs.Report.{items_text, more_items_text}

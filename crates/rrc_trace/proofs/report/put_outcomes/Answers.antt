@@ -1,3 +1,4 @@
+-- SPDX-License-Identifier: MIT
 use Rattle.std.proofs.Common.{ap}
 use Rattle.rrc_trace.specs.Report.{outcomes_text}
 use Rattle.rrc_trace.proofs.OutputLemmas.{then, front_left, less_left}

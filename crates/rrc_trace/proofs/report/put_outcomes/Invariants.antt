@@ -1,3 +1,4 @@
+-- SPDX-License-Identifier: MIT
 -- the offers so far were put, and the others are left
 use Rattle.std.proofs.Common.{drop}
 use Rattle.rrc_trace.specs.Report.{outcomes_text}

@@ -1,3 +1,4 @@
+-- SPDX-License-Identifier: MIT
 use Rattle.std.proofs.Common.{◌-◌, drop, length, arith, length-drop, length-take}
 use Rattle.rrc_trace.proofs.WritingLemmas.{Appends-more}
 use Rattle.rrc_trace.proofs.writing.write_out.Goals as goal

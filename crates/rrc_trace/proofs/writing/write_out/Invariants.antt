@@ -1,3 +1,4 @@
+-- SPDX-License-Identifier: MIT
 -- the first so many octets went out, one at least in each turn
 use Rattle.std.proofs.Common.{take, ◌≤◌, length}
 use Rattle.std.specs.Io.KnownBytes.{Appends}

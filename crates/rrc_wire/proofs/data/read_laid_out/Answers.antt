@@ -1,3 +1,4 @@
+-- SPDX-License-Identifier: MIT
 use Rattle.std.proofs.Common.{rules, ◌≡◌, ◌+◌, ◌≤◌, ap, length, arith}
 use Rattle.std.specs.Prelude.{slice_range}
 use Rattle.rrc_wire.specs.Shown.{as_layout}

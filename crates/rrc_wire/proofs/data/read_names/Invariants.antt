@@ -1,3 +1,4 @@
+-- SPDX-License-Identifier: MIT
 -- what is left to read, behind what was read, is all that was to read
 use Rattle.std.proofs.Common.{◌≡◌, ◌-◌, length}
 use Rattle.rrc_wire.specs.Reading.{times}

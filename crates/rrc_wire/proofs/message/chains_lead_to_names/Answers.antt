@@ -1,3 +1,4 @@
+-- SPDX-License-Identifier: MIT
 use Rattle.rrc_wire.proofs.Chains.{leads_to_name}
 use Rattle.rrc_wire.proofs.message.chains_lead_to_names.Goals as goal
 

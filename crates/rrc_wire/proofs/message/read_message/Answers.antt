@@ -1,3 +1,4 @@
+-- SPDX-License-Identifier: MIT
 use Rattle.rrc_wire.proofs.Laws.{given-ok, given-err}
 use Rattle.rrc_wire.proofs.message.read_message.Goals as goal
 

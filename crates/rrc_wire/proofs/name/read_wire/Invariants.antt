@@ -1,3 +1,4 @@
+-- SPDX-License-Identifier: MIT
 use Rattle.std.proofs.Common.{◌≡◌, ◌+◌, ◌-◌, length}
 use Rattle.rrc_name.proofs.Spelling.{AreLabels}
 use Rattle.rrc_wire.specs.Shown.{as_run}

@@ -1,3 +1,4 @@
+-- SPDX-License-Identifier: MIT
 -- each label that was passed took at most 64 octets of room
 use Rattle.std.proofs.Common.{◌+◌, ◌*◌, ◌≤◌}
 use Rattle.rrc_wire.proofs.name.room_for_name.Given as goal

@@ -1,3 +1,4 @@
+-- SPDX-License-Identifier: MIT
 use Rattle.std.proofs.Common.{◌≡◌, ◌∙◌, ◌∷◌, List, ℕ, sym, ap, subst, arith}
 use Rattle.std.proofs.lemmas.List.{take_rest}
 use Rattle.rrc_wire.proofs.FrontNames.{Leaves, Fits, leaves_all, leaves_behind_label, leaves_nothing, nothing_begins}

@@ -1,3 +1,4 @@
+-- SPDX-License-Identifier: MIT
 use Rattle.std.proofs.Common.{length}
 use Rattle.rrc_wire.proofs.FrontNames.{Leaves}
 use Rattle.rrc_wire.proofs.plain.behind_name.Given as goal

@@ -1,3 +1,4 @@
+-- SPDX-License-Identifier: MIT
 use Rattle.rrc_wire.proofs.FrontNames.{leaves_behind_name, leaves_fewer}
 use Rattle.rrc_wire.proofs.plain.behind_names.Goals as goal
 

@@ -1,3 +1,4 @@
+-- SPDX-License-Identifier: MIT
 use Rattle.std.proofs.Common.{◌-◌}
 use Rattle.rrc_wire.proofs.FrontNames.{LeavesNames}
 use Rattle.rrc_wire.proofs.plain.behind_names.Given as goal

@@ -1,3 +1,4 @@
+-- SPDX-License-Identifier: MIT
 use Rattle.std.proofs.Common.{◌≡◌, ◌-◌, ◌∙◌, List, ℕ, length, ap, subst, arith, take, drop, nat_eq}
 use Rattle.std.proofs.lemmas.List.{take_rest}
 use Rattle.rrc_wire.specs.Shown.{as_layout}

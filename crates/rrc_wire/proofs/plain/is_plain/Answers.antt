@@ -1,3 +1,4 @@
+-- SPDX-License-Identifier: MIT
 use Rattle.std.proofs.Common.{◌∙◌, Some, None}
 use Rattle.rrc_wire.specs.Shown.{as_layout}
 use Rattle.rrc_wire.proofs.PlainParts.{plain_by_layout, too_long}

@@ -1,3 +1,4 @@
+-- SPDX-License-Identifier: MIT
 use Rattle.std.proofs.Common.{refl}
 use Rattle.rrc_wire.specs.Plain.{is_plain}
 use Rattle.rrc_wire.specs.SameLaws.{same_rdata-equiv}

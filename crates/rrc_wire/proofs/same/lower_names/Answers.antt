@@ -1,3 +1,4 @@
+-- SPDX-License-Identifier: MIT
 use Rattle.std.proofs.Common.{◌∙◌, ◌-◌, ◌++◌, take, drop, length, ap}
 use Rattle.rrc_wire.specs.Shown.{as_layout}
 use Rattle.rrc_wire.proofs.LoweredParts.{lowered_slice}

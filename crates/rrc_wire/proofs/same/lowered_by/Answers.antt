@@ -1,3 +1,4 @@
+-- SPDX-License-Identifier: MIT
 use Rattle.std.proofs.Common.{◌≡◌, ◌∙◌, sym, ap, subst, drop, length, Some}
 use Rattle.std.proofs.lemmas.List.{take_at}
 use Rattle.rrc_wire.specs.Plain.{Fills}

@@ -1,3 +1,4 @@
+-- SPDX-License-Identifier: MIT
 use Rattle.std.proofs.Common.{◌≡◌, ◌∙◌, List, ℕ, IfOk, Some, sym, ap, subst}
 use Rattle.std.specs.Option.{option_map}
 use Rattle.rrc_wire.specs.Layout.{layout_of}

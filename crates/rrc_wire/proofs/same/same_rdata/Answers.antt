@@ -1,3 +1,4 @@
+-- SPDX-License-Identifier: MIT
 use Rattle.std.proofs.Common.{◌≡◌, ◌∙◌, inl, inr, sym, ap, refl, Decides}
 use Rattle.std.specs.Option.{option_map}
 use Rattle.rrc_wire.specs.Shown.{as_layout}

@@ -1,3 +1,4 @@
+-- SPDX-License-Identifier: MIT
 use Rattle.std.proofs.Common.{ℕ, sym, subst, arith, length-append}
 use Rattle.rrc_wire.specs.Chain.{Leads, ends}
 use Rattle.rrc_wire.proofs.Chains.{ends-push, leads-table}

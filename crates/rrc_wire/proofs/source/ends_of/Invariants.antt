@@ -1,3 +1,4 @@
+-- SPDX-License-Identifier: MIT
 use Rattle.std.proofs.Common.{◌≡◌, length}
 use Rattle.rrc_wire.specs.Chain.{AreEnds}
 use Rattle.rrc_wire.proofs.source.ends_of.Given as goal

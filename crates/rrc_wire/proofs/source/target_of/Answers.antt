@@ -1,3 +1,4 @@
+-- SPDX-License-Identifier: MIT
 use Rattle.std.proofs.Common.{Err, sym, ap, ◌∙◌}
 use Rattle.rrc_wire.specs.Item.{item_at}
 use Rattle.rrc_wire.proofs.Chains.{nowhere}

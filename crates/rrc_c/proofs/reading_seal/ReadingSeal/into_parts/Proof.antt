@@ -1,3 +1,4 @@
+-- SPDX-License-Identifier: MIT
 -- `into_parts` moves two fields, and what they own goes with them.
 use mathlib.Core.Path.{refl, sym, subst}
 use mathlib.Core.List.{List, [], ◌∷◌, ◌++◌}

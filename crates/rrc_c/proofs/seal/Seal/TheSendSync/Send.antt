@@ -1,3 +1,4 @@
+-- SPDX-License-Identifier: MIT
 -- What a seal owns may go to another thread, as a box with a shelf in it may.
 use mir.Raw.{raw}
 use base.Shift.{Keyless}

@@ -1,3 +1,4 @@
+-- SPDX-License-Identifier: MIT
 -- `empty` makes a seal that owns nothing but its words.
 use Rattle.std.proofs.Common.{List, [], ◌∷◌, ◌++◌, refl, sym, subst, lit<}
 use Rattle.std.specs.Prelude.{None}

@@ -1,3 +1,4 @@
+-- SPDX-License-Identifier: MIT
 use Rattle.std.proofs.Common.{◌<◌, ◌-◌, ◌||◌, ◌∷◌, List, sym, ap, subst, ◌∙◌, arith}
 use Rattle.std.specs.BinaryHeap.{heap_capacity, heap_len}
 use Rattle.std.specs.List.Sorted.{IsPermutation}

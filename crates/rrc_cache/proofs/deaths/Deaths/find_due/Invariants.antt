@@ -1,3 +1,4 @@
+-- SPDX-License-Identifier: MIT
 -- no death has gone, and those that wait grow fewer
 use Rattle.std.proofs.Common.{length}
 use Rattle.rrc_cache.specs.Deaths.{AreSameDeaths}

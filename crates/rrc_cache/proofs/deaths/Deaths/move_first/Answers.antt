@@ -1,3 +1,4 @@
+-- SPDX-License-Identifier: MIT
 use Rattle.std.proofs.Common.{◌||◌, ◌∷◌, ◌++◌, [], List, ap, ◌∙◌}
 use Rattle.std.specs.List.{list_any}
 use Rattle.rrc_cache.specs.declared.deaths.Death.{Death}

@@ -1,3 +1,4 @@
+-- SPDX-License-Identifier: MIT
 -- A history owns nothing, so it may go to another thread.
 use denote.Param.Send.{IsSend, owning_send}
 use Rattle.rrc_cache.specs.contracts.history.History.{the_row, the_type}

@@ -1,3 +1,4 @@
+-- SPDX-License-Identifier: MIT
 -- Nor does a shared one own anything.
 use denote.Param.Send.{IsSync, cell_keyless}
 use denote.Memory.{part_of, raw_all}

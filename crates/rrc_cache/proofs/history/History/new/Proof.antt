@@ -1,3 +1,4 @@
+-- SPDX-License-Identifier: MIT
 -- `new` picks the first chapter, with no events. Assumes `Logic`.
 use Rattle.std.proofs.Common.{List, [], ◌∷◌, ◌++◌, refl}
 use seplogic.Ra.Ura.{Ura}

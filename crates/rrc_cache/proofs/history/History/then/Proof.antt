@@ -1,3 +1,4 @@
+-- SPDX-License-Identifier: MIT
 -- `then` picks the history that was told. Assumes `Logic`.
 use Rattle.std.proofs.Common.{List, [], ◌∷◌, ◌++◌, refl}
 use seplogic.Ra.Ura.{Ura}

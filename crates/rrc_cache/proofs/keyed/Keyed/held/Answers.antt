@@ -1,3 +1,4 @@
+-- SPDX-License-Identifier: MIT
 use Rattle.std.proofs.Common.{ap, ◌∙◌}
 use Rattle.rrc_cache.specs.Keyed.{KeyedOf}
 use Rattle.rrc_cache.specs.Pairs.{entries_in}

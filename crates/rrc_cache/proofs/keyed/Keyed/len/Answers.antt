@@ -1,3 +1,4 @@
+-- SPDX-License-Identifier: MIT
 use Rattle.std.proofs.Common.{sym, ap, subst, length, ◌∙◌}
 use Rattle.lru.specs.LruCache.{IsValid}
 use Rattle.rrc_name.specs.Key.{key_eq}

@@ -1,3 +1,4 @@
+-- SPDX-License-Identifier: MIT
 use Rattle.std.proofs.Common.{◌∙◌}
 use Rattle.rrc_name.specs.KeyRef.{key_of}
 use Rattle.rrc_cache.proofs.Plain.{shown_lookup}

@@ -1,3 +1,4 @@
+-- SPDX-License-Identifier: MIT
 use Rattle.std.proofs.Common.{sym, subst, ◌∙◌}
 use Rattle.lru.specs.LruCache.{LruCache}
 use Rattle.rrc_name.specs.KeyRef.{key_of}

@@ -1,3 +1,4 @@
+-- SPDX-License-Identifier: MIT
 use Rattle.std.proofs.Common.{◌≡◌, subst}
 use Rattle.rrc_history.specs.Past.{reply_to}
 use Rattle.rrc_cache.specs.Lean.{IsPick}

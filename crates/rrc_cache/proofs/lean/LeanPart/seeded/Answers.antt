@@ -1,3 +1,4 @@
+-- SPDX-License-Identifier: MIT
 use Rattle.std.proofs.Common.{ap, subst, sym}
 use Rattle.rrc_cache.specs.Lean.{HoldsLean}
 use Rattle.rrc_cache.specs.Pairs.{StoreOf}

@@ -1,3 +1,4 @@
+-- SPDX-License-Identifier: MIT
 use Rattle.std.proofs.Common.{◌+◌, ◌<◌, ◌^◌, ap, arith, subst, sym, ◌∙◌}
 use Rattle.rrc_history.specs.declared.snapshot.Snapshot.{Snapshot}
 use Rattle.rrc_cache.specs.Lean.{HoldsLean, next_chapter}

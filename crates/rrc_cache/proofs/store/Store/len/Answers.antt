@@ -1,3 +1,4 @@
+-- SPDX-License-Identifier: MIT
 use Rattle.std.proofs.Common.{subst}
 use Rattle.rrc_history.specs.Entries.{AreApart}
 use Rattle.rrc_cache.specs.Pairs.{StoreOf}

@@ -1,3 +1,4 @@
+-- SPDX-License-Identifier: MIT
 use Rattle.std.proofs.Common.{◌≡◌, None, ap, sym, subst, ◌∙◌}
 use Rattle.rrc_history.specs.Past.{entry_at}
 use Rattle.rrc_cache.specs.Beside.{beside_of, is_marked}

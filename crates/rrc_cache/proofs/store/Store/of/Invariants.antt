@@ -1,3 +1,4 @@
+-- SPDX-License-Identifier: MIT
 -- the entries behind the place stand in their order
 use Rattle.std.proofs.Common.{◌≡◌, drop}
 use Rattle.rrc_cache.proofs.Paired.{seen}

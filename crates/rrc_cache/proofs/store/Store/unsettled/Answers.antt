@@ -1,3 +1,4 @@
+-- SPDX-License-Identifier: MIT
 use Rattle.rrc_cache.specs.Beside.{beside_of}
 use Rattle.rrc_cache.proofs.Stored.{same_store}
 use Rattle.rrc_cache.proofs.store.Store.unsettled.Goals as goal

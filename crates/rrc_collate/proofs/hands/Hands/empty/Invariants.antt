@@ -1,3 +1,4 @@
+-- SPDX-License-Identifier: MIT
 -- so many empty hands
 use Rattle.std.proofs.Common.{◌≡◌, replicate, []}
 use Rattle.rrc_collate.proofs.Dealing.{shown}

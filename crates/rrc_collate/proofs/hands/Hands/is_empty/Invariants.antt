@@ -1,3 +1,4 @@
+-- SPDX-License-Identifier: MIT
 -- the hands so far are empty
 use Rattle.std.proofs.Common.{◌≡◌, [], take}
 use Rattle.std.specs.List.{All}

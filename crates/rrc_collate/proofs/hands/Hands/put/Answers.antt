@@ -1,3 +1,4 @@
+-- SPDX-License-Identifier: MIT
 use Rattle.rrc_collate.proofs.Dealing.{shown_put}
 use Rattle.rrc_collate.proofs.hands.Hands.put.Goals as goal
 

@@ -1,3 +1,4 @@
+-- SPDX-License-Identifier: MIT
 use Rattle.rrc_collate.proofs.Dealing.{shown_taken}
 use Rattle.rrc_collate.proofs.hands.Hands.take.Goals as goal
 

@@ -1,3 +1,4 @@
+-- SPDX-License-Identifier: MIT
 use Rattle.std.proofs.Common.{refl, sym, ap, ◌∙◌}
 use Rattle.rrc_history.specs.Chains.{WholeOf}
 use Rattle.rrc_history.specs.Chapters.{ChapterOf}

@@ -1,3 +1,4 @@
+-- SPDX-License-Identifier: MIT
 use Rattle.std.proofs.Common.{arith}
 use Rattle.rrc_history.proofs.Places.{entry_more}
 use Rattle.rrc_history.proofs.entry_list.EntriesIterator.next.Goals as goal

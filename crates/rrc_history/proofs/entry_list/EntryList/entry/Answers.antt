@@ -1,3 +1,4 @@
+-- SPDX-License-Identifier: MIT
 use Rattle.std.proofs.Common.{◌≡◌, ap, ◌∙◌, ◌-◌, length, get_or, arith}
 use Rattle.rrc_history.specs.EntryLists.{entries_at}
 use Rattle.rrc_history.proofs.Places.{length_of, entry_behind}

@@ -1,3 +1,4 @@
+-- SPDX-License-Identifier: MIT
 use Rattle.std.proofs.Common.{arith}
 use Rattle.rrc_history.proofs.Places.{length_of}
 use Rattle.rrc_history.proofs.entry_list.EntryList.len.Goals as goal

@@ -1,3 +1,4 @@
+-- SPDX-License-Identifier: MIT
 use Rattle.rrc_history.specs.lemmas.SnapshotLaws.{sound_by}
 use Rattle.rrc_history.proofs.snapshot.Snapshot.rules.Goals as goal
 

@@ -1,3 +1,4 @@
+-- SPDX-License-Identifier: MIT
 use Rattle.std.proofs.Common.{rules, arith}
 use Rattle.rrc_marks.proofs.Allowed.{split_allowed}
 use Rattle.rrc_marks.proofs.marks.Marks.cut.Goals as goal

@@ -1,3 +1,4 @@
+-- SPDX-License-Identifier: MIT
 use Rattle.std.proofs.Common.{rules, arith, ap}
 use Rattle.rrc_marks.proofs.Allowed.{draw_allowed}
 use Rattle.rrc_marks.proofs.marks.Marks.draw.Goals as goal

@@ -1,3 +1,4 @@
+-- SPDX-License-Identifier: MIT
 use Rattle.std.proofs.Common.{rules, refl, arith, ap, subst, ◌<◌}
 use Rattle.rrc_marks.specs.Told.{Exchanges}
 use Rattle.rrc_marks.proofs.Allowed.{begin_allowed}

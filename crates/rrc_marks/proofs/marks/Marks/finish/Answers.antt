@@ -1,3 +1,4 @@
+-- SPDX-License-Identifier: MIT
 use Rattle.std.proofs.Common.{rules, refl, arith, ap, sym, subst, ◌+◌, ◌<◌}
 use Rattle.rrc_marks.specs.Views.{Holds}
 use Rattle.rrc_marks.proofs.Allowed.{finish_allowed}

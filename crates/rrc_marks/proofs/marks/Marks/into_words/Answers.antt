@@ -1,3 +1,4 @@
+-- SPDX-License-Identifier: MIT
 use Rattle.std.proofs.Common.{arith, sym, subst, ◌≡◌, []}
 use Rattle.rrc_marks.specs.Views.{IsAlone}
 use Rattle.rrc_marks.specs.Ends.{last_words, IsSettled}

@@ -1,3 +1,4 @@
+-- SPDX-License-Identifier: MIT
 use Rattle.std.proofs.Common.{rules, arith, ap, ◌∙◌, sym}
 use Rattle.rrc_marks.proofs.Allowed.{join_allowed, look_allowed}
 use Rattle.rrc_marks.proofs.Counted.{weighs_join, counted_join}

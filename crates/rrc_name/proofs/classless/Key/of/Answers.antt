@@ -1,3 +1,4 @@
+-- SPDX-License-Identifier: MIT
 use Rattle.std.proofs.Common.{◌∙◌, ap, sym}
 use Rattle.rrc_name.specs.Wire.{folded}
 use Rattle.rrc_name.specs.lemmas.Folding.{folded-folded}

@@ -1,3 +1,4 @@
+-- SPDX-License-Identifier: MIT
 use Rattle.std.proofs.Common.{◌≡◌, ◌∙◌, ap}
 use Rattle.std.specs.Ordering.{nat_cmp, ordering_then}
 use Rattle.rrc_name.specs.Key.{KeyOf, slot_order, order_in_name}

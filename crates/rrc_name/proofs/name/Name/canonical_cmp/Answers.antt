@@ -1,3 +1,4 @@
+-- SPDX-License-Identifier: MIT
 use Rattle.std.proofs.Common.{◌≡◌, ◌∙◌, sym, subst}
 use Rattle.rrc_name.specs.Wire.{IsWireForm}
 use Rattle.rrc_name.specs.Order.{canonical_order}

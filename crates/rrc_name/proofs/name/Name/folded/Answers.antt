@@ -1,3 +1,4 @@
+-- SPDX-License-Identifier: MIT
 use Rattle.std.proofs.Common.{◌≡◌, ◌∙◌, ap, subst, sym, rules}
 use Rattle.rrc_name.specs.Wire.{IsWireForm, folded}
 use Rattle.rrc_name.specs.Key.{IsFolded}

@@ -1,3 +1,4 @@
+-- SPDX-License-Identifier: MIT
 use Rattle.std.proofs.Common.{◌≡◌, ◌⊎◌, ◌∙◌, [], Ok, Err, IfErr, subst, sym, inl, inr, rules}
 use Rattle.std.proofs.lemmas.Result.{IfErr-weaker}
 use Rattle.rrc_name.specs.declared.fault.NameFault.TheVariants.{Memory}

@@ -1,3 +1,4 @@
+-- SPDX-License-Identifier: MIT
 use Rattle.std.proofs.Common.{◌≡◌, vec_len}
 use Rattle.rrc_replay_tests.proofs.marks.threads.counts.Given as goal
 

@@ -1,3 +1,4 @@
+-- SPDX-License-Identifier: MIT
 use Rattle.rrc_marks.specs.Seen.{KeepsShare}
 use Rattle.rrc_replay_tests.proofs.marks.threads.draw_none.Given as goal
 

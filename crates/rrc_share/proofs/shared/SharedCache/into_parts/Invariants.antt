@@ -1,3 +1,4 @@
+-- SPDX-License-Identifier: MIT
 -- each lock that is left has its room, and each shelf so far is sound
 use Rattle.std.proofs.Common.{◌≡◌, ◌+◌, ◌≤◌, All, vec_len, vec_capacity}
 use Rattle.std.specs.Vec.Iter.{into_iter_len}

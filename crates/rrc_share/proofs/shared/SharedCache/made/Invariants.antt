@@ -1,3 +1,4 @@
+-- SPDX-License-Identifier: MIT
 -- as many locks so far as turns
 use Rattle.std.proofs.Common.{◌≡◌, vec_len}
 use Rattle.rrc_share.proofs.shared.SharedCache.made.Given as goal

@@ -1,3 +1,4 @@
+-- SPDX-License-Identifier: MIT
 use Rattle.std.proofs.Common.{arith}
 use Rattle.rrc_trace.proofs.AheadLemmas.{slice_range-behind}
 use Rattle.rrc_trace.proofs.ahead.Ahead.take.Goals as goal

@@ -1,3 +1,4 @@
+-- SPDX-License-Identifier: MIT
 use Rattle.std.proofs.Common.{refl, sym, subst, append-nil}
 use Rattle.rrc_trace.specs.Writing.{AppendsFront}
 use Rattle.rrc_trace.specs.Output.{Stands}

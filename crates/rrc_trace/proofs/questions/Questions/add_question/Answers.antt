@@ -1,3 +1,4 @@
+-- SPDX-License-Identifier: MIT
 use Rattle.std.proofs.Common.{◌≡◌, ℕ, ◌∙◌, ◌++◌, ◌∷◌, [], List, Some, sym, ap, subst, cond, length, arith}
 use Rattle.std.specs.Ordering.{is_eq}
 use Rattle.std.specs.BTreeMap as map

@@ -1,3 +1,4 @@
+-- SPDX-License-Identifier: MIT
 -- what is left to read says, behind the lines so far, what the whole trace says
 use Rattle.rrc_trace.proofs.ReadingLemmas.{IsReadSoFar}
 use Rattle.std.specs.Io.KnownBytes.{prepend_known}

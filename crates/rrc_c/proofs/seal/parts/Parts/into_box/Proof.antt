@@ -1,3 +1,4 @@
+-- SPDX-License-Identifier: MIT
 -- `into_box` hands what the parts own to `from_raw`.
 use mathlib.Core.Path.{◌≡◌, refl, sym, subst, ap}
 use mathlib.Core.List.{List, [], ◌∷◌, ◌++◌}

@@ -1,3 +1,4 @@
+-- SPDX-License-Identifier: MIT
 -- `of` takes the box apart, and the parts own what it owned.
 use mathlib.Core.Path.{◌≡◌, refl, sym, subst, ap, ◌∙◌}
 use mathlib.Core.List.{List, [], ◌∷◌, ◌++◌}
