@@ -149,7 +149,7 @@ def test_more_questions_than_can_be_asked():
 
 
 def starve(names):
-    """Asks for names whose servers are dead all the time, and for others, of which at most three of
+    """Asks for names whose servers are dead all the time, and for others, of which at most ten of
     40 may be late or a failure, as they are at times on a machine that does much else."""
     def answer(server, number, question, name, rtype):
         return [] if "dead" in name else plain()(server, number, question, name, rtype)
@@ -164,7 +164,7 @@ def starve(names):
                 reply, seconds = took(lambda: it.ask(f"a{n}.example"))
                 wanted(reply.data() in ([], [address(n)]), "an answer to another name")
                 slow += seconds > 0.5 or not reply.data()
-        wanted(slow < 4, f"answers in time, and not {slow} of 40 late")
+        wanted(slow < 11, f"answers in time, and not {slow} of 40 late")
         counters = it.counters()
         wanted(counters["displaced"] > 0, "fetches that gave way")
 
