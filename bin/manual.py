@@ -21,7 +21,8 @@ GROUPS = {
         "rrcache_offer_message", "rrcache_offer_part", "rrcache_offer_set",
         "rrcache_offer_negative", "rrcache_offer_failure"],
     "read a response once and offer it to several shelves": [
-        "rrcache_read_message", "rrcache_offer_read", "rrcache_free_offers"],
+        "rrcache_read_message", "rrcache_read_response", "rrcache_offer_read",
+        "rrcache_free_offers"],
     "ask a shelf": ["rrcache_ask", "rrcache_ask_alias", "rrcache_peek", "rrcache_tell_stored"],
     "sweep a shelf, drop its chapters, tell its sizes": [
         "rrcache_sweep", "rrcache_next_expiry", "rrcache_sweep_some", "rrcache_drop_chapters",

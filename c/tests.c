@@ -56,6 +56,13 @@ static const uint8_t ALIAS[] = {
     0xc0, 12, 0, 5, 0, 1, 0, 0, 1, 44, 0, 8, 5, 'o', 't', 'h', 'e', 'r', 0xc0, 16,
     0xc0, 41, 0, 1, 0, 1, 0, 0, 1, 44, 0, 4, 192, 0, 2, 9,
 };
+/* A response to www.example A with its address, which brings one of third.example as well. */
+static const uint8_t POISON[] = {
+    0x12, 0x34, 0x84, 0x00, 0, 1, 0, 2, 0, 0, 0, 0,
+    3, 'w', 'w', 'w', 7, 'e', 'x', 'a', 'm', 'p', 'l', 'e', 0, 0, 1, 0, 1,
+    0xc0, 12, 0, 1, 0, 1, 0, 0, 1, 44, 0, 4, 192, 0, 2, 1,
+    5, 't', 'h', 'i', 'r', 'd', 0xc0, 16, 0, 1, 0, 1, 0, 0, 1, 44, 0, 4, 6, 6, 6, 6,
+};
 /* A response to a.example TXT of class CH with one record of 60 seconds. */
 static const uint8_t CHAOS[] = {
     0x12, 0x34, 0x84, 0x00, 0, 1, 0, 1, 0, 0, 0, 0,
@@ -560,6 +567,87 @@ static void test_parts(void)
     for (uint64_t part = 0; part < PARTS; part++)
         EXPECT(rrcache_free(&shelves[part]) == RRCACHE_DONE);
     EXPECT(rrcache_free(&whole) == RRCACHE_DONE);
+}
+
+static uint32_t read_response(struct rrcache_offers *offers, const uint8_t *name, size_t size,
+                              uint16_t type, uint16_t id, uint64_t *concerned)
+{
+    return rrcache_read_response(offers,
+                                 RESPONSE(POISON, sizeof POISON, ZONE, sizeof ZONE, FIRST, LIMITS),
+                                 QUERY(name, size, type, RRCACHE_IN, 0, 0, 0), id, 1, concerned);
+}
+
+/* Of a response what is relevant to its query is kept, and of another response nothing. */
+static void test_relevant(void)
+{
+    struct rrcache_shelf shelf = {0};
+    struct rrcache_offers offers = {0};
+    struct rrcache_counts counts;
+    struct rrcache_told told = {0};
+    uint64_t concerned = 7;
+    uint8_t buffer[64];
+    EXPECT(make(&shelf) == RRCACHE_DONE);
+    EXPECT(read_response(&offers, UPPER, sizeof UPPER, A, 0x1234, &concerned) == RRCACHE_DONE
+           && concerned == 1);
+    EXPECT(rrcache_offer_read(&shelf, &offers, 0, 1, &counts) == RRCACHE_DONE && counts.kept == 1);
+    EXPECT(peek(&shelf, FIRST, &told, buffer, sizeof buffer) == RRCACHE_DONE
+           && told.kind == RRCACHE_FRESH);
+    EXPECT(rrcache_peek(&shelf, QUERY(THIRD, sizeof THIRD, A, RRCACHE_IN, FIRST, 0, 0), &told,
+                        buffer, sizeof buffer)
+               == RRCACHE_DONE
+           && told.kind == RRCACHE_MISS);
+    EXPECT(read_response(&offers, NAME, sizeof NAME, A, 0x1234, &concerned) == RRCACHE_HAS_OFFERS
+           && rrcache_free_offers(&offers) == RRCACHE_DONE);
+
+    /* Without the query all of it is kept. */
+    EXPECT(rrcache_read_message(&offers,
+                                RESPONSE(POISON, sizeof POISON, ZONE, sizeof ZONE, FIRST, LIMITS),
+                                1, &concerned)
+           == RRCACHE_DONE);
+    EXPECT(rrcache_offer_read(&shelf, &offers, 0, 1, &counts) == RRCACHE_DONE && counts.kept == 2
+           && rrcache_free_offers(&offers) == RRCACHE_DONE);
+
+    /* A chain of aliases is relevant. */
+    EXPECT(rrcache_read_response(
+               &offers, RESPONSE(ALIAS, sizeof ALIAS, ZONE, sizeof ZONE, FIRST, LIMITS),
+               QUERY(NAME, sizeof NAME, A, RRCACHE_IN, 0, 0, 0), 0x1234, 1, &concerned)
+               == RRCACHE_DONE
+           && rrcache_offer_read(&shelf, &offers, 0, 1, &counts) == RRCACHE_DONE && counts.kept == 2
+           && rrcache_free_offers(&offers) == RRCACHE_DONE);
+
+    /* What is refused leaves the handle empty, and nothing told. */
+    concerned = 7;
+    EXPECT(read_response(&offers, NAME, sizeof NAME, A, 0x1235, &concerned) == RRCACHE_OTHER_QUERY);
+    EXPECT(read_response(&offers, NAME, sizeof NAME, TXT, 0x1234, &concerned)
+           == RRCACHE_OTHER_QUERY);
+    EXPECT(read_response(&offers, THIRD, sizeof THIRD, A, 0x1234, &concerned)
+           == RRCACHE_OTHER_QUERY);
+    EXPECT(read_response(&offers, NO_NAME, sizeof NO_NAME, A, 0x1234, &concerned)
+           == RRCACHE_BAD_NAME);
+    EXPECT(rrcache_read_response(&offers, RESPONSE(POISON, 30, ZONE, sizeof ZONE, FIRST, LIMITS),
+                                 QUERY(NAME, sizeof NAME, A, RRCACHE_IN, 0, 0, 0), 0x1234, 1,
+                                 &concerned)
+           == RRCACHE_BAD_MESSAGE);
+    EXPECT(rrcache_read_response(
+               &offers, RESPONSE(POISON, sizeof POISON, ZONE, sizeof ZONE, FIRST, LIMITS),
+               QUERY(NAME, sizeof NAME, A, RRCACHE_IN, 0, 0, 0), 0x1234, 0, &concerned)
+           == RRCACHE_BAD_RULES);
+    EXPECT(rrcache_read_response(&offers,
+                                 RESPONSE(POISON, sizeof POISON, ZONE, sizeof ZONE, FIRST,
+                                          ((struct rrcache_limits){0, 1, 1})),
+                                 QUERY(NAME, sizeof NAME, A, RRCACHE_IN, 0, 0, 0), 0x1234, 1,
+                                 &concerned)
+           == RRCACHE_BAD_LIMITS);
+    EXPECT(rrcache_read_response(&offers, NULL, QUERY(NAME, sizeof NAME, A, RRCACHE_IN, 0, 0, 0),
+                                 0x1234, 1, &concerned)
+               == RRCACHE_NULL
+           && read_response(&offers, NULL, 1, A, 0x1234, &concerned) == RRCACHE_NULL
+           && read_response(NULL, NAME, sizeof NAME, A, 0x1234, &concerned) == RRCACHE_NULL
+           && read_response(&offers, NAME, sizeof NAME, A, 0x1234, NULL) == RRCACHE_NULL);
+    EXPECT(read_response(&offers, (uint8_t *)&concerned, 13, A, 0x1234, &concerned)
+           == RRCACHE_NULL);
+    EXPECT(concerned == 7 && rrcache_free_offers(&offers) == RRCACHE_NO_OFFERS
+           && rrcache_free(&shelf) == RRCACHE_DONE);
 }
 
 /* Sweeps in steps: what dies in one second goes in one. */
@@ -1647,6 +1735,7 @@ int main(void)
     test_parts();
     test_one_reading();
     test_refused_readings();
+    test_relevant();
     test_sweep_some();
     test_stored();
     test_alias();

@@ -20,9 +20,9 @@
      `rrcache_sizes` too, which also write into the handle for a while. Two threads in one handle
      are a fault of the caller that nothing tests. A call takes one shelf, so no second lock is ever
      needed beside it.
-   - `rrcache_read_message` and `rrcache_free_offers` take no shelf, and so need no lock of one. Of
-     a handle of offers the same is true as of a shelf's: one call at a time, and
-     `rrcache_offer_read` writes into both of its handles for a while.
+   - `rrcache_read_message`, `rrcache_read_response` and `rrcache_free_offers` take no shelf, and so
+     need no lock of one. Of a handle of offers the same is true as of a shelf's: one call at a
+   time, and `rrcache_offer_read` writes into both of its handles for a while.
    - `rrcache_fault` and `rrcache_part_of` take no handle and need no lock.
    - No call waits, sleeps, takes a lock or calls back. None may be made in a signal handler, nor in
      the child of a process with threads that forked.
@@ -46,12 +46,12 @@
    A message that has more than one name
    - A response may tell of names that lie in other shelves than the one that was asked for: the
      target of an alias, a zone's SOA record, the addresses of name servers. A resolver with so many
-     shelves reads the message once, by `rrcache_read_message` and under no lock, which tells the
-     shelves that it concerns. For each of these it calls `rrcache_offer_read` with that shelf's
-     number, counted from 0, under that shelf's lock. Each call keeps what the message says of names
-     in that shelf and nothing else, so that all calls together keep all that it says, and each
-     name's data lie where `rrcache_part_of` leads. A shelf of whose names the message tells nothing
-     gets no event.
+     shelves reads the message once, by `rrcache_read_response` or `rrcache_read_message` and under
+     no lock, which tells the shelves that it concerns. For each of these it calls
+   `rrcache_offer_read` with that shelf's number, counted from 0, under that shelf's lock. Each call
+   keeps what the message says of names in that shelf and nothing else, so that all calls together
+   keep all that it says, and each name's data lie where `rrcache_part_of` leads. A shelf of whose
+   names the message tells nothing gets no event.
    - `rrcache_offer_part` does the same in one call for each shelf, and reads the whole message
      anew, under that shelf's lock. That will do for one shelf's share alone.
    - An alias is then followed from shelf to shelf: one `rrcache_ask` for each name, under the lock
@@ -60,9 +60,12 @@
      is one shelf alone.
 
    What may be offered
-   - A message is read by itself. Whether it is the response to a query that the resolver sent, by
-     the addresses and ports, the identifier and the question, the caller finds out before it offers
-     it: the library compares none of these with anything.
+   - `rrcache_read_response` takes of a message only what is relevant to the query that the resolver
+     sent, and refuses one with another identifier or question. That is the call for what comes from
+     servers. By which address and port it came the caller finds out.
+   - Each other call reads a message by itself, and takes all that it says within the zone. Whether
+     it is the response to a query, by the addresses and ports, the identifier and the question, the
+     caller finds out before it offers it: nothing is compared with anything.
    - A message that was truncated, with TC set (0x02 of the third octet), offers nothing (RFC 2181
      section 9). Where it can be read RRCACHE_DONE is answered, `counts` is all 0 and no event is
      written. Where it ends within a record it is RRCACHE_BAD_MESSAGE, as it is without TC. So
@@ -115,8 +118,9 @@
    - Where more than one is due, the first of these, of which each call has some: RRCACHE_NULL;
      RRCACHE_NO_SHELF or RRCACHE_HAS_SHELF; RRCACHE_NO_OFFERS or RRCACHE_HAS_OFFERS;
      RRCACHE_BAD_RULES; RRCACHE_BAD_SEED; RRCACHE_BAD_LIMITS; RRCACHE_BAD_CHOICE; RRCACHE_BAD_TYPE;
-     RRCACHE_BAD_NAME; RRCACHE_BAD_MESSAGE or RRCACHE_BAD_DATA; RRCACHE_WRONG_BODY; RRCACHE_WIDE;
-     RRCACHE_SMALL; RRCACHE_HISTORY_FULL; RRCACHE_MOMENT_TOO_LARGE.
+     RRCACHE_BAD_NAME; RRCACHE_BAD_MESSAGE or RRCACHE_BAD_DATA; RRCACHE_OTHER_QUERY;
+     RRCACHE_WRONG_BODY; RRCACHE_WIDE; RRCACHE_SMALL; RRCACHE_HISTORY_FULL;
+     RRCACHE_MOMENT_TOO_LARGE.
    - RRCACHE_MEMORY is told where malloc refuses on this way: behind what was found before, and in
      place of what would have been found later.
    - A message meets the last two with its first offer. One that offers nothing is RRCACHE_DONE,
@@ -179,7 +183,9 @@ enum rrcache_status {
     RRCACHE_NULL = 17,            /* a pointer is null, or what is written overlaps (told by the
                                      inline functions alone) */
     RRCACHE_NO_OFFERS = 18,       /* the handle holds no offers */
-    RRCACHE_HAS_OFFERS = 19       /* the handle holds offers already */
+    RRCACHE_HAS_OFFERS = 19,      /* the handle holds offers already */
+    RRCACHE_OTHER_QUERY = 20      /* the response has another identifier or question than the query
+                                     that was sent */
 };
 
 /* What a reply is. */
@@ -362,6 +368,11 @@ uint32_t rrc_offer_part(struct rrcache_shelf *shelf, const uint8_t *octets, size
 uint32_t rrc_read_message(struct rrcache_offers *offers, const uint8_t *octets, size_t size,
                           const uint8_t *zone, size_t zone_size, uint64_t parts, uint64_t moment,
                           const struct rrcache_limits *limits, uint64_t *concerned);
+uint32_t rrc_read_response(struct rrcache_offers *offers, const uint8_t *octets, size_t size,
+                           const uint8_t *zone, size_t zone_size, uint16_t id, const uint8_t *name,
+                           size_t name_size, uint16_t rtype, uint16_t rclass, uint64_t parts,
+                           uint64_t moment, const struct rrcache_limits *limits,
+                           uint64_t *concerned);
 uint32_t rrc_offer_read(struct rrcache_shelf *shelf, struct rrcache_offers *offers, uint64_t part,
                         uint64_t line, struct rrcache_counts *counts);
 uint32_t rrc_free_offers(struct rrcache_offers *offers);
@@ -517,6 +528,22 @@ static inline enum rrcache_status rrcache_offer_part(struct rrcache_shelf *shelf
         response->moment, &limits, line, counts);
 }
 
+/* Whether a response may be read into a handle: what is needed is there, and nothing that is
+   written overlaps anything else. */
+static inline bool rrcache_can_read(const struct rrcache_offers *offers,
+                                    const struct rrcache_response *response,
+                                    const uint64_t *concerned)
+{
+    return offers != NULL && response != NULL && concerned != NULL
+           && rrcache_is_there(response->octets, response->size)
+           && rrcache_is_there(response->zone, response->zone_size)
+           && !rrcache_overlap(offers, sizeof *offers, concerned, sizeof *concerned)
+           && !rrcache_touch(offers, sizeof *offers, concerned, sizeof *concerned, response->octets,
+                             response->size)
+           && !rrcache_touch(offers, sizeof *offers, concerned, sizeof *concerned, response->zone,
+                             response->zone_size);
+}
+
 /* Reads a response from a server of this zone into the offers that `rrcache_offer_message` would
    make of it, for a handle that holds none, and tells which of 1 to 64 parts they concern: bit 0 of
    `concerned` is set where one lies in part 0, bit 1 for part 1, and so on. It takes no shelf and
@@ -527,20 +554,46 @@ static inline enum rrcache_status rrcache_read_message(struct rrcache_offers *of
                                                        const struct rrcache_response *response,
                                                        uint64_t parts, uint64_t *concerned)
 {
-    if (offers == NULL || response == NULL || concerned == NULL
-        || !rrcache_is_there(response->octets, response->size)
-        || !rrcache_is_there(response->zone, response->zone_size)
-        || rrcache_overlap(offers, sizeof *offers, concerned, sizeof *concerned)
-        || rrcache_touch(offers, sizeof *offers, concerned, sizeof *concerned, response->octets,
-                         response->size)
-        || rrcache_touch(offers, sizeof *offers, concerned, sizeof *concerned, response->zone,
-                         response->zone_size))
+    struct rrcache_limits limits;
+    if (!rrcache_can_read(offers, response, concerned))
         return RRCACHE_NULL;
-    struct rrcache_limits limits = response->limits;
+    limits = response->limits;
     return (enum rrcache_status)rrc_read_message(
         offers, rrcache_octets(response->octets, response->size), response->size,
         rrcache_octets(response->zone, response->zone_size), response->zone_size, parts,
         response->moment, &limits, concerned);
+}
+
+/* Reads a response as `rrcache_read_message` does, and of its offers only those that are relevant
+   to the query that was sent, with this identifier for the name, type and class of `query`, of
+   which nothing else is looked at. A response with another identifier or question (in which the
+   case of letters counts for nothing) is RRCACHE_OTHER_QUERY.
+
+   Relevant are: of the answer section, RRsets of the name and of at most 11 aliases behind it, of
+   the type that was asked for or CNAME, and DNAME records above them; of the authority section, the
+   first NS, SOA and DS set of a zone that the last name is in; of the additional section, addresses
+   of at most 20 names that NS, MX and SRV records among these name; and the negative answer, or
+   that asking failed. Of class IN an address has 4 octets with type A and 16 with AAAA. No set of
+   more than 16,384 octets is relevant. So a server of `example` that is asked for one name cannot
+   replace what is held of another. */
+static inline enum rrcache_status rrcache_read_response(struct rrcache_offers *offers,
+                                                        const struct rrcache_response *response,
+                                                        const struct rrcache_query *query,
+                                                        uint16_t id, uint64_t parts,
+                                                        uint64_t *concerned)
+{
+    struct rrcache_limits limits;
+    if (!rrcache_can_read(offers, response, concerned) || query == NULL
+        || !rrcache_is_there(query->name, query->name_size)
+        || rrcache_touch(offers, sizeof *offers, concerned, sizeof *concerned, query->name,
+                         query->name_size))
+        return RRCACHE_NULL;
+    limits = response->limits;
+    return (enum rrcache_status)rrc_read_response(
+        offers, rrcache_octets(response->octets, response->size), response->size,
+        rrcache_octets(response->zone, response->zone_size), response->zone_size, id,
+        rrcache_octets(query->name, query->name_size), query->name_size, query->rtype,
+        query->rclass, parts, response->moment, &limits, concerned);
 }
 
 /* Offers a shelf what was read of the names that lie in a part, counted from 0 and below the number

@@ -193,6 +193,22 @@ def test_sweeps_in_steps():
         same(shelf.sweep_some(200, 1), (1, True), "the last step")
 
 
+def test_what_is_relevant_is_kept():
+    octets = message(7, 0x8580, question("www.example", A), [
+        record("www.example", A, 60, address(1)), record("bank.example", A, 60, address(6))])
+    query = rrcache.Query("WWW.example", A, 7)
+    with rrcache.Cache(4) as cache:
+        same(cache.offer_message(octets, ".", 100, query=query), (1, 0, 0), "what is relevant")
+        same(cache.ask("bank.example", A, 100).kind, rrcache.Kind.MISS, "a name beside the question")
+        same(cache.offer_message(octets, ".", 100), (2, 0, 0), "all that the response says")
+        for other in (query._replace(id=8), query._replace(name="bank.example")):
+            try:
+                cache.offer_message(octets, ".", 100, query=other)
+            except rrcache.OtherQuery:
+                continue
+            raise Wrong(f"{other} is not refused")
+
+
 def test_what_is_stored_is_told():
     with rrcache.Shelf(capacity=8, chapter=64, stale=0) as shelf:
         same(shelf.stored("a", A), None, "what an empty shelf holds")

@@ -267,9 +267,10 @@ enum outcome look_up(const struct question *question, enum rrcache_mode mode, st
 
 /* ---- Keeping. */
 
-/* Offers what a message says, each name's to the shelf of that name; false where it cannot be read.
-   It is read once, under no lock. Where memory is refused a part of it is kept. */
-static bool offer(const uint8_t *message, size_t size)
+/* Offers what of a response is relevant to its question, each name's to the shelf of that name;
+   false where it cannot be read. That its identifier is the query's is known. It is read once,
+   under no lock. Where memory is refused a part of it is kept. */
+static bool offer(const struct question *question, const uint8_t *message, size_t size)
 {
     const struct rrcache_response response = {
         .octets = message,
@@ -279,10 +280,18 @@ static bool offer(const uint8_t *message, size_t size)
         .moment = moment(),
         .limits = LIMITS,
     };
+    const struct rrcache_query query = {
+        .name = question->name,
+        .name_size = question->size,
+        .rtype = question->type,
+        .rclass = RRCACHE_IN,
+    };
     struct rrcache_offers offers = {0};
     struct rrcache_counts counts;
+    const uint16_t id = (uint16_t)word_at(message);
     uint64_t concerned = 0;
-    enum rrcache_status status = rrcache_read_message(&offers, &response, SHELVES, &concerned);
+    enum rrcache_status status =
+        rrcache_read_response(&offers, &response, &query, id, SHELVES, &concerned);
     for (uint64_t part = 0; part < SHELVES; part++) {
         struct shelf *shelf = &shelves[part];
         if ((concerned >> part & 1) == 0)
@@ -309,7 +318,7 @@ static bool is_whole(const struct reply *reply, const struct question *question)
 
 bool keep(const struct question *question, const uint8_t *message, size_t size, struct reply *reply)
 {
-    if (!offer(message, size))
+    if (!offer(question, message, size))
         return false;
     if (is_found(look_up(question, RRCACHE_NO_STALE, reply)))
         return true;

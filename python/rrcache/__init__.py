@@ -17,14 +17,15 @@ from .names import NameFault, to_text, to_wire
 from .offers import Offers
 from .refusals import (BadChoice, BadData, BadLimits, BadMessage, BadName, BadRules, BadSeed,
                        BadType, HasOffers, HistoryFull, Memory, MomentTooLarge, NoOffers, NoShelf,
-                       Refused, Status, Wide, WrongBody)
-from .replies import Counts, Limits, Reply, Sizes, Stored
+                       OtherQuery, Refused, Status, Wide, WrongBody)
+from .replies import Counts, Limits, Query, Reply, Sizes, Stored
 from .shelf import Shelf
 
 __all__ = [
     "BadChoice", "BadData", "BadLimits", "BadMessage", "BadName", "BadRules", "BadSeed",
     "BadType", "Cache", "Class", "Counts", "Denial", "HasOffers", "HistoryFull", "Kind",
     "Limits", "Memory", "Mode", "MomentTooLarge", "NameFault", "NoOffers", "NoShelf", "Offers",
-    "Outcome", "Purpose", "Rank", "Refused", "Reply", "Shelf", "Sizes", "Status", "Stored",
-    "Wide", "WrongBody", "fault", "library_version", "part_of", "to_text", "to_wire",
+    "OtherQuery", "Outcome", "Purpose", "Query", "Rank", "Refused", "Reply", "Shelf", "Sizes",
+    "Status", "Stored", "Wide", "WrongBody", "fault", "library_version", "part_of", "to_text",
+    "to_wire",
 ]

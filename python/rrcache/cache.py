@@ -9,7 +9,7 @@ from typing import Any
 from .library import part_of
 from .names import to_wire
 from .offers import Offers
-from .replies import Counts, Limits, Reply
+from .replies import Counts, Limits, Query, Reply
 from .shelf import Name, Shelf
 
 
@@ -54,12 +54,12 @@ class Cache:
                 return replies
 
     def offer_message(self, message: bytes, zone: Name, moment: int, limits: Limits = Limits(),
-                      line: int = 0) -> Counts:
-        """Offers a response: to each part what it says of that part's names. It is read once, under
-        no lock. Where one part refuses its share, that is raised, and what other parts took
-        stays."""
+                      line: int = 0, query: Query | None = None) -> Counts:
+        """Offers a response: to each part what it says of that part's names; with the query that
+        was sent only what is relevant to it. It is read once, under no lock. Where one part refuses
+        its share, that is raised, and what other parts took stays."""
         total = Counts(0, 0, 0)
-        with Offers(message, zone, len(self._shelves), moment, limits) as offers:
+        with Offers(message, zone, len(self._shelves), moment, limits, query) as offers:
             for part in offers.concerned:
                 lock, shelf = self._shelves[part]
                 with lock:

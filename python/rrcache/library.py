@@ -19,8 +19,8 @@ TYPES: dict[str, list[Any]] = {
 }
 CALLS = {
     "rrc_make": "pmmmo", "rrc_free": "p", "rrc_offer_message": "poompmp",
-    "rrc_offer_part": "poommmpmp", "rrc_read_message": "poommpp", "rrc_offer_read": "ppmmp",
-    "rrc_free_offers": "p", "rrc_offer_set": "pottnnommp",
+    "rrc_offer_part": "poommmpmp", "rrc_read_message": "poommpp",
+    "rrc_read_response": "pootottmmpp", "rrc_offer_read": "ppmmp", "rrc_free_offers": "p", "rrc_offer_set": "pottnnommp",
     "rrc_offer_negative": "pottnnnoommp", "rrc_offer_failure": "pottnmmp", "rrc_ask": "pottmnnmpo",
     "rrc_peek": "pottmnnpo", "rrc_sweep": "pmmp", "rrc_next_expiry": "pp", "rrc_stored": "pottp",
     "rrc_drop_chapters": "pp", "rrc_sizes": "pppp",

@@ -7,7 +7,7 @@ from types import TracebackType
 
 from .library import call, sized, told
 from .names import to_wire
-from .replies import Limits
+from .replies import Limits, Query
 
 
 class Offers:
@@ -15,7 +15,9 @@ class Offers:
     `Shelf.offer_read` then offers the share of a part. It is for one thread at a time. A `with`
     frees it at its end.
 
-    `concerned` are the parts, of 1 to 64, that the response has something for.
+    `concerned` are the parts, of 1 to 64, that the response has something for. With the query that
+    was sent only what is relevant to it is taken, and `OtherQuery` is raised where the response has
+    another identifier or question.
 
     >>> message = bytes([0x12, 0x34, 0x84, 0, 0, 1, 0, 0, 0, 0, 0, 0])
     >>> message += b"\\3www\\7example\\0\\0\\1\\0\\1"
@@ -25,11 +27,16 @@ class Offers:
     """
 
     def __init__(self, message: bytes, zone: str | bytes, parts: int, moment: int,
-                 limits: Limits = Limits()) -> None:
+                 limits: Limits = Limits(), query: Query | None = None) -> None:
         # A handle that begins with a null pointer holds no offers.
         self._handle = (c_void_p * 2)()
-        bits = told("rrc_read_message", c_uint64, self._handle, *sized(message),
-                    *sized(to_wire(zone)), parts, moment, (c_uint32 * 3)(*limits))
+        octets, owner = sized(message), sized(to_wire(zone))
+        numbers = parts, moment, (c_uint32 * 3)(*limits)
+        if query is None:
+            bits = told("rrc_read_message", c_uint64, self._handle, *octets, *owner, *numbers)
+        else:
+            bits = told("rrc_read_response", c_uint64, self._handle, *octets, *owner, query.id,
+                        *sized(to_wire(query.name)), query.rtype, query.rclass, *numbers)
         self.concerned = [part for part in range(parts) if bits >> part & 1]
 
     def close(self) -> None:

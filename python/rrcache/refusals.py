@@ -30,6 +30,7 @@ class Status(IntEnum):
     NULL = 17
     NO_OFFERS = 18
     HAS_OFFERS = 19
+    OTHER_QUERY = 20
 
 
 class Refused(Exception):
@@ -146,9 +147,15 @@ class HasOffers(Refused):
     status, reason = Status.HAS_OFFERS, "the handle holds offers"
 
 
+class OtherQuery(Refused):
+    """The response has another identifier or question than the query."""
+
+    status, reason = Status.OTHER_QUERY, "the response is to another query"
+
+
 BY_STATUS: dict[int, type[Refused]] = {it.status: it for it in (
     NoShelf, HasShelf, Memory, HistoryFull, MomentTooLarge, BadRules, BadSeed, BadLimits, BadName,
-    BadMessage, BadChoice, BadType, BadData, WrongBody, Wide, NoOffers, HasOffers)}
+    BadMessage, BadChoice, BadType, BadData, WrongBody, Wide, NoOffers, HasOffers, OtherQuery)}
 
 
 def refusal(status: int, counts: Counts | None = None) -> Refused:

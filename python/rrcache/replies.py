@@ -5,7 +5,7 @@ from __future__ import annotations
 from dataclasses import dataclass
 from typing import NamedTuple
 
-from .choices import Kind, Rank
+from .choices import Class, Kind, Rank
 from .names import to_text
 
 
@@ -38,6 +38,15 @@ class Stored(NamedTuple):
     rank: Rank
     ttl: int
     moment: int
+
+
+class Query(NamedTuple):
+    """A query that was sent: the name and type that it asks for, its identifier, and its class."""
+
+    name: str | bytes
+    rtype: int
+    id: int
+    rclass: Class | int = Class.IN
 
 
 class Limits(NamedTuple):

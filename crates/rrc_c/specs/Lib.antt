@@ -12,3 +12,4 @@ pub mod Parted
 pub mod Readings
 pub mod Kept
 pub mod Stored
+pub mod Responses

@@ -14,6 +14,7 @@ mod offers;
 mod reading;
 mod reading_calls;
 mod reading_seal;
+mod response;
 mod seal;
 mod status;
 mod stored;

@@ -254,7 +254,7 @@ pub(crate) fn take_each(
 }
 
 /// The limits with these numbers.
-fn limits_of(bounds: &Bounds) -> Result<Limits, Status>
+pub(crate) fn limits_of(bounds: &Bounds) -> Result<Limits, Status>
     ensures limits { IfOk result (λ limits. Are limits bounds.now.cap bounds.now.negative_cap bounds.now.recheck) }
     ensures fit { OnOk result (AreLimits bounds.now) }
     ensures refused { IfErr result (λ status. Because Status.BadLimits (AreLimits bounds.now → ⊥) (number_of status)) }

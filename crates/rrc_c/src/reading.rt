@@ -27,7 +27,7 @@ pub struct Reading {
 }
 
 /// Whether there may be so many parts.
-fn check_parts(parts: u64) -> Result<(), Status>
+pub(crate) fn check_parts(parts: u64) -> Result<(), Status>
     ensures fit { OnOk result (AreParts parts) }
     ensures refused { IfErr result (λ status. Because Status.BadRules (AreParts parts → ⊥) (number_of status)) }
 {
@@ -38,7 +38,11 @@ fn check_parts(parts: u64) -> Result<(), Status>
 }
 
 /// Each offer beside the part of its name, so many being all.
-fn placed_in(alloc: Global, offers: Vec<Offer>, parts: usize) -> Result<Vec<Placed>, Status>
+pub(crate) fn placed_in(
+    alloc: Global,
+    offers: Vec<Offer>,
+    parts: usize,
+) -> Result<Vec<Placed>, Status>
     requires some { 1 ≤ parts }
     requires few { parts ≤ 64 }
     ensures placed { IfOk result (λ placed. placed.items ≡ map (placed_in parts) offers.items) }

@@ -3,6 +3,7 @@ ghost use Rattle.std.specs.Prelude.{◌≡◌, ◌<◌, ◌⊎◌, None};
 ghost use Rattle.rrc_c.specs.Handles.{TellsNone};
 ghost use Rattle.rrc_c.specs.Readings.{parts_below, AllHold, HoldsReading, IfRead, IsReading, OneLacks, ReadingDue, TakesShare, TakesSomeOfShare, TellsNoOffers};
 ghost use Rattle.rrc_c.specs.Refusals.{IfHeld};
+ghost use Rattle.rrc_c.specs.Responses.{query_of, IsResponseReading, ResponseDue};
 ghost use Rattle.rrc_c.specs.Statuses.{OnDone, OnNoOffers, OnNoShelf, OnRefused};
 
 use crate::calls::number_of_call;
@@ -10,7 +11,8 @@ use crate::counts::{Bounds, Counts};
 use crate::handle::Handle;
 use crate::offers::Offers;
 use crate::reading::{offer_share, parts_concerned, read};
-use crate::status::{HAS_OFFERS, NO_OFFERS, NO_SHELF};
+use crate::response::read_response;
+use crate::status::{HAS_OFFERS, NO_OFFERS, NO_SHELF, OTHER_QUERY};
 use std::alloc::Global;
 
 /// Reads a message into a handle that holds no offers, and tells in which of so many parts its offers lie, as bits.
@@ -37,6 +39,45 @@ pub extern "C" fn rrc_read_message(
     match read(alloc, octets, zone, parts, moment, bounds) {
         Err(status) => status.number(),
         Ok(reading) => {
+            *concerned = parts_concerned(reading.placed.as_slice(), parts);
+            offers.put(reading);
+            0
+        }
+    }
+}
+
+/// Reads a response to a query into a handle that holds no offers: what of it is relevant. It tells in which of so many parts these
+/// offers lie, as bits.
+#[unsafe(no_mangle)]
+pub extern "C" fn rrc_read_response(
+    alloc: Global,
+    offers: &mut Offers,
+    octets: &[u8],
+    zone: &[u8],
+    id: u16,
+    name: &[u8],
+    rtype: u16,
+    class: u16,
+    parts: u64,
+    moment: u64,
+    bounds: &Bounds,
+    concerned: &mut u64,
+) -> u32
+    ensures due { ResponseDue octets.now zone.now (query_of id name.now rtype class) parts bounds.now offers.old.seal.reading result }
+    ensures done { OnDone result (HoldsReading offers.new.seal.reading (IsResponseReading octets.now zone.now (query_of id name.now rtype class) parts moment bounds.now)) }
+    ensures concerned { OnDone result (HoldsReading offers.new.seal.reading (λ reading. concerned.new ≡ parts_below reading.placed.items parts)) }
+    ensures refused { OnRefused result (offers.new.seal.reading ≡ offers.old.seal.reading) }
+    ensures untold { OnRefused result (concerned.new ≡ concerned.old) }
+{
+    if offers.is_live() {
+        return HAS_OFFERS;
+    }
+    match read_response(
+        alloc, octets, zone, id, name, rtype, class, parts, moment, bounds,
+    ) {
+        Err(status) => status.number(),
+        Ok(None) => OTHER_QUERY,
+        Ok(Some(reading)) => {
             *concerned = parts_concerned(reading.placed.as_slice(), parts);
             offers.put(reading);
             0

@@ -51,6 +51,9 @@ pub(crate) const NO_OFFERS: u32 = 18;
 /// What C is told where the handle that is to be read into holds offers already.
 pub(crate) const HAS_OFFERS: u32 = 19;
 
+/// A response answers another query than the one that was sent.
+pub(crate) const OTHER_QUERY: u32 = 20;
+
 impl Status {
     /// The number that C is told, from 3 to 15.
     pub(crate) fn number(self) -> u32

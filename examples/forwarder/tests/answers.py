@@ -176,7 +176,8 @@ def test_aliases_many_of_them():
 
 
 def test_aliases_more_than_a_message_has():
-    """Of a set of thousands of aliases, which is kept and fits in no message, none is followed."""
+    """A set of thousands of aliases has too many octets to be kept: each answer is the upstream's,
+    of which none is followed."""
     longest = ".".join(["x" * 63] * 3 + ["x" * 57])
     targets = [bytes([2, 1 + n // 250, 1 + n % 250]) + pointer(12) for n in range(3700)]
     records = [record(pointer(12), CNAME, 60, it) for it in targets]
@@ -187,8 +188,9 @@ def test_aliases_more_than_a_message_has():
         return [message(number, 0x8180, question, records)]
     with Forwarder(Server(answer)) as it:
         with it.stream() as stream:
-            same(len(stream.ask(longest).data(CNAME)), 3700, "aliases, as they were received")
-        same(it.ask(longest).rcode, SERVFAIL, "no answer from the cache")
+            for _ in range(2):
+                same(len(stream.ask(longest).data(CNAME)), 3700, "aliases, as they were received")
+        same(it.counters()["fetched"], 2, "answers that were fetched")
 
 
 def test_dname_stays_beside_its_alias():
