@@ -69,7 +69,8 @@ pub extern "C" fn rrc_read_response(
     ensures refused { OnRefused result (offers.new.seal.reading ≡ offers.old.seal.reading) }
     ensures untold { OnRefused result (concerned.new ≡ concerned.old) }
 {
-    if offers.is_live() {
+    let holds_offers = offers.is_live();
+    if holds_offers {
         return HAS_OFFERS;
     }
     match read_response(
