@@ -1,13 +1,15 @@
 -- SPDX-License-Identifier: MIT
 -- Names by their labels, read from the left.
 use Rattle.std.proofs.Common.{◌≡◌, ℕ, ◌-◌, ◌≤◌, Bool, List, [], ◌∷◌, ◌++◌, length, take, drop, map, reverse, refl, sym, ap, ◌∙◌, arith, append_assoc, length-append, Decides, ◌⊎◌, inl, inr, ⊎_elim}
-use Rattle.std.specs.Ordering.{nat_cmp}
+use Rattle.std.specs.declared.cmp.Ordering.{Ordering}
+use Rattle.std.specs.Ordering.{nat_cmp, ordering_then}
 use Rattle.std.specs.Cmp.Lexicographic.{pointwise, pointwise_decides, bytes_decides, slice_cmp}
 use Rattle.std.specs.Prelude.{nat_eq}
 use Rattle.std.proofs.lemmas.Bool.Decides.{nat_tests}
 use Rattle.std.proofs.lemmas.List.{length-map, length-drop, length-take, length-reverse, reverse-append, take-append-drop, drop-map}
 use Rattle.std.proofs.lemmas.List.Prefix.{end_rest}
 use Rattle.std.proofs.lemmas.Bool.{cases_lt}
+use Rattle.std.proofs.lemmas.Cmp.{nat_list_cmp_total, tied_itself}
 use Rattle.rrc_name.specs.Wire.{wire_of, labels_of, IsWireForm, folded}
 use Rattle.rrc_name.specs.Order.{label_order, outweighed, folded_labels, is_at_or_below, IsAtOrBelow}
 use Rattle.rrc_name.proofs.WireForms.{labels_within-wire_of, folded-wire_of, folded-labels}
@@ -32,6 +34,12 @@ outweighed-reverse (label ∷ labels) [] before before_others as_many = absurd (
 outweighed-reverse (label ∷ labels) (other ∷ others) before before_others as_many =
     rw (reverse_before label labels before, reverse_before other others before_others)
     (outweighed-reverse labels others (label ∷ before) (other ∷ before_others) (omega arith))
+
+-- labels that are alike weigh nothing
+pub outweighed-same : (order : Ordering) (labels : List (List ℕ)) → outweighed order labels labels ≡ order
+outweighed-same order [] = refl
+outweighed-same order (label ∷ labels) =
+    ap (λ tie. outweighed (ordering_then tie order) labels labels) (tied_itself nat_list_cmp_total (folded label)) ∙ outweighed-same order labels
 
 -- where one name has no labels before those that are compared, the number of the other's decides
 pub slice_cmp-none_before : (before before_others : List (List ℕ)) → (length before ≡ 0) ⊎ (length before_others ≡ 0)

@@ -52,6 +52,10 @@ fn outweigh(a: &[u8], b: &[u8], order: Ordering) -> Ordering
     let mut order = order;
     let (mut a, mut b) = (a, b);
     while let Some((label, behind)) = first_label(a) {
+        // Names of one zone end alike, and labels that are alike weigh nothing.
+        if a == b {
+            return order;
+        }
         let Some((other, behind_other)) = first_label(b) else {
             return order;
         };
