@@ -7,8 +7,11 @@ command line stands here.
 import importlib.machinery
 import importlib.util
 import json
+import os
 import shutil
+import subprocess
 import sys
+import tempfile
 from pathlib import Path
 
 TOP = Path(__file__).resolve().parent.parent
@@ -93,7 +96,16 @@ def unpack(rlib, to):
 
 
 def check(rt, crate, texts, kept, jobs=1):
-    """Checks a copy of a crate with these texts in place of its own, begun with what is kept of it, past what is refused. Answers the status and the lines printed, of which
-    the last is `holes=0` where the prover told of each function whether it is proved; the status is 0 where all are."""
-    ran = rt.checked(crate, texts, ["--jobs", str(jobs), "--allow-holes"], kept)
+    """Checks a copy of a crate with these texts in place of its own or beside them, begun with what is kept of it, past what is refused. Answers the status and the lines
+    printed, of which the last is `holes=0` where the prover told of each function whether it is proved; the status is 0 where all are."""
+    with tempfile.TemporaryDirectory(prefix=f"rt-edit-{os.getpid()}-") as room:
+        for part in filter(os.path.isdir, (Path(crate.folder) / it for it in rt.rtlib.PARTS)):
+            shutil.copytree(part, Path(room) / part.name)
+        for path, text in texts.items():
+            file = Path(room) / path
+            file.parent.mkdir(parents=True, exist_ok=True)
+            file.write_text(text, encoding="utf-8")
+        words = [rt.rtlib.RATTLE, "check", *crate.words(["--jobs", str(jobs), "--allow-holes"], keeps=False), "--incremental", kept]
+        how = {"cwd": room, "stdin": subprocess.DEVNULL, "stdout": subprocess.PIPE, "stderr": subprocess.STDOUT, "errors": "replace"}
+        ran = subprocess.run([*rt.rtlib.guarded(), *words], **how)
     return ran.returncode, ran.stdout.rstrip("\n").split("\n")
