@@ -113,22 +113,22 @@ pub record ClosesBack (snapshot : Snapshot) (events : List Event) (closing : Now
   pub whole : map image_of_entry (map entry_without_class closing.entries) ≡ closing.entries
   pub leads : LeadTo snapshot events (snapshot_without_class closing)
 
-pub closes_back : (snapshot : Snapshot) (events : List Event) (image : NowSnapshot) (images : List Image) (entries : List Entry) (rules : Rules) (first : ℕ) (closing : NowSnapshot)
-    → image ≡ image_of_snapshot snapshot → images ≡ map image_of_event events → Leaves image (reverse images) entries → rules ≡ image.rules
-    → first ≡ image.first + length images → closing ≡ record { rules = rules; first = first; entries = entries } → ClosesBack snapshot events closing
-closes_back snapshot events image images entries rules first closing is_image are_images leaves same_rules next closes =
-    let leaves_image : Leaves (image_of_snapshot snapshot) (reverse images) entries = subst (λ (s : NowSnapshot). Leaves s (reverse images) entries) is_image leaves in
-    let its : Leaves (image_of_snapshot snapshot) (reverse (map image_of_event events)) entries =
-    subst (λ (es : List Image). Leaves (image_of_snapshot snapshot) (reverse es) entries) are_images leaves_image in
-    let P : Rules → ℕ → NowSnapshot = λ r n. record { rules = r; first = n; entries = entries } in
-    let rules_are : rules ≡ snapshot.rules = same_rules ∙ ap (λ (s : NowSnapshot). s.rules) is_image in
-    let first_is : first ≡ snapshot.first + length (map image_of_event events) =
+pub closes_back : (snapshot : Snapshot) (events : List Event) (image : NowSnapshot) (images : List Image) (held closing : NowSnapshot)
+    → image ≡ image_of_snapshot snapshot → images ≡ map image_of_event events → Leaves image (reverse images) held.entries → held.rules ≡ image.rules
+    → held.first ≡ image.first + length images → closing ≡ held → ClosesBack snapshot events closing
+closes_back snapshot events image images held closing is_image are_images leaves same_rules next same =
+    let leaves_image : Leaves (image_of_snapshot snapshot) (reverse images) held.entries = subst (λ (s : NowSnapshot). Leaves s (reverse images) held.entries) is_image leaves in
+    let its : Leaves (image_of_snapshot snapshot) (reverse (map image_of_event events)) held.entries =
+    subst (λ (es : List Image). Leaves (image_of_snapshot snapshot) (reverse es) held.entries) are_images leaves_image in
+    let P : Rules → ℕ → NowSnapshot = λ r n. record { rules = r; first = n; entries = held.entries } in
+    let rules_are : held.rules ≡ snapshot.rules = same_rules ∙ ap (λ (s : NowSnapshot). s.rules) is_image in
+    let first_is : held.first ≡ snapshot.first + length (map image_of_event events) =
     next ∙ (ap (λ (s : NowSnapshot). s.first + length images) is_image ∙ ap (λ (es : List Image). snapshot.first + length es) are_images) in
-    let is : closing ≡ P snapshot.rules (snapshot.first + length (map image_of_event events)) = closes ∙ (ap (λ r. P r first) rules_are ∙ ap (P snapshot.rules) first_is) in
-    let held : closing.entries ≡ entries = ap (λ (s : NowSnapshot). s.entries) closes in
+    let is : closing ≡ P snapshot.rules (snapshot.first + length (map image_of_event events)) = same ∙ (ap (λ r. P r held.first) rules_are ∙ ap (P snapshot.rules) first_is) in
+    let entries_are : closing.entries ≡ held.entries = ap (λ (s : NowSnapshot). s.entries) same in
     record {
-      whole = subst (λ (es : List Entry). map image_of_entry (map entry_without_class es) ≡ es) (sym held) (led_are_images snapshot events entries its);
-      leads = leads_back snapshot events entries closing its is;
+      whole = subst (λ (es : List Entry). map image_of_entry (map entry_without_class es) ≡ es) (sym entries_are) (led_are_images snapshot events held.entries its);
+      leads = leads_back snapshot events held.entries closing its is;
     }
 
 -- why a history was not found legal

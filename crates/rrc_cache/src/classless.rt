@@ -8,15 +8,14 @@ ghost use Rattle.rrc_cache.specs.Classless.{IsNumber, IsWhyNoChapter, IsWhyNotLe
 ghost use Rattle.rrc_cache.specs.Rechecks.{IsFault};
 
 use crate::part::KNOWN_SEED;
-use crate::rechecks::{self, RecheckFault};
+use crate::rechecks::{RecheckFault, replayed};
 use crate::seeded::Seeded;
-use crate::store::Store;
 use rrc_history::classless::{Chapter, Event, Snapshot};
 use rrc_history::{
-    Event as NowEvent, FirstBad, Snapshot as NowSnapshot, events_from_classless,
-    snapshot_from_classless, snapshot_without_class,
+    Event as NowEvent, Snapshot as NowSnapshot, events_from_classless, snapshot_from_classless,
+    snapshot_without_class,
 };
-use rrc_name::Sequence;
+use rrc_name::{Sequence, Shared};
 use std::alloc::{AllocError, Global};
 use thiserror::Error;
 
@@ -134,10 +133,26 @@ fn closing_of(
 {
     let image = snapshot_from_classless(alloc, snapshot)?;
     let images = events_from_classless(alloc, events)?;
-    let mut store = replayed(alloc, seeded, &image, images.as_slice())?;
-    let first = number_after(&image, images.as_slice());
-    let closing = store.close(alloc, image.rules(), first)?;
+    let closing = closing_now(alloc, seeded, &image, images.as_slice())?;
     Ok(snapshot_without_class(alloc, &closing)?)
+}
+
+/// The snapshot that events with classes lead to, or the first of them that is not right.
+fn closing_now(
+    alloc: Global,
+    seeded: Seeded,
+    snapshot: &NowSnapshot,
+    events: &[NowEvent],
+) -> Result<Shared<NowSnapshot>, RecheckFault>
+    ensures leaves { IfOk result (λ closing. Leaves snapshot.now (reverse events.now) closing.entries) }
+    ensures rules { IfOk result (λ closing. closing.rules ≡ snapshot.now.rules) }
+    ensures first { IfOk result (λ closing. closing.first ≡ snapshot.now.first + length events.now) }
+    ensures err { IfErr result (IsFault snapshot.now events.now) }
+{
+    let mut store = replayed(alloc, seeded, snapshot, events)?;
+    let first = number_after(snapshot, events);
+    let closing = store.close(alloc, snapshot.rules(), first)?;
+    Ok(closing)
 }
 
 /// The number of the event behind a history.
@@ -146,23 +161,4 @@ fn number_after(snapshot: &NowSnapshot, events: &[NowEvent]) -> u64
     ensures { result ≡ snapshot.now.first + length events.now }
 {
     snapshot.first + events.len() as u64
-}
-
-/// What legal events leave of a snapshot, or the first of them that is not right.
-fn replayed(
-    alloc: Global,
-    seeded: Seeded,
-    snapshot: &NowSnapshot,
-    events: &[NowEvent],
-) -> Result<Store, RecheckFault>
-    ensures ok { IfOk result (λ store. Leaves snapshot.now (reverse events.now) store.entries) }
-    ensures err { IfErr result (IsFault snapshot.now events.now) }
-{
-    let mut store = Store::of(alloc, seeded, snapshot)?;
-    for (place, event) in events.iter().enumerate() {
-        if !rechecks::is_right(alloc, &mut store, snapshot, &events[..place], event)? {
-            return Err(RecheckFault::FirstBad(FirstBad(place)));
-        }
-    }
-    Ok(store)
 }

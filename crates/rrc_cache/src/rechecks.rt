@@ -59,13 +59,27 @@ pub fn recheck_seeded(
     ensures ok { OnOk result (IsLegal snapshot.now (reverse events.now)) }
     ensures err { IfErr result (IsFault snapshot.now events.now) }
 {
-    let mut store = Store::of(alloc, Seeded::new(seed), snapshot)?;
+    drop(replayed(alloc, Seeded::new(seed), snapshot, events)?);
+    Ok(())
+}
+
+/// What legal events leave of a snapshot, or the first of them that is not right.
+pub(crate) fn replayed(
+    alloc: Global,
+    seeded: Seeded,
+    snapshot: &Snapshot,
+    events: &[Event],
+) -> Result<Store, RecheckFault>
+    ensures ok { IfOk result (λ store. Leaves snapshot.now (reverse events.now) store.entries) }
+    ensures err { IfErr result (IsFault snapshot.now events.now) }
+{
+    let mut store = Store::of(alloc, seeded, snapshot)?;
     for (place, event) in events.iter().enumerate() {
         if !is_right(alloc, &mut store, snapshot, &events[..place], event)? {
             return Err(RecheckFault::FirstBad(FirstBad(place)));
         }
     }
-    Ok(())
+    Ok(store)
 }
 
 /// Whether an event is right behind others that left what the store holds. Where it is, the store then holds what it leaves.
