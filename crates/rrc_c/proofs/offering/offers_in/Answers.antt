@@ -12,3 +12,6 @@ returns-clause-offers c =
       are_limits = c.in_ok-limits.ensures.limits;
       brought = subst (λ zone. Brings limits c.args.octets.now zone c.args.moment made) c.in_ok-zone.ensures.name c.in_ok-made.ensures.offers;
     }
+
+pub returns-clause-moments : goal.returns-clause-moments
+returns-clause-moments c = c.in_ok-made.ensures.moments

@@ -1,7 +1,8 @@
 -- SPDX-License-Identifier: MIT
-use Rattle.std.proofs.Common.{◌≡◌, false, sym, ap, subst, ◌∙◌}
+use Rattle.std.proofs.Common.{rules, ◌≡◌, false, sym, ap, subst, ◌∙◌}
 use Rattle.rrc_name.specs.Key.{KeyOf}
 use Rattle.rrc_history.specs.Fits.{fits, is_failed}
+use Rattle.rrc_sets.specs.Denials.{negative_offer}
 use Rattle.rrc_sets.specs.Kept.{HasKeptType, HasPlainData}
 use Rattle.rrc_sets.proofs.Fitting.{denied-kept, fits-denial}
 use Rattle.rrc_sets.proofs.Records.{denied_kept_type}
@@ -21,3 +22,7 @@ returns-clause-kept c =
       kept_type = subst (λ (k : KeyOf). HasKeptType k.class k.slot) (sym c.in_ok-key.ensures) (denied_kept_type c.args.message.now c.in-Some.name slot (sym c.in-Some-denied.ensures));
       plain_data = subst (HasPlainData c.in_ok-key.key.slot) (sym c.in_ok-body.ensures.value) c.in_ok-body.ensures.plain;
     }
+
+pub returns-clause-value : goal.returns-clause-value
+unfolding negative_offer
+returns-clause-value c = search rules fits 300

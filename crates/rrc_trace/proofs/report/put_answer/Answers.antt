@@ -19,3 +19,15 @@ returns-in-Fetched g c =
     let puts = subst (λ told. Puts g.W.Write.contents c.put_word-in-Fetched.new.output c.put_fetched.new.output (offers_text told ++ (32 ∷ reply_text c.in-Fetched.reply))) c.as_slice-in-Fetched.ensures
     c.put_fetched.ensures in
     rw c.in-Fetched.is (then c.put_word-in-Fetched.ensures puts)
+
+pub returns-in-Put : goal.returns-in-Put
+returns-in-Put g c = rw c.in-Put.is (then c.put_word.ensures c.put_told.ensures)
+
+pub returns-in-Fail : goal.returns-in-Fail
+returns-in-Fail g c = rw c.in-Fail.is (then c.put_word-in-Fail.ensures c.put_told-in-Fail.ensures)
+
+pub returns-in-Hit : goal.returns-in-Hit
+returns-in-Hit g c = rw c.in-Hit.is (then c.put_word-in-Hit.ensures c.put_reply.ensures)
+
+pub returns-in-Ask : goal.returns-in-Ask
+returns-in-Ask g c = rw c.in-Ask.is (then c.put_word-in-Ask.ensures c.put_reply-in-Ask.ensures)
