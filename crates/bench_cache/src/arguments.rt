@@ -1,13 +1,12 @@
 // SPDX-License-Identifier: MIT
 // What the arguments tell.
 
-use anyhow::Result;
 use std::env::Args;
 
-/// The number that the next argument tells, if there is one.
-pub fn number(args: &mut Args) -> Result<Option<u32>> {
-    let Some(word) = args.next() else {
-        return Ok(None);
-    };
-    Ok(Some(word.as_str().parse::<u32>()?))
+/// The number that the next argument tells, or the usual one where there is none.
+pub fn number(args: &mut Args, usual: Option<u32>) -> Option<u32> {
+    match args.next() {
+        Some(word) => word.as_str().parse::<u32>().ok(),
+        None => usual,
+    }
 }

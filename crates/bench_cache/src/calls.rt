@@ -1,11 +1,12 @@
 // SPDX-License-Identifier: MIT
-// The calls whose time is taken.
+// The calls whose time is taken. A call that was refused counts as nothing, so what is printed
+// shows it.
 
-use crate::made::{PickedAsk, PickedOffer, offer_a_tenth};
+use crate::made::{PickedAsk, PickedOffer, put_tenth};
 use crate::numbers::Numbers;
-use anyhow::{Context, Result};
-use rrc_cache::{Part, ReplyRef};
-use rrc_history::{Ask, Event, Outcome, Reply, Tag};
+use crate::task::Kind;
+use rrc_cache::{Part, ReplyRef, recheck};
+use rrc_history::{Ask, Event, Offer, Outcome, Reply, Tag, audit};
 use rrc_share::{Shelf, on_shelf_ask, on_shelf_checkpoint};
 use std::alloc::Global;
 use std::time::{CpuClock, Duration};
@@ -24,6 +25,8 @@ pub struct Counts {
     pub kept: u64,
     pub evicted: u64,
     pub swept: u64,
+    /// The events that were found right.
+    pub right: u64,
 }
 
 const NONE: Counts = Counts {
@@ -32,173 +35,130 @@ const NONE: Counts = Counts {
     kept: 0,
     evicted: 0,
     swept: 0,
+    right: 0,
 };
 
-/// What came of the calls, and the processor time that they took.
+/// What came of the calls, and the processor time that they took, if the system tells it.
 #[derive(Clone, Copy)]
 pub struct Done {
     pub counts: Counts,
-    pub time: Duration,
+    pub time: Option<Duration>,
 }
 
 impl Counts {
-    fn count(&mut self, is_hit: bool) {
-        if is_hit {
-            self.hits = self.hits.wrapping_add(1);
-        } else {
-            self.misses = self.misses.wrapping_add(1);
+    fn count(&mut self, is_hit: Option<bool>) {
+        match is_hit {
+            Some(true) => self.hits = self.hits.wrapping_add(1),
+            Some(false) => self.misses = self.misses.wrapping_add(1),
+            None => {}
         }
     }
+}
+
+/// The processor time that the thread took so far.
+fn clock<R: CpuClock>(rt: &R) -> Option<Duration> {
+    rt.thread_cpu_time().ok()
+}
+
+/// The processor time that the thread took since then.
+fn since<R: CpuClock>(rt: &R, before: Option<Duration>) -> Option<Duration> {
+    Some(clock(rt)?.saturating_sub(before?))
 }
 
 /// Asks the part, and answers whether that is a hit.
-pub fn ask_part(part: &mut Part, ask: &Ask) -> Result<bool> {
-    let reply = part.ask(TAG, ask)?;
-    Ok(!matches!(reply, Reply::Miss { .. }))
+pub fn ask_of(parts: &mut [Part], part: usize, ask: &Ask) -> Option<bool> {
+    let reply = parts.get_mut(part)?.ask(TAG, ask).ok()?;
+    Some(!matches!(reply, Reply::Miss { .. }))
 }
 
-/// Asks the part of the question.
-fn ask(parts: &mut [Part], picked: &PickedAsk) -> Result<bool> {
-    let part = parts.get_mut(picked.part).context("no such part")?;
-    ask_part(part, &picked.ask)
-}
-
-pub fn ask_all<R: CpuClock>(rt: &R, parts: &mut [Part], asks: &[PickedAsk]) -> Result<Done> {
+pub fn ask_all<R: CpuClock>(rt: &R, parts: &mut [Part], asks: &[PickedAsk]) -> Done {
     let mut counts = NONE;
-    let before = rt.thread_cpu_time()?;
+    let before = clock(rt);
     for picked in asks {
-        counts.count(ask(parts, picked)?);
+        counts.count(ask_of(parts, picked.part, &picked.ask));
     }
-    let time = rt.thread_cpu_time()?.saturating_sub(before);
-    Ok(Done { counts, time })
+    let time = since(rt, before);
+    Done { counts, time }
 }
 
 /// Whether the part would answer by a hit.
-fn would_answer(parts: &[Part], picked: &PickedAsk) -> Result<bool> {
-    let part = parts.get(picked.part).context("no such part")?;
-    let reply = part.would_answer(&picked.ask);
-    Ok(!matches!(reply, ReplyRef::Miss { .. }))
+fn would_answer(parts: &[Part], picked: &PickedAsk) -> Option<bool> {
+    let reply = parts.get(picked.part)?.would_answer(&picked.ask);
+    Some(!matches!(reply, ReplyRef::Miss { .. }))
 }
 
-pub fn would_answer_all<R: CpuClock>(rt: &R, parts: &[Part], asks: &[PickedAsk]) -> Result<Done> {
+pub fn would_answer_all<R: CpuClock>(rt: &R, parts: &[Part], asks: &[PickedAsk]) -> Done {
     let mut counts = NONE;
-    let before = rt.thread_cpu_time()?;
+    let before = clock(rt);
     for picked in asks {
-        counts.count(would_answer(parts, picked)?);
+        counts.count(would_answer(parts, picked));
     }
-    let time = rt.thread_cpu_time()?.saturating_sub(before);
-    Ok(Done { counts, time })
-}
-
-/// One of the questions, in no order that shows.
-fn drawn<'a>(numbers: &mut Numbers, asks: &'a [Ask]) -> Result<&'a Ask> {
-    let place = numbers.below(asks.len() as u64).context("no questions")?;
-    asks.get(place as usize).context("no such question")
+    let time = since(rt, before);
+    Done { counts, time }
 }
 
 /// Asks the shelf, and answers whether that is a hit.
-fn ask_of_shelf(shelf: &mut Shelf, ask: &Ask) -> Result<bool> {
-    let reply = on_shelf_ask(shelf, TAG, ask)?;
-    Ok(!matches!(reply, Reply::Miss { .. }))
+fn ask_of_shelf(shelf: &mut Shelf, ask: &Ask) -> Option<bool> {
+    let reply = on_shelf_ask(shelf, TAG, ask).ok()?;
+    Some(!matches!(reply, Reply::Miss { .. }))
 }
 
 /// Closes the shelf's chapter, and lets it go.
-fn let_go(shelf: &mut Shelf) -> Result<()> {
-    on_shelf_checkpoint(shelf)?;
-    drop(shelf.take_chapters());
-    Ok(())
+fn let_go(shelf: &mut Shelf) {
+    if on_shelf_checkpoint(shelf).is_ok() {
+        drop(shelf.take_chapters());
+    }
 }
 
 /// Asks a shelf so often, in no order that shows, and lets each chapter go once it is closed.
-pub fn ask_shelf<R: CpuClock>(rt: &R, shelf: &mut Shelf, asks: &[Ask], calls: u32) -> Result<Done> {
+pub fn ask_shelf<R: CpuClock>(rt: &R, shelf: &mut Shelf, asks: &[PickedAsk], calls: u32) -> Done {
     let mut counts = NONE;
-    let mut numbers = Numbers::new();
-    let before = rt.thread_cpu_time()?;
+    let mut numbers = Numbers::of(0);
+    let before = clock(rt);
     for call in 0..calls {
-        counts.count(ask_of_shelf(shelf, drawn(&mut numbers, asks)?)?);
+        if let Some(picked) = asks.get(numbers.below(asks.len() as u64) as usize) {
+            counts.count(ask_of_shelf(shelf, &picked.ask));
+        }
         if call % ASKS_OF_A_CHAPTER == ASKS_OF_A_CHAPTER - 1 {
-            let_go(shelf)?;
+            let_go(shelf);
         }
     }
-    let time = rt.thread_cpu_time()?.saturating_sub(before);
-    Ok(Done { counts, time })
+    let time = since(rt, before);
+    Done { counts, time }
 }
 
 /// Asks each part in turn so often whether there is room, and counts a yes as a hit.
-pub fn has_room_all<R: CpuClock>(rt: &R, parts: &[Part], calls: u32) -> Result<Done> {
+pub fn has_room_all<R: CpuClock>(rt: &R, parts: &[Part], calls: u32) -> Done {
     let mut counts = NONE;
-    let before = rt.thread_cpu_time()?;
+    let before = clock(rt);
     for part in parts {
         for _ in 0..calls {
-            counts.count(part.has_room());
+            counts.count(Some(part.has_room()));
         }
     }
-    let time = rt.thread_cpu_time()?.saturating_sub(before);
-    Ok(Done { counts, time })
+    let time = since(rt, before);
+    Done { counts, time }
 }
 
-/// Makes the offer, and answers whether it was kept.
-fn offer(parts: &mut [Part], picked: PickedOffer) -> Result<bool> {
-    let part = parts.get_mut(picked.part).context("no such part")?;
-    Ok(part.offer(TAG, picked.offer)? == Outcome::Kept)
+/// Makes the offer to the part.
+pub fn offer_to(parts: &mut [Part], part: usize, offer: Offer) -> Option<Outcome> {
+    parts.get_mut(part)?.offer(TAG, offer).ok()
 }
 
-/// Makes the offers, and answers how many were kept.
-fn kept_of(parts: &mut [Part], offers: Vec<PickedOffer>) -> Result<u64> {
-    let mut kept = 0_u64;
-    for picked in offers {
-        kept = kept.wrapping_add(u64::from(offer(parts, picked)?));
-    }
-    Ok(kept)
-}
-
-pub fn offer_all<R: CpuClock>(
-    rt: &R,
-    parts: &mut [Part],
-    offers: Vec<PickedOffer>,
-) -> Result<Done> {
+pub fn offer_all<R: CpuClock>(rt: &R, parts: &mut [Part], offers: Vec<PickedOffer>) -> Done {
     let mut counts = NONE;
-    let before = rt.thread_cpu_time()?;
-    counts.kept = kept_of(parts, offers)?;
-    let time = rt.thread_cpu_time()?.saturating_sub(before);
+    let before = clock(rt);
+    for picked in offers {
+        let outcome = offer_to(parts, picked.part, picked.offer);
+        counts.kept = counts
+            .kept
+            .wrapping_add(u64::from(outcome == Some(Outcome::Kept)));
+    }
+    let time = since(rt, before);
     for part in parts.iter() {
         counts.evicted = counts.evicted.wrapping_add(evicted_in(part.events()));
     }
-    Ok(Done { counts, time })
-}
-
-/// So often puts a tenth of the part's keys for one second, and sweeps when they are dead. The time is that of the sweeps.
-pub fn sweep_all<R: CpuClock>(
-    rt: &R,
-    alloc: Global,
-    part: &mut Part,
-    keys: u32,
-    calls: u32,
-) -> Result<Done> {
-    let mut counts = NONE;
-    let mut time = Duration::ZERO;
-    for call in 0..calls {
-        let moment = u64::from(call).saturating_mul(2);
-        offer_a_tenth(alloc, part, keys, moment)?;
-        let before = rt.thread_cpu_time()?;
-        let removed = part.sweep(TAG, moment.saturating_add(1))?;
-        time = time.saturating_add(rt.thread_cpu_time()?.saturating_sub(before));
-        counts.swept = counts.swept.wrapping_add(removed as u64);
-    }
-    Ok(Done { counts, time })
-}
-
-/// Follows places, each of which holds the next, so often: what a load from memory costs that no other can begin before.
-pub fn load_all<R: CpuClock>(rt: &R, places: &[u32], calls: u32) -> Result<Done> {
-    let mut counts = NONE;
-    let mut place = 0;
-    let before = rt.thread_cpu_time()?;
-    for _ in 0..calls {
-        place = *places.get(place as usize).context("no such place")?;
-        counts.count((place as usize) < places.len());
-    }
-    let time = rt.thread_cpu_time()?.saturating_sub(before);
-    Ok(Done { counts, time })
+    Done { counts, time }
 }
 
 /// How many keys these events evicted.
@@ -214,4 +174,68 @@ fn evicted_in(events: &[Event]) -> u64 {
         }
     }
     evicted
+}
+
+/// Sweeps the first part, and answers how many keys that removed.
+fn sweep(parts: &mut [Part], moment: u64) -> Option<usize> {
+    parts.first_mut()?.sweep(TAG, moment).ok()
+}
+
+/// So often puts a tenth of the part's keys for one second, and sweeps when they are dead. The time
+/// is that of the sweeps.
+pub fn sweep_all<R: CpuClock>(
+    rt: &R,
+    alloc: Global,
+    parts: &mut [Part],
+    keys: u32,
+    calls: u32,
+) -> Option<Done> {
+    let mut counts = NONE;
+    let mut time = Duration::ZERO;
+    for call in 0..calls {
+        let moment = u64::from(call).saturating_mul(2);
+        put_tenth(alloc, parts, keys, moment)?;
+        let before = clock(rt);
+        let removed = sweep(parts, moment.saturating_add(1))?;
+        time = time.saturating_add(since(rt, before)?);
+        counts.swept = counts.swept.wrapping_add(removed as u64);
+    }
+    Some(Done {
+        counts,
+        time: Some(time),
+    })
+}
+
+/// Follows places, each of which holds the next, so often: what a load from memory costs that no
+/// other can begin before.
+pub fn load_all<R: CpuClock>(rt: &R, places: &[u32], calls: u32) -> Option<Done> {
+    let mut counts = NONE;
+    let mut place = 0;
+    let before = clock(rt);
+    for _ in 0..calls {
+        place = *places.get(place as usize)?;
+        counts.count(Some((place as usize) < places.len()));
+    }
+    let time = since(rt, before);
+    Some(Done { counts, time })
+}
+
+/// Whether the part's history is legal, by an audit or by a recheck.
+fn is_legal(alloc: Global, kind: Kind, part: &Part) -> bool {
+    match kind {
+        Kind::Audit => audit(part.snapshot(), part.events()).is_ok(),
+        _ => recheck(alloc, part.snapshot(), part.events()).is_ok(),
+    }
+}
+
+/// Finds the first part's history legal.
+pub fn audit_all<R: CpuClock>(rt: &R, alloc: Global, kind: Kind, parts: &[Part]) -> Option<Done> {
+    let part = parts.first()?;
+    let mut counts = NONE;
+    let before = clock(rt);
+    if is_legal(alloc, kind, part) {
+        counts.right = part.events().len() as u64;
+    }
+    let time = since(rt, before);
+    Some(Done { counts, time })
 }

@@ -1,18 +1,20 @@
 // SPDX-License-Identifier: MIT
-// What is asked and offered, each made before the time is taken: the addresses of `www{n % 7}.zone{n}.example.` for numbers n.
+// What is asked and offered, each made before the time is taken, for the addresses of
+// `www{n % 7}.zone{n}.example.` for numbers n. Each is `None` where memory was refused, or a part
+// refused a call.
 
-use crate::calls::{TAG, ask_part};
-use crate::numbers::Numbers;
-use anyhow::{Context, Result};
+use crate::calls::{ask_of, offer_to};
+use crate::numbers::{Numbers, Source};
 use rrc_cache::Part;
 use rrc_history::{Ask, Body, Mode, Offer, Purpose, Rules, Trust};
 use rrc_name::{Key, Name, Octets, Sequence, Shared, Slot};
 use std::alloc::Global;
 
 /// How many events the chapter has room for.
-const CHAPTER: u64 = 1 << 20;
+pub const CHAPTER: u64 = 1 << 20;
 
-/// How long each set lives, in seconds, but for those that are to be swept. All is asked at the second 1.
+/// How long each set lives, in seconds, but for those that are to be swept. All is asked at the
+/// second 1.
 pub const TTL: u32 = 86_400;
 
 /// How many places of four octets 8 MiB have.
@@ -32,83 +34,48 @@ pub struct PickedOffer {
     pub offer: Offer,
 }
 
-pub fn name(alloc: Global, number: u64) -> Result<Name> {
-    let text = format!(in alloc; "www{}.zone{}.example.", number % 7, number)?;
-    Ok(Name::from_text(alloc, text.as_str())?)
+fn name(alloc: Global, number: u64) -> Option<Name> {
+    let text = format!(in alloc; "www{}.zone{}.example.", number % 7, number).ok()?;
+    Name::from_text(alloc, text.as_str()).ok()
 }
 
 /// The data of a set of one address.
-fn address(alloc: Global) -> Result<Shared<Sequence<Octets>>> {
+fn address(alloc: Global) -> Option<Shared<Sequence<Octets>>> {
+    let octets = Octets::from_slice(alloc, &[192, 0, 2, 1]).ok()?;
     let mut items = Sequence::new(alloc);
-    items.push(Octets::from_slice(alloc, &[192, 0, 2, 1])?)?;
-    Ok(Shared::new(alloc, items)?)
-}
-
-fn body(alloc: Global, name: &Name, ttl: u32) -> Result<Body> {
-    Ok(Body::Positive {
-        owner: name.clone()?,
-        items: address(alloc)?,
-        trust: Trust::AuthoritativeAnswer,
-        ttl,
-    })
+    items.push(octets).ok()?;
+    Shared::new(alloc, items).ok()
 }
 
 /// An offer of one address.
-pub fn offer(alloc: Global, name: &Name, moment: u64, ttl: u32) -> Result<Offer> {
-    let key = Key::of(name, 1, Slot::Set(1))?;
-    let body = body(alloc, name, ttl)?;
-    Ok(Offer::new(key, body, moment)?)
+pub fn offer(alloc: Global, owner: Name, moment: u64, ttl: u32) -> Option<Offer> {
+    let items = address(alloc)?;
+    let key = Key::of(&owner, 1, Slot::Set(1)).ok()?;
+    let body = Body::Positive {
+        owner,
+        items,
+        trust: Trust::AuthoritativeAnswer,
+        ttl,
+    };
+    Offer::new(key, body, moment).ok()
 }
 
 /// An offer of the address of a number.
-fn numbered(alloc: Global, number: u64, moment: u64, ttl: u32) -> Result<Offer> {
+pub fn numbered(alloc: Global, number: u64, moment: u64, ttl: u32) -> Option<Offer> {
+    offer(alloc, name(alloc, number)?, moment, ttl)
+}
+
+/// The key of the address of a number.
+fn key(alloc: Global, number: u64) -> Option<Key> {
     let name = name(alloc, number)?;
-    offer(alloc, &name, moment, ttl)
-}
-
-/// Puts the address of a number.
-fn put(alloc: Global, part: &mut Part, number: u64, moment: u64, ttl: u32) -> Result<()> {
-    part.offer(TAG, numbered(alloc, number, moment, ttl)?)?;
-    Ok(())
-}
-
-/// The part of a number, of so many.
-fn part_of(number: u64, parts: u32) -> Result<usize> {
-    let part = number.checked_rem(u64::from(parts));
-    Ok(part.context("there are no parts")? as usize)
-}
-
-/// A part that has room for so many keys and holds none.
-fn empty(alloc: Global, keys: u32) -> Result<Part> {
-    let rules = Rules::new(u64::from(keys), CHAPTER, 0).context("there are 1 to 65,536 keys")?;
-    Ok(Part::new(alloc, rules)?)
-}
-
-/// A part that holds so many keys, and has room for no other: each of `parts` numbers from the first on.
-pub fn full(alloc: Global, first: u32, parts: u32, keys: u32) -> Result<Part> {
-    let mut part = empty(alloc, keys)?;
-    for turn in 0..keys {
-        let number = u64::from(turn) * u64::from(parts);
-        let number = number.saturating_add(u64::from(first));
-        put(alloc, &mut part, number, 0, TTL)?;
-    }
-    Ok(part)
-}
-
-/// Such parts: they hold the numbers by turns.
-pub fn filled(alloc: Global, parts: u32, keys: u32) -> Result<Vec<Part>> {
-    let mut filled = Vec::new(alloc);
-    for place in 0..parts {
-        filled.push(full(alloc, place, parts, keys)?)?;
-    }
-    Ok(filled)
+    Key::of(&name, 1, Slot::Set(1)).ok()
 }
 
 /// A question for the address of a number.
-fn ask(alloc: Global, number: u64) -> Result<Ask> {
-    let key = Key::of(&name(alloc, number)?, 1, Slot::Set(1))?;
-    Ok(Ask {
-        name: key.name().clone()?,
+fn ask(alloc: Global, number: u64) -> Option<Ask> {
+    let key = key(alloc, number)?;
+    Some(Ask {
+        name: key.name().clone().ok()?,
         class: 1,
         rtype: 1,
         moment: 1,
@@ -117,115 +84,121 @@ fn ask(alloc: Global, number: u64) -> Result<Ask> {
     })
 }
 
-/// A question for each number below `count`.
-pub fn asks(alloc: Global, count: u64) -> Result<Vec<Ask>> {
+/// The part of a number, of so many.
+fn part_of(number: u64, parts: u64) -> usize {
+    number.checked_rem(parts).unwrap_or(0) as usize
+}
+
+/// So many questions, each with its part and a name of its own.
+pub fn asks(alloc: Global, mut source: Source, count: u32, parts: u32) -> Option<Vec<PickedAsk>> {
     let mut asks = Vec::new(alloc);
-    for number in 0..count {
-        asks.push(ask(alloc, number)?)?;
+    for _ in 0..count {
+        let number = source.next();
+        let part = part_of(number, u64::from(parts));
+        let ask = ask(alloc, number)?;
+        asks.push(PickedAsk { part, ask }).ok()?;
     }
-    Ok(asks)
+    Some(asks)
 }
 
-/// So many questions for `count` numbers from `first` on, in no order that shows, each with its part and a name of its own.
-pub fn picked(
+/// So many offers, each with its part and a name of its own.
+pub fn offers(
     alloc: Global,
-    first: u64,
-    count: u64,
+    mut source: Source,
+    count: u32,
     parts: u32,
-    calls: u32,
-) -> Result<Vec<PickedAsk>> {
-    let mut numbers = Numbers::new();
-    let mut picked = Vec::new(alloc);
-    for _ in 0..calls {
-        let place = numbers.below(count).context("no questions")?;
-        picked.push(PickedAsk {
-            part: part_of(place, parts)?,
-            ask: ask(alloc, first.saturating_add(place))?,
-        })?;
-    }
-    Ok(picked)
-}
-
-/// So many offers of numbers below `held`, in no order that shows.
-pub fn offers_of_held(
-    alloc: Global,
-    parts: u32,
-    held: u64,
-    calls: u32,
-) -> Result<Vec<PickedOffer>> {
-    let mut numbers = Numbers::new();
+) -> Option<Vec<PickedOffer>> {
     let mut offers = Vec::new(alloc);
-    for _ in 0..calls {
-        let number = numbers.below(held).context("no keys")?;
-        offers.push(PickedOffer {
-            part: part_of(number, parts)?,
-            offer: numbered(alloc, number, 1, TTL)?,
-        })?;
+    for _ in 0..count {
+        let number = source.next();
+        let part = part_of(number, u64::from(parts));
+        let offer = numbered(alloc, number, 1, TTL)?;
+        offers.push(PickedOffer { part, offer }).ok()?;
     }
-    Ok(offers)
+    Some(offers)
 }
 
-/// So many offers of numbers from `held` on, each once.
-pub fn offers_of_absent(
+/// So many parts that hold nothing, and have room for so many keys each.
+pub fn parts(alloc: Global, count: u32, keys: u32) -> Option<Vec<Part>> {
+    let rules = Rules::new(u64::from(keys), CHAPTER, 0)?;
+    let mut parts = Vec::new(alloc);
+    for _ in 0..count {
+        let part = Part::new(alloc, rules).ok()?;
+        parts.push(part).ok()?;
+    }
+    Some(parts)
+}
+
+/// Puts the address of a number into a part.
+fn put(
     alloc: Global,
-    parts: u32,
-    held: u64,
-    calls: u32,
-) -> Result<Vec<PickedOffer>> {
-    let mut offers = Vec::new(alloc);
-    for call in 0..calls {
-        let number = held.saturating_add(u64::from(call));
-        offers.push(PickedOffer {
-            part: part_of(number, parts)?,
-            offer: numbered(alloc, number, 1, TTL)?,
-        })?;
-    }
-    Ok(offers)
+    parts: &mut [Part],
+    part: usize,
+    number: u64,
+    moment: u64,
+    ttl: u32,
+) -> Option<()> {
+    let offer = numbered(alloc, number, moment, ttl)?;
+    offer_to(parts, part, offer)?;
+    Some(())
 }
 
-/// Puts a tenth of the numbers below `keys`, for one second.
-pub fn offer_a_tenth(alloc: Global, part: &mut Part, keys: u32, moment: u64) -> Result<()> {
+/// Puts so many keys into each part: they hold the numbers by turns.
+pub fn fill(alloc: Global, parts: &mut [Part], keys: u32) -> Option<()> {
+    let count = parts.len() as u64;
+    for number in 0..count.saturating_mul(u64::from(keys)) {
+        put(alloc, parts, part_of(number, count), number, 0, TTL)?;
+    }
+    Some(())
+}
+
+/// Puts each tenth of the first part's keys for one second.
+pub fn put_tenth(alloc: Global, parts: &mut [Part], keys: u32, moment: u64) -> Option<()> {
     for tenth in 0..keys / 10 {
-        put(alloc, part, u64::from(tenth) * 10, moment, 1)?;
+        put(alloc, parts, 0, u64::from(tenth) * 10, moment, 1)?;
     }
-    Ok(())
+    Some(())
 }
 
-/// A part with so many events, of as many keys as it may hold and half as many more: a put, then two asks, by turns.
-pub fn written(alloc: Global, keys: u32, events: u32) -> Result<Part> {
-    let mut part = empty(alloc, keys)?;
-    let mut numbers = Numbers::new();
+/// Asks the first part for the address of a number.
+fn ask_first(alloc: Global, parts: &mut [Part], number: u64) -> Option<()> {
+    let ask = ask(alloc, number)?;
+    ask_of(parts, 0, &ask)?;
+    Some(())
+}
+
+/// So many events in the first part, of as many keys as it may hold and half as many more: a put,
+/// then two asks, by turns.
+pub fn write(alloc: Global, parts: &mut [Part], keys: u32, events: u32) -> Option<()> {
+    let mut numbers = Numbers::of(0);
     let names = u64::from(keys) + u64::from(keys / 2);
     for place in 0..events {
-        let number = numbers.below(names).context("no keys")?;
-        write(alloc, &mut part, number, place % 3 == 0)?;
+        let number = numbers.below(names);
+        match place % 3 {
+            0 => put(alloc, parts, 0, number, 0, TTL)?,
+            _ => ask_first(alloc, parts, number)?,
+        }
     }
-    Ok(part)
-}
-
-/// Puts the address of a number, or asks for it.
-fn write(alloc: Global, part: &mut Part, number: u64, is_put: bool) -> Result<()> {
-    if is_put {
-        return put(alloc, part, number, 0, TTL);
-    }
-    let ask = ask(alloc, number)?;
-    ask_part(part, &ask)?;
-    Ok(())
+    Some(())
 }
 
 /// 8 MiB of places, each of which holds the next one of a way through them all that shows no order.
-pub fn places(alloc: Global) -> Result<Vec<u32>> {
+pub fn places(alloc: Global) -> Option<Vec<u32>> {
     let mut places = Vec::new(alloc);
     for place in 0..PLACES {
-        places.push(place)?;
+        places.push(place).ok()?;
     }
-    let mut numbers = Numbers::new();
-    // Each place changes with one before it, never with itself, so there is one way round (Sattolo).
+    mix(places.as_mut_slice());
+    Some(places)
+}
+
+/// Each place changes with one before it, never with itself, so there is one way round (Sattolo).
+fn mix(places: &mut [u32]) {
+    let mut numbers = Numbers::of(0);
     for place in (1..places.len()).rev() {
-        let other = numbers.below(place as u64).context("no place before")? as usize;
+        let other = numbers.below(place as u64) as usize;
         if other < place {
-            places.as_mut_slice().swap(place, other);
+            places.swap(place, other);
         }
     }
-    Ok(places)
 }

@@ -5,12 +5,11 @@ mod calls;
 mod made;
 
 use crate::arguments::number;
-use crate::made::asks;
+use crate::made::{PickedAsk, asks, parts};
+use crate::numbers::Source;
 use crate::shared::calls::{Turn, call_all, call_lent};
-use crate::shared::made::{NAMES, filled, lent, turns};
-use anyhow::{Context, Result, bail};
+use crate::shared::made::{NAMES, cache, fill, fill_lent, turns};
 use rrc_cache::Part;
-use rrc_history::Ask;
 use rrc_share::SharedCache;
 use std::alloc::Global;
 use std::env::Args;
@@ -18,16 +17,36 @@ use std::sync::Wait;
 use std::thread::{Threads, map_vec};
 use std::time::{Clock, Duration, Instant};
 
-const USAGE: &str = "shared TASK THREADS PARTS CALLS";
+const MOST_THREADS: u32 = 64;
 
-const TASKS: &[&str] = &["hit", "put", "mix", "hot", "lent"];
+/// What is called.
+#[derive(Clone, Copy)]
+struct Kind {
+    /// How many of each ten calls are puts.
+    puts: u32,
+    /// Of how many names they are.
+    names: u32,
+    /// Whether one thread makes them, on parts that no lock guards.
+    is_lent: bool,
+}
+
+/// Each kind by its name: how many of each ten calls are puts, of how many names, and whether it is
+/// on parts with no lock.
+static KINDS: [(&str, u32, u32, bool); 5] = [
+    ("hit", 0, NAMES, false),
+    ("put", 10, NAMES, false),
+    ("mix", 1, NAMES, false),
+    ("hot", 0, 1, false),
+    ("lent", 0, NAMES, true),
+];
 
 /// What is called, by how many threads, on how many parts, and how often by each.
 #[derive(Clone, Copy)]
 struct Task<'a> {
     name: &'a str,
+    kind: Kind,
     threads: u32,
-    parts: usize,
+    parts: u32,
     calls: u32,
 }
 
@@ -38,25 +57,25 @@ struct Done {
     time: Duration,
 }
 
-/// How many of each ten calls are puts, and of how many names they are.
-fn kinds(name: &str) -> Result<(u32, u64)> {
-    match name {
-        "hit" | "lent" => Ok((0, NAMES)),
-        "put" => Ok((10, NAMES)),
-        "mix" => Ok((1, NAMES)),
-        "hot" => Ok((0, 1)),
-        _ => bail!("it does hit, put, mix, hot or lent"),
-    }
+/// The calls of a thread.
+fn job<'a>(
+    alloc: Global,
+    task: &Task<'_>,
+    asks: &'a [PickedAsk],
+    thread: u32,
+) -> Option<Vec<Turn<'a>>> {
+    let Kind { puts, names, .. } = task.kind;
+    turns(alloc, thread, asks, puts, names, task.calls)
 }
 
 /// The calls of each thread.
-fn jobs<'a>(alloc: Global, task: &Task<'_>, asks: &'a [Ask]) -> Result<Vec<Vec<Turn<'a>>>> {
-    let (puts, names) = kinds(task.name)?;
+fn jobs<'a>(alloc: Global, task: &Task<'_>, asks: &'a [PickedAsk]) -> Option<Vec<Vec<Turn<'a>>>> {
     let mut jobs = Vec::new(alloc);
     for thread in 0..task.threads {
-        jobs.push(turns(alloc, thread, asks, puts, names, task.calls)?)?;
+        let job = job(alloc, task, asks, thread)?;
+        jobs.push(job).ok()?;
     }
-    Ok(jobs)
+    Some(jobs)
 }
 
 /// Makes the calls, those of each thread by a thread, and answers how many were served.
@@ -64,13 +83,13 @@ fn served_by_all<R: Threads + Wait + Sync>(
     rt: &R,
     cache: &SharedCache,
     jobs: Vec<Vec<Turn<'_>>>,
-) -> Result<u64> {
-    let served = map_vec(rt, jobs, &|turns| call_all(rt, cache, turns))?;
+) -> Option<u64> {
+    let served = map_vec(rt, jobs, &|turns| call_all(rt, cache, turns)).ok()?;
     let mut all = 0_u64;
     for one in served {
         all = all.wrapping_add(one);
     }
-    Ok(all)
+    Some(all)
 }
 
 /// How many of the calls were served, and the time that passed.
@@ -78,11 +97,23 @@ fn timed<R: Threads + Wait + Sync + Clock>(
     rt: &R,
     cache: &SharedCache,
     jobs: Vec<Vec<Turn<'_>>>,
-) -> Result<Done> {
-    let before = Instant::now(rt)?;
+) -> Option<Done> {
+    let before = Instant::now(rt).ok();
     let served = served_by_all(rt, cache, jobs)?;
-    let time = before.elapsed(rt)?;
-    Ok(Done { served, time })
+    let time = before?.elapsed(rt).ok()?;
+    Some(Done { served, time })
+}
+
+fn on_cache<R: Threads + Wait + Sync + Clock>(
+    rt: &R,
+    alloc: Global,
+    task: &Task<'_>,
+    asks: &[PickedAsk],
+    cache: &SharedCache,
+) -> Option<Done> {
+    fill(rt, alloc, cache)?;
+    let jobs = jobs(alloc, task, asks)?;
+    timed(rt, cache, jobs)
 }
 
 /// The calls by threads on a shared cache.
@@ -90,68 +121,102 @@ fn shared<R: Threads + Wait + Sync + Clock>(
     rt: &R,
     alloc: Global,
     task: &Task<'_>,
-) -> Result<Done> {
-    let asks = asks(alloc, NAMES)?;
-    let jobs = jobs(alloc, task, asks.as_slice())?;
-    let cache = filled(rt, alloc, task.parts)?;
-    timed(rt, &cache, jobs)
+    asks: &[PickedAsk],
+) -> Option<Done> {
+    let cache = cache(alloc, task.parts)?;
+    on_cache(rt, alloc, task, asks, &cache)
 }
 
 /// How many of the calls were served on parts that no lock guards, and the time that passed.
-fn timed_lent<R: Clock>(rt: &R, parts: &mut [Part], turns: &[Turn<'_>]) -> Result<Done> {
-    let before = Instant::now(rt)?;
+fn on_lent<R: Clock>(
+    rt: &R,
+    alloc: Global,
+    turns: &[Turn<'_>],
+    parts: &mut [Part],
+) -> Option<Done> {
+    fill_lent(alloc, parts)?;
+    let before = Instant::now(rt).ok()?;
     let served = call_lent(parts, turns);
-    let time = before.elapsed(rt)?;
-    Ok(Done { served, time })
+    let time = before.elapsed(rt).ok()?;
+    Some(Done { served, time })
 }
 
 /// The calls by one thread on parts that no lock guards.
-fn lone<R: Clock>(rt: &R, alloc: Global, task: &Task<'_>) -> Result<Done> {
-    let asks = asks(alloc, NAMES)?;
-    let turns = turns(alloc, 0, asks.as_slice(), 0, NAMES, task.calls)?;
-    let mut parts = lent(alloc, task.parts)?;
-    timed_lent(rt, parts.as_mut_slice(), turns.as_slice())
+fn lone<R: Clock>(rt: &R, alloc: Global, task: &Task<'_>, asks: &[PickedAsk]) -> Option<Done> {
+    let turns = job(alloc, task, asks, 0)?;
+    let mut parts = parts(alloc, task.parts, NAMES)?;
+    on_lent(rt, alloc, turns.as_slice(), parts.as_mut_slice())
+}
+
+fn called<R: Threads + Wait + Sync + Clock>(
+    rt: &R,
+    alloc: Global,
+    task: &Task<'_>,
+) -> Option<Done> {
+    let asks = asks(alloc, Source::rising(0), NAMES, 1)?;
+    if task.kind.is_lent {
+        lone(rt, alloc, task, asks.as_slice())
+    } else {
+        shared(rt, alloc, task, asks.as_slice())
+    }
 }
 
 fn report<R: Print + Eprint + Alloc<A = Global> + Threads + Wait + Sync + Clock>(
     rt: &R,
     task: &Task<'_>,
-) -> Result<()> {
-    if task.threads > 64 {
-        bail!("there are at most 64 threads");
+) -> Option<()> {
+    if task.threads > MOST_THREADS {
+        return None;
     }
-    let done = match task.name {
-        "lent" => lone(rt, rt.alloc(), task)?,
-        _ => shared(rt, rt.alloc(), task)?,
-    };
-    println!(rt; "{}: {} served", task.name, done.served)?;
-    eprintln!(rt; "{}", done.time.as_nanos())?;
-    Ok(())
+    let Done { served, time } = called(rt, rt.alloc(), task)?;
+    let name = task.name;
+    println!(rt; "{name}: {served} served").ok()?;
+    eprintln!(rt; "{}", time.as_nanos()).ok()
 }
 
 /// A few of each.
 pub fn report_each<R: Print + Eprint + Alloc<A = Global> + Threads + Wait + Sync + Clock>(
     rt: &R,
-) -> Result<()> {
-    for &name in TASKS {
+) -> Option<()> {
+    for &(name, puts, names, is_lent) in &KINDS {
         let task = Task {
             name,
+            kind: Kind {
+                puts,
+                names,
+                is_lent,
+            },
             threads: 2,
             parts: 4,
             calls: 100,
         };
         report(rt, &task)?;
     }
-    Ok(())
+    Some(())
+}
+
+/// The kind of that name.
+fn kind_of(wanted: &str) -> Option<Kind> {
+    for &(name, puts, names, is_lent) in &KINDS {
+        if name == wanted {
+            return Some(Kind {
+                puts,
+                names,
+                is_lent,
+            });
+        }
+    }
+    None
 }
 
 /// What the arguments behind its name tell of a task.
-fn task_in<'a>(name: &'a str, args: &mut Args) -> Result<Task<'a>> {
-    Ok(Task {
+fn task_in<'a>(name: &'a str, args: &mut Args) -> Option<Task<'a>> {
+    Some(Task {
         name,
-        threads: number(args)?.context(USAGE)?,
-        parts: number(args)?.context(USAGE)? as usize,
-        calls: number(args)?.context(USAGE)?,
+        kind: kind_of(name)?,
+        threads: number(args, None)?,
+        parts: number(args, None)?,
+        calls: number(args, None)?,
     })
 }
 
@@ -159,8 +224,7 @@ fn task_in<'a>(name: &'a str, args: &mut Args) -> Result<Task<'a>> {
 pub fn report_told<R: Print + Eprint + Alloc<A = Global> + Threads + Wait + Sync + Clock>(
     rt: &R,
     args: &mut Args,
-) -> Result<()> {
-    let name = args.next().context(USAGE)?;
-    let task = task_in(name.as_str(), args)?;
-    report(rt, &task)
+) -> Option<()> {
+    let name = args.next()?;
+    report(rt, &task_in(name.as_str(), args)?)
 }

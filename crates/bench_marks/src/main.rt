@@ -1,37 +1,60 @@
 // SPDX-License-Identifier: MIT
-//! Draws and marks by one, two or four threads at once, counted, for a script that times them: `bench_marks WHAT THREADS COUNT`, where WHAT is `draws`, `pairs` or `shares` and each thread does COUNT. Without arguments it does a few of each.
+//! Draws and marks by one, two or four threads at once, counted, for a script that times them:
+//! `bench_marks WHAT THREADS COUNT`, where WHAT is `draws`, `pairs` or `shares` and each thread
+//! does COUNT. Without arguments it does a few of each.
 #![tactic(auto)]
 
 mod work;
 
 use crate::work::{Task, by_four, by_one, by_two};
-use anyhow::{Context, Result, bail};
 use rrc_marks::Marks;
 use std::alloc::Global;
-use std::env;
+use std::env::{self, Args};
+use std::rt::Env;
 use std::sync::atomic::AtomicU64;
 use std::sync::atomic::Ordering::SeqCst;
 use std::thread::Threads;
 
 const MOST_COUNT: u64 = 1 << 32;
 
-// How many draws were made, and how often a mark was begun or a turn given away.
-fn done<R: Threads + Sync>(
+const USAGE: &str = "it takes draws, pairs or shares, 1, 2 or 4 threads, and a count of 1 to 2^32";
+
+/// What is done without arguments.
+const TASKS: &[&str] = &["draws", "pairs", "shares"];
+
+/// How many numbers the threads drew, or how often they began a mark or gave a turn away.
+fn counted<R: Threads + Sync>(
     rt: &R,
     alloc: Global,
     task: Task,
     threads: u64,
     turns: u64,
-) -> Result<(u64, u64)> {
+) -> Option<u64> {
     let counted = AtomicU64::new(0);
-    let (marks, pass) = Marks::new(alloc, 4, 0, turns)?;
+    let (marks, pass) = Marks::new(alloc, 4, 0, turns).ok()?;
     let pass = match threads {
-        1 => by_one(&marks, pass, task, 0, &counted),
-        2 if turns >= 2 => by_two(rt, &marks, pass, task, 0, &counted),
         4 if turns >= 4 => by_four(rt, &marks, pass, task, &counted),
-        _ => bail!("there are 1, 2 or 4 threads"),
+        2 if turns >= 2 => by_two(rt, &marks, pass, task, 0, &counted),
+        _ => by_one(&marks, pass, task, 0, &counted),
     };
-    Ok((marks.close(pass), counted.load(SeqCst)))
+    let drawn = marks.close(pass);
+    match task {
+        Task::Draws => Some(drawn),
+        Task::Pairs(_) | Task::Shares(_) => Some(counted.load(SeqCst)),
+    }
+}
+
+/// What each thread does, and the turns that they need together.
+fn task(what: &str, threads: u64, count: u64) -> Option<(Task, u64)> {
+    if !matches!(threads, 1 | 2 | 4) || count == 0 || count > MOST_COUNT {
+        return None;
+    }
+    match what {
+        "draws" => Some((Task::Draws, threads * count)),
+        "pairs" => Some((Task::Pairs(count), threads)),
+        "shares" => Some((Task::Shares(count), 2 * threads)),
+        _ => None,
+    }
 }
 
 fn report<R: Print + Alloc<A = Global> + Threads + Sync>(
@@ -39,30 +62,45 @@ fn report<R: Print + Alloc<A = Global> + Threads + Sync>(
     what: &str,
     threads: u64,
     count: u64,
-) -> Result<()> {
-    if threads > 4 || count == 0 || count > MOST_COUNT {
-        bail!("there are 1, 2 or 4 threads, and each does 1 to 2^32");
-    }
-    let counted = match what {
-        "draws" => done(rt, rt.alloc(), Task::Draws, threads, threads * count)?.0,
-        "pairs" => done(rt, rt.alloc(), Task::Pairs(count), threads, threads)?.1,
-        "shares" => done(rt, rt.alloc(), Task::Shares(count), threads, 2 * threads)?.1,
-        _ => bail!("it does draws, pairs or shares"),
-    };
-    println!(rt; "{what}: {counted} by {threads} threads")?;
-    Ok(())
+) -> Option<()> {
+    let (task, turns) = task(what, threads, count)?;
+    let counted = counted(rt, rt.alloc(), task, threads, turns)?;
+    println!(rt; "{what}: {counted} by {threads} threads").ok()
 }
 
-fn main(rt: HostRuntime) -> Result<()> {
-    let mut args = env::args(&rt)?;
-    let _program = args.next();
-    let Some(what) = args.next() else {
-        report(&rt, "draws", 4, 1000)?;
-        report(&rt, "pairs", 4, 1000)?;
-        return report(&rt, "shares", 4, 1000);
-    };
-    let threads = args.next().context("how many threads?")?;
-    let count = args.next().context("how many does each do?")?;
-    let threads = threads.as_str().parse::<u64>()?;
-    report(&rt, what.as_str(), threads, count.as_str().parse::<u64>()?)
+/// A few of each.
+fn report_each<R: Print + Alloc<A = Global> + Threads + Sync>(rt: &R) -> Option<()> {
+    for &what in TASKS {
+        report(rt, what, 4, 1000)?;
+    }
+    Some(())
+}
+
+/// The number that the next argument tells.
+fn number(args: &mut Args) -> Option<u64> {
+    let word = args.next()?;
+    word.as_str().parse::<u64>().ok()
+}
+
+/// Does what the arguments behind its name tell.
+fn report_told<R: Print + Alloc<A = Global> + Threads + Sync>(
+    rt: &R,
+    what: &str,
+    args: &mut Args,
+) -> Option<()> {
+    let threads = number(args)?;
+    let count = number(args)?;
+    report(rt, what, threads, count)
+}
+
+fn run<R: Env + Print + Alloc<A = Global> + Threads + Sync>(rt: &R) -> Option<()> {
+    let mut args = env::args(rt).ok()?;
+    match args.nth(1) {
+        Some(what) => report_told(rt, what.as_str(), &mut args),
+        None => report_each(rt),
+    }
+}
+
+fn main(rt: HostRuntime) -> Result<(), &'static str> {
+    run(&rt).ok_or(USAGE)
 }

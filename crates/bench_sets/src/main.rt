@@ -1,95 +1,106 @@
 // SPDX-License-Identifier: MIT
-//! Reads messages of the DNS many times, or makes their offers, and prints what it counted, for scripts that time it:
-//! `bench_sets TASK PASSES [FILE]`, where TASK is `read` or `offer`. The file, or standard input, has one message in hexadecimal on each
-//! line. For `offer` the messages are read once, beforehand, and the nanoseconds of processor time that the offers took are on standard
-//! error. Without arguments it reads the messages of standard input that stand before an empty line, and makes the offers of those behind it.
+//! Reads messages of the DNS many times, or makes their offers, and prints what it counted, for
+//! scripts that time it: `bench_sets TASK PASSES [FILE]`, where TASK is `read` or `offer`. The
+//! file, or standard input, has one message in hexadecimal on each line. For `offer` the messages
+//! are read once, beforehand, and the nanoseconds of processor time that the offers took are on
+//! standard error. Without arguments it reads the messages of standard input that stand before an
+//! empty line, and makes the offers of those behind it.
 #![tactic(auto)]
 
 mod offering;
 mod reading;
 
 use crate::offering::offer_all;
-use crate::reading::read_all;
-use anyhow::{Context, Result, bail};
+use crate::reading::{octets_in, read_all};
 use std::env::Args;
 use std::rt::{Env, Files};
 use std::time::CpuClock;
 use std::{env, fs, io};
 
-const USAGE: &str = "TASK PASSES [FILE]";
+const FAILED: &str =
+    "it takes read or offer, PASSES and a FILE of messages in hexadecimal, or memory was refused";
 
-/// Reads the messages of a text so often.
-fn report_read<R: Print + AllocGlobal>(rt: &R, text: &str, passes: u32) -> Result<()> {
-    let counts = read_all(rt.alloc(), text, passes)?;
+/// Reads the messages so often.
+fn report_read<R: Print + AllocGlobal>(rt: &R, messages: &[Vec<u8>], passes: u32) -> Option<()> {
+    let counts = read_all(rt.alloc(), messages, passes);
     println!(rt;
         "{} messages read, {} refused, of {} octets, with {} answers",
         counts.read, counts.refused, counts.octets, counts.records
-    )?;
-    Ok(())
+    )
+    .ok()
 }
 
-/// Makes the offers of the messages of a text so often.
+/// Makes the offers of the messages so often.
 fn report_offers<R: Print + Eprint + AllocGlobal + CpuClock>(
     rt: &R,
-    text: &str,
+    messages: &[Vec<u8>],
     passes: u32,
-) -> Result<()> {
-    let (counts, time) = offer_all(rt, rt.alloc(), text, passes)?;
+) -> Option<()> {
+    let (counts, time) = offer_all(rt, rt.alloc(), messages, passes)?;
     println!(rt;
         "{} messages offered {} times, with {} data",
         counts.messages, counts.offers, counts.data
-    )?;
-    eprintln!(rt; "{}", time.as_nanos())?;
-    Ok(())
+    )
+    .ok()?;
+    eprintln!(rt; "{}", time.as_nanos()).ok()
+}
+
+/// Does the task with the messages of a text.
+fn report<R: Print + Eprint + AllocGlobal + CpuClock>(
+    rt: &R,
+    task: &str,
+    text: &str,
+    passes: u32,
+) -> Option<()> {
+    let messages = octets_in(rt.alloc(), text)?;
+    match task {
+        "read" => report_read(rt, messages.as_slice(), passes),
+        "offer" => report_offers(rt, messages.as_slice(), passes),
+        _ => None,
+    }
 }
 
 /// The number that the next argument tells.
-fn number(args: &mut Args) -> Result<u32> {
-    let word = args.next().context(USAGE)?;
-    Ok(word.as_str().parse::<u32>()?)
+fn number(args: &mut Args) -> Option<u32> {
+    let word = args.next()?;
+    word.as_str().parse::<u32>().ok()
 }
 
 /// The text of the file that the next argument names, or that of standard input.
-fn text_in<R: Files + Input + AllocGlobal>(rt: &R, args: &mut Args) -> Result<String> {
+fn text_in<R: Files + Input + AllocGlobal>(rt: &R, args: &mut Args) -> Option<String> {
     match args.next() {
-        Some(path) => Ok(fs::read_to_string(rt, path)?),
-        None => Ok(io::read_to_string(rt.alloc(), rt.reader())?),
+        Some(path) => fs::read_to_string(rt, path).ok(),
+        None => io::read_to_string(rt.alloc(), rt.reader()).ok(),
     }
 }
 
 /// Does what the arguments tell.
-fn run_task<R: Files + Input + Print + Eprint + AllocGlobal + CpuClock>(
+fn report_told<R: Files + Input + Print + Eprint + AllocGlobal + CpuClock>(
     rt: &R,
     task: &str,
     args: &mut Args,
-) -> Result<()> {
+) -> Option<()> {
     let passes = number(args)?;
     let text = text_in(rt, args)?;
-    match task {
-        "read" => report_read(rt, text.as_str(), passes),
-        "offer" => report_offers(rt, text.as_str(), passes),
-        _ => bail!("it does read or offer"),
-    }
+    report(rt, task, text.as_str(), passes)
 }
 
 /// Does both, once.
-fn run_both<R: Input + Print + Eprint + AllocGlobal + CpuClock>(rt: &R) -> Result<()> {
-    let text = io::read_to_string(rt.alloc(), rt.reader())?;
-    let parted = text.as_str().split_once("\n\n");
-    let (read, offered) = parted.context("there is no empty line")?;
-    report_read(rt, read, 1)?;
-    report_offers(rt, offered, 1)
+fn report_both<R: Input + Print + Eprint + AllocGlobal + CpuClock>(rt: &R) -> Option<()> {
+    let text = io::read_to_string(rt.alloc(), rt.reader()).ok()?;
+    let (read, offered) = text.as_str().split_once("\n\n")?;
+    report(rt, "read", read, 1)?;
+    report(rt, "offer", offered, 1)
 }
 
-fn run<R: Env + Files + Input + Print + Eprint + AllocGlobal + CpuClock>(rt: &R) -> Result<()> {
-    let mut args = env::args(rt)?;
-    let _program = args.next();
-    match args.next() {
-        Some(task) => run_task(rt, task.as_str(), &mut args),
-        None => run_both(rt),
+fn run<R: Env + Files + Input + Print + Eprint + AllocGlobal + CpuClock>(rt: &R) -> Option<()> {
+    let mut args = env::args(rt).ok()?;
+    match args.nth(1) {
+        Some(task) => report_told(rt, task.as_str(), &mut args),
+        None => report_both(rt),
     }
 }
 
-fn main(rt: HostRuntime) -> Result<()> {
-    run(&rt)
+fn main(rt: HostRuntime) -> Result<(), &'static str> {
+    run(&rt).ok_or(FAILED)
 }

@@ -1,8 +1,7 @@
 // SPDX-License-Identifier: MIT
-// The offers of messages, whose time is taken.
+// The offers of messages, whose time is taken. They are `None` where octets are no message, or
+// memory was refused.
 
-use crate::reading::octets_in;
-use anyhow::{Context, Result};
 use rrc_history::{Body, Offer};
 use rrc_name::Name;
 use rrc_sets::{Limits, offers};
@@ -18,14 +17,14 @@ pub struct Counts {
     pub data: u64,
 }
 
-/// The messages of a text, one on each line.
-fn messages_in(alloc: Global, text: &str) -> Result<Vec<Message>> {
+/// The messages that these octets are.
+fn messages_in(alloc: Global, octets: &[Vec<u8>]) -> Option<Vec<Message>> {
     let mut messages = Vec::new(alloc);
-    for octets in octets_in(alloc, text)?.as_slice() {
-        let message = read_message(alloc, octets.as_slice()).context("a line is no message")?;
-        messages.push(message).context("no memory for a message")?;
+    for octets in octets {
+        let message = read_message(alloc, octets.as_slice()).ok()?;
+        messages.push(message).ok()?;
     }
-    Ok(messages)
+    Some(messages)
 }
 
 /// Adds to the counts what one message offered.
@@ -46,43 +45,45 @@ fn count_each(
     zone: &Name,
     limits: &Limits,
     counts: &mut Counts,
-) -> Result<()> {
+) -> Option<()> {
     for message in messages {
-        let made = offers(alloc, message, zone, 1000, limits)?;
+        let made = offers(alloc, message, zone, 1000, limits).ok()?;
         count(made.as_slice(), counts);
     }
-    Ok(())
+    Some(())
 }
 
-/// Makes the offers of each message so often, and answers the processor time that this took beside the counts.
+/// Makes the offers of each message so often, and answers the processor time that this took beside
+/// the counts.
 fn count_all<R: CpuClock>(
     rt: &R,
     alloc: Global,
     messages: &[Message],
     zone: &Name,
     passes: u32,
-) -> Result<(Counts, Duration)> {
-    let limits = Limits::new(604_800, 10_800, 30).context("limits out of their ranges")?;
+) -> Option<(Counts, Duration)> {
+    let limits = Limits::new(604_800, 10_800, 30)?;
     let mut counts = Counts {
         messages: 0,
         offers: 0,
         data: 0,
     };
-    let before = rt.thread_cpu_time()?;
+    let before = rt.thread_cpu_time().ok()?;
     for _ in 0..passes {
         count_each(alloc, messages, zone, &limits, &mut counts)?;
     }
-    Ok((counts, rt.thread_cpu_time()?.saturating_sub(before)))
+    let after = rt.thread_cpu_time().ok()?;
+    Some((counts, after.saturating_sub(before)))
 }
 
-/// Makes the offers of the messages of a text so often, as of the zone of all names.
+/// Makes the offers of the messages so often, as of the zone of all names.
 pub fn offer_all<R: CpuClock>(
     rt: &R,
     alloc: Global,
-    text: &str,
+    octets: &[Vec<u8>],
     passes: u32,
-) -> Result<(Counts, Duration)> {
-    let messages = messages_in(alloc, text)?;
-    let zone = Name::root(alloc)?;
+) -> Option<(Counts, Duration)> {
+    let messages = messages_in(alloc, octets)?;
+    let zone = Name::root(alloc).ok()?;
     count_all(rt, alloc, messages.as_slice(), &zone, passes)
 }

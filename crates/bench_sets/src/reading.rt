@@ -1,7 +1,6 @@
 // SPDX-License-Identifier: MIT
 // Reading messages, alone.
 
-use anyhow::{Context, Result};
 use rrc_wire::read_message;
 use std::alloc::Global;
 
@@ -14,14 +13,15 @@ pub struct Counts {
     pub records: u64,
 }
 
-/// The messages of a text, one on each line.
-pub fn octets_in(alloc: Global, text: &str) -> Result<Vec<Vec<u8>>> {
+/// The messages of a text, one on each line in hexadecimal. `None` where a line is not, or memory
+/// was refused.
+pub fn octets_in(alloc: Global, text: &str) -> Option<Vec<Vec<u8>>> {
     let mut messages = Vec::new(alloc);
     for line in text.lines() {
-        let octets = hex::decode(alloc, line).context("a line is not in hexadecimal")?;
-        messages.push(octets).context("no memory for a message")?;
+        let octets = hex::decode(alloc, line).ok()?;
+        messages.push(octets).ok()?;
     }
-    Ok(messages)
+    Some(messages)
 }
 
 /// Adds to the counts what one message reads as.
@@ -44,9 +44,8 @@ fn count_each(alloc: Global, messages: &[Vec<u8>], counts: &mut Counts) {
     }
 }
 
-/// Reads the messages of a text so often.
-pub fn read_all(alloc: Global, text: &str, passes: u32) -> Result<Counts> {
-    let messages = octets_in(alloc, text)?;
+/// Reads the messages so often.
+pub fn read_all(alloc: Global, messages: &[Vec<u8>], passes: u32) -> Counts {
     let mut counts = Counts {
         octets: 0,
         read: 0,
@@ -54,7 +53,7 @@ pub fn read_all(alloc: Global, text: &str, passes: u32) -> Result<Counts> {
         records: 0,
     };
     for _ in 0..passes {
-        count_each(alloc, messages.as_slice(), &mut counts);
+        count_each(alloc, messages, &mut counts);
     }
-    Ok(counts)
+    counts
 }

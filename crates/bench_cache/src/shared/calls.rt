@@ -1,10 +1,10 @@
 // SPDX-License-Identifier: MIT
 // The calls by threads, whose time is taken.
 
-use crate::calls::TAG;
-use rrc_cache::{Part, Refusal};
+use crate::calls::{TAG, ask_of};
+use crate::shared::made::home;
+use rrc_cache::Part;
 use rrc_history::{Ask, Offer, Outcome, Reply};
-use rrc_name::part_of;
 use rrc_share::SharedCache;
 use std::sync::Wait;
 
@@ -15,14 +15,15 @@ pub enum Turn<'a> {
     Offer(Offer),
 }
 
-fn is_hit(reply: &Result<Reply, Refusal>) -> bool {
-    !matches!(reply, Ok(Reply::Miss { .. }) | Err(_))
+/// Asks a shared cache, and answers whether it got an answer.
+fn is_hit<R: Wait>(rt: &R, cache: &SharedCache, ask: &Ask) -> bool {
+    !matches!(cache.ask(rt, TAG, ask), Ok(Reply::Miss { .. }) | Err(_))
 }
 
 /// Makes the call on a shared cache, and answers whether it got an answer or was kept.
 fn is_served<R: Wait>(rt: &R, cache: &SharedCache, turn: Turn<'_>) -> bool {
     match turn {
-        Turn::Ask(ask) => is_hit(&cache.ask(rt, TAG, ask)),
+        Turn::Ask(ask) => is_hit(rt, cache, ask),
         Turn::Offer(offer) => matches!(cache.offer(rt, TAG, offer), Ok(Outcome::Kept)),
     }
 }
@@ -36,24 +37,13 @@ pub fn call_all<R: Wait>(rt: &R, cache: &SharedCache, turns: Vec<Turn<'_>>) -> u
     served
 }
 
-/// Asks the part that the name lies in, which no lock guards, and answers whether that is a hit.
-fn is_hit_at_home(parts: &mut [Part], ask: &Ask) -> bool {
-    let count = parts.len();
-    if !(1..=64).contains(&count) {
-        return false;
-    }
-    match parts.get_mut(part_of(&ask.name, count)) {
-        Some(part) => is_hit(&part.ask(TAG, ask)),
-        None => false,
-    }
-}
-
-/// Makes the asks on parts that no lock guards.
+/// Makes the asks on parts that no lock guards, each of the part that its name lies in.
 pub fn call_lent(parts: &mut [Part], turns: &[Turn<'_>]) -> u64 {
     let mut served = 0_u64;
     for turn in turns {
         if let Turn::Ask(ask) = turn {
-            served = served.wrapping_add(u64::from(is_hit_at_home(parts, ask)));
+            let is_hit = ask_of(parts, home(&ask.name, parts.len()), ask);
+            served = served.wrapping_add(u64::from(is_hit == Some(true)));
         }
     }
     served

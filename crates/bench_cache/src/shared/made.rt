@@ -1,92 +1,84 @@
 // SPDX-License-Identifier: MIT
-// What threads call, made before the time is taken.
+// What threads call, made before the time is taken. Each is `None` where memory or a call was
+// refused.
 
-use crate::calls::TAG;
-use crate::made::{TTL, name, offer};
+use crate::calls::{TAG, offer_to};
+use crate::made::{CHAPTER, PickedAsk, TTL, numbered, offer};
 use crate::numbers::Numbers;
 use crate::shared::calls::Turn;
-use anyhow::{Context, Result, bail};
 use rrc_cache::Part;
 use rrc_history::{Ask, Rules};
-use rrc_name::part_of;
+use rrc_name::{Name, part_of};
 use rrc_share::SharedCache;
 use std::alloc::Global;
 use std::sync::Wait;
 
 /// How many names the cache holds an address of.
-pub const NAMES: u64 = 65_536;
+pub const NAMES: u32 = 65_536;
 
-/// Each part has room for all names, and for as many events as a chapter may have.
-fn rules() -> Result<Rules> {
-    Rules::new(NAMES, 1 << 20, 0).context("the rules are in range")
-}
-
-/// A cache of so many parts that holds all names.
-pub fn filled<R: Wait>(rt: &R, alloc: Global, parts: usize) -> Result<SharedCache> {
+/// A cache of so many parts that holds nothing. Each part has room for all names, and for as many
+/// events as a chapter may have.
+pub fn cache(alloc: Global, parts: u32) -> Option<SharedCache> {
     if !(1..=64).contains(&parts) {
-        bail!("there are 1 to 64 parts");
+        return None;
     }
-    let cache = SharedCache::new(alloc, parts, rules()?)?;
-    for number in 0..NAMES {
-        cache.offer(rt, TAG, offer(alloc, &name(alloc, number)?, 0, TTL)?)?;
-    }
-    Ok(cache)
+    let rules = Rules::new(u64::from(NAMES), CHAPTER, 0)?;
+    SharedCache::new(alloc, parts as usize, rules).ok()
 }
 
-/// Puts the address of a number into the part that its name lies in.
-fn put(alloc: Global, parts: &mut [Part], number: u64) -> Result<()> {
-    let count = parts.len();
-    if !(1..=64).contains(&count) {
-        bail!("there are 1 to 64 parts");
+/// Puts an address of each name.
+pub fn fill<R: Wait>(rt: &R, alloc: Global, cache: &SharedCache) -> Option<()> {
+    for number in 0..u64::from(NAMES) {
+        let offer = numbered(alloc, number, 0, TTL)?;
+        cache.offer(rt, TAG, offer).ok()?;
     }
-    let name = name(alloc, number)?;
-    let part = parts.get_mut(part_of(&name, count));
-    part.context("no such part")?
-        .offer(TAG, offer(alloc, &name, 0, TTL)?)?;
-    Ok(())
+    Some(())
 }
 
-/// So many parts under no lock that hold nothing.
-fn empty(alloc: Global, parts: usize) -> Result<Vec<Part>> {
-    let rules = rules()?;
-    let mut empty = Vec::new(alloc);
-    for _ in 0..parts {
-        empty.push(Part::new(alloc, rules)?)?;
+/// The part that a name lies in, of so many under no lock.
+pub fn home(name: &Name, parts: usize) -> usize {
+    if (1..=64).contains(&parts) {
+        part_of(name, parts)
+    } else {
+        0
     }
-    Ok(empty)
 }
 
-/// So many parts under no lock that hold all names.
-pub fn lent(alloc: Global, parts: usize) -> Result<Vec<Part>> {
-    if !(1..=64).contains(&parts) {
-        bail!("there are 1 to 64 parts");
+/// Puts an address of each name into the part that it lies in.
+pub fn fill_lent(alloc: Global, parts: &mut [Part]) -> Option<()> {
+    for number in 0..u64::from(NAMES) {
+        let offer = numbered(alloc, number, 0, TTL)?;
+        offer_to(parts, home(offer.key.name(), parts.len()), offer)?;
     }
-    let mut filled = empty(alloc, parts)?;
-    for number in 0..NAMES {
-        put(alloc, filled.as_mut_slice(), number)?;
-    }
-    Ok(filled)
+    Some(())
 }
 
-/// The calls of a thread, in no order that shows: so many of each ten are puts, and they are of so many names.
+/// A put of the name that is asked for.
+fn put<'a>(alloc: Global, ask: &Ask) -> Option<Turn<'a>> {
+    let name = ask.name.clone().ok()?;
+    Some(Turn::Offer(offer(alloc, name, 1, TTL)?))
+}
+
+/// The calls of a thread, in no order that shows: so many of each ten are puts, and they are of so
+/// many names.
 pub fn turns<'a>(
     alloc: Global,
     thread: u32,
-    asks: &'a [Ask],
+    asks: &'a [PickedAsk],
     puts: u32,
-    names: u64,
+    names: u32,
     calls: u32,
-) -> Result<Vec<Turn<'a>>> {
+) -> Option<Vec<Turn<'a>>> {
     let mut numbers = Numbers::of(thread);
     let mut turns = Vec::new(alloc);
     for call in 0..calls {
-        let number = numbers.below(names).context("no names")?;
-        let ask = asks.get(number as usize).context("no such question")?;
-        if call % 10 < puts {
-            turns.push(Turn::Offer(offer(alloc, &ask.name, 1, TTL)?))?;
+        let ask = &asks.get(numbers.below(u64::from(names)) as usize)?.ask;
+        let turn = if call % 10 < puts {
+            put(alloc, ask)?
         } else {
-            turns.push(Turn::Ask(ask))?;
-        }
+            Turn::Ask(ask)
+        };
+        turns.push(turn).ok()?;
     }
-    Ok(turns)
+    Some(turns)
 }
