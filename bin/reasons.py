@@ -90,7 +90,12 @@ class Story:
         words, calls = self.replayed(place, line)
         tell = getattr(self, f"tell_{line.word}")
         report = " ".join([str(place), line.word, *words])
-        return report, list(tell(line, words, self.one_by_one(place, calls)))
+        calls = self.one_by_one(place, calls)
+        sentences = list(tell(line, words, calls))
+        # A call is noted when the next is asked for, which none does behind the last of a response.
+        for _ in calls:
+            pass
+        return report, sentences
 
     def replayed(self, place, line):
         words, calls = self.replay.line(line)

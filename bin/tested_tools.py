@@ -1,13 +1,19 @@
 # SPDX-License-Identifier: MIT
 """Tests of bin/why and bin/what-if: what they say of small traces follows from docs/RULES.md. Of
-bin/fuzz, bin/schedules and bin/refusals: that they find what is wrong with a wrong program."""
+bin/fuzz, bin/schedules and bin/refusals: that they find what is wrong with a wrong program. And of
+the program's options: that they are those of docs/FORMATS.md."""
 import csv
+import importlib.machinery
+import importlib.util
 import io
+import itertools
 import json
 import re
+import resource
 import subprocess
 import sys
 import tempfile
+import time
 import xml.etree.ElementTree as xml
 from pathlib import Path
 
@@ -33,6 +39,101 @@ def trace_file(folder, lines):
     path = Path(folder) / "trace"
     path.write_text("".join(f"{it}\n" for it in lines))
     return path
+
+
+# ---- The program's options
+
+# An option that takes a number, in the table of docs/FORMATS.md: its range and its default.
+OPTION = re.compile(r"^\| `--(\w+) N` \| ([\d,]+) to ([\d,]+) \| (\d+) \|", re.M)
+WRONG_ARGUMENTS = 2
+
+
+def options():
+    """The options that take a number, each with its least, its most and its default."""
+    text = (TOP / "docs" / "FORMATS.md").read_text()
+    return {name: [int(it.replace(",", "")) for it in numbers]
+            for name, *numbers in OPTION.findall(text)}
+
+
+def run_program(*words, **others):
+    return subprocess.run([PROGRAM, *words], input="", capture_output=True, text=True,
+                          timeout=LIMIT, **others)
+
+
+def test_options_have_the_ranges_and_defaults_of_the_document():
+    helped = run_program("--help")
+    if helped.returncode or helped.stderr:
+        yield f"help: status {helped.returncode}: {helped.stderr}"
+    if len(options()) != 5:
+        yield f"options of the document: {list(options())}"
+    for name, (least, most, usual) in options().items():
+        if not re.search(rf"--{name} <N> .*\[default: {usual}\]", helped.stdout):
+            yield f"help tells no {name} of {usual}: {helped.stdout}"
+        for number, wanted in ((least, 0), (most, 0), (least - 1, WRONG_ARGUMENTS),
+                               (most + 1, WRONG_ARGUMENTS)):
+            run = run_program(f"--{name}={number}")
+            if run.returncode != wanted:
+                yield f"--{name}={number}: status {run.returncode}: {run.stderr}"
+
+
+def told_of_a_slow_trace(*words):
+    """What the program says on standard error of a trace of 300 lines that takes more than a second
+    to come."""
+    program = subprocess.Popen([PROGRAM, *words], stdin=subprocess.PIPE, stdout=subprocess.DEVNULL,
+                               stderr=subprocess.PIPE)
+    program.stdin.write(b"sweep 1\n" * 300)
+    program.stdin.flush()
+    time.sleep(1.2)
+    return program.communicate(timeout=LIMIT)[1]
+
+
+def test_progress_is_told_where_it_is_asked_for():
+    """The clock is read at line 256, after the trace was read."""
+    for words, wanted in (((), b""), (("--progress",), b"rrcache: at line 256\n")):
+        told = told_of_a_slow_trace(*words)
+        if told != wanted:
+            yield f"{words}: {told}"
+
+
+def take_little_memory():
+    """Has this process take 1 GB at most, and 64 MB for the stack of each thread."""
+    for kind, most in ((resource.RLIMIT_AS, 1 << 30), (resource.RLIMIT_STACK, 64 << 20)):
+        resource.setrlimit(kind, (most, resource.getrlimit(kind)[1]))
+
+
+def test_each_worker_is_a_thread():
+    """The stacks of 8 threads find room, and those of 32 do not."""
+    for words, wanted in (((), 0), (("--workers=8",), 0), (("--workers=32",), 1)):
+        run = run_program(*words, preexec_fn=take_little_memory)
+        if run.returncode != wanted:
+            yield f"{words}: status {run.returncode}: {run.stderr}"
+
+
+def refusals():
+    """bin/refusals, as a module."""
+    loader = importlib.machinery.SourceFileLoader("refusals", str(TOP / "bin" / "refusals"))
+    module = importlib.util.module_from_spec(importlib.util.spec_from_loader("refusals", loader))
+    loader.exec_module(module)
+    return module
+
+
+THREE_EVENTS = b"put 1 a. 1 4 60 01020304\n" + 2 * b"ask 1 a. 1 any none\n"
+
+
+def test_chapters_and_audits_ask_for_memory():
+    """Where chapters end, and whether an audit is made, shows in no report, but in how often the
+    program asks for memory. It does so for its arguments too, so the same number is compared."""
+    module, found = refusals(), {}
+    with tempfile.TemporaryDirectory() as folder:
+        library = module.refuser(folder, "cc")
+        for word in ("--chapter=4096", "--chapter=3", "--chapter=2", "--chapter=1", "--progress",
+                     "--audit"):
+            case = module.Case(word, [PROGRAM, word], THREE_EVENTS, bool)
+            found[word] = next(it for it in itertools.count()
+                               if not module.run_refused(library, case, "MEMORY", it + 1)[1])
+    usual, three, two, one, unaudited, audited = found.values()
+    if not usual == three < two < one or not unaudited < audited:
+        yield f"requests for memory: {found}"
 
 
 # ---- bin/why

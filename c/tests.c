@@ -451,6 +451,78 @@ static void test_chapters(void)
     EXPECT(rrcache_free(&shelf) == RRCACHE_DONE);
 }
 
+/* A full chapter is closed by the next call, unless that is refused for its moment. */
+static void test_full_chapter(void)
+{
+    struct rrcache_shelf shelf = {0};
+    struct rrcache_told told = {0};
+    uint64_t removed = 9;
+    EXPECT(make(&shelf) == RRCACHE_DONE);
+    for (int n = 0; n < 4; n++)
+        EXPECT(ask(&shelf, FIRST, &told, NULL, 0) == RRCACHE_DONE);
+    EXPECT(rrcache_sweep(&shelf, (1ULL << 40) + 1, 1, &removed) == RRCACHE_MOMENT_TOO_LARGE
+           && events(&shelf) == 4);
+    EXPECT(rrcache_sweep(&shelf, 1ULL << 40, 1, &removed) == RRCACHE_DONE && removed == 0
+           && events(&shelf) == 1001);
+    EXPECT(rrcache_free(&shelf) == RRCACHE_DONE);
+}
+
+/* What is renewed often is removed by its last time, whether that is the latest or the earliest. */
+static void test_renewed(void)
+{
+    enum { TIMES = 200, STALE = 3600 };
+    struct rrcache_shelf shelf = {0};
+    uint32_t outcome = 0;
+    uint64_t removed = 9;
+    EXPECT(make(&shelf) == RRCACHE_DONE);
+    for (uint32_t n = 1; n <= TIMES; n++) {
+        EXPECT(offer_address(&shelf, NAME, sizeof NAME, 4, 1000 - n) == RRCACHE_KEPT);
+        EXPECT(rrcache_offer_set(&shelf,
+                                 SET(OTHER, sizeof OTHER, A, RRCACHE_IN, 4, 60, ADDRESS,
+                                     sizeof ADDRESS, FIRST + n),
+                                 1, &outcome)
+               == RRCACHE_DONE);
+    }
+    EXPECT(rrcache_sweep(&shelf, FIRST + TIMES + 60 + STALE - 1, 1, &removed) == RRCACHE_DONE
+           && removed == 0);
+    EXPECT(rrcache_sweep(&shelf, FIRST + TIMES + 60 + STALE, 1, &removed) == RRCACHE_DONE
+           && removed == 1);
+    EXPECT(rrcache_sweep(&shelf, FIRST + 1000 - TIMES + STALE - 1, 1, &removed) == RRCACHE_DONE
+           && removed == 0);
+    EXPECT(rrcache_sweep(&shelf, FIRST + 1000 - TIMES + STALE, 1, &removed) == RRCACHE_DONE
+           && removed == 1 && keys(&shelf) == 0);
+    EXPECT(rrcache_free(&shelf) == RRCACHE_DONE);
+}
+
+/* As many names that failed as a shelf may hold, which is more than it marks before it marks them
+   anew: each of them is found. */
+static void test_failed_names(void)
+{
+    struct rrcache_shelf shelf = {0};
+    struct rrcache_told told = {0};
+    uint32_t outcome = 0;
+    uint8_t name[] = "\2aa\7example", buffer[64];
+    EXPECT(rrcache_make(&shelf, 64, 4, 0, SEED) == RRCACHE_DONE);
+    for (int n = 0; n < 64; n++) {
+        name[1] = (uint8_t)('a' + n / 8);
+        name[2] = (uint8_t)('a' + n % 8);
+        EXPECT(rrcache_offer_failure(&shelf, FAILURE(name, sizeof name, A, RRCACHE_IN, 30, FIRST),
+                                     1, &outcome)
+               == RRCACHE_DONE);
+    }
+    for (int n = 0; n < 64; n++) {
+        name[1] = (uint8_t)('a' + n / 8);
+        name[2] = (uint8_t)('a' + n % 8);
+        EXPECT(rrcache_peek(&shelf, QUERY(name, sizeof name, A, RRCACHE_IN, FIRST, 1, 0), &told,
+                            buffer, sizeof buffer)
+                   == RRCACHE_DONE
+               && told.kind == RRCACHE_MISS_FAILED);
+    }
+    EXPECT(peek(&shelf, FIRST, &told, buffer, sizeof buffer) == RRCACHE_DONE
+           && told.kind == RRCACHE_MISS);
+    EXPECT(rrcache_free(&shelf) == RRCACHE_DONE);
+}
+
 /* How many keys a shelf holds is told through all that changes it. */
 static void test_keys(void)
 {
@@ -709,6 +781,10 @@ static void test_stored(void)
     EXPECT(STORED(OTHER, TXT, RRCACHE_IN) == RRCACHE_DONE && stored.trust == RRCACHE_AUTHORITY
            && stored.ttl == 40 && stored.moment == FIRST + 5);
     EXPECT(events(&shelf) == 2);
+    /* The largest TTL (RFC 2181 section 8). */
+    EXPECT(offer_address(&shelf, THIRD, sizeof THIRD, RRCACHE_AUTHORITY, (1u << 31) - 1)
+           == RRCACHE_KEPT);
+    EXPECT(STORED(THIRD, A, RRCACHE_IN) == RRCACHE_DONE && stored.ttl == (1u << 31) - 1);
     stored.ttl = 7;
     EXPECT(STORED(NO_NAME, TXT, RRCACHE_IN) == RRCACHE_BAD_NAME && stored.ttl == 7);
     EXPECT(rrcache_tell_stored(&shelf, NULL, &stored) == RRCACHE_NULL
@@ -972,9 +1048,51 @@ static void test_octets(void)
     EXPECT(rrcache_part_of(NAME, sizeof NAME, 64, &part) == RRCACHE_DONE && part < 64);
     EXPECT(rrcache_part_of(UPPER, sizeof UPPER, 64, &other) == RRCACHE_DONE && other == part);
     EXPECT(rrcache_part_of(NAME, sizeof NAME, 1, &part) == RRCACHE_DONE && part == 0);
+    /* The hash of a name is 0 at first, and with each octet 1,000,003 times what it was and that
+       octet, in 32 bits. */
+    EXPECT(part_of(NAME, sizeof NAME) == 5 && part_of(OTHER, sizeof OTHER) == 10
+           && part_of(THIRD, sizeof THIRD) == 3);
     EXPECT(rrcache_part_of(NAME, sizeof NAME, 0, &part) == RRCACHE_BAD_RULES
            && rrcache_part_of(NAME, sizeof NAME, 65, &part) == RRCACHE_BAD_RULES);
     EXPECT(rrcache_part_of(NO_NAME, sizeof NO_NAME, 4, &part) == RRCACHE_BAD_NAME && part == 0);
+}
+
+static uint32_t status_of(const char *name, size_t size)
+{
+    uint64_t part;
+    return rrcache_part_of((const uint8_t *)name, size, PARTS, &part);
+}
+
+/* The status of the wire form of labels of so many octets each, which end with the root. */
+static uint32_t status_of_labels(const char *counts)
+{
+    char name[300];
+    size_t size = 0;
+    for (; *counts; counts++) {
+        size_t count = (size_t)*counts;
+        name[size] = *counts;
+        memset(name + size + 1, 'a', count);
+        size += 1 + count;
+    }
+    name[size] = 0;
+    return status_of(name, size + 1);
+}
+
+/* Which octets are the wire form of a name, within the limits of 63 and 255 octets (RFC 1035
+   sections 2.3.4 and 3.1). */
+static void test_wire_forms(void)
+{
+    EXPECT(status_of("", 1) == RRCACHE_DONE && status_of("\2.\\", 4) == RRCACHE_DONE);
+    EXPECT(status_of("", 0) == RRCACHE_BAD_NAME && status_of("\3ww", 3) == RRCACHE_BAD_NAME
+           && status_of("\3www", 4) == RRCACHE_BAD_NAME && status_of("\77", 1) == RRCACHE_BAD_NAME);
+    EXPECT(status_of("\1a\0", 4) == RRCACHE_BAD_NAME && status_of("\0\1a", 4) == RRCACHE_BAD_NAME);
+    /* A label of 64 octets, and a pointer, which names in messages alone may have. */
+    EXPECT(status_of("\100", 2) == RRCACHE_BAD_NAME
+           && status_of("\1a\300\14", 5) == RRCACHE_BAD_NAME);
+    EXPECT(status_of_labels("\77") == RRCACHE_DONE && status_of_labels("\100") == RRCACHE_BAD_NAME);
+    EXPECT(status_of_labels("\77\77\77\75") == RRCACHE_DONE);
+    EXPECT(status_of_labels("\77\77\77\76") == RRCACHE_BAD_NAME
+           && status_of_labels("\77\77\77\74\1") == RRCACHE_BAD_NAME);
 }
 
 /* ---- Refusals. */
@@ -1731,6 +1849,9 @@ int main(void)
     test_refused_classes();
     test_stale();
     test_chapters();
+    test_full_chapter();
+    test_renewed();
+    test_failed_names();
     test_keys();
     test_parts();
     test_one_reading();
@@ -1740,6 +1861,7 @@ int main(void)
     test_stored();
     test_alias();
     test_octets();
+    test_wire_forms();
     test_no_shelf();
     test_making_refused();
     test_has_shelf();

@@ -1,7 +1,8 @@
 # SPDX-License-Identifier: MIT
 """Tests of the library through Python (the package rrcache), which bin/test-forwarder runs: what it
-refuses, the examples of its docstrings, many threads, the package once it is installed, and the
-rows that it can be told, each of whose lines is compared with the row's report.
+refuses, how names in data are read, what of a response is relevant, the examples of its docstrings,
+many threads, the package once it is installed, and the rows that it can be told, each of whose
+lines is compared with the row's report.
 """
 import importlib
 import importlib.util
@@ -17,8 +18,9 @@ TOP = Path(__file__).resolve().parent.parent
 sys.path[:0] = [str(TOP / "examples" / "forwarder" / "tests"), str(TOP / "bin")]
 
 import rrcache
-from dns import A, CNAME, OPT, TXT, message, name_at, question, record, soa_data, wire
-from harness import Skipped, Wrong, address, same, wanted
+from dns import (A, CNAME, NS, OPT, SOA, TXT, message, name_at, pointer, question, record, response,
+                 soa_data, wire)
+from harness import DNAME, NXDOMAIN, SERVFAIL, Skipped, Wrong, address, same, soa, wanted
 
 VERSION = (TOP / "VERSION").read_text().strip()
 MODES = {"none": 0, "failed": 1, "now": 2}
@@ -193,6 +195,57 @@ def test_sweeps_in_steps():
         same(shelf.sweep_some(200, 1), (1, True), "the last step")
 
 
+QUESTION = question("a.example", A)
+AT_QUESTION, AT_ZONE = pointer(12), pointer(14)
+
+
+def data_of(rtype, name):
+    """Data of a type, with each of their names in these octets."""
+    fixed, names = LAYOUTS[rtype]
+    return b"\7" * fixed + name * names + b"\t" * (20 if rtype == SOA else 0)
+
+
+def with_data(rtype, data, ttl=60):
+    return response(QUESTION, [record(AT_QUESTION, rtype, ttl, data)])
+
+
+def faults_of_data(rtype):
+    """Messages with data of a type that are wrong, each with its fault."""
+    short, bad_data = 1, 5
+    data = data_of(rtype, b"\1b" + AT_ZONE)
+    for size in range(len(data)):
+        yield with_data(rtype, data[:size]) + data[size:], bad_data
+    yield with_data(rtype, data + b"\0"), bad_data
+    yield with_data(rtype, data + b"\0")[:-1], short
+    # A pointer to the TTL, whose first octet begins a label that the message's end cuts.
+    yield with_data(rtype, data_of(rtype, pointer(33)), 63 << 24), short
+
+
+def test_names_in_data_are_read():
+    """Of each type whose data have names these are expanded, and fill the data exactly."""
+    for rtype in LAYOUTS:
+        with rrcache.Shelf() as shelf:
+            shelf.offer_message(with_data(rtype, data_of(rtype, b"\1b" + AT_ZONE)), ".", 100)
+            same(shelf.peek("a.example", rtype, 100).data, (data_of(rtype, wire("b.example")),),
+                 f"data of type {rtype}")
+        for octets, number in faults_of_data(rtype):
+            same(rrcache.fault(octets), number, f"the fault of {octets.hex()}, type {rtype}")
+
+
+def test_limits_of_offers():
+    """Each of the three numbers is within its range, or refused."""
+    for numbers, is_within in (((1, 1, 1), True), ((604_800, 604_800, 300), True),
+                               ((0, 1, 1), False), ((604_801, 1, 1), False),
+                               ((1, 0, 1), False), ((1, 604_801, 1), False),
+                               ((1, 1, 0), False), ((1, 1, 301), False)):
+        try:
+            rrcache.Offers(response(QUESTION), ".", 1, 100, rrcache.Limits(*numbers)).close()
+        except rrcache.BadLimits:
+            wanted(not is_within, f"{numbers} are refused")
+        else:
+            wanted(is_within, f"{numbers} are taken")
+
+
 def test_what_is_relevant_is_kept():
     octets = message(7, 0x8580, question("www.example", A), [
         record("www.example", A, 60, address(1)), record("bank.example", A, 60, address(6))])
@@ -207,6 +260,90 @@ def test_what_is_relevant_is_kept():
             except rrcache.OtherQuery:
                 continue
             raise Wrong(f"{other} is not refused")
+
+
+def with_address(owner, number=1):
+    return record(owner, A, 60, address(number))
+
+
+FRESH, NO_NAME, FAILED = rrcache.Kind.FRESH, rrcache.Kind.NXDOMAIN, rrcache.Kind.SERVFAIL
+# Responses of a server of example. to the question about the addresses of a.example., and what of
+# them is relevant: the name, the type and the reply of each.
+RELEVANT = {
+    "no such name": (
+        response(QUESTION, authority=[soa()], rcode=NXDOMAIN),
+        [("example", SOA, FRESH), ("a.example", A, NO_NAME)]),
+    "a failure": (response(QUESTION, rcode=SERVFAIL), [("a.example", A, FAILED)]),
+    "a truncated response": (message(0x1234, 0x8600, QUESTION, [with_address("a.example")]), []),
+    "an alias, and the address of another name": (
+        response(QUESTION, [record("a.example", CNAME, 60, wire("b.example")),
+                            with_address("b.example"), with_address("c.example")]),
+        [("a.example", CNAME, FRESH), ("b.example", A, FRESH)]),
+    "another type": (
+        response(QUESTION, [with_address("a.example"), record("a.example", TXT, 60, b"\1A")]),
+        [("a.example", A, FRESH)]),
+    "a redirected tree, and one below the question": (
+        response(QUESTION, [record("example", DNAME, 60, wire("x")),
+                            record("a.example", CNAME, 60, wire("a.x")),
+                            record("a.example", DNAME, 60, wire("y"))]),
+        [("example", DNAME, FRESH), ("a.example", CNAME, FRESH)]),
+    "a referral, with the address of its server and of another host": (
+        message(0x1234, 0x8000, QUESTION, (), [record("example", NS, 60, wire("ns.example"))],
+                [with_address("ns.example"), with_address("b.example")]),
+        [("example", NS, FRESH), ("ns.example", A, FRESH)]),
+    "servers of another name": (
+        message(0x1234, 0x8000, QUESTION, (), [record("b.example", NS, 60, wire("example"))]), []),
+    "servers of two zones that the question is in": (
+        message(0x1234, 0x8000, QUESTION, (), [record("example", NS, 60, wire("a.example")),
+                                               record("a.example", NS, 60, wire("example"))]),
+        [("example", NS, FRESH)]),
+    "an address of three octets": (
+        response(QUESTION, [record("a.example", A, 60, b"\xc0\0\2")]), []),
+}
+
+
+def offered_as_relevant(shelf, octets, query):
+    """How many offers of a response are relevant to a query, all of which the shelf keeps."""
+    with rrcache.Offers(octets, "example", 1, 100, query=query) as offers:
+        counts = shelf.offer_read(offers, 0)
+    same(counts[1:], (0, 0), "offers that are not kept")
+    return counts.kept
+
+
+def test_what_is_relevant_in_responses():
+    for name, (octets, relevant) in RELEVANT.items():
+        with rrcache.Shelf() as shelf:
+            kept = offered_as_relevant(shelf, octets, rrcache.Query("A.example", A, 0x1234))
+            same(kept, len(relevant), name)
+            for owner, rtype, kind in relevant:
+                reply = shelf.peek(owner, rtype, 100, rrcache.Purpose.ANYTHING)
+                same(reply.kind, kind, f"{name}: {owner} {rtype}")
+
+
+def test_how_much_is_relevant():
+    """At most 11 aliases behind the question's name, 20 hosts, and 16,384 octets of an RRset."""
+    query = rrcache.Query("x0.example", A, 0x1234)
+
+    def aliases(number):
+        chain = [record(f"x{it}.example", CNAME, 60, wire(f"x{it + 1}.example"))
+                 for it in range(number)]
+        return response(question("x0.example", A), [*chain, with_address(f"x{number}.example")])
+
+    def hosts(number):
+        names = [f"ns{it}.example" for it in range(number)]
+        return message(0x1234, 0x8000, question("x0.example", A), (),
+                       [record("example", NS, 60, wire(it)) for it in names],
+                       [with_address(it) for it in names])
+
+    def octets(number):
+        return response(question("x0.example", TXT), [record("x0.example", TXT, 60, bytes(number))])
+    for octets_of, number, kept, asked in (
+            (aliases, 11, 12, query), (aliases, 12, 12, query), (hosts, 20, 21, query),
+            (hosts, 21, 21, query), (octets, 16_384, 1, query._replace(rtype=TXT)),
+            (octets, 16_385, 0, query._replace(rtype=TXT))):
+        with rrcache.Shelf() as shelf:
+            same(offered_as_relevant(shelf, octets_of(number), asked), kept,
+                 f"{number} {octets_of.__name__}")
 
 
 def test_what_is_stored_is_told():

@@ -1,10 +1,6 @@
 // SPDX-License-Identifier: MIT
-mod keys;
 mod names;
-mod orders;
-mod parts;
 mod sequences;
-mod shared_values;
 
 use rrc_name::Name;
 use std::alloc::Global;

@@ -1,9 +1,8 @@
 // SPDX-License-Identifier: MIT
-//! Tests of `rrc_trace`, `rrc_collate` and `rrc_report`, by their public calls.
+//! Tests of `rrc_trace` and `rrc_report`, by their public calls, and of `rrc_collate` by those of
+//! `rrc_report`.
 #![tactic(auto)]
 
-#[cfg(test)]
-mod collate;
 #[cfg(test)]
 mod report;
 #[cfg(test)]

@@ -1,8 +1,6 @@
 // SPDX-License-Identifier: MIT
 mod fakes;
 mod faults;
-mod questions;
+mod names;
 mod readers;
-mod reports;
-mod traces;
 mod writers;

@@ -1,53 +1,49 @@
 // SPDX-License-Identifier: MIT
-mod shared;
-mod shelf;
+ghost use Rattle.std.specs.Prelude.{◌≡◌, ◌<◌};
 
-use crate::cache::{self, Held, rules};
-use rrc_cache::Part;
-use rrc_history::{Ask, ChainFault, Chapter, Mode, Offer, Purpose, Reply, Tag, chain};
-use rrc_name::NameFault;
-use rrc_share::{Shelf, on_shelf_offer};
+use crate::cache::{TAG, failure, question, rules};
+use rrc_cache::Refusal;
+use rrc_history::Reply;
+use rrc_share::{SharedCache, Shelf};
 use std::alloc::Global;
-use std::test::Fail;
+use std::process::Abort;
+use std::sync::Wait;
 
-const TAG: Tag = Tag { line: 0, place: 0 };
-
-/// That asking for the addresses of a name failed, at a moment, for 30 seconds.
-fn failure(alloc: Global, name: &str, moment: u64) -> Result<Offer, Fail> {
-    cache::offer(alloc, (moment, name, Held::Failure(30)))
-}
-
-/// A question for the addresses of a name.
-fn question(alloc: Global, name: &str, moment: u64) -> Result<Ask, NameFault> {
-    cache::question(alloc, (moment, name, 1, Purpose::Any, Mode::NoStale))
-}
-
-/// A part in chapters of one event, on a shelf.
-fn new_shelf(alloc: Global) -> Result<Shelf, Fail> {
-    let part = Part::new(alloc, rules(1024, 1)?)?;
-    Ok(Shelf::new(alloc, part))
-}
-
-/// Such a shelf, which was told at moment 10 that asking for the addresses of `a.example.` failed.
-fn told(alloc: Global) -> Result<Shelf, Fail> {
-    let offer = failure(alloc, "a.example.", 10)?;
-    let mut shelf = new_shelf(alloc)?;
-    on_shelf_offer(&mut shelf, TAG, offer)?;
-    Ok(shelf)
-}
-
-/// Whether a reply is none, and asking may be tried again from a moment on.
-fn is_retried_from(reply: &Reply, moment: u64) -> bool {
+/// From when on servers may be asked again, by a reply that has no answer.
+fn retry_from(reply: &Reply) -> Option<u64> {
     match reply {
-        Reply::Miss { retry_from } => *retry_from == Some(moment),
-        _ => false,
+        Reply::Miss { retry_from } => *retry_from,
+        _ => None,
     }
 }
 
-/// How many events chapters have as one history.
-fn events_of(chapters: Vec<Chapter>) -> Result<usize, ChainFault> {
-    let whole = chain(chapters)?;
-    Ok(whole.events.len())
+/// The same of a reply that was not refused.
+fn retry_of(rt: &impl Abort, reply: Result<Reply, Refusal>) -> Option<u64> {
+    let reply = reply.expect(rt, "no reply");
+    retry_from(&reply)
+}
+
+/// The same of what `would_answer` and then `ask` answer, of the addresses of a name.
+fn told<R: Abort + Wait>(
+    rt: &R,
+    alloc: Global,
+    cache: &SharedCache,
+    name: &str,
+) -> [Option<u64>; 2] {
+    let ask = question(rt, alloc, name);
+    let would = retry_of(rt, cache.would_answer(rt, &ask));
+    [would, retry_of(rt, cache.ask(rt, TAG, &ask))]
+}
+
+/// Sweeps part 1, closes the chapters of parts 0 and 1, and takes that of part 1. It answers how
+/// many keys were removed, and how many chapters taken.
+fn close<R: Abort + Wait>(rt: &R, cache: &SharedCache) -> (usize, usize)
+    requires { 1 < cache.now }
+{
+    let removed = cache.sweep_part(rt, 1, TAG, 40).expect(rt, "no sweep");
+    cache.checkpoint_part(rt, 0).expect(rt, "no chapter");
+    cache.checkpoint_part(rt, 1).expect(rt, "no chapter");
+    (removed, cache.take_chapters(rt, 1).len())
 }
 
 /// How many chapters are closed, the number of the one that is open, and how many events that has.
@@ -56,11 +52,38 @@ fn stand(shelf: &Shelf) -> (usize, u64, usize) {
     (shelf.closed().len(), part.number(), part.events().len())
 }
 
-/// Whether the chapter that is open began behind event 0, with just the entry that that one stored.
-fn opens_with_event_0(shelf: &Shelf) -> bool {
-    let opening = shelf.part().snapshot();
-    match opening.entries.get(0) {
-        Some(entry) => opening.first == 1 && opening.entries.len() == 1 && entry.number == 0,
-        None => false,
+/// Whether the parts stand so, in order.
+fn stand_so(shelves: &[Shelf], wanted: &[(usize, u64, usize)]) -> bool {
+    for (shelf, wanted) in shelves.iter().zip(wanted) {
+        if stand(shelf) != *wanted {
+            return false;
+        }
     }
+    shelves.len() == wanted.len()
+}
+
+/// The name that was offered is in part 1, in whatever case it is asked for, and the other one in
+/// part 0. Both parts closed a chapter, and that of part 1 was taken.
+static STANDS: [(usize, u64, usize); 4] = [(1, 2, 0), (0, 2, 0), (0, 1, 0), (0, 1, 0)];
+
+/// A cache of four parts that kept a failure.
+fn kept<R: Abort + Wait>(rt: &R, alloc: Global) -> SharedCache
+    ensures { result ≡ 4 }
+{
+    let cache = SharedCache::new(alloc, 4, rules(rt, 8)).expect(rt, "no cache");
+    let failure = failure(rt, alloc, "a.example.");
+    cache.offer(rt, TAG, failure).expect(rt, "no outcome");
+    cache
+}
+
+#[test]
+fn calls_are_made_on_the_part_of_the_name(rt: HostRuntime) {
+    let alloc = rt.alloc();
+    let cache = kept(&rt, alloc);
+    let own = told(&rt, alloc, &cache, "A.eXample.");
+    let other = told(&rt, alloc, &cache, "b.example.");
+    let closed = close(&rt, &cache);
+    let is_so = stand_so(cache.into_parts().as_slice(), &STANDS);
+    assert!(rt; own == [Some(40), Some(40)] && other == [None, None]);
+    assert!(rt; closed == (1, 1) && is_so);
 }

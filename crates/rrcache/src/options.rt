@@ -117,6 +117,3 @@ pub(crate) fn asked_in(matches: &ArgMatches<'_>) -> Option<Asked> {
         progress: matches.get_flag("progress"),
     })
 }
-
-#[cfg(test)]
-mod tests;

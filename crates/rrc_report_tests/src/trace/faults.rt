@@ -1,11 +1,10 @@
 // SPDX-License-Identifier: MIT
 use rrc_trace::ReplayFault;
-use std::alloc::{AllocError, Global};
+use std::alloc::Global;
 use std::process::Abort;
-use std::test::Fail;
 
 /// Faults, each with its number and its text.
-const FAULTS: [(ReplayFault, u8, &str); 9] = [
+static FAULTS: [(ReplayFault, u8, &str); 9] = [
     (
         ReplayFault::BadLine(3),
         1,
@@ -41,22 +40,15 @@ const FAULTS: [(ReplayFault, u8, &str); 9] = [
     ),
 ];
 
-fn test_text(
-    rt: &impl Abort,
-    alloc: Global,
-    fault: ReplayFault,
-    wanted: &str,
-) -> Result<(), AllocError> {
-    let text = fault.to_string(alloc)?;
-    assert_eq!(rt; text.as_str(), wanted);
-    Ok(())
+fn is_text(rt: &impl Abort, alloc: Global, fault: ReplayFault, wanted: &str) -> bool {
+    let text = fault.to_string(alloc).expect(rt, wanted);
+    text.as_str() == wanted
 }
 
 #[test]
-fn numbers_and_texts_of_faults(rt: HostRuntime) -> Result<(), Fail> {
-    for (fault, number, wanted) in FAULTS {
-        assert_eq!(rt; fault.number(), number, "{fault:?}");
-        test_text(&rt, rt.alloc(), fault, wanted)?;
+fn numbers_and_texts_of_faults(rt: HostRuntime) {
+    for (fault, number, text) in &FAULTS {
+        assert!(rt; fault.number() == *number, "{text}");
+        assert!(rt; is_text(&rt, rt.alloc(), *fault, text), "{text}");
     }
-    Ok(())
 }

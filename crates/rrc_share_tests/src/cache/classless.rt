@@ -1,217 +1,107 @@
 // SPDX-License-Identifier: MIT
-use super::{AA, address, closed, key as now_key, negative, positive, question, rules, set, soa};
+use super::{TAG, folded, name, rules};
 use rrc_cache::{ChapterFault, classless_chapter, recheck};
 use rrc_history::classless::{Ask, Chapter, Event, Key, Offer, Snapshot};
-use rrc_history::name::{Name, NameFault, Slot};
-use rrc_history::{
-    Body, Event as NowEvent, FirstBad, Mode, Outcome, Purpose, Reply, Tag, Trust, audit,
-    from_classless,
-};
+use rrc_history::name::{Sequence, Slot};
+use rrc_history::{Body, Chapter as NowChapter, Mode, Outcome, Purpose, Reply, from_classless};
 use std::alloc::Global;
-use std::test::Fail;
+use std::process::Abort;
 
-// The trace and the report of the row later-nxdomain-governs-an-unexpired-address.
-
-/// The data of the SOA record of `example.`, of which the minimum is 300.
-const SOA: [u8; 38] = [
-    7, 101, 120, 97, 109, 112, 108, 101, 0, 7, 101, 120, 97, 109, 112, 108, 101, 0, 0, 0, 0, 1, 0,
-    0, 14, 16, 0, 0, 2, 88, 0, 9, 58, 128, 0, 0, 1, 44,
-];
-
-const TAG: Tag = Tag { line: 0, place: 0 };
-
-/// What the row offers and is answered.
-#[derive(Clone, Copy)]
-enum Data {
-    /// The address of `a.example.`.
-    Address,
-    /// The SOA record of `example.` as a set.
-    Soa,
-    /// That `a.example.` does not exist, as the SOA record says.
-    NoName,
-    Miss,
+fn key(rt: &impl Abort, alloc: Global) -> Key {
+    Key::of(&name(rt, alloc, "a.example."), Slot::Failed(1)).expect(rt, "no key")
 }
 
-fn body(alloc: Global, data: Data) -> Result<Body, NameFault> {
-    match data {
-        Data::Address => Ok(positive(address(alloc, "a.example.", 1)?, AA, 604_800)),
-        Data::Soa => Ok(positive(set(alloc, "example.", &SOA)?, Trust::Authority, 3600)),
-        _ => Ok(negative(soa(alloc, "example.", &SOA)?)),
+/// That asking for the addresses of `a.example.` failed, at moment 10, for 30 seconds.
+fn offered(rt: &impl Abort, alloc: Global, outcome: Outcome) -> Event {
+    let body = Body::Failure { ttl: 30 };
+    Event::Offered {
+        tag: TAG,
+        offer: Offer::new(key(rt, alloc), body, 10).expect(rt, "no offer"),
+        evicted: None,
+        outcome,
     }
 }
 
-/// The answer of the row's report.
-fn reply(alloc: Global, data: Data) -> Result<Reply, NameFault> {
-    match data {
-        Data::NoName => Ok(Reply::NxDomain {
-            soa: soa(alloc, "example.", &SOA)?,
-            left: 1,
-        }),
-        Data::Soa => Ok(Reply::Fresh {
-            set: set(alloc, "example.", &SOA)?,
-            left: 3300,
-        }),
-        _ => Ok(Reply::Miss { retry_from: None }),
-    }
-}
-
-/// The offers of the row: the moment, the name, its slot, and what is offered.
-const OFFERS: [(u64, &str, Slot, Data); 3] = [
-    (1000, "a.example.", Slot::Set(1), Data::Address),
-    (2000, "example.", Slot::Set(6), Data::Soa),
-    (2000, "a.example.", Slot::Nx, Data::NoName),
-];
-
-fn offer(
-    alloc: Global,
-    (moment, name, slot, data): (u64, &str, Slot, Data),
-) -> Result<Offer, Fail> {
-    let name = Name::from_text(alloc, name)?;
-    let key = Key::of(&name, slot)?;
-    Ok(Offer::new(key, body(alloc, data)?, moment)?)
-}
-
-/// Puts the offers of the row behind events, of which the first has this outcome.
-fn push_offers(alloc: Global, events: &mut Vec<Event>, first: Outcome) -> Result<(), Fail> {
-    let mut outcome = first;
-    for offered in OFFERS {
-        events.push(Event::Offered {
-            tag: TAG,
-            offer: offer(alloc, offered)?,
-            outcome,
-            evicted: None,
-        })?;
-        outcome = Outcome::Kept;
-    }
-    Ok(())
-}
-
-/// The questions of the row, which are a client's: the moment, the name, the type, the mode, and the
-/// answer.
-const ASKS: [(u64, &str, u16, Mode, Data); 3] = [
-    (2299, "a.example.", 1, Mode::NoStale, Data::NoName),
-    (2300, "a.example.", 1, Mode::Now, Data::Miss),
-    (2300, "example.", 6, Mode::NoStale, Data::Soa),
-];
-
-fn ask(
-    alloc: Global,
-    (moment, name, rtype, mode, _): (u64, &str, u16, Mode, Data),
-) -> Result<Ask, NameFault> {
-    let key = now_key(alloc, name, Slot::Nx)?;
-    Ok(Ask {
-        name: key.name().clone()?,
-        rtype,
-        moment,
+fn asked(rt: &impl Abort, alloc: Global) -> Event {
+    let ask = Ask {
+        name: folded(rt, alloc, "a.example."),
+        rtype: 1,
+        moment: 12,
         purpose: Purpose::Answer,
-        mode,
-    })
-}
-
-/// Puts the questions of the row behind events.
-fn push_asks(alloc: Global, events: &mut Vec<Event>) -> Result<(), Fail> {
-    for asked in ASKS {
-        let ask = ask(alloc, asked)?;
-        events.push(Event::Asked {
-            tag: TAG,
-            ask,
-            reply: reply(alloc, asked.4)?,
-        })?;
+        mode: Mode::NoStale,
+    };
+    Event::Asked {
+        tag: TAG,
+        reply: Reply::Miss {
+            retry_from: Some(40),
+        },
+        ask,
     }
-    Ok(())
 }
 
-/// The events of the row, of which the first has this outcome.
-fn events(alloc: Global, first: Outcome) -> Result<Vec<Event>, Fail> {
-    let mut events = Vec::new(alloc);
-    push_offers(alloc, &mut events, first)?;
-    push_asks(alloc, &mut events)?;
-    Ok(events)
+fn swept(rt: &impl Abort, alloc: Global) -> Event {
+    let mut gone = Sequence::new(alloc);
+    gone.push(key(rt, alloc)).expect(rt, "no place");
+    Event::Swept {
+        tag: TAG,
+        moment: 40,
+        gone,
+    }
+}
+
+/// An event of each kind. The first has this outcome.
+fn events(rt: &impl Abort, alloc: Global, first: Outcome) -> Vec<Event> {
+    let mut events = Vec::with_capacity(alloc, 3).expect(rt, "no room");
+    events
+        .push(offered(rt, alloc, first))
+        .expect(rt, "no place");
+    events.push(asked(rt, alloc)).expect(rt, "no place");
+    events.push(swept(rt, alloc)).expect(rt, "no place");
+    events
 }
 
 /// A chapter of those events from a snapshot of nothing.
 fn chapter(
+    rt: &impl Abort,
     alloc: Global,
     number: u64,
     first: Outcome,
-) -> Result<Result<Chapter, ChapterFault>, Fail> {
-    let snapshot = Snapshot::new(rules(16, 4096)?, 0, Vec::new(alloc))?;
-    Ok(classless_chapter(alloc, number, snapshot, events(alloc, first)?))
+) -> Result<Chapter, ChapterFault> {
+    let snapshot = Snapshot::new(rules(rt, 4096), 0, Vec::new(alloc)).expect(rt, "no snapshot");
+    classless_chapter(alloc, number, snapshot, events(rt, alloc, first))
 }
 
-/// The image of the row's chapter.
-fn image(alloc: Global) -> Result<rrc_history::Chapter, Fail> {
-    let before = chapter(alloc, 7, Outcome::Kept)??;
-    Ok(from_classless(alloc, &before)?)
+/// What a chapter of those events is now.
+fn image(rt: &impl Abort, alloc: Global) -> NowChapter {
+    let chapter = chapter(rt, alloc, 7, Outcome::Kept).expect(rt, "no chapter");
+    from_classless(alloc, &chapter).expect(rt, "no image")
 }
 
-#[test]
-fn image_of_a_classless_chapter_is_legal(rt: HostRuntime) -> Result<(), Fail> {
-    let made = image(rt.alloc())?;
-    assert!(rt; closed(&made) == (7, 0, 6, 3) && made.closing().first == 6);
-    assert!(rt; audit(made.snapshot(), made.events()) == Ok(()));
-    assert!(rt; recheck(rt.alloc(), made.snapshot(), made.events()) == Ok(()));
-    Ok(())
-}
-
-/// The first question of the row in a class, with an answer.
-fn asked_in(alloc: Global, class: u16, data: Data) -> Result<NowEvent, NameFault> {
-    let mut ask = question(
-        alloc,
-        (2299, "a.example.", 1, Purpose::Answer, Mode::NoStale),
-    )?;
-    ask.class = class;
-    Ok(NowEvent::Asked {
-        tag: TAG,
-        ask,
-        reply: reply(alloc, data)?,
-    })
-}
-
-/// What an audit says of the image, where the first question is asked once more behind it.
-fn said_of(alloc: Global, class: u16, data: Data) -> Result<Result<(), FirstBad>, Fail> {
-    let asked = asked_in(alloc, class, data)?;
-    let rrc_history::Chapter {
-        snapshot,
-        events,
-        ..
-    } = image(alloc)?;
-    let mut events = events.into_vec();
-    events.push(asked)?;
-    Ok(audit(&snapshot, events.as_slice()))
+/// The number of that, and how many events it has, which are legal.
+fn legal(rt: &impl Abort, alloc: Global) -> (u64, usize) {
+    let made = image(rt, alloc);
+    recheck(alloc, made.snapshot(), made.events()).expect(rt, "not legal");
+    (made.number(), made.events().len())
 }
 
 #[test]
-fn image_answers_in_class_in_alone(rt: HostRuntime) -> Result<(), Fail> {
-    for (class, data, wanted) in [
-        (1, Data::NoName, Ok(())),
-        (1, Data::Miss, Err(FirstBad(6))),
-        (3, Data::NoName, Err(FirstBad(6))),
-        (3, Data::Miss, Ok(())),
-    ] {
-        assert!(rt;
-            said_of(rt.alloc(), class, data)? == wanted,
-            "{wanted:?} in class {class}"
-        );
+fn image_of_a_classless_chapter_is_legal(rt: HostRuntime) {
+    assert!(rt; legal(&rt, rt.alloc()) == (7, 3));
+}
+
+/// The number of a chapter, the outcome of its first event, and the number of the fault.
+static FAULTS: [(u64, Outcome, u8); 2] = [(0, Outcome::Kept, 1), (1, Outcome::Cleared, 2)];
+
+fn fault(rt: &impl Abort, alloc: Global, number: u64, first: Outcome) -> u8 {
+    let fault = chapter(rt, alloc, number, first)
+        .err()
+        .expect(rt, "no fault");
+    fault.number()
+}
+
+#[test]
+fn tells_why_events_are_no_classless_chapter(rt: HostRuntime) {
+    for (number, first, wanted) in &FAULTS {
+        assert!(rt; fault(&rt, rt.alloc(), *number, *first) == *wanted);
     }
-    Ok(())
-}
-
-#[test]
-fn tells_why_events_are_no_classless_chapter(rt: HostRuntime) -> Result<(), Fail> {
-    for (number, first, fault) in [
-        (0, Outcome::Kept, Some((ChapterFault::BadNumber, 1))),
-        (1, Outcome::Kept, None),
-        ((1 << 62) - 1, Outcome::Kept, None),
-        (1 << 62, Outcome::Kept, Some((ChapterFault::BadNumber, 1))),
-        (0, Outcome::Cleared, Some((ChapterFault::BadNumber, 1))),
-        (1, Outcome::Cleared, Some((ChapterFault::NotLegal(0), 2))),
-    ] {
-        let told = chapter(rt.alloc(), number, first)?.err();
-        assert!(rt;
-            told.map(|fault| (fault, fault.number())) == fault,
-            "{number}: {told:?}"
-        );
-    }
-    Ok(())
 }
