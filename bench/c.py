@@ -13,6 +13,7 @@ import sys
 import textwrap
 import time
 
+from page import machine, write_section
 from quiet import undisturbed
 
 TOP = pathlib.Path(__file__).resolve().parent.parent
@@ -20,7 +21,7 @@ BUILD = TOP / "build"
 PROGRAM = BUILD / "c_threads"
 KINDS = {"ask": "asks that hit", "put": "puts that replace", "both": "one ask to one put"}
 SHELVES = {"own": "of each thread's own", "shared": "under locks"}
-HEADING = "\n## The library for C\n"
+TITLE = "The library for C"
 
 
 def compile_program():
@@ -69,7 +70,7 @@ def section(rates, by_python, args):
     least, most = args.threads[0], args.threads[-1]
     written = (
         "Written by `bench/c.py --write`: millions of calls a second by threads of C (`bench/c_threads.c`), the best of "
-        f"{args.runs} runs of {args.calls} calls on 16 shelves with 16,384 names."
+        f"{args.runs} runs of {args.calls} calls on 16 shelves with 16,384 names, on {machine()}."
     )
     lines = [
         textwrap.fill(written, 100),
@@ -82,7 +83,7 @@ def section(rates, by_python, args):
             by = [rates[what, whose, threads] / 1e6 for threads in args.threads]
             lines.append(f"| {title} | {kind} | " + " | ".join(f"{it:.2f}" for it in by) + f" | {by[-1] / by[0]:.2f} |")
     lines += ["", f"Through Python (`python/rrcache`) one thread asks {by_python:,.0f} times a second.", ""]
-    return HEADING + "\n" + "\n".join(lines)
+    return "\n".join(lines)
 
 
 def main():
@@ -95,8 +96,7 @@ def main():
     compile_program()
     rates, by_python = measure(args)
     if args.write:
-        page = TOP / "docs" / "PERFORMANCE.md"
-        page.write_text(page.read_text().partition(HEADING)[0] + section(rates, by_python, args))
+        write_section(TITLE, section(rates, by_python, args))
 
 
 if __name__ == "__main__":

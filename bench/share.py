@@ -1,13 +1,12 @@
 #!/usr/bin/env python3
 # SPDX-License-Identifier: MIT
-"""Times a shared cache by several threads, and replays by several workers, and writes docs/PERFORMANCE.md with its picture.
+"""Times a shared cache by several threads, and replays by several workers, and writes their section of docs/PERFORMANCE.md with its picture.
 
 Build the programs first, by `rt run` in crates/bench_cache and `bin/rrcache < rows/first-trace/trace`. Each number is the median of RUNS runs, in
-millions of calls or of lines a second of passed time, on a machine that should do nothing else. `--write` writes docs/PERFORMANCE.md and
+millions of calls or of lines a second of passed time, on a machine that should do nothing else. `--write` writes the section and
 docs/performance.svg; without it the table is only printed.
 """
 import argparse
-import os
 import pathlib
 import statistics
 import subprocess
@@ -16,6 +15,7 @@ import tempfile
 import textwrap
 import time
 
+from page import machine, write_section
 from quiet import undisturbed
 
 TOP = pathlib.Path(__file__).resolve().parent.parent
@@ -30,6 +30,7 @@ TASKS = {
 }
 THREADS, PARTS = (1, 2, 4), (1, 4, 64)
 NAMES = 65_536
+TITLE = "A shared cache, and replays"
 # How wide a line of the page is.
 COLUMNS = 100
 
@@ -116,9 +117,9 @@ def picture(rates):
     return f'<svg xmlns="http://www.w3.org/2000/svg" width="{width}" height="{tall}" font-family="sans-serif" font-size="12">\n{inner}\n</svg>\n'
 
 
-def page(rates, lent, shared, words):
+def section(rates, lent, shared, words):
     written = (
-        f"Written by `bench/share.py --write` on a machine with {os.cpu_count()} cores. Each number is the median of {words.runs} runs, in millions a second by "
+        f"Written by `bench/share.py --write` on {machine()}. Each number is the median of {words.runs} runs, in millions a second by "
         "the clock. A run during which the host took processors away from the machine was made again. The calls are those of a shared cache with "
         f"{NAMES} names, {words.calls} of them over all threads (`bench_cache shared`). The lines are those of a trace of {words.lines} lines, read, replayed, collated "
         "and reported (`rrcache`)."
@@ -128,8 +129,6 @@ def page(rates, lent, shared, words):
         f"finding the part cost {shared - lent:.0f} ns."
     )
     lines = [
-        "# Performance",
-        "",
         textwrap.fill(written, COLUMNS),
         "",
         "![Millions a second](performance.svg)",
@@ -141,12 +140,7 @@ def page(rates, lent, shared, words):
         for parts in PARTS:
             by = [rates[task, parts, threads] for threads in THREADS]
             lines.append(f"| {title} | {parts} | " + " | ".join(f"{rate:.2f}" for rate in by) + f" | {by[-1] / by[0]:.2f} |")
-    lines += [
-        "",
-        textwrap.fill(of_one_thread, COLUMNS),
-        "",
-    ]
-    return "\n".join(lines)
+    return "\n".join([*lines, "", textwrap.fill(of_one_thread, COLUMNS)])
 
 
 def main():
@@ -161,10 +155,7 @@ def main():
     print(f"an ask that hits: {lent:.0f} ns on lent parts, {shared:.0f} ns on a shared cache")
     if words.write:
         (TOP / "docs" / "performance.svg").write_text(picture(rates))
-        pages = TOP / "docs" / "PERFORMANCE.md"
-        # What bench/c.py wrote behind stays.
-        _, heading, rest = pages.read_text().partition("\n## The library for C\n")
-        pages.write_text(page(rates, lent, shared, words) + heading + rest)
+        write_section(TITLE, section(rates, lent, shared, words))
 
 
 if __name__ == "__main__":

@@ -19,6 +19,7 @@ import sys
 import textwrap
 from pathlib import Path
 
+from page import machine, write_section
 from quiet import undisturbed
 
 TOP = Path(__file__).resolve().parent.parent
@@ -34,8 +35,7 @@ Signed-By: /usr/share/keyrings/debian-archive-keyring.gpg
 """
 KINDS = {"hit": "asks that hit", "hot": "asks for one name", "replace": "puts that replace",
          "evict": "puts that evict"}
-HEADING = "\n## Beside unbound\n"
-NEXT = "\n## The library for C\n"
+TITLE = "Beside unbound"
 
 
 def fetch():
@@ -134,15 +134,13 @@ def main():
         tables["With jemalloc"] = table(programs, args, str(jemalloc))
     text = textwrap.fill(
         f"Written by `bench/unbound.py --write`: {args.names:,} names with one A record each, 64 "
-        f"shards, {args.calls:,} calls a run, medians of {args.runs} runs of each in turn. Time is "
-        "processor time a call as a multiple of that of unbound's RRset cache, of which less is "
-        "better; rate is calls a second by the clock as a share of unbound's.", 100)
+        f"shards, {args.calls:,} calls a run, medians of {args.runs} runs of each in turn, on "
+        f"{machine()}. Time is processor time a call as a multiple of that of unbound's RRset "
+        "cache, of which less is better; rate is calls a second by the clock as a share of "
+        "unbound's.", 100)
     parts = "\n".join(f"\n{title}:\n\n{it}\n" for title, it in tables.items())
     if args.write:
-        page = TOP / "docs" / "PERFORMANCE.md"
-        before, _, behind = page.read_text().partition(NEXT)
-        page.write_text(before.partition(HEADING)[0].rstrip("\n") + "\n" + HEADING + "\n" + text
-                        + "\n" + parts + NEXT + behind)
+        write_section(TITLE, text + "\n" + parts)
 
 
 if __name__ == "__main__":
