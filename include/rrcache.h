@@ -36,12 +36,13 @@
    - Every call answers a status. RRCACHE_DONE is 0; each other one is a refusal, and nothing ends
      the process.
    - A refusal leaves the shelf's history and its replies as they were; a chapter that was full may
-     have been closed. `rrcache_offer_message`, `rrcache_offer_part` and `rrcache_offer_read` alone
-     may leave a part of their work: the offers of one message are made one after another, and where
-     one is refused, those before it stay. `counts` tells how many they are. RRCACHE_NULL,
-     RRCACHE_NO_SHELF and RRCACHE_NO_OFFERS alone leave `counts` as it was.
-   - What a call was to write for the caller is as it was after a refusal, but for `counts`, and for
-     `told` after RRCACHE_SMALL.
+     have been closed. `rrcache_offer_message`, `rrcache_offer_part`, `rrcache_offer_read` and
+     `rrcache_sweep_some` alone may leave a part of their work: the offers of one message, and the
+     sweeps of one call, are made one after another, and where one is refused, those before it stay.
+     `counts`, and of the last `removed`, tells how many they are.
+   - What a call was to write for the caller is as it was after a refusal, but for `counts`, for
+     `removed` and `is_done` of `rrcache_sweep_some`, and for `told` and `is_alias` after
+     RRCACHE_SMALL. RRCACHE_NULL, RRCACHE_NO_SHELF and RRCACHE_NO_OFFERS leave all of it.
 
    A message that has more than one name
    - A response may tell of names that lie in other shelves than the one that was asked for: the
@@ -54,8 +55,9 @@
    names the message tells nothing gets no event.
    - `rrcache_offer_part` does the same in one call for each shelf, and reads the whole message
      anew, under that shelf's lock. That will do for one shelf's share alone.
-   - An alias is then followed from shelf to shelf: one `rrcache_ask` for each name, under the lock
-     of that name's shelf.
+   - A CNAME record is then followed from shelf to shelf: one `rrcache_ask_alias` for each name,
+     under the lock of that name's shelf. How many are followed the caller bounds, which ends loops
+     too; each RRset on the way has a time to live of its own.
    - `rrcache_offer_message` keeps all in the one shelf that it is given. That will do where there
      is one shelf alone.
 
@@ -75,8 +77,8 @@
      question is of a class that is not kept, or not at or below the zone.
    - What is kept is of class IN, CH or HS (RFC 1035 section 3.2.4), and each class of a name has
      keys of its own. Of a message the records of its question's class count alone. Data of type A
-     of class CH are not kept, since they begin with a name. A question of a class that is not kept
-     may be asked, and is a miss.
+     of class CH are not kept, since they begin with a name. A question of a class or a type that is
+     not kept may be asked: it is a miss, or of such a type RRCACHE_NXDOMAIN where that is held.
 
    Moments
    - Moments are seconds, at most 2^40. The caller keeps them: no clock is read, and no call asks
@@ -123,8 +125,8 @@
      RRCACHE_MOMENT_TOO_LARGE.
    - RRCACHE_MEMORY is told where malloc refuses on this way: behind what was found before, and in
      place of what would have been found later.
-   - A message meets the last two with its first offer. One that offers nothing is RRCACHE_DONE,
-     also where numbers are spent, and whatever its moment is.
+   - A message meets RRCACHE_HISTORY_FULL and RRCACHE_MOMENT_TOO_LARGE with its first offer. One
+     that offers nothing is RRCACHE_DONE, also where numbers are spent, and whatever its moment is.
 
    Names are in wire form (RFC 1035 section 3.1), whole, with no pointer, at most 255 octets with
    the zero octet at the end, in any case. `line` is a number of the caller's own that the event of
@@ -247,7 +249,8 @@ struct rrcache_offers {
    its length of two octets, the high one first. A miss has neither. */
 struct rrcache_told {
     uint32_t kind;       /* enum rrcache_kind */
-    uint32_t left;       /* for how many seconds the reply holds; 0 with a miss */
+    uint32_t left;       /* for how many seconds the reply may be used: what is left of its time to
+                            live, with RRCACHE_STALE 30 (RFC 8767 section 4), with a miss 0 */
     uint64_t retry_from; /* with RRCACHE_MISS_FAILED the moment, and else 0 */
     uint64_t owner_size;
     uint64_t data_size;
@@ -257,7 +260,8 @@ struct rrcache_told {
 struct rrcache_counts {
     uint64_t kept;
     uint64_t cleared;
-    uint64_t refused; /* since what their key holds is trusted more */
+    uint64_t refused; /* RRCACHE_LESS_TRUSTED, since what their key holds is trusted more: such an
+                         offer is an event, and no call is refused for it */
 };
 
 /* What a shelf holds of a name, a type and a class: a set, or that the name has no such data. A
@@ -265,7 +269,7 @@ struct rrcache_counts {
    `ttl` seconds from `moment` on. */
 struct rrcache_stored {
     uint32_t trust;  /* enum rrcache_trust; 0 where nothing is held, and all is 0 */
-    uint32_t ttl;    /* as it was stored, which is at most the cap */
+    uint32_t ttl;    /* as it was stored: of a message at most the cap, else as it was offered */
     uint64_t moment; /* of the offer that was kept */
 };
 
@@ -274,7 +278,8 @@ struct rrcache_limits {
     uint32_t cap;          /* the most that data live: 1 to 604,800 (RFC 8767 section 4) */
     uint32_t negative_cap; /* the most that a negative answer lives: 1 to 604,800 (RFC 2308 section
                               5) */
-    uint32_t recheck;      /* how long a failure is remembered: 1 to 300 (RFC 2308 section 7) */
+    uint32_t recheck;      /* how long a failure is remembered: 1 to 300 (RFC 8767 section 5, RFC
+                              9520 section 3.2) */
 };
 
 /* The limits of a resolver that wishes for no others. */
@@ -569,13 +574,14 @@ static inline enum rrcache_status rrcache_read_message(struct rrcache_offers *of
    which nothing else is looked at. A response with another identifier or question (in which the
    case of letters counts for nothing) is RRCACHE_OTHER_QUERY.
 
-   Relevant are: of the answer section, RRsets of the name and of at most 11 aliases behind it, of
-   the type that was asked for or CNAME, and DNAME records above them; of the authority section, the
-   first NS, SOA and DS set of a zone that the last name is in; of the additional section, addresses
-   of at most 20 names that NS, MX and SRV records among these name; and the negative answer, or
-   that asking failed. Of class IN an address has 4 octets with type A and 16 with AAAA. No set of
-   more than 16,384 octets is relevant. So a server of `example` that is asked for one name cannot
-   replace what is held of another. */
+   Relevant are: of the answer section, RRsets of the name and of at most 11 names that CNAME
+   records lead to from it, of the type that was asked for or CNAME, and DNAME records above them;
+   of the authority section, the first NS, SOA and DS set of a zone that the last name is in; of
+   the additional section, addresses of at most 20 names that NS, MX and SRV records among these
+   name; and the negative answer, or that asking failed. Of class IN an address has 4 octets with
+   type A and 16 with AAAA. No set of more than 16,384 octets is relevant. So a server of `example`
+   that is asked for one name can replace what is held of another one only where it leads the
+   question there by CNAME records, or names it as a host or a zone of its answer. */
 static inline enum rrcache_status rrcache_read_response(struct rrcache_offers *offers,
                                                         const struct rrcache_response *response,
                                                         const struct rrcache_query *query,
@@ -761,10 +767,12 @@ static inline bool rrcache_is_alias_told(uint32_t of_alias, uint32_t of_type)
            && (of_alias == RRCACHE_FRESH || of_alias == RRCACHE_STALE);
 }
 
-/* Asks as `rrcache_ask` does, which is one event, and where the shelf has no fresh data of the type
-   but the name is an alias, for its CNAME record instead: `is_alias` tells which. The resolver then
-   asks for the record's target, under the lock of that name's shelf. Where there is neither, the
-   miss is told. `is_alias` is written where RRCACHE_DONE or RRCACHE_SMALL is answered. */
+/* Asks as `rrcache_ask` does, which is one event, for data of the type or for the name's CNAME
+   record: for the latter where the type has a miss and the record is fresh or stale, and where the
+   type has stale data and the record is fresh. `is_alias` tells which. Fresh data and negative
+   answers are told themselves, and so is a miss of both. The resolver then asks for the record's
+   target, under the lock of that name's shelf. `is_alias` is written where RRCACHE_DONE or
+   RRCACHE_SMALL is answered. */
 static inline enum rrcache_status
 rrcache_ask_alias(struct rrcache_shelf *shelf, const struct rrcache_query *query, uint64_t line,
                   struct rrcache_told *told, uint8_t *buffer, size_t buffer_size, bool *is_alias)
@@ -803,8 +811,9 @@ static inline enum rrcache_status rrcache_sweep(struct rrcache_shelf *shelf, uin
     return (enum rrcache_status)rrc_sweep(shelf, moment, line, removed);
 }
 
-/* Tells a moment before which no key of the shelf is dead, the earliest at which a sweep may remove
-   one; 2^64 - 1 where the shelf holds no key. No event is written. */
+/* Tells a moment before which no key of the shelf is dead, so that no sweep before it removes one;
+   a sweep at it may remove none. It is 2^64 - 1 where the shelf holds no key. No event is
+   written. */
 static inline enum rrcache_status rrcache_next_expiry(struct rrcache_shelf *shelf, uint64_t *moment)
 {
     if (shelf == NULL || moment == NULL || rrcache_holds(shelf, moment, sizeof *moment))
@@ -854,8 +863,8 @@ static inline enum rrcache_status rrcache_drop_chapters(struct rrcache_shelf *sh
 }
 
 /* Tells how many keys the shelf holds, those that are dead and not yet swept with them, how many
-   events the open chapter has, and how many chapters are closed. A key is a name with a type, with
-   no type where the name does not exist, or with a type that asking failed for. */
+   events the open chapter has, and how many chapters are closed. A key is a name and a class with a
+   type, with no type where the name does not exist, or with a type that asking failed for. */
 static inline enum rrcache_status rrcache_sizes(struct rrcache_shelf *shelf, uint64_t *keys,
                                                 uint64_t *events, uint64_t *chapters)
 {
