@@ -9,7 +9,7 @@ this process, by one of these ways:
   harmless   an address for each name
   collisions an address for each name, and the hashes of names are alike under a hasher with a known number (bin/attacks.py)
   one part   an address for each name, and all names lie in one of the forwarder's shelves
-  sets       an RRset of 16,000 octets for each name, which is kept, over TCP
+  sets       an RRset of some 16,000 octets for each name, which is kept, over TCP
   messages   a message of 64 kB for each name, of which little is kept, over TCP
 Waits are milliseconds: the median, the 99th of 100 and the longest. The server's own work takes processors too, so `harmless` is what to compare with.
 `--write` writes them to docs/PERFORMANCE.md.
