@@ -231,11 +231,14 @@ fn is_legal(alloc: Global, kind: Kind, part: &Part) -> bool {
 /// Finds the first part's history legal.
 pub fn audit_all<R: CpuClock>(rt: &R, alloc: Global, kind: Kind, parts: &[Part]) -> Option<Done> {
     let part = parts.first()?;
-    let mut counts = NONE;
     let before = clock(rt);
-    if is_legal(alloc, kind, part) {
-        counts.right = part.events().len() as u64;
+    if !is_legal(alloc, kind, part) {
+        return None;
     }
     let time = since(rt, before);
-    Some(Done { counts, time })
+    let right = part.events().len() as u64;
+    Some(Done {
+        counts: Counts { right, ..NONE },
+        time,
+    })
 }
