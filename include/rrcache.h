@@ -29,11 +29,11 @@
 
    Memory
    - The library calls malloc, realloc and free and nothing else. Where malloc refuses, the call
-     answers RRCACHE_MEMORY.
+     returns RRCACHE_MEMORY.
    - What a reply says is copied into the caller's buffer.
 
    What a refusal leaves
-   - Every call answers a status. RRCACHE_DONE is 0; each other one is a refusal, and nothing ends
+   - Every call returns a status. RRCACHE_DONE is 0; each other one is a refusal, and nothing ends
      the process.
    - A refusal leaves the shelf's history and its replies as they were; a chapter that was full may
      have been closed. `rrcache_offer_message`, `rrcache_offer_part`, `rrcache_offer_read` and
@@ -69,7 +69,7 @@
      it is the response to a query, by the addresses and ports, the identifier and the question, the
      caller finds out before it offers it: nothing is compared with anything.
    - A message that was truncated, with TC set (0x02 of the third octet), offers nothing (RFC 2181
-     section 9). Where it can be read RRCACHE_DONE is answered, `counts` is all 0 and no event is
+     section 9). Where it can be read RRCACHE_DONE is returned, `counts` is all 0 and no event is
      written. Where it ends within a record it is RRCACHE_BAD_MESSAGE, as it is without TC. So
      the caller looks at TC first, and where it is set asks again over TCP. The two octets of the
      length that stand before a message there are no part of what is offered.
@@ -94,7 +94,7 @@
 
    The history and its chapters
    - The history of a shelf grows by one event with each ask, each sweep and each offer of a set, a
-     negative answer or a failure that answers RRCACHE_DONE, and with a message by one for each of
+     negative return or a failure that returns RRCACHE_DONE, and with a message by one for each of
      its offers that was made. An event takes 96 octets, beside the names and the data that it tells
      of.
    - A call that is to write an event and finds the open chapter full closes it and opens the next,
@@ -133,7 +133,7 @@
    the call is kept with. A pointer may be null only where its size is 0.
 
    The functions of the library proper begin with `rrc_`, and need pointers that are not null and
-   buffers that do not overlap. The inline functions below answer RRCACHE_NULL where a pointer is
+   buffers that do not overlap. The inline functions below return RRCACHE_NULL where a pointer is
    null that may not be, and where what the call writes, the handle too, overlaps any octets that it
    is handed; what is only read may overlap, and a struct that is handed in is read before anything
    is written. Else they call them. That a handle was made by
@@ -157,7 +157,7 @@ extern "C" {
 #define RRCACHE_VERSION                                                                            \
     (RRCACHE_VERSION_MAJOR * 65536 + RRCACHE_VERSION_MINOR * 256 + RRCACHE_VERSION_PATCH)
 
-/* What calls answer. */
+/* What calls return. */
 enum rrcache_status {
     RRCACHE_DONE = 0,
     RRCACHE_NO_SHELF = 1,         /* the handle holds no shelf */
@@ -461,7 +461,7 @@ static inline bool rrcache_holds(const struct rrcache_shelf *shelf, const void *
    events in a chapter, and sets that may answer for 0 to 604,800 seconds past their time to live.
    Names are hashed by SipHash-1-3, whose key is the seed of 16 octets. Let it be random and keep it
    secret: then nobody can pick names whose hashes are alike, which would make calls slow. Where the
-   handle holds a shelf RRCACHE_HAS_SHELF is answered, whatever the rules are, and that shelf is as
+   handle holds a shelf RRCACHE_HAS_SHELF is returned, whatever the rules are, and that shelf is as
    it was. */
 static inline enum rrcache_status rrcache_make(struct rrcache_shelf *shelf, uint64_t capacity,
                                                uint64_t chapter, uint64_t stale,
@@ -473,7 +473,7 @@ static inline enum rrcache_status rrcache_make(struct rrcache_shelf *shelf, uint
 }
 
 /* Frees the shelf of a handle, which then holds none, with all its keys and the events of all its
-   chapters, one by one. Where it held none RRCACHE_NO_SHELF is answered and nothing done. */
+   chapters, one by one. Where it held none RRCACHE_NO_SHELF is returned and nothing done. */
 static inline enum rrcache_status rrcache_free(struct rrcache_shelf *shelf)
 {
     if (shelf == NULL)
@@ -552,7 +552,7 @@ static inline bool rrcache_can_read(const struct rrcache_offers *offers,
 /* Reads a response from a server of this zone into the offers that `rrcache_offer_message` would
    make of it, for a handle that holds none, and tells which of 1 to 64 parts they concern: bit 0 of
    `concerned` is set where one lies in part 0, bit 1 for part 1, and so on. It takes no shelf and
-   writes no event. A handle that holds offers keeps them, and RRCACHE_HAS_OFFERS is answered,
+   writes no event. A handle that holds offers keeps them, and RRCACHE_HAS_OFFERS is returned,
    whatever else would be refused. Where a response offers nothing, as one with TC set, `concerned`
    is 0, and the handle is to be freed like any other. */
 static inline enum rrcache_status rrcache_read_message(struct rrcache_offers *offers,
@@ -618,7 +618,7 @@ static inline enum rrcache_status rrcache_offer_read(struct rrcache_shelf *shelf
 }
 
 /* Frees the offers of a handle, which then holds none; what shelves kept of them stays. Where it
-   held none RRCACHE_NO_OFFERS is answered and nothing done. */
+   held none RRCACHE_NO_OFFERS is returned and nothing done. */
 static inline enum rrcache_status rrcache_free_offers(struct rrcache_offers *offers)
 {
     if (offers == NULL)
@@ -705,7 +705,7 @@ static inline bool rrcache_can_tell(const struct rrcache_shelf *shelf,
 }
 
 /* Asks, which is one event: the reply is told and written to the buffer. Where the buffer is too
-   small RRCACHE_SMALL is answered, `told` tells the reply and its sizes, and no event is written. A
+   small RRCACHE_SMALL is returned, `told` tells the reply and its sizes, and no event is written. A
    reply never takes more than 255 octets and those of its data. RRCACHE_SMALL comes before
    RRCACHE_HISTORY_FULL and RRCACHE_MOMENT_TOO_LARGE, so that the call with room enough may still be
    refused. */
@@ -772,7 +772,7 @@ static inline bool rrcache_is_alias_told(uint32_t of_alias, uint32_t of_type)
    type has stale data and the record is fresh. `is_alias` tells which. Fresh data and negative
    answers are told themselves, and so is a miss of both. The resolver then asks for the record's
    target, under the lock of that name's shelf. `is_alias` is written where RRCACHE_DONE or
-   RRCACHE_SMALL is answered. */
+   RRCACHE_SMALL is returned. */
 static inline enum rrcache_status
 rrcache_ask_alias(struct rrcache_shelf *shelf, const struct rrcache_query *query, uint64_t line,
                   struct rrcache_told *told, uint8_t *buffer, size_t buffer_size, bool *is_alias)
