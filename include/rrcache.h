@@ -459,7 +459,7 @@ static inline bool rrcache_holds(const struct rrcache_shelf *shelf, const void *
 
 /* Makes an empty shelf for a handle that holds none: for 1 to 65,536 keys, with 1 to 1,048,576
    events in a chapter, and sets that may answer for 0 to 604,800 seconds past their time to live.
-   Names are hashed by SipHash-1-3, whose key is the seed of 16 octets. Let it be random and keep it
+   Names are hashed by SipHash-1-3 under the seed of 16 octets. Let it be random and keep it
    secret: then nobody can pick names whose hashes are alike, which would make calls slow. Where the
    handle holds a shelf RRCACHE_HAS_SHELF is returned, whatever the rules are, and that shelf is as
    it was. */
