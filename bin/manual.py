@@ -129,7 +129,7 @@ def overview(header):
 
 def types(header):
     """The enums and structs, as the header has them."""
-    begin = header.index("/* What calls answer. */")
+    begin = header.index("/* What calls return. */")
     return header[begin:header.index("/* The functions of the library proper.")]
 
 
