@@ -18,7 +18,7 @@ use Rattle.rrc_history.specs.Same.{body_eq}
 use Rattle.rrc_history.specs.lemmas.SameLaws.{body_eq-Decides}
 use Rattle.rrc_collate.specs.declared.script.Call.{Call}
 use Rattle.rrc_collate.specs.declared.script.Call.TheVariants.{Offer, Ask, Sweep}
-use Rattle.rrc_collate.specs.Same.{purpose_eq, mode_eq, offer_eq, ask_eq, call_eq}
+use Rattle.rrc_collate.specs.SameCalls.{purpose_eq, mode_eq, offer_eq, ask_eq, call_eq}
 
 purpose_eq-itself : (purpose : Purpose) → purpose_eq purpose purpose ≡ true
 purpose_eq-itself Any = refl

@@ -9,7 +9,7 @@ use Rattle.rrc_collate.specs.declared.valued.Valued.{Valued}
 use Rattle.rrc_collate.specs.declared.task.Task.{Task}
 use Rattle.rrc_collate.specs.declared.task.Fate.{Fate}
 use Rattle.rrc_collate.specs.declared.task.Fate.TheVariants.{Plain, Joined, Fetched}
-use Rattle.rrc_collate.specs.Joining.{HasOther}
+use Rattle.rrc_collate.specs.OtherValues.{HasOther}
 use Rattle.rrc_collate.specs.Fetches.{fetch_by, join_by, listed, picked, IsNumbered}
 use Rattle.rrc_collate.specs.Turns.{is_fetched}
 use Rattle.rrc_collate.specs.Collated.{IsFetchOf, HasFetcher, IsJoinedTo}

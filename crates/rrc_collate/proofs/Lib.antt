@@ -1,12 +1,12 @@
 -- SPDX-License-Identifier: MIT
 pub mod Pairs
-pub mod Falling
+pub mod FallLemmas
 pub mod Classes
 pub mod CallLaws
-pub mod Dealing
-pub mod Taking
-pub mod Tasking
-pub mod Writing
+pub mod HandLemmas
+pub mod DrawLemmas
+pub mod TaskLemmas
+pub mod DealtHistories
 pub mod Ordered
 pub mod Others
 pub mod LinesLaw

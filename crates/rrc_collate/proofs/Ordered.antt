@@ -14,7 +14,7 @@ use Rattle.rrc_collate.specs.Words.{NeverFalls, class_of, AreSharedOut, AreOwner
 use Rattle.rrc_collate.specs.Calls.{tag_of}
 use Rattle.rrc_collate.specs.Hands.{AreNamed, is_of, events_of}
 use Rattle.rrc_collate.specs.Collated.{taken_by, own_events, AreInOrder, AreWritten, histories_of}
-use Rattle.rrc_collate.proofs.Writing.{IsBelow, named_wholes}
+use Rattle.rrc_collate.proofs.DealtHistories.{IsBelow, named_wholes}
 
 filter_same : {X : Type 0} (p q : X → Bool) (xs : List X) → All (λ x. p x ≡ q x) xs → filter p xs ≡ filter q xs
 filter_same p q [] same = refl

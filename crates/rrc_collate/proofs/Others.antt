@@ -4,9 +4,9 @@ use Rattle.std.proofs.Common.{◌≡◌, ◌≢◌, ℕ, ◌<◌, true, cond, eq
 use Rattle.std.proofs.lemmas.Bool.{false≢true, cases_eq, eq-eqb, ne_eqb, cond-true, cond-false}
 use Rattle.std.proofs.lemmas.List.{get_or_default}
 use Rattle.rrc_collate.specs.declared.valued.Valued.{Valued}
-use Rattle.rrc_collate.specs.declared.joining.Seen.{Seen}
-use Rattle.rrc_collate.specs.declared.joining.Seen.TheVariants.{Nothing, One, Many}
-use Rattle.rrc_collate.specs.Joining.{HasOther, after, has_other, seen_from, AreSeen}
+use Rattle.rrc_collate.specs.declared.other_values.Seen.{Seen}
+use Rattle.rrc_collate.specs.declared.other_values.Seen.TheVariants.{Nothing, One, Many}
+use Rattle.rrc_collate.specs.OtherValues.{HasOther, after, has_other, seen_from, AreSeen}
 
 -- what is seen with one value more has another than a value where it had one before, or where the new one is another
 other_after : (seen : Seen) (value wanted : ℕ) → has_other (after seen value) wanted ≡ true → (has_other seen wanted ≡ true) ⊎ (value ≢ wanted)

@@ -2,13 +2,13 @@
 pub mod Words
 pub mod Operations
 pub mod Calls
-pub mod Same
+pub mod SameCalls
 pub mod Hands
 pub mod Drawn
-pub mod Drawing
+pub mod Draws
 pub mod Tasks
 pub mod Collated
-pub mod Joining
+pub mod OtherValues
 pub mod Lines
 pub mod Fetches
 pub mod Turns

@@ -5,7 +5,7 @@ use Rattle.std.specs.List.{AllZip}
 use Rattle.rrc_history.specs.declared.event.Event.{Event}
 use Rattle.rrc_collate.specs.declared.task.Task.{Task}
 use Rattle.rrc_collate.specs.Calls.{AreCalls, going_to}
-use Rattle.rrc_collate.specs.Drawing.{hand_of}
+use Rattle.rrc_collate.specs.Draws.{hand_of}
 
 -- the events of a task are of its operations, one each, in order of place
 abbrev pub IsTaskOf : Task → List Event → Type 0

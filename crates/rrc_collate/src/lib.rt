@@ -2,25 +2,25 @@
 //! Whether what workers say that they did fits the histories of a cache's parts: the words for it, and the checks.
 #![tactic(auto)]
 
-mod collating;
-mod doing;
-mod drawing;
 mod drawn;
+mod draws;
 mod falls;
-mod fetching;
+mod fetches;
+mod fit;
 mod hands;
-mod joining;
 mod laws;
 mod operations;
-mod ordering;
-mod owning;
+mod order;
+mod other_values;
+mod owners;
 mod script;
 mod task;
-mod turning;
+mod task_draws;
+mod turns;
 mod valued;
 
-pub use collating::collate;
 pub use drawn::Drawn;
+pub use fit::collate;
 pub use laws::each_line_stands;
 pub use operations::Operations;
 pub use script::{Call, Operation};

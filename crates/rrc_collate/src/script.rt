@@ -1,7 +1,7 @@
 // SPDX-License-Identifier: MIT
 ghost use Rattle.std.specs.Prelude.{◌≡◌, ◌↔◌, IsTrue};
 ghost use Rattle.rrc_collate.specs.Calls.{call_of, tag_of};
-ghost use Rattle.rrc_collate.specs.Same.{offer_eq, ask_eq, call_eq};
+ghost use Rattle.rrc_collate.specs.SameCalls.{offer_eq, ask_eq, call_eq};
 
 use rrc_history::{Ask, Event, Offer, Tag};
 

@@ -2,7 +2,7 @@
 use Rattle.std.proofs.Common.{◌<◌, length, get_or, arith}
 use Rattle.std.proofs.lemmas.List.{get_or_read}
 use Rattle.rrc_collate.specs.declared.valued.Valued.{Valued}
-use Rattle.rrc_collate.proofs.Falling.{falls_at, rises_all}
+use Rattle.rrc_collate.proofs.FallLemmas.{falls_at, rises_all}
 use Rattle.rrc_collate.proofs.falls.never_falls.Goals as goal
 
 pub returns-then-next-index : goal.returns-then-next-index

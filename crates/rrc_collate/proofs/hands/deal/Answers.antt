@@ -3,7 +3,7 @@ use Rattle.std.proofs.Common.{◌≡◌, ◌<◌, ◌+◌, ◌++◌, ◌∷◌, 
 use Rattle.std.proofs.lemmas.List.{take_more}
 use Rattle.rrc_history.specs.declared.event.Tag.{Tag}
 use Rattle.rrc_collate.specs.Calls.{tag_of}
-use Rattle.rrc_collate.proofs.Dealing.{dealt_more, named_more}
+use Rattle.rrc_collate.proofs.HandLemmas.{dealt_more, named_more}
 use Rattle.rrc_collate.proofs.hands.deal.Goals as goal
 
 pub loop-event-preserved : goal.loop-event-preserved

@@ -1,7 +1,7 @@
 -- SPDX-License-Identifier: MIT
 -- so many empty hands
 use Rattle.std.proofs.Common.{◌≡◌, replicate, []}
-use Rattle.rrc_collate.proofs.Dealing.{shown}
+use Rattle.rrc_collate.proofs.HandLemmas.{shown}
 use Rattle.rrc_collate.proofs.hands.Hands.empty.Given as goal
 
 abbrev pub invariant-loop : goal.invariant-loop

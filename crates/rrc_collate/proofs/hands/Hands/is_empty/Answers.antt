@@ -1,7 +1,7 @@
 -- SPDX-License-Identifier: MIT
 use Rattle.std.proofs.Common.{ap, sym, refl, ◌∙◌, arith}
 use Rattle.std.proofs.lemmas.Bool.{false≢true}
-use Rattle.rrc_collate.proofs.Dealing.{shown, empty_here, not_empty_here, all_empty}
+use Rattle.rrc_collate.proofs.HandLemmas.{shown, empty_here, not_empty_here, all_empty}
 use Rattle.rrc_collate.proofs.hands.Hands.is_empty.Goals as goal
 
 pub returns-then-not-is_nothing : goal.returns-then-not-is_nothing

@@ -1,5 +1,5 @@
 -- SPDX-License-Identifier: MIT
-use Rattle.rrc_collate.proofs.Dealing.{shown_put}
+use Rattle.rrc_collate.proofs.HandLemmas.{shown_put}
 use Rattle.rrc_collate.proofs.hands.Hands.put.Goals as goal
 
 pub returns : goal.returns

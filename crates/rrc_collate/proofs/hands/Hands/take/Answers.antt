@@ -1,5 +1,5 @@
 -- SPDX-License-Identifier: MIT
-use Rattle.rrc_collate.proofs.Dealing.{shown_taken}
+use Rattle.rrc_collate.proofs.HandLemmas.{shown_taken}
 use Rattle.rrc_collate.proofs.hands.Hands.take.Goals as goal
 
 pub returns-clause-rest : goal.returns-clause-rest

@@ -1,0 +1,8 @@
+-- SPDX-License-Identifier: MIT
+-- what was picked of the tasks so far
+use Rattle.std.proofs.Common.{◌≡◌, take}
+use Rattle.rrc_collate.specs.Fetches.{fetch_by, picked}
+use Rattle.rrc_collate.proofs.fetches.fetches_in.Given as goal
+
+abbrev pub invariant-loop-task : goal.invariant-loop-task
+invariant-loop-task l = l.fetches.items ≡ picked fetch_by (take l.task-index l.tasks)

@@ -1,9 +1,0 @@
--- SPDX-License-Identifier: MIT
--- those so far have others
-use Rattle.std.proofs.Common.{take}
-use Rattle.std.specs.List.{All}
-use Rattle.rrc_collate.specs.Joining.{HasOther}
-use Rattle.rrc_collate.proofs.joining.have_others.Given as goal
-
-abbrev pub invariant-loop-valued : goal.invariant-loop-valued
-invariant-loop-valued l = All (λ valued. HasOther l.present valued) (take l.valued-index l.wanted)
