@@ -7,8 +7,8 @@ use Rattle.std.proofs.lemmas.Bool.Decides.{nat_tests}
 use Rattle.std.proofs.lemmas.List.{take_all, take_more}
 use Rattle.std.proofs.lemmas.List.Sums.{fails_before_first}
 use Rattle.std.proofs.lemmas.List.Quantifiers.{position-Some}
-use Rattle.rrc_trace.specs.declared.reading.Ending.TheVariants.{Lf, Last, Endless}
-use Rattle.rrc_trace.specs.Reading.{IsUnended, IsCut, MovesPart, ReadsPiece}
+use Rattle.rrc_trace.specs.declared.read.trace.Ending.TheVariants.{Lf, Last, Endless}
+use Rattle.rrc_trace.specs.Pieces.{IsUnended, IsCut, MovesPart, ReadsPiece}
 
 abbrev is_lf : ℕ → Bool
 is_lf octet = octet == 10

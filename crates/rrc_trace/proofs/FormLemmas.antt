@@ -7,8 +7,8 @@ use Rattle.rrc_history.specs.declared.ask.Purpose.{Purpose}
 use Rattle.rrc_history.specs.declared.body.Trust.{Trust}
 use Rattle.rrc_trace.specs.declared.line.Line.{Line}
 use Rattle.rrc_trace.specs.declared.line.Line.TheVariants as lines
-use Rattle.rrc_trace.specs.declared.word.Form.{Form}
-use Rattle.rrc_trace.specs.declared.word.Form.TheVariants as forms
+use Rattle.rrc_trace.specs.declared.read.word.Form.{Form}
+use Rattle.rrc_trace.specs.declared.read.word.Form.TheVariants as forms
 use Rattle.rrc_trace.specs.Gives.{◌>>=◌}
 use Rattle.rrc_trace.specs.Fields.{said_at}
 use Rattle.rrc_trace.specs.Names.{name_of}
@@ -16,7 +16,7 @@ use Rattle.rrc_trace.specs.Numbers.{moment_of, ttl_of, trust_of, rtype_of}
 use Rattle.rrc_trace.specs.Words.{form_of, purpose_of, mode_of}
 use Rattle.rrc_trace.specs.Items.{items_of}
 use Rattle.rrc_trace.specs.Octets.{message_of, fetched_of}
-use Rattle.rrc_trace.specs.declared.number.Kind.{Kind}
+use Rattle.rrc_trace.specs.declared.kind.Kind.{Kind}
 use Rattle.rrc_trace.specs.Lines.{ended, question_at, kept_of, put_of, manner_of, ask_of, fail_of, response_of, sent_of, fetch_of, sweep_of, said_as, line_of}
 use Rattle.rrc_trace.specs.Grammar.{IsMoment, IsRtype, IsTrust, IsTtl, AreItems, SpellsFetched, purpose_word, mode_word, FieldsOf, put, ask, response, fail, fetch, sweep, checkpoint, HasFields}
 use Rattle.rrc_trace.proofs.FieldLemmas.{says_first, first_said, says_last, last_said}

@@ -5,8 +5,8 @@ use Rattle.std.specs.List.{slice_split, position_or_len, onto_first}
 use Rattle.std.proofs.lemmas.List.Splits.{slice_split_first, length-slice_split}
 use Rattle.std.proofs.lemmas.Bool.Decides.{nat_tests}
 use Rattle.rrc_trace.specs.Gives.{◌>>=◌, Gives}
-use Rattle.rrc_trace.specs.declared.line_fault.LineFault.{LineFault}
-use Rattle.rrc_trace.specs.declared.line_fault.LineFault.TheVariants.{NotOne, Memory}
+use Rattle.rrc_trace.specs.declared.read.line_fault.LineFault.{LineFault}
+use Rattle.rrc_trace.specs.declared.read.line_fault.LineFault.TheVariants.{NotOne, Memory}
 use Rattle.rrc_wire.specs.Plain.{IsPlain, is_plain}
 use Rattle.rrc_wire.proofs.PlainParts.{is_plain-Decides}
 use Rattle.rrc_trace.specs.Octets.{octets_of}

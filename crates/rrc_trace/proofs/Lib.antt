@@ -13,11 +13,11 @@ pub mod SpelledItems
 pub mod NameLemmas
 pub mod FormLemmas
 pub mod LineLemmas
-pub mod WritingLemmas
+pub mod WriterLemmas
 pub mod OutputLemmas
 pub mod QuestionLemmas
 pub mod TraceLemmas
 pub mod TraceLaw
 pub mod LawfulItems
 pub mod LawfulLemmas
-pub mod ReadingLemmas
+pub mod PieceLemmas

@@ -6,10 +6,10 @@ use Rattle.std.proofs.Math.Seq.{take-append_seam, take-append-add, drop-cons}
 use Rattle.std.proofs.KnownBytes.{Appends-nil, Appends-trans, Appends-kept}
 use Rattle.std.specs.Io.KnownBytes.{Appends, Keeps}
 use Rattle.hex.specs.Hex.{encode_with}
-use Rattle.rrc_trace.specs.Writing.{AppendsFront, LeavesText}
+use Rattle.rrc_trace.specs.Writer.{AppendsFront, LeavesText}
 use Rattle.rrc_trace.specs.declared.fault.ReplayFault.{ReplayFault}
 use Rattle.rrc_trace.specs.declared.fault.ReplayFault.TheVariants as faults
-use Rattle.rrc_trace.specs.declared.output.Output.{Output}
+use Rattle.rrc_trace.specs.declared.write.output.Output.{Output}
 use Rattle.rrc_trace.specs.Output.{Waits, Stands, OutputStands, Puts}
 
 -- a beginning of octets is one of those and more

@@ -13,12 +13,12 @@ use Rattle.rrc_history.specs.declared.ask.Purpose.TheVariants.{Any, Answer}
 use Rattle.rrc_history.specs.declared.body.Trust.{Trust}
 use Rattle.rrc_history.specs.declared.body.Trust.TheVariants.{Additional, NonAuthoritativeAnswer, Authority, AuthoritativeAnswer}
 use Rattle.rrc_wire.specs.Layout.{is_kept}
-use Rattle.rrc_trace.specs.declared.word.Form.{Form}
-use Rattle.rrc_trace.specs.declared.word.Form.TheVariants as forms
+use Rattle.rrc_trace.specs.declared.read.word.Form.{Form}
+use Rattle.rrc_trace.specs.declared.read.word.Form.TheVariants as forms
 use Rattle.rrc_trace.specs.Numbers.{number_behind, number_of, at_most, moment_of, ttl_of, word_of, slash_in, kind_at, kind_of, kept_kind, rtype_of, rank, trust_of}
 use Rattle.rrc_trace.specs.Words.{form_of, purpose_of, mode_of}
 use Rattle.rrc_trace.specs.Grammar.{SpellsNumber, one_digit, digit_more, IsMoment, IsWord, SpellsRtype, in_alone, with_class, IsRtype, IsTrust, IsTtl, purpose_word, mode_word}
-use Rattle.rrc_trace.specs.declared.number.Kind.{Kind}
+use Rattle.rrc_trace.specs.declared.kind.Kind.{Kind}
 use Rattle.rrc_trace.proofs.SaidLemmas.{said_first, said_last}
 use Rattle.rrc_trace.proofs.SearchLemmas.{position-cons}
 

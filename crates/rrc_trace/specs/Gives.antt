@@ -1,8 +1,8 @@
 -- SPDX-License-Identifier: MIT
 -- What a function that reads octets answers.
 use Rattle.std.specs.Prelude.{◌≡◌, Option, Some, None, option_and_then, Result, Ok, Err}
-use Rattle.rrc_trace.specs.declared.line_fault.LineFault.{LineFault}
-use Rattle.rrc_trace.specs.declared.line_fault.LineFault.TheVariants.{NotOne, Memory}
+use Rattle.rrc_trace.specs.declared.read.line_fault.LineFault.{LineFault}
+use Rattle.rrc_trace.specs.declared.read.line_fault.LineFault.TheVariants.{NotOne, Memory}
 
 -- what follows, where the octets say something
 infixl 10 ◌>>=◌

@@ -13,7 +13,7 @@ pub mod Trace
 pub mod Questions
 pub mod Lawful
 pub mod Report
-pub mod Writing
+pub mod Writer
 pub mod Output
 pub mod Faults
-pub mod Reading
+pub mod Pieces

@@ -7,9 +7,9 @@ use Rattle.rrc_history.specs.declared.ask.Purpose.{Purpose}
 use Rattle.rrc_history.specs.declared.body.Trust.{Trust}
 use Rattle.rrc_trace.specs.declared.line.Line.{Line}
 use Rattle.rrc_trace.specs.declared.line.Line.TheVariants as lines
-use Rattle.rrc_trace.specs.declared.number.Kind.{Kind}
-use Rattle.rrc_trace.specs.declared.word.Form.{Form}
-use Rattle.rrc_trace.specs.declared.word.Form.TheVariants as forms
+use Rattle.rrc_trace.specs.declared.kind.Kind.{Kind}
+use Rattle.rrc_trace.specs.declared.read.word.Form.{Form}
+use Rattle.rrc_trace.specs.declared.read.word.Form.TheVariants as forms
 use Rattle.rrc_trace.specs.Gives.{◌>>=◌}
 use Rattle.rrc_trace.specs.Fields.{said_at, has_field}
 use Rattle.rrc_trace.specs.Numbers.{moment_of, rtype_of, trust_of, ttl_of}

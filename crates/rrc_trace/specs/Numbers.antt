@@ -4,7 +4,7 @@ use Rattle.std.specs.Prelude.{ℕ, ◌+◌, ◌-◌, ◌*◌, ◌^◌, List, [],
 use Rattle.std.specs.Char.{is_ascii_digit}
 use Rattle.rrc_history.specs.Lives.{LAST_MOMENT}
 use Rattle.rrc_wire.specs.Layout.{is_kept}
-use Rattle.rrc_trace.specs.declared.number.Kind.{Kind}
+use Rattle.rrc_trace.specs.declared.kind.Kind.{Kind}
 use Rattle.rrc_trace.specs.Gives.{◌>>=◌}
 use Rattle.rrc_history.specs.declared.body.Trust.{Trust}
 use Rattle.rrc_history.specs.declared.body.Trust.TheVariants.{Additional, NonAuthoritativeAnswer, Authority, AuthoritativeAnswer}

@@ -2,8 +2,8 @@
 -- What became of a text that goes to a writer through a buffer.
 use Rattle.std.specs.Prelude.{◌≡◌, ℕ, List, ◌++◌, Option, Bool, true, false}
 use Rattle.std.specs.Io.KnownBytes.{Appends}
-use Rattle.rrc_trace.specs.Writing.{AppendsFront}
-use Rattle.rrc_trace.specs.declared.output.Output.{Output}
+use Rattle.rrc_trace.specs.Writer.{AppendsFront}
+use Rattle.rrc_trace.specs.declared.write.output.Output.{Output}
 
 -- some of the octets that were given went out, and those behind them wait
 pub record Waits (start written : Option (List ℕ)) (waiting given : List ℕ) : Type 0 where

@@ -1,8 +1,8 @@
 -- SPDX-License-Identifier: MIT
 -- How the words of a line are read: what private contracts say.
 use Rattle.std.specs.Prelude.{ℕ, List, Option, Some, None, bytes_eq, codes, if◌then◌else◌}
-use Rattle.rrc_trace.specs.declared.word.Form.{Form}
-use Rattle.rrc_trace.specs.declared.word.Form.TheVariants as forms
+use Rattle.rrc_trace.specs.declared.read.word.Form.{Form}
+use Rattle.rrc_trace.specs.declared.read.word.Form.TheVariants as forms
 use Rattle.rrc_history.specs.declared.ask.Purpose.{Purpose}
 use Rattle.rrc_history.specs.declared.ask.Purpose.TheVariants as purposes
 use Rattle.rrc_history.specs.declared.ask.Mode.{Mode}

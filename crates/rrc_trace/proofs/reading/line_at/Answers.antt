@@ -1,6 +1,0 @@
--- SPDX-License-Identifier: MIT
-use Rattle.std.proofs.Common.{rules}
-use Rattle.rrc_trace.proofs.reading.line_at.Goals as goal
-
-pub returns-in-Err-NotOne : goal.returns-in-Err-NotOne
-returns-in-Err-NotOne c = search rules fits 100
