@@ -13,7 +13,7 @@ use Rattle.rrc_collate.specs.Words.{NoneTwice, AllBelow}
 use Rattle.rrc_report.specs.declared.done.Answered.{Answered}
 use Rattle.rrc_report.specs.declared.done.Done.{Done}
 use Rattle.rrc_report.specs.Answers.{Completes}
-use Rattle.rrc_report.specs.Filling.{answered_by, StandsIn, AreIn, IsMissed}
+use Rattle.rrc_report.specs.AnswerTable.{answered_by, StandsIn, AreIn, IsMissed}
 use Rattle.rrc_report.specs.Steps.{Given, given_by, given_from, as_taken, StandsComplete, AreComplete}
 use Rattle.rrc_report.proofs.Completed.{as_answered}
 use Rattle.rrc_report.proofs.Zips.{zip_push, zip_at, all_right, all_unmap, pairs_before}

@@ -16,7 +16,7 @@ use Rattle.rrc_trace.specs.declared.answer.Answer.{Answer}
 use Rattle.rrc_trace.specs.declared.answer.Answer.TheVariants as answers
 use Rattle.rrc_trace.specs.declared.answer.Told.{Told}
 use Rattle.rrc_report.specs.Answers.{Tells, Replies, Counts, TellAll, TellFetched, CountAll, RepliesAlone, IsHit, IsTold, without_key, without_keys, Completes, OneCompletion}
-use Rattle.rrc_report.specs.Completing.{is_nobody, told_by, replies, counts, is_hit, joined, all_told_by, all_count, is_empty, replies_alone, one_told_by, told_before, fetched_by, only_where, complete}
+use Rattle.rrc_report.specs.Completions.{is_nobody, told_by, replies, counts, is_hit, joined, all_told_by, all_count, is_empty, replies_alone, one_told_by, told_before, fetched_by, only_where, complete}
 
 -- ---- answers of tests
 

@@ -7,7 +7,7 @@ use Rattle.std.proofs.lemmas.List.{get_or-map, length-map, map-append, take_more
 use Rattle.rrc_history.specs.declared.event.Event.{Event}
 use Rattle.rrc_history.specs.declared.event.Reply.{Reply}
 use Rattle.rrc_trace.specs.declared.answer.Told.{Told}
-use Rattle.rrc_report.specs.Completing.{told_by, replies, counts, joined, all_told_by, all_count, told_before}
+use Rattle.rrc_report.specs.Completions.{told_by, replies, counts, joined, all_told_by, all_count, told_before}
 use Rattle.rrc_report.proofs.ToldLaws.{joined_parts}
 
 joined_none : {X : Type 0} (first : Option X) → joined first None ≡ None

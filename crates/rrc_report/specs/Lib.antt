@@ -3,7 +3,7 @@ pub mod Answers
 pub mod Reports
 pub mod Collates
 pub mod Steps
-pub mod Completing
+pub mod Completions
 pub mod Wholes
-pub mod Filling
+pub mod AnswerTable
 pub mod OneWorker

@@ -3,20 +3,20 @@
 //! lines of a trace call for.
 #![tactic(auto)]
 
-mod collating;
-mod completing;
+mod answer_table;
+mod checked_report;
+mod completions;
 mod done;
 mod joined;
 mod laws;
 mod report;
-mod tasking;
-mod telling;
+mod tasks;
 mod wholes;
 
-pub use collating::collate;
+pub use checked_report::collate;
+pub use completions::one_completion;
 pub use done::{Answered, Done};
 pub use laws::one_report_by_one_worker;
 pub use report::Report;
 pub use rrc_script as script;
 pub use rrc_script::Config;
-pub use telling::one_completion;

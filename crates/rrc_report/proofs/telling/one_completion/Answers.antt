@@ -1,6 +1,0 @@
--- SPDX-License-Identifier: MIT
-use Rattle.rrc_report.proofs.ToldLaws.{complete-one}
-use Rattle.rrc_report.proofs.telling.one_completion.Goals as goal
-
-pub returns : goal.returns
-returns c = complete-one
