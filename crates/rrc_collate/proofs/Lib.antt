@@ -12,3 +12,4 @@ pub mod Others
 pub mod LinesLaw
 pub mod Fetched
 pub mod Turned
+pub mod Everywhere

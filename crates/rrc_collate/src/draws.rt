@@ -5,7 +5,8 @@ ghost use Rattle.rrc_collate.specs.Draws.{IsNext, IsFirst, HasNoFirst, IsDrawn, 
 
 use crate::drawn::Drawn;
 use crate::hands::Hands;
-use crate::script::{Call, Operation, is_call_of, tag_of};
+use crate::operations::Operations;
+use crate::script::{Call, is_call_of, tag_of};
 use rrc_history::{Event, Tag};
 use std::alloc::{AllocError, Global};
 
@@ -39,7 +40,7 @@ pub(crate) fn draw<'a>(
     parts: &mut [Hands<'a>],
     worker: usize,
     line: u64,
-    script: &[Operation],
+    script: &Operations,
 ) -> Result<Option<Drawn<'a>>, AllocError>
     requires workers { All (λ hands. worker < length hands) parts.old }
     requires parts { All (λ operation. operation.part < length parts.old) script.now }
@@ -48,12 +49,13 @@ pub(crate) fn draw<'a>(
     ensures none { IfOk result (λ drawn. IfNone drawn (CanNotDraw parts.old worker line script.now)) }
 {
     let mut events = Drawn::with_capacity(alloc, script.len())?;
-    for (place, operation) in script.iter().enumerate() {
+    for place in 0..script.len() {
+        let operation = script.at(place);
         let tag = Tag {
             line,
             place: place as u64,
         };
-        match take_next(&mut parts[operation.part], worker, tag, &operation.call) {
+        match take_next(&mut parts[operation.part], worker, tag, operation.call) {
             None => return Ok(None),
             Some(event) => events.push(alloc, event)?,
         }

@@ -22,6 +22,6 @@ mod valued;
 pub use drawn::Drawn;
 pub use fit::collate;
 pub use laws::each_line_stands;
-pub use operations::Operations;
+pub use operations::{OperationRef, Operations};
 pub use script::{Call, Operation};
 pub use task::{Fate, Task};

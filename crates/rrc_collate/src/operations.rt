@@ -1,20 +1,30 @@
 // SPDX-License-Identifier: MIT
-ghost use Rattle.std.specs.Prelude.{◌≡◌, [], ◌∷◌};
+ghost use Rattle.std.specs.Prelude.{◌≡◌, ◌<◌, [], ◌∷◌, length, slice_get, Some};
+ghost use Rattle.rrc_collate.specs.Operations.{lent_operation, everywhere};
 
-use crate::script::Operation;
+use crate::script::{Call, Operation};
 use std::alloc::Global;
 use std::marker::Model;
-use std::slice;
 
-/// How operations are held: one alone in the value itself.
+/// How operations are held: one alone, and one call on each part, in the value itself.
 #[derive(Debug, Drop)]
 pub(crate) enum Held {
     Alone(Operation),
     Listed(Vec<Operation>),
+    /// This call on each of so many parts, in order of the parts.
+    Everywhere { parts: usize, call: Call },
 }
 
-/// The operations of a line, in order of place. Contracts see the list of them. Nearly each line has one, and a trace may have as many of
-/// these lists as lines: so one alone, and none, take no memory.
+/// An operation whose call is lent: of operations that are one call on each part, none is made.
+#[derive(Clone, Copy)]
+pub struct OperationRef<'a> {
+    pub part: usize,
+    pub call: &'a Call,
+}
+
+/// The operations of a line, in order of place. Contracts see the list of them. Nearly each line
+/// has one, a sweep has one for each part, and a trace may have as many of these lists as lines: so
+/// one alone, none, and the same call on each part take no memory.
 #[derive(Debug, Drop)]
 pub struct Operations {
     held: Held,
@@ -28,6 +38,15 @@ impl Model for Operations {
     ghost Value = { List Operation };
 
     ghost view = { λ o. operations_of o.held };
+}
+
+fn lent(operation: &Operation) -> OperationRef<'_>
+    ensures { lent_operation result ≡ operation.now }
+{
+    OperationRef {
+        part: operation.part,
+        call: &operation.call,
+    }
 }
 
 impl Operations {
@@ -58,12 +77,34 @@ impl Operations {
         }
     }
 
-    pub fn as_slice(&self) -> &[Operation]
-        ensures { result.now ≡ self.now }
+    /// This call on each of so many parts, in order of the parts.
+    pub fn everywhere(parts: usize, call: Call) -> Operations
+        ensures { result ≡ everywhere call 0 parts }
+    {
+        Operations {
+            held: Held::Everywhere { parts, call },
+        }
+    }
+
+    pub fn len(&self) -> usize
+        ensures { result ≡ length self.now }
     {
         match &self.held {
-            Held::Alone(operation) => slice::from_ref(operation),
-            Held::Listed(operations) => operations.as_slice(),
+            Held::Alone(_) => 1,
+            Held::Listed(operations) => operations.len(),
+            Held::Everywhere { parts, .. } => *parts,
+        }
+    }
+
+    /// The operation at a place.
+    pub fn at(&self, place: usize) -> OperationRef<'_>
+        requires { place < length self.now }
+        ensures { slice_get self.now place ≡ Some (lent_operation result) }
+    {
+        match &self.held {
+            Held::Alone(operation) => lent(operation),
+            Held::Listed(operations) => lent(&operations[place]),
+            Held::Everywhere { call, .. } => OperationRef { part: place, call },
         }
     }
 }

@@ -26,8 +26,13 @@ pub(crate) fn draw_all<'a>(
 {
     let mut events = Vec::with_capacity(alloc, tasks.len())?;
     for task in tasks {
-        let operations = task.operations.as_slice();
-        match draw(alloc, parts, task.worker, task.line as u64, operations)? {
+        match draw(
+            alloc,
+            parts,
+            task.worker,
+            task.line as u64,
+            &task.operations,
+        )? {
             None => return Ok(None),
             Some(own) => events.push(own)?,
         }

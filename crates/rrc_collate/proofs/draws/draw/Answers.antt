@@ -1,8 +1,10 @@
 -- SPDX-License-Identifier: MIT
 use Rattle.std.proofs.Common.{◌≡◌, ◌<◌, ◌+◌, ◌++◌, ◌∷◌, [], List, Bor, length, get_or, set, take, drop, map, ap, subst, sym, ◌∙◌, arith}
 use Rattle.std.proofs.lemmas.List.{get_or_default, drop_more, drop_all, take_more, length-take-le, map-append}
+use Rattle.std.proofs.lemmas.Option.{get_or_from_slice_get}
 use Rattle.rrc_history.specs.declared.event.Event.{Event}
 use Rattle.rrc_collate.specs.declared.script.Operation.{Operation}
+use Rattle.rrc_collate.specs.Operations.{lent_operation}
 use Rattle.rrc_collate.specs.Draws.{IsFirst, HasNoFirst, Fits, IsDrawn}
 use Rattle.rrc_collate.proofs.DrawLemmas.{tag_at, fits_none, fits_on, fits_all, drawn_more, takes, Takes, FitsOn}
 use Rattle.rrc_collate.proofs.draws.draw.Goals as goal
@@ -12,16 +14,17 @@ returns-in-None-clause-none c =
     let parts = c.loop-place.parts in
     let script = c.args.script.now in
     let place = c.loop-place.place in
-    let operation = c.index-script-place.result in
+    let operation = lent_operation c.at-operation.result in
+    let below : place < length script = subst (λ n. place < n) c.len-place-end.ensures c.loop-place-test.true in
     let hands = c.index-parts-operation.result in
-    let here = c.index-script-place.is in
-    let names_part = subst (λ (o : Operation). o.part < length c.args.parts.now) (sym here) (c.requires.parts place operation c.loop-place-test.true) in
+    let here = sym (get_or_from_slice_get script place operation operation c.at-operation.ensures) in
+    let names_part = subst (λ (o : Operation). o.part < length c.args.parts.now) (sym here) (c.requires.parts place operation below) in
     let stay = c.loop-place.auto.parts in
     let in_parts : operation.part < length parts = omega (arith, names_part, stay) in
     let is_hands = get_or_default parts operation.part hands [] in_parts in
     let none = subst (λ (l : List (List Event)). HasNoFirst (tag_at c.args.line place) operation.call (get_or l c.args.worker [])) is_hands c.in-None.ensures.none in
     let behind : drop place script ≡ operation ∷ drop (place + 1) script =
-    drop_more script place operation c.loop-place-test.true ∙ ap (λ o. o ∷ drop (place + 1) script) (sym here) in
+    drop_more script place operation below ∙ ap (λ o. o ∷ drop (place + 1) script) (sym here) in
     λ events left fits.
     let rest = c.loop-place.invariant.rest events left fits in
     fits_none parts c.args.worker c.args.line place operation (drop (place + 1) script) rest.others left none
@@ -33,11 +36,12 @@ loop-place-preserved c =
     let script = c.args.script.now in
     let place = c.loop-place.place in
     let worker = c.args.worker in
-    let operation = c.index-script-place.result in
+    let operation = lent_operation c.at-operation.result in
+    let below : place < length script = subst (λ n. place < n) c.len-place-end.ensures c.loop-place-test.true in
     let hands = c.index-parts-operation.result in
     let event = c.in-Some.event in
-    let here = c.index-script-place.is in
-    let names_part = subst (λ (o : Operation). o.part < length c.args.parts.now) (sym here) (c.requires.parts place operation c.loop-place-test.true) in
+    let here = sym (get_or_from_slice_get script place operation operation c.at-operation.ensures) in
+    let names_part = subst (λ (o : Operation). o.part < length c.args.parts.now) (sym here) (c.requires.parts place operation below) in
     let stay = c.loop-place.auto.parts in
     let in_parts : operation.part < length parts = omega (arith, names_part, stay) in
     let is_hands = get_or_default parts operation.part hands [] in_parts in
@@ -51,14 +55,14 @@ loop-place-preserved c =
     let took : Takes parts left operation.part worker =
     takes parts operation.part worker (get_or parts operation.part hands) c.take_next.new.hands in_parts is_hands in_hands c.in-Some.ensures.rest in
     let behind : drop place script ≡ operation ∷ drop (place + 1) script =
-    drop_more script place operation c.loop-place-test.true ∙ ap (λ o. o ∷ drop (place + 1) script) (sym here) in
+    drop_more script place operation below ∙ ap (λ o. o ∷ drop (place + 1) script) (sym here) in
     let more : take (place + 1) script ≡ take place script ++ operation ∷ [] =
-    take_more script place operation c.loop-place-test.true ∙ ap (λ o. take place script ++ o ∷ []) (sym here) in
+    take_more script place operation below ∙ ap (λ o. take place script ++ o ∷ []) (sym here) in
     let now : Bor Event → Event = λ borrowed. borrowed.now in
     let events = map now c.loop-place.events.items in
     let pushed : map now c.push.new.self.items ≡ events ++ event.now ∷ [] =
     ap (map now) c.in_ok-push-in-Some.ensures.items ∙ map-append now c.loop-place.events.items (event ∷ []) in
-    let size = length-take-le place script (omega (arith, c.loop-place-test.true)) in
+    let size = length-take-le place script (omega (arith, below)) in
     record {
       drawn =
           subst (λ es. IsDrawn c.args.parts.now worker c.args.line (take (place + 1) script) es left) (sym pushed)

@@ -16,15 +16,14 @@ returns-in-None-clause-none c =
     let tasks = c.args.tasks.now in
     let i = c.loop-task.task-index in
     let task = c.task-item.result in
-    let none = subst (λ found. IfNone found (CanNotDraw parts task.worker task.line c.as_slice-operations.result.now)) c.in-None.is c.in_ok-draw.ensures.none in
-    let can_not = subst (λ operations. CanNotDraw parts task.worker task.line operations) c.as_slice-operations.ensures none in
+    let none = subst (λ found. IfNone found (CanNotDraw parts task.worker task.line task.operations)) c.in-None.is c.in_ok-draw.ensures.none in
     let behind : drop i tasks ≡ task ∷ drop (i + 1) tasks = drop_more tasks i task c.loop-task-test.true ∙ ap (λ t. t ∷ drop (i + 1) tasks) (sym c.task-item.is) in
     let now : Bor Event → Event = λ borrowed. borrowed.now in
     let items : DrawnOf → List (Bor Event) = λ own. own.items in
     let done = shown items now c.loop-task.events.items in
     λ events behinds fit.
     let rest = subst (λ ts. AllFitOn parts ts done events behinds) behind (c.loop-task.invariant.rest events behinds fit) in
-    all_fit_none parts task (drop (i + 1) tasks) rest.others behinds can_not rest.fit
+    all_fit_none parts task (drop (i + 1) tasks) rest.others behinds none rest.fit
 
 pub loop-task-preserved : goal.loop-task-preserved
 loop-task-preserved c =
@@ -38,11 +37,10 @@ loop-task-preserved c =
     let items : DrawnOf → List (Bor Event) = λ own. own.items in
     let done = shown items now c.loop-task.events.items in
     let drawn = map now own.items in
-    let operations = c.as_slice-operations.result.now in
-    let is_drawn = subst (λ operations. IsDrawn parts task.worker task.line operations drawn left) c.as_slice-operations.ensures
-    (subst (λ found. IfSome found (λ own. IsDrawn parts task.worker task.line operations (map now own.items) left)) c.in-Some.is c.in_ok-draw.ensures.drawn) in
-    let only = subst (λ operations. IsOnlyDraw parts task.worker task.line operations drawn left) c.as_slice-operations.ensures
-    (subst (λ found. IfSome found (λ own. IsOnlyDraw parts task.worker task.line operations (map now own.items) left)) c.in-Some.is c.in_ok-draw.ensures.only) in
+    let is_drawn =
+    subst (λ found. IfSome found (λ own. IsDrawn parts task.worker task.line task.operations (map now own.items) left)) c.in-Some.is c.in_ok-draw.ensures.drawn in
+    let only =
+    subst (λ found. IfSome found (λ own. IsOnlyDraw parts task.worker task.line task.operations (map now own.items) left)) c.in-Some.is c.in_ok-draw.ensures.only in
     let behind : drop i tasks ≡ task ∷ drop (i + 1) tasks = drop_more tasks i task c.loop-task-test.true ∙ ap (λ t. t ∷ drop (i + 1) tasks) (sym c.task-item.is) in
     let more : take (i + 1) tasks ≡ take i tasks ++ task ∷ [] = take_more tasks i task c.loop-task-test.true ∙ ap (λ t. take i tasks ++ t ∷ []) (sym c.task-item.is) in
     let pushed : shown items now c.push.new.self.items ≡ done ++ drawn ∷ [] =
