@@ -68,19 +68,8 @@ pub(crate) fn fetching(
 }
 
 /// A sweep of each part, in order.
-pub(crate) fn sweeping(
-    alloc: Global,
-    config: &Config,
-    moment: u64,
-) -> Result<Operations, AllocError>
-    ensures { IfOk result (λ operations. operations ≡ sweeping moment 0 config.now.parts) }
+pub(crate) fn sweeping(config: &Config, moment: u64) -> Operations
+    ensures { result ≡ sweeping moment 0 config.now.parts }
 {
-    let mut operations = Vec::with_capacity(alloc, config.parts)?;
-    for part in 0..config.parts {
-        operations.push(Operation {
-            part,
-            call: Call::Sweep(moment),
-        })?;
-    }
-    Ok(Operations::from_vec(operations))
+    Operations::everywhere(config.parts, Call::Sweep(moment))
 }

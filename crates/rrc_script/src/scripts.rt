@@ -190,9 +190,7 @@ pub fn script_of(
             alloc, response, *fault,
         ),
         (Line::Fetch(fetch), _) => fetch_script(alloc, config, questions, fetch, answer),
-        (Line::Sweep(moment), Answer::Swept(_)) => {
-            Ok(Some(plain(sweeping(alloc, config, *moment)?)))
-        }
+        (Line::Sweep(moment), Answer::Swept(_)) => Ok(Some(plain(sweeping(config, *moment)))),
         (Line::Checkpoint, Answer::Closed) => Ok(Some(plain(Operations::none(alloc)))),
         _ => Ok(None),
     }
