@@ -10,7 +10,8 @@ use Rattle.rrc_collate.specs.declared.operations.OperationRef.{OperationRef}
 -- a call on each of so many parts, the first of which has this number
 abbrev pub everywhere : Call → ℕ → ℕ → List Operation
 everywhere call part zero = []
-everywhere call part (suc count) = record { part = part; call = call } ∷ everywhere call (part + 1) count
+everywhere call part (suc count) =
+    record { part = part; call = call } ∷ everywhere call (part + 1) count
 
 abbrev pub operations_of : Held → List Operation
 operations_of (Alone operation) = operation ∷ []

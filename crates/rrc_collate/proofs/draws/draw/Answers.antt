@@ -15,10 +15,14 @@ returns-in-None-clause-none c =
     let script = c.args.script.now in
     let place = c.loop-place.place in
     let operation = lent_operation c.at-operation.result in
-    let below : place < length script = subst (λ n. place < n) c.len-place-end.ensures c.loop-place-test.true in
+    let below : place < length script =
+    subst (λ n. place < n) c.len-place-end.ensures c.loop-place-test.true in
     let hands = c.index-parts-operation.result in
-    let here = sym (get_or_from_slice_get script place operation operation c.at-operation.ensures) in
-    let names_part = subst (λ (o : Operation). o.part < length c.args.parts.now) (sym here) (c.requires.parts place operation below) in
+    let is = c.at-operation.ensures in
+    let here = sym (get_or_from_slice_get script place operation operation is) in
+    let names_part =
+    subst (λ (o : Operation). o.part < length c.args.parts.now) (sym here)
+    (c.requires.parts place operation below) in
     let stay = c.loop-place.auto.parts in
     let in_parts : operation.part < length parts = omega (arith, names_part, stay) in
     let is_hands = get_or_default parts operation.part hands [] in_parts in
@@ -37,11 +41,15 @@ loop-place-preserved c =
     let place = c.loop-place.place in
     let worker = c.args.worker in
     let operation = lent_operation c.at-operation.result in
-    let below : place < length script = subst (λ n. place < n) c.len-place-end.ensures c.loop-place-test.true in
+    let below : place < length script =
+    subst (λ n. place < n) c.len-place-end.ensures c.loop-place-test.true in
     let hands = c.index-parts-operation.result in
     let event = c.in-Some.event in
-    let here = sym (get_or_from_slice_get script place operation operation c.at-operation.ensures) in
-    let names_part = subst (λ (o : Operation). o.part < length c.args.parts.now) (sym here) (c.requires.parts place operation below) in
+    let is = c.at-operation.ensures in
+    let here = sym (get_or_from_slice_get script place operation operation is) in
+    let names_part =
+    subst (λ (o : Operation). o.part < length c.args.parts.now) (sym here)
+    (c.requires.parts place operation below) in
     let stay = c.loop-place.auto.parts in
     let in_parts : operation.part < length parts = omega (arith, names_part, stay) in
     let is_hands = get_or_default parts operation.part hands [] in_parts in

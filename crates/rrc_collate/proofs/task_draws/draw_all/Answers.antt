@@ -16,7 +16,8 @@ returns-in-None-clause-none c =
     let tasks = c.args.tasks.now in
     let i = c.loop-task.task-index in
     let task = c.task-item.result in
-    let none = subst (λ found. IfNone found (CanNotDraw parts task.worker task.line task.operations)) c.in-None.is c.in_ok-draw.ensures.none in
+    let can_not = CanNotDraw parts task.worker task.line task.operations in
+    let none = subst (λ found. IfNone found can_not) c.in-None.is c.in_ok-draw.ensures.none in
     let behind : drop i tasks ≡ task ∷ drop (i + 1) tasks = drop_more tasks i task c.loop-task-test.true ∙ ap (λ t. t ∷ drop (i + 1) tasks) (sym c.task-item.is) in
     let now : Bor Event → Event = λ borrowed. borrowed.now in
     let items : DrawnOf → List (Bor Event) = λ own. own.items in
@@ -37,10 +38,14 @@ loop-task-preserved c =
     let items : DrawnOf → List (Bor Event) = λ own. own.items in
     let done = shown items now c.loop-task.events.items in
     let drawn = map now own.items in
-    let is_drawn =
-    subst (λ found. IfSome found (λ own. IsDrawn parts task.worker task.line task.operations (map now own.items) left)) c.in-Some.is c.in_ok-draw.ensures.drawn in
-    let only =
-    subst (λ found. IfSome found (λ own. IsOnlyDraw parts task.worker task.line task.operations (map now own.items) left)) c.in-Some.is c.in_ok-draw.ensures.only in
+    let line = task.line in
+    let script = task.operations in
+    let fits : DrawnOf → Type 0 =
+    λ own. IsDrawn parts task.worker line script (map now own.items) left in
+    let alone : DrawnOf → Type 0 =
+    λ own. IsOnlyDraw parts task.worker line script (map now own.items) left in
+    let is_drawn = subst (λ found. IfSome found fits) c.in-Some.is c.in_ok-draw.ensures.drawn in
+    let only = subst (λ found. IfSome found alone) c.in-Some.is c.in_ok-draw.ensures.only in
     let behind : drop i tasks ≡ task ∷ drop (i + 1) tasks = drop_more tasks i task c.loop-task-test.true ∙ ap (λ t. t ∷ drop (i + 1) tasks) (sym c.task-item.is) in
     let more : take (i + 1) tasks ≡ take i tasks ++ task ∷ [] = take_more tasks i task c.loop-task-test.true ∙ ap (λ t. take i tasks ++ t ∷ []) (sym c.task-item.is) in
     let pushed : shown items now c.push.new.self.items ≡ done ++ drawn ∷ [] =

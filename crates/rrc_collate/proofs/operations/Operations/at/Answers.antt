@@ -12,4 +12,5 @@ returns-in-Everywhere c =
     let place = c.args.place in
     let list = sym c.self.view_is ∙ ap operations_of c.in-Everywhere.is in
     let size = ap length list ∙ length_everywhere call 0 parts in
-    ap (λ os. slice_get os place) list ∙ at_everywhere call parts place (subst (λ n. place < n) size c.requires)
+    let below = subst (λ n. place < n) size c.requires in
+    ap (λ os. slice_get os place) list ∙ at_everywhere call parts place below

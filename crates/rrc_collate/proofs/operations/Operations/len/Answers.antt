@@ -6,4 +6,5 @@ use Rattle.rrc_collate.proofs.operations.Operations.len.Goals as goal
 
 pub returns-in-Everywhere : goal.returns-in-Everywhere
 returns-in-Everywhere c =
-    sym (ap length (sym c.self.view_is ∙ ap operations_of c.in-Everywhere.is) ∙ length_everywhere c.in-Everywhere.call 0 c.in-Everywhere.parts)
+    let list = sym c.self.view_is ∙ ap operations_of c.in-Everywhere.is in
+    sym (ap length list ∙ length_everywhere c.in-Everywhere.call 0 c.in-Everywhere.parts)
