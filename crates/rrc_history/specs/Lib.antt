@@ -11,6 +11,7 @@ pub mod Past
 pub mod Right
 pub mod Entries
 pub mod Sound
+pub mod Octets
 pub mod Same
 pub mod Chapters
 pub mod Chains

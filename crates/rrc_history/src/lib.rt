@@ -13,6 +13,7 @@ mod event;
 mod images;
 mod judge;
 mod laws;
+mod octets;
 mod offer;
 mod past;
 mod renewing;
@@ -36,6 +37,7 @@ pub use laws::{
     calls_determine_the_history, legal_histories_keep_the_laws, same_snapshots_are_one,
     snapshots_lead_to_themselves, sound_entries_have_no_fault,
 };
+pub use octets::RECORD_OCTETS;
 pub use offer::{Offer, OfferFault};
 pub use reply::{ReplyRef, SetRef, SoaRef};
 pub use rrc_name as name;
