@@ -8,6 +8,7 @@ use Rattle.rrc_name.specs.Key.{KeyOf, key_eq}
 use Rattle.rrc_history.specs.declared.snapshot.Entry.{Entry}
 use Rattle.rrc_history.specs.Past.{entry_at}
 use Rattle.rrc_history.specs.Right.{is_swept}
+use Rattle.rrc_cache.specs.Counted.{counted_octets}
 use Rattle.rrc_cache.specs.declared.deaths.Death.{Death}
 use Rattle.rrc_cache.specs.declared.store.Leaving.{Leaving}
 use Rattle.rrc_cache.specs.Dying.{time_of_death}
@@ -56,9 +57,9 @@ abbrev pub is_gone_by : ℕ → ℕ → Option Entry → Bool
 is_gone_by stale time None = false
 is_gone_by stale time (Some entry) = nat_le (time_of_death stale entry) time
 
--- of an entry that another comes in the place of: its number, and from when on it is dead
+-- of an entry that another comes in the place of: its number, from when on it is dead, and its octets modulo 2^64
 abbrev pub leaving_of : ℕ → Entry → Leaving
-leaving_of stale entry = record { number = entry.number; dies = time_of_death stale entry }
+leaving_of stale entry = record { number = entry.number; dies = time_of_death stale entry; octets = counted_octets entry }
 
 -- the keys of deaths under which something dead is kept
 abbrev pub dead_among : ℕ → ℕ → List Entry → List Death → List KeyOf

@@ -49,7 +49,7 @@ impl LeanPart {
     ghost use Rattle.rrc_cache.specs.Expiry.{HoldsNothing, NoneDiesBefore};
     ghost use Rattle.rrc_cache.specs.Lean.{IsLeanDue, IsLeanOpen, IsLeanSound, IsPick, Shuts};
     ghost use Rattle.rrc_cache.specs.Part.{past_of, next_number, Adds, IsCloseDue, IsOfMoments, WritesOffer, WritesAsk, WritesSweep};
-    ghost use Rattle.rrc_cache.specs.Sizes.{HoldsKeys};
+    ghost use Rattle.rrc_cache.specs.Sizes.{HoldsKeys, HoldsOctets};
 
     /// An empty part in the first chapter of its history. Its seed is known, as that of
     /// `Part::new`: for names that anyone may send, `seeded` takes one that nobody knows.
@@ -95,6 +95,15 @@ impl LeanPart {
         ensures sound { IsLeanSound self.now }
     {
         self.store.len()
+    }
+
+    /// How many octets the part holds: of each key its name, of an RRset its owner and its rdata, and `RECORD_OCTETS` for each record,
+    /// of a negative answer the owner and the rdata of its SOA record. They are counted already; where they were 2^64 or more,
+    /// that many less.
+    pub fn octets(&self) -> u64
+        ensures { HoldsOctets self.now result }
+    {
+        self.store.octets()
     }
 
     /// What a key holds, lent: the body, and the moment and the number of the event that stored it. It takes no memory and touches

@@ -12,6 +12,7 @@ mod entries;
 mod followed;
 mod hashed;
 mod history;
+mod holdings;
 mod judge;
 mod keyed;
 mod lean;

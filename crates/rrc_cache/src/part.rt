@@ -42,7 +42,7 @@ impl Model for Part {
 
 impl Part {
     ghost use Rattle.rrc_cache.specs.Part.{past_of, Closes, HasRoom, IsCloseDue, IsDue, IsOfMoments, IsSound, WritesOffer, WritesAsk, WritesSweep};
-    ghost use Rattle.rrc_cache.specs.Sizes.{HoldsKeys};
+    ghost use Rattle.rrc_cache.specs.Sizes.{HoldsKeys, HoldsOctets};
     ghost use Rattle.rrc_cache.specs.Expiry.{HoldsNothing, NoneDiesBefore};
     ghost use Rattle.rrc_history.specs.Past.{held, reply_to};
     ghost use Rattle.rrc_history.specs.Views.{held_in, reply_in};
@@ -110,6 +110,15 @@ impl Part {
         ensures sound { IsSound self.now }
     {
         self.lean.len()
+    }
+
+    /// How many octets the part holds: of each key its name, of an RRset its owner and its rdata, and `RECORD_OCTETS` for each record,
+    /// of a negative answer the owner and the rdata of its SOA record. They are counted already; where they were 2^64 or more,
+    /// that many less.
+    pub fn octets(&self) -> u64
+        ensures { HoldsOctets self.now result }
+    {
+        self.lean.octets()
     }
 
     /// What a key holds, lent: the body, and the moment and the number of the event that stored it. It takes no memory and touches

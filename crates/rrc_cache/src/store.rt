@@ -1,11 +1,12 @@
 // SPDX-License-Identifier: MIT
-ghost use Rattle.std.specs.Prelude.{◌≡◌, ℕ, ◌-◌, ◌<◌, ◌≤◌, [], ◌∷◌, Some, None, length, take, nat_le, true, false, if◌then◌else◌, IfOk, IfSome, IfNone, OnOk, OnErr};
+ghost use Rattle.std.specs.Prelude.{◌≡◌, ℕ, ◌-◌, ◌<◌, ◌≤◌, ◌^◌, ◌%◌, [], ◌∷◌, Some, None, length, take, nat_le, true, false, if◌then◌else◌, IfOk, IfSome, IfNone, OnOk, OnErr};
 ghost use Rattle.std.specs.Map.{lookup};
 ghost use Rattle.std.specs.Option.{option_map};
 ghost use Rattle.lru.specs.LruCache.{lru_cache, put_entries, promoted as lru_promoted};
 ghost use Rattle.rrc_name.specs.Key.{KeyOf, key_eq};
 ghost use Rattle.rrc_name.specs.KeyRef.{key_of};
 ghost use Rattle.rrc_history.specs.Lives.{LAST_MOMENT};
+ghost use Rattle.rrc_history.specs.Octets.{octets_of};
 ghost use Rattle.rrc_history.specs.Past.{entry_at, entry_of, is_among, last_key};
 ghost use Rattle.rrc_history.specs.Right.{is_swept};
 ghost use Rattle.rrc_history.specs.Sound.{AreSound};
@@ -21,7 +22,7 @@ use crate::beside::{Beside, is_beside};
 use crate::deaths::{self, Death, Deaths};
 use crate::followed::{self, Followed};
 use crate::hashed::HashedKey;
-use crate::keyed::Keyed;
+use crate::holdings::Holdings;
 use crate::seeded::Seeded;
 use lru::LruCache;
 use rrc_history::{Entry, EntryList, Held, Offer, Rules, Snapshot};
@@ -29,11 +30,12 @@ use rrc_name::{Key, KeyRef, Name, Shared};
 use std::alloc::{AllocError, Global};
 use std::marker::Model;
 
-/// Of an entry that another comes in the place of: its number, and from when on it is dead.
+/// Of an entry that another comes in the place of: its number, from when on it is dead, and its octets, modulo 2^64.
 #[derive(Clone, Copy)]
 pub(crate) struct Leaving {
     pub(crate) number: u64,
     pub(crate) dies: u64,
+    pub(crate) octets: u64,
 }
 
 impl Leaving {
@@ -44,6 +46,7 @@ impl Leaving {
         Leaving {
             number: held.number,
             dies: deaths::dies_at(held.body, held.moment, stale),
+            octets: held.body.octets_under(held.key),
         }
     }
 }
@@ -54,7 +57,7 @@ impl Leaving {
 /// the average over many puts: after twice as many as there are entries the deaths may be made anew.
 #[derive(Debug, Drop)]
 pub struct Store {
-    cache: Keyed,
+    cache: Holdings,
     /// When entries may die.
     deaths: Deaths,
     /// Of which names something may be kept beside their sets.
@@ -84,7 +87,7 @@ impl Store {
         ensures { IfOk result (λ store. store ≡ record { seeded = seeded; stale = rules.stale; entries = [] }) }
     {
         Ok(Store {
-            cache: Keyed::new(alloc, seeded)?,
+            cache: Holdings::new(alloc, seeded)?,
             deaths: Deaths::new(alloc),
             beside: Beside::new(alloc, (2 * rules.capacity as usize).next_power_of_two())?,
             stale: rules.stale,
@@ -118,6 +121,13 @@ impl Store {
         ensures apart { AreApart self.now.entries }
     {
         self.cache.len()
+    }
+
+    /// The octets of all entries, modulo 2^64. They are counted already.
+    pub(crate) fn octets(&self) -> u64
+        ensures { result ≡ octets_of self.now.entries % 2 ^ 64 }
+    {
+        self.cache.octets()
     }
 
     pub(crate) fn allocator(&self) -> Global {
@@ -335,7 +345,7 @@ impl Store {
         let _ = self.cache.len();
         self.deaths.reserve()?;
         let death = death_before(leaving, &offer.key, time)?;
-        self.cache.overwrite(hash, offer, number)?;
+        self.cache.overwrite(hash, offer, number, leaving.octets)?;
         followed::note_put(&mut self.followed, Some(leaving.number), number);
         if let Some(death) = death {
             self.deaths.add(death);
@@ -389,7 +399,7 @@ impl Store {
 }
 
 /// Moves the entry of a key to the front, and answers its number, if there is one.
-fn promote(cache: &mut Keyed, hash: u64, key: KeyRef<'_>) -> Option<u64>
+fn promote(cache: &mut Holdings, hash: u64, key: KeyRef<'_>) -> Option<u64>
     requires { hash ≡ name_hash cache.old.seeded (key_of key).name }
     ensures cache { cache.new.map ≡ lru_cache (lru_promoted (key_eq (key_of key.entry)) cache.old.map.entries) cache.old.map.cap }
     ensures seeded { cache.new.seeded ≡ cache.old.seeded }
@@ -413,7 +423,11 @@ fn keys_of(entry: &Entry) -> Result<(Key, Key), AllocError>
 }
 
 /// Puts an entry in front under its key, and answers one like that, and what it had. An `Err` leaves all as it was.
-fn put_over(cache: &mut Keyed, hash: u64, entry: Entry) -> Result<(Key, Option<Entry>), AllocError>
+fn put_over(
+    cache: &mut Holdings,
+    hash: u64,
+    entry: Entry,
+) -> Result<(Key, Option<Entry>), AllocError>
     requires hash { hash ≡ name_hash cache.old.seeded entry.key.name }
     requires room { length cache.old.map.entries < cache.old.map.cap }
     ensures key { IfOk result (λ told. told.0 ≡ entry.key) }
@@ -452,7 +466,7 @@ fn is_gone_by(held: Option<Entry>, stale: u64, time: u64) -> bool
 }
 
 /// Whether what is kept under a key, if anything, is dead.
-fn is_dead(cache: &Keyed, key: KeyRef<'_>, stale: u64, moment: u64) -> bool
+fn is_dead(cache: &Holdings, key: KeyRef<'_>, stale: u64, moment: u64) -> bool
     requires own { AreOwn cache.now.map.entries }
     requires limit { stale ≤ 604800 }
     requires moment { moment ≤ LAST_MOMENT }
@@ -467,7 +481,7 @@ fn is_dead(cache: &Keyed, key: KeyRef<'_>, stale: u64, moment: u64) -> bool
 /// The keys of deaths under which something dead is kept.
 fn dead_among(
     alloc: Global,
-    cache: &Keyed,
+    cache: &Holdings,
     deaths: &[Death],
     stale: u64,
     moment: u64,

@@ -1,5 +1,5 @@
 -- SPDX-License-Identifier: MIT
-use Rattle.std.proofs.Common.{◌≡◌, ℕ, Bool, ◌^◌, ◌<◌, length, nat_le, if◌then◌else◌, List, Option, Some, None, IsSome, true, false, refl, ap, sym, subst, ◌∙◌, arith}
+use Rattle.std.proofs.Common.{◌≡◌, ℕ, Bool, ◌^◌, ◌<◌, length, nat_le, if◌then◌else◌, List, Option, Some, None, true, false, refl, ap, sym, subst, ◌∙◌, arith}
 use Rattle.std.specs.List.{IsDistinct}
 use Rattle.std.specs.Map.{keys_of}
 use Rattle.std.specs.Option.{option_map}
@@ -12,6 +12,7 @@ use Rattle.rrc_cache.specs.declared.deaths.Death.{Death}
 use Rattle.rrc_cache.specs.declared.followed.Followed.{Followed}
 use Rattle.rrc_cache.specs.declared.seeded.Seeded.{Seeded}
 use Rattle.rrc_cache.specs.declared.store.Leaving.{Leaving}
+use Rattle.rrc_cache.specs.Counted.{counted_octets}
 use Rattle.rrc_cache.specs.Beside.{BesideOf, beside_of, is_beside, may_hold}
 use Rattle.rrc_cache.specs.Deaths.{AreForeseen, DeathsOf, is_gone_by, leaving_of}
 use Rattle.rrc_cache.specs.Dying.{dies_at, time_of_death}
@@ -27,12 +28,12 @@ use Rattle.rrc_cache.proofs.store.Store.replace_foreseen.Goals as goal
 
 -- what is told of the entry that leaves
 module _ (stale : ℕ) (found : Option Entry) (leaving : Leaving) (told : option_map (leaving_of stale) found ≡ Some leaving) where
-  there : IsSome found
-  there = by found told
+  its_octets : option_map counted_octets found ≡ Some leaving.octets
+  its_octets = by found told
     where
-      by : (f : Option Entry) → option_map (leaving_of stale) f ≡ Some leaving → IsSome f
+      by : (f : Option Entry) → option_map (leaving_of stale) f ≡ Some leaving → option_map counted_octets f ≡ Some leaving.octets
       by None is = absurd cc
-      by (Some entry) is = refl
+      by (Some entry) is = let same : leaving_of stale entry ≡ leaving = cc in ap (λ (l : Leaving). Some l.octets) same
 
   its_number : option_map (λ entry. entry.number) found ≡ Some leaving.number
   its_number = by found told
@@ -99,7 +100,8 @@ overwrite-requires-clause-held c =
     let key : KeyOf = c.args.offer.now.key in
     let pairs : List (KeyOf × Entry) = c.self.inside.cache.map.entries in
     let told = subst (λ (store : StoreOf). option_map (leaving_of store.stale) (entry_at key store.entries) ≡ Some c.args.leaving) (sym c.self.view_is) c.requires.held in
-    subst (λ found. IsSome found) (sym (found_in_pairs key pairs c.self.invariant.0.own)) (there c.self.inside.stale (entry_at key (entries_in pairs)) c.args.leaving told)
+    subst (λ found. option_map counted_octets found ≡ Some c.args.leaving.octets) (sym (found_in_pairs key pairs c.self.invariant.0.own))
+    (its_octets c.self.inside.stale (entry_at key (entries_in pairs)) c.args.leaving told)
 
 pub invariant_of-self-in-Some : goal.invariant_of-self-in-Some
 invariant_of-self-in-Some c =
