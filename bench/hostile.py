@@ -24,9 +24,9 @@ PROGRAM = os.environ.get("RRCACHE_PROGRAM", TOP / "crates" / "rrcache" / "out" /
 if not pathlib.Path(LIBRARY).exists():
     sys.exit("build the library first: `bin/build-c`")
 import rrcache
-from attacks import ENDS, LONG, MESSAGES, ROOT, label, many_keys, many_types, one_key
+from attacks import ASKED, ENDS, LONG, MESSAGES, ROOT, label, many_keys, many_types, one_key
 from costs import memory, timed, used_by
-from dns import A, MINFO, TXT
+from dns import A, MINFO, TXT, question, record, response
 
 MOST_KEYS = 65_536
 
@@ -34,14 +34,64 @@ MOST_KEYS = 65_536
 def tell_message(make, size, runs):
     message = make(size)
     read = min(timed(rrcache.fault, message)[0] for _ in range(runs))
-    offer, kept = [], 0
+    offer, kept, told = [], 0, None
     for _ in range(runs):
         with rrcache.Shelf(MOST_KEYS, MOST_KEYS) as shelf:
             before = memory()
             offer.append(timed(shelf.offer_message, message, ROOT, 0)[0])
-            kept, keys = memory() - before, shelf.sizes().keys
-    print(f"{make.__name__:12}{len(message):8,} octets: {keys:5,} keys, {kept:10,} octets stay"
-          f" ({kept / len(message):4.1f} times), read {read:5.1f} ms, offered {min(offer):5.1f} ms")
+            kept, told = memory() - before, shelf.sizes()
+    print(f"{make.__name__:12}{len(message):8,} octets: {told.keys:5,} keys, {kept:10,} octets stay"
+          f" ({kept / len(message):4.1f} times; {told.octets:10,} are told),"
+          f" read {read:5.1f} ms, offered {min(offer):5.1f} ms")
+
+
+def tell_room(what, keys, offer, times=1):
+    """What keys take beside the octets that are told of them: while the events of their offers are
+    there, and once these were dropped. Of several times as many the last ones stay."""
+    before = memory()
+    with rrcache.Shelf(keys, keys) as shelf:
+        for number in range(times * keys):
+            offer(shelf, number)
+            if number % keys == 0:
+                shelf.drop_chapters()
+        first, told = memory() - before, shelf.sizes()
+        # The chapter is full, so that one more call closes it.
+        shelf.ask(ROOT, A, 0)
+        shelf.drop_chapters()
+        stay = memory() - before
+    print(f"{told.keys:,} {what}: {told.octets:,} octets told; {first:,} stay, of a key"
+          f" {(first - told.octets) / keys:,.0f} more than told; without the events {stay:,},"
+          f" {(stay - told.octets) / keys:,.0f} more", flush=True)
+
+
+def tell_rooms(keys, size):
+    short, long = ENDS["short names"], ENDS["names of 255 octets"]
+    data = data_of(size)
+
+    def name(number, end):
+        # A factor with no divisor of 36, so that names come in no order and none twice.
+        return label(number * 40_507 % 36**4, 4) + end
+    tell_room("small sets", keys, lambda shelf, it:
+              shelf.offer_set(name(it, short), A, 4, 600, [bytes(4)], 0))
+    tell_room("small sets whose owner is in capitals", keys, lambda shelf, it:
+              shelf.offer_set(name(it, short).upper(), A, 4, 600, [bytes(4)], 0))
+    tell_room("sets of names of 255 octets in capitals, with one rdata of 33 octets", keys // 16,
+              lambda shelf, it: shelf.offer_set(name(it, long).upper(), TXT, 4, 600,
+                                                [bytes(33)], 0))
+    tell_room("such sets after four times as many", keys // 16,
+              lambda shelf, it: shelf.offer_set(name(it, long).upper(), TXT, 4, 600,
+                                                [bytes(33)], 0), 4)
+    repeated = 15 * [record(ASKED, A, 600, bytes(4))]
+    tell_room("sets of a record that came 15 times", keys // 4,
+              lambda shelf, it: shelf.offer_message(
+                  response(question(name(it, short), A), repeated), ROOT, 0))
+    tell_room("failures of names", keys, lambda shelf, it:
+              shelf.offer_failure(name(it, short), A, 300, 0))
+    tell_room(f"sets of {len(data):,} rdata of 2 octets", 16, lambda shelf, it:
+              shelf.offer_set(name(it, short), TXT, 4, 600, data, 0))
+    tell_room("sets of 255 rdata of 33 octets", 256, lambda shelf, it:
+              shelf.offer_set(name(it, short), TXT, 4, 600,
+                              [bytes([number]) + bytes(32) for number in range(255)], 0))
 
 
 def tell_history(size, offers):
@@ -183,6 +233,7 @@ def tell_all(size, keys, runs):
         tell_calls(octets, runs)
     tell_history(size, 20)
     tell_drop(size, 64)
+    tell_rooms(keys, size)
     tell_full(size, 4096)
     tell_full(size, 1)
     for kind in ENDS:

@@ -127,16 +127,23 @@ static uint32_t peek(struct rrcache_shelf *shelf, uint64_t moment, struct rrcach
 
 static uint64_t events(struct rrcache_shelf *shelf)
 {
-    uint64_t keys = 0, open = 0, chapters = 0;
-    EXPECT(rrcache_sizes(shelf, &keys, &open, &chapters) == RRCACHE_DONE);
+    uint64_t keys = 0, open = 0, chapters = 0, octets = 0;
+    EXPECT(rrcache_sizes(shelf, &keys, &open, &chapters, &octets) == RRCACHE_DONE);
     return open + 1000 * chapters;
 }
 
 static uint64_t keys(struct rrcache_shelf *shelf)
 {
-    uint64_t held = 0, open = 0, chapters = 0;
-    EXPECT(rrcache_sizes(shelf, &held, &open, &chapters) == RRCACHE_DONE);
+    uint64_t held = 0, open = 0, chapters = 0, octets = 0;
+    EXPECT(rrcache_sizes(shelf, &held, &open, &chapters, &octets) == RRCACHE_DONE);
     return held;
+}
+
+static uint64_t octets_of_keys(struct rrcache_shelf *shelf)
+{
+    uint64_t held = 0, open = 0, chapters = 0, octets = 7;
+    EXPECT(rrcache_sizes(shelf, &held, &open, &chapters, &octets) == RRCACHE_DONE);
+    return octets;
 }
 
 static uint32_t offer_address(struct rrcache_shelf *shelf, const uint8_t *name, size_t size,
@@ -575,6 +582,67 @@ static void test_keys(void)
            && keys(&shelf) == 1);
     EXPECT(rrcache_sweep(&shelf, FIRST + 60, 1, &number) == RRCACHE_DONE && number == 1
            && keys(&shelf) == 0);
+    EXPECT(rrcache_free(&shelf) == RRCACHE_DONE);
+}
+
+/* How many octets the keys have is told through all that changes them: by hand, since www.example
+   has 13, other.example and third.example 15 and example 9, an address 4 and 48 for its record, and
+   the SOA record's data 22. */
+static void test_octets_of_keys(void)
+{
+    struct rrcache_shelf shelf = {0};
+    struct rrcache_counts counts;
+    struct rrcache_told told = {0};
+    uint64_t number = 9;
+    uint32_t outcome = 0;
+    uint8_t buffer[64];
+    EXPECT(rrcache_make(&shelf, 2, 3, 0, SEED) == RRCACHE_DONE && octets_of_keys(&shelf) == 0);
+
+    /* A set of one address: 13 + 13 + 52. */
+    EXPECT(offer_address(&shelf, NAME, sizeof NAME, 3, 60) == RRCACHE_KEPT
+           && octets_of_keys(&shelf) == 78);
+    /* One of two takes its place: 13 + 13 + 2 * 52. What is refused, and what is asked for, changes
+       nothing. */
+    EXPECT(offer_answer(&shelf, FIRST, &counts) == RRCACHE_DONE && octets_of_keys(&shelf) == 130);
+    EXPECT(offer_address(&shelf, NAME, sizeof NAME, 1, 60) == RRCACHE_LESS_TRUSTED
+           && octets_of_keys(&shelf) == 130);
+    /* That other.example has no address: 15 + 9 + 22. */
+    EXPECT(
+        rrcache_offer_negative(&shelf,
+                               NEGATIVE(OTHER, sizeof OTHER, A, RRCACHE_IN, RRCACHE_DENIES_TYPE, 3,
+                                        60, ZONE, sizeof ZONE, SOA_DATA, sizeof SOA_DATA, FIRST),
+                               1, &outcome)
+            == RRCACHE_DONE
+        && octets_of_keys(&shelf) == 130 + 46);
+    EXPECT(ask(&shelf, FIRST, &told, buffer, sizeof buffer) == RRCACHE_DONE
+           && told.kind == RRCACHE_FRESH && octets_of_keys(&shelf) == 130 + 46);
+    EXPECT(rrcache_drop_chapters(&shelf, &number) == RRCACHE_DONE && number == 1
+           && octets_of_keys(&shelf) == 130 + 46);
+    /* There is room for two: that asking for third.example failed, 15, evicts other.example. */
+    EXPECT(rrcache_offer_failure(&shelf, FAILURE(THIRD, sizeof THIRD, A, RRCACHE_IN, 30, FIRST), 1,
+                                 &outcome)
+               == RRCACHE_DONE
+           && keys(&shelf) == 2 && octets_of_keys(&shelf) == 130 + 15);
+    /* In the place of the two addresses: that there is none, 13 + 9 + 22, then one again, and none
+       by a ttl of 0. */
+    EXPECT(rrcache_offer_negative(&shelf,
+                                  NEGATIVE(NAME, sizeof NAME, A, RRCACHE_IN, RRCACHE_DENIES_TYPE, 4,
+                                           60, ZONE, sizeof ZONE, SOA_DATA, sizeof SOA_DATA, FIRST),
+                                  1, &outcome)
+               == RRCACHE_DONE
+           && octets_of_keys(&shelf) == 44 + 15);
+    EXPECT(offer_address(&shelf, UPPER, sizeof UPPER, 4, 60) == RRCACHE_KEPT
+           && octets_of_keys(&shelf) == 78 + 15);
+    EXPECT(offer_address(&shelf, NAME, sizeof NAME, 4, 0) == RRCACHE_CLEARED
+           && octets_of_keys(&shelf) == 15);
+    EXPECT(offer_address(&shelf, NAME, sizeof NAME, 4, 60) == RRCACHE_KEPT
+           && octets_of_keys(&shelf) == 78 + 15);
+
+    /* What is dead is counted until it is swept. */
+    EXPECT(rrcache_sweep(&shelf, FIRST + 30, 1, &number) == RRCACHE_DONE && number == 1
+           && octets_of_keys(&shelf) == 78);
+    EXPECT(rrcache_sweep(&shelf, FIRST + 60, 1, &number) == RRCACHE_DONE && number == 1
+           && keys(&shelf) == 0 && octets_of_keys(&shelf) == 0);
     EXPECT(rrcache_free(&shelf) == RRCACHE_DONE);
 }
 
@@ -1103,7 +1171,7 @@ static void test_no_shelf(void)
     struct rrcache_counts counts = {7, 7, 7};
     struct rrcache_told told = {7, 7, 7, 7, 7};
     uint32_t outcome = 7;
-    uint64_t number = 7, other = 7, third = 7;
+    uint64_t number = 7, other = 7, third = 7, fourth = 7;
     uint8_t buffer[64] = {7};
     EXPECT(rrcache_free(&shelf) == RRCACHE_NO_SHELF);
     EXPECT(offer_alias(&shelf, PARTS, 0, FIRST, &counts) == RRCACHE_NO_SHELF && counts.kept == 7);
@@ -1126,8 +1194,8 @@ static void test_no_shelf(void)
            && buffer[0] == 7);
     EXPECT(rrcache_sweep(&shelf, FIRST, 1, &number) == RRCACHE_NO_SHELF
            && rrcache_drop_chapters(&shelf, &number) == RRCACHE_NO_SHELF);
-    EXPECT(rrcache_sizes(&shelf, &number, &other, &third) == RRCACHE_NO_SHELF && number == 7
-           && other == 7 && third == 7);
+    EXPECT(rrcache_sizes(&shelf, &number, &other, &third, &fourth) == RRCACHE_NO_SHELF
+           && number == 7 && other == 7 && third == 7 && fourth == 7);
     EXPECT(make(&shelf) == RRCACHE_DONE && rrcache_free(&shelf) == RRCACHE_DONE
            && rrcache_free(&shelf) == RRCACHE_NO_SHELF);
 }
@@ -1492,13 +1560,20 @@ static void test_null(void)
            && rrcache_sweep_some(&shelf, FIRST, 1, 1, &wide, NULL) == RRCACHE_NULL);
     EXPECT(rrcache_sweep(&shelf, FIRST, 1, NULL) == RRCACHE_NULL
            && rrcache_drop_chapters(&shelf, NULL) == RRCACHE_NULL);
-    EXPECT(rrcache_sizes(NULL, &wide, &other, &other + 1) == RRCACHE_NULL
-           && rrcache_sizes(&shelf, NULL, &wide, &other) == RRCACHE_NULL);
-    EXPECT(rrcache_sizes(&shelf, &wide, NULL, &other) == RRCACHE_NULL
-           && rrcache_sizes(&shelf, &wide, &other, NULL) == RRCACHE_NULL);
-    EXPECT(rrcache_sizes(&shelf, &wide, &wide, &other) == RRCACHE_NULL
-           && rrcache_sizes(&shelf, &wide, &other, &wide) == RRCACHE_NULL);
-    EXPECT(rrcache_sizes(&shelf, &other, &wide, &wide) == RRCACHE_NULL);
+    uint64_t four[4] = {0};
+    EXPECT(rrcache_sizes(NULL, four, four + 1, four + 2, four + 3) == RRCACHE_NULL
+           && rrcache_sizes(&shelf, NULL, four + 1, four + 2, four + 3) == RRCACHE_NULL
+           && rrcache_sizes(&shelf, four, NULL, four + 2, four + 3) == RRCACHE_NULL
+           && rrcache_sizes(&shelf, four, four + 1, NULL, four + 3) == RRCACHE_NULL
+           && rrcache_sizes(&shelf, four, four + 1, four + 2, NULL) == RRCACHE_NULL);
+    /* Two of the four are one. */
+    for (int one = 0; one < 4; one++)
+        for (int two = 0; two < 4; two++) {
+            uint64_t *its[] = {four, four + 1, four + 2, four + 3};
+            its[one] = four + two;
+            EXPECT(one == two
+                   || rrcache_sizes(&shelf, its[0], its[1], its[2], its[3]) == RRCACHE_NULL);
+        }
     EXPECT(rrcache_fault(NULL, 1, &number) == RRCACHE_NULL
            && rrcache_part_of(NAME, sizeof NAME, 1, NULL) == RRCACHE_NULL);
     EXPECT(events(&shelf) == 0 && rrcache_free(&shelf) == RRCACHE_DONE);
@@ -1538,9 +1613,14 @@ static void test_overlaps(void)
     IS_NULL(rrcache_sweep_some(shelf, FIRST, 1, 1, wide, (bool *)(end - 1)));
     IS_NULL(rrcache_sweep_some(shelf, FIRST, 1, 1, wide, (bool *)(apart + 7)));
     IS_NULL(rrcache_drop_chapters(shelf, (uint64_t *)(void *)(memory.octets + 8)));
-    IS_NULL(rrcache_sizes(shelf, (uint64_t *)(void *)(memory.octets + 8), wide, wide + 1));
-    IS_NULL(rrcache_sizes(shelf, wide, (uint64_t *)(void *)(memory.octets + 8), wide + 1));
-    IS_NULL(rrcache_sizes(shelf, wide, wide + 1, (uint64_t *)(void *)(memory.octets + 8)));
+    IS_NULL(
+        rrcache_sizes(shelf, (uint64_t *)(void *)(memory.octets + 8), wide, wide + 1, wide + 2));
+    IS_NULL(
+        rrcache_sizes(shelf, wide, (uint64_t *)(void *)(memory.octets + 8), wide + 1, wide + 2));
+    IS_NULL(
+        rrcache_sizes(shelf, wide, wide + 1, (uint64_t *)(void *)(memory.octets + 8), wide + 2));
+    IS_NULL(
+        rrcache_sizes(shelf, wide, wide + 1, wide + 2, (uint64_t *)(void *)(memory.octets + 8)));
     IS_NULL(ask(shelf, FIRST, (struct rrcache_told *)(void *)(memory.octets + 8), far, 64));
     IS_NULL(peek(shelf, FIRST, (struct rrcache_told *)(void *)(memory.octets + 8), far, 64));
     IS_NULL(ask(shelf, FIRST, told, end - 1, 8));
@@ -1619,9 +1699,12 @@ static void test_overlaps(void)
                               far, 64, (bool *)(far + 63)));
     IS_NULL(rrcache_ask_alias(shelf, QUERY(far, sizeof NAME, A, RRCACHE_IN, FIRST, 0, 0), 1, told,
                               apart + sizeof *told, 8, (bool *)far));
-    IS_NULL(rrcache_sizes(shelf, wide, wide, wide + 1));
-    IS_NULL(rrcache_sizes(shelf, wide, wide + 1, wide));
-    IS_NULL(rrcache_sizes(shelf, wide + 1, wide, wide));
+    IS_NULL(rrcache_sizes(shelf, wide, wide, wide + 1, wide + 2));
+    IS_NULL(rrcache_sizes(shelf, wide, wide + 1, wide, wide + 2));
+    IS_NULL(rrcache_sizes(shelf, wide + 1, wide, wide, wide + 2));
+    IS_NULL(rrcache_sizes(shelf, wide, wide + 1, wide + 2, wide));
+    IS_NULL(rrcache_sizes(shelf, wide, wide + 1, wide + 2, wide + 1));
+    IS_NULL(rrcache_sizes(shelf, wide, wide + 1, wide + 2, wide + 2));
     IS_NULL(rrcache_offer_message(
         shelf, RESPONSE(apart + sizeof *counts - 1, 8, ZONE, sizeof ZONE, FIRST, LIMITS), 1,
         counts));
@@ -1668,7 +1751,7 @@ static void test_overlaps(void)
                                            sizeof NAME, SOA_DATA, sizeof SOA_DATA, FIRST),
                                   1, number)
            == RRCACHE_DONE);
-    EXPECT(rrcache_sizes(shelf, wide, wide + 1, wide + 2) == RRCACHE_DONE
+    EXPECT(rrcache_sizes(shelf, wide, wide + 1, wide + 2, wide + 3) == RRCACHE_DONE
            && rrcache_free(shelf) == RRCACHE_DONE);
 }
 
@@ -1709,7 +1792,7 @@ void __wrap_free(void *old)
 
 /* What a shelf answers, and how many keys and events it has. */
 struct state {
-    uint64_t keys, events;
+    uint64_t keys, events, octets;
     uint32_t status;
     struct rrcache_told told;
     uint8_t buffer[64];
@@ -1722,7 +1805,7 @@ static struct state state_of(struct rrcache_shelf *shelf)
     granted = -1;
     memset(&state, 0, sizeof state);
     uint64_t open = 0, chapters = 0;
-    rrcache_sizes(shelf, &state.keys, &open, &chapters);
+    rrcache_sizes(shelf, &state.keys, &open, &chapters, &state.octets);
     /* A chapter that was full may be closed by a call that is refused, so events are counted over
      * all chapters of four. */
     state.events = open + 4 * chapters;
@@ -1853,6 +1936,7 @@ int main(void)
     test_renewed();
     test_failed_names();
     test_keys();
+    test_octets_of_keys();
     test_parts();
     test_one_reading();
     test_refused_readings();

@@ -358,6 +358,10 @@ struct rrcache_failure {
     uint64_t moment;
 };
 
+/* What each record of a set counts beside the octets of its data: the room that it takes of its
+   own. */
+enum { RRCACHE_RECORD_OCTETS = 48 };
+
 /* The functions of the library proper. A size stands behind its pointer. */
 uint32_t rrc_make(struct rrcache_shelf *shelf, uint64_t capacity, uint64_t chapter, uint64_t stale,
                   const uint8_t *seed, size_t seed_size);
@@ -405,7 +409,7 @@ uint32_t rrc_stored(struct rrcache_shelf *shelf, const uint8_t *name, size_t nam
 uint32_t rrc_next_expiry(struct rrcache_shelf *shelf, uint64_t *moment);
 uint32_t rrc_drop_chapters(struct rrcache_shelf *shelf, uint64_t *dropped);
 uint32_t rrc_sizes(struct rrcache_shelf *shelf, uint64_t *keys, uint64_t *events,
-                   uint64_t *chapters);
+                   uint64_t *chapters, uint64_t *octets);
 uint32_t rrc_fault(const uint8_t *octets, size_t size, uint32_t *fault);
 uint32_t rrc_part_of(const uint8_t *name, size_t name_size, uint64_t parts, uint64_t *part);
 uint32_t rrc_version(void);
@@ -863,18 +867,29 @@ static inline enum rrcache_status rrcache_drop_chapters(struct rrcache_shelf *sh
 }
 
 /* Tells how many keys the shelf holds, those that are dead and not yet swept with them, how many
-   events the open chapter has, and how many chapters are closed. A key is a name and a class with a
-   type, with no type where the name does not exist, or with a type that asking failed for. */
+   events the open chapter has, how many chapters are closed, and how many octets the keys have. A
+   key is a name and a class with a type, with no type where the name does not exist, or with a type
+   that asking failed for.
+
+   Its octets are those of its name, of a set those of its owner and of the data of its records, and
+   RRCACHE_RECORD_OCTETS for each record, of a negative answer those of the SOA record's owner and
+   data. They are counted as keys come and go, so telling them takes no time. Memory is bounded by
+   keys and octets: SECURITY.md tells what a key takes beside its octets. What events and closed
+   chapters keep is not counted. */
 static inline enum rrcache_status rrcache_sizes(struct rrcache_shelf *shelf, uint64_t *keys,
-                                                uint64_t *events, uint64_t *chapters)
+                                                uint64_t *events, uint64_t *chapters,
+                                                uint64_t *octets)
 {
-    if (shelf == NULL || keys == NULL || events == NULL || chapters == NULL
+    if (shelf == NULL || keys == NULL || events == NULL || chapters == NULL || octets == NULL
         || rrcache_holds(shelf, keys, sizeof *keys) || rrcache_holds(shelf, events, sizeof *events)
         || rrcache_holds(shelf, chapters, sizeof *chapters)
+        || rrcache_holds(shelf, octets, sizeof *octets)
         || rrcache_overlap(keys, sizeof *keys, events, sizeof *events)
-        || rrcache_touch(keys, sizeof *keys, events, sizeof *events, chapters, sizeof *chapters))
+        || rrcache_overlap(chapters, sizeof *chapters, octets, sizeof *octets)
+        || rrcache_touch(keys, sizeof *keys, events, sizeof *events, chapters, sizeof *chapters)
+        || rrcache_touch(keys, sizeof *keys, events, sizeof *events, octets, sizeof *octets))
         return RRCACHE_NULL;
-    return (enum rrcache_status)rrc_sizes(shelf, keys, events, chapters);
+    return (enum rrcache_status)rrc_sizes(shelf, keys, events, chapters, octets);
 }
 
 /* Tells why octets are no response: 0 they are one, 1 they end too soon, 2 a length octet has

@@ -419,14 +419,16 @@ def test_refusals_by_python():
                 same(refused.status, status, "status")
             else:
                 raise Wrong(f"no refusal with status {status}")
-        same(shelf.sizes(), (0, 0, 0), "keys, events and chapters")
+        same(shelf.sizes(), (0, 0, 0, 0), "keys, events, chapters and octets")
         data = soa_data("ns.example", "host.example", 0, 0, 0, 0, 0)
         same(shelf.offer_negative(wire("a.example"), A, rrcache.Denial.NAME, 4, 60, wire("example"), data, 100), rrcache.Outcome.KEPT, "a negative offer")
         reply = shelf.ask(wire("A.example"), TXT, 110)
         same((reply.kind, reply.left, reply.owner, reply.data), (rrcache.Kind.NO_NAME, 50, wire("example"), (data,)), "its reply")
         same(shelf.offer_set(wire("b.example"), TXT, 4, 60, [bytes(60000)], 100), rrcache.Outcome.KEPT, "a large datum")
         same(shelf.ask(wire("b.example"), TXT, 110).data, (bytes(60000),), "the large datum")
-        same(shelf.sizes(), (2, 4, 0), "keys, events and chapters")
+        # Of a.example 11, of the SOA record's owner 9 and of its data 12, 14 and 20; twice b.example, a record and its datum.
+        octets = 11 + 9 + 46 + 11 + 11 + rrcache.RECORD_OCTETS + 60000
+        same(shelf.sizes(), (2, 4, 0, octets), "keys, events, chapters and octets")
     try:
         shelf.sizes()
     except rrcache.Refused as refused:
@@ -442,7 +444,9 @@ def test_parts_by_python():
     for part in range(4):
         with rrcache.Shelf() as shelf:
             same(shelf.offer_part(octets, wire("example"), 4, part, 100), (parts.count(part), 0, 0), f"the share of part {part}")
-            same(shelf.sizes(), (parts.count(part), parts.count(part), 0), "keys, events and chapters")
+            # Twice the name, a record, and another name or an address.
+            octets = [2 * 12 + rrcache.RECORD_OCTETS + size for size, home in zip([12] * 7 + [4], parts) if home == part]
+            same(shelf.sizes(), (len(octets), len(octets), 0, sum(octets)), "keys, events, chapters and octets")
             for name, rtype, home in zip(names, [CNAME] * 7 + [A], parts):
                 same(shelf.peek(wire(name), rtype, 100).kind, rrcache.Kind.FRESH if home == part else rrcache.Kind.MISS, f"{name} in part {part}")
 
@@ -457,7 +461,8 @@ def test_one_reading_by_python():
             with rrcache.Shelf() as shelf:
                 same(shelf.offer_read(offers, part), (parts.count(part), 0, 0), f"the share of part {part}")
                 same(shelf.offer_part(octets, "example.", 4, part, 100), (parts.count(part), 0, 0), "the same by a reading of its own")
-                same(shelf.sizes(), (parts.count(part), 2 * parts.count(part), 0), "keys, events and chapters")
+                keys = parts.count(part)
+                same(shelf.sizes(), (keys, 2 * keys, 0, (2 * 12 + rrcache.RECORD_OCTETS + 4) * keys), "keys, events, chapters and octets")
     cases = [(18, lambda: shelf.offer_read(offers, 0)), (6, lambda: rrcache.Offers(octets, ".", 65, 100)),
              (10, lambda: rrcache.Offers(b"x", ".", 4, 100)), (9, lambda: rrcache.Offers(octets, b"\1", 4, 100))]
     with rrcache.Shelf() as shelf:

@@ -349,16 +349,18 @@ void remember_failure(const struct question *question)
 
 void sweep(void)
 {
-    uint64_t held = 0;
+    uint64_t all_keys = 0, all_octets = 0;
     for (struct shelf *shelf = shelves; shelf < shelves + SHELVES; shelf++) {
-        uint64_t removed = 0, keys = 0, events, chapters;
+        uint64_t removed = 0, keys = 0, events, chapters, octets = 0;
         pthread_mutex_lock(&shelf->lock);
         rrcache_sweep(&shelf->cache, moment(), shelf->calls++, &removed);
         rrcache_drop_chapters(&shelf->cache, &chapters);
-        rrcache_sizes(&shelf->cache, &keys, &events, &chapters);
+        rrcache_sizes(&shelf->cache, &keys, &events, &chapters, &octets);
         pthread_mutex_unlock(&shelf->lock);
         count(SWEPT, removed);
-        held += keys;
+        all_keys += keys;
+        all_octets += octets;
     }
-    set_counter(KEYS, held);
+    set_counter(KEYS, all_keys);
+    set_counter(HELD, all_octets);
 }

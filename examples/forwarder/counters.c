@@ -15,6 +15,7 @@ static const char *const NAMES[COUNTERS] = {
     [FAILURES] = "failures", [DISPLACED] = "displaced",
     [OCTETS] = "octets",     [CONNECTIONS] = "connections",
     [SWEPT] = "swept",       [KEYS] = "keys",
+    [HELD] = "held",
 };
 
 static _Atomic uint64_t counters[COUNTERS];
@@ -52,7 +53,7 @@ void log_counters(unsigned seconds)
     }
     fprintf(stderr,
             "forwarder: in %u s %" PRIu64 " queries, %" PRIu64 " hits, %" PRIu64 " stale, %" PRIu64
-            " failures, %" PRIu64 " octets sent; %" PRIu64 " keys\n",
+            " failures, %" PRIu64 " octets sent; %" PRIu64 " keys of %" PRIu64 " octets\n",
             seconds, since[QUERIES], since[FRESH] + since[NEGATIVE], since[STALE], since[FAILED],
-            since[OCTETS], last[KEYS]);
+            since[OCTETS], last[KEYS], last[HELD]);
 }

@@ -26,6 +26,7 @@ enum counter {
     OCTETS,      /* sent to clients */
     SWEPT,       /* keys that were dead */
     KEYS,        /* that are held, at the last sweep */
+    HELD,        /* the octets of these keys, as rrcache_sizes tells them */
     COUNTERS
 };
 

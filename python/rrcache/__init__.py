@@ -18,14 +18,14 @@ from .offers import Offers
 from .refusals import (BadChoice, BadData, BadLimits, BadMessage, BadName, BadRules, BadSeed,
                        BadType, HasOffers, HistoryFull, Memory, MomentTooLarge, NoOffers, NoShelf,
                        OtherQuery, Refused, Status, Wide, WrongBody)
-from .replies import Counts, Limits, Query, Reply, Sizes, Stored
+from .replies import RECORD_OCTETS, Counts, Limits, Query, Reply, Sizes, Stored
 from .shelf import Shelf
 
 __all__ = [
     "BadChoice", "BadData", "BadLimits", "BadMessage", "BadName", "BadRules", "BadSeed",
     "BadType", "Cache", "Class", "Counts", "Denial", "HasOffers", "HistoryFull", "Kind",
     "Limits", "Memory", "Mode", "MomentTooLarge", "NameFault", "NoOffers", "NoShelf", "Offers",
-    "OtherQuery", "Outcome", "Purpose", "Query", "Rank", "Refused", "Reply", "Shelf", "Sizes",
-    "Status", "Stored", "Wide", "WrongBody", "fault", "library_version", "part_of", "to_text",
-    "to_wire",
+    "OtherQuery", "Outcome", "Purpose", "Query", "RECORD_OCTETS", "Rank", "Refused", "Reply",
+    "Shelf", "Sizes", "Status", "Stored", "Wide", "WrongBody", "fault", "library_version",
+    "part_of", "to_text", "to_wire",
 ]

@@ -23,7 +23,7 @@ CALLS = {
     "rrc_read_response": "pootottmmpp", "rrc_offer_read": "ppmmp", "rrc_free_offers": "p", "rrc_offer_set": "pottnnommp",
     "rrc_offer_negative": "pottnnnoommp", "rrc_offer_failure": "pottnmmp", "rrc_ask": "pottmnnmpo",
     "rrc_peek": "pottmnnpo", "rrc_sweep": "pmmp", "rrc_next_expiry": "pp", "rrc_stored": "pottp",
-    "rrc_drop_chapters": "pp", "rrc_sizes": "pppp",
+    "rrc_drop_chapters": "pp", "rrc_sizes": "ppppp",
     "rrc_fault": "op", "rrc_part_of": "omp", "rrc_version": "",
 }
 

@@ -23,13 +23,20 @@ class Counts(NamedTuple):
                       self.refused + other.refused)
 
 
+# What each record of an RRset counts beside the octets of its rdata.
+RECORD_OCTETS = 48
+
+
 class Sizes(NamedTuple):
-    """How many keys a shelf holds, how many events its open chapter has, and how many chapters are
-    closed."""
+    """How many keys a shelf holds, how many events its open chapter has, how many chapters are
+    closed, and how many octets the keys have: of each its name, of an RRset its owner and its
+    rdata, and `RECORD_OCTETS` for each record, of a negative answer its SOA record's owner and
+    rdata."""
 
     keys: int
     events: int
     chapters: int
+    octets: int
 
 
 class Stored(NamedTuple):

@@ -176,6 +176,6 @@ class Shelf:
 
     def sizes(self) -> Sizes:
         """How large the shelf is."""
-        sizes = c_uint64(), c_uint64(), c_uint64()
+        sizes = c_uint64(), c_uint64(), c_uint64(), c_uint64()
         call("rrc_sizes", self._handle, *map(byref, sizes))
         return Sizes(*(it.value for it in sizes))

@@ -2,7 +2,7 @@
 -- What C is told of octets, and of what a shelf holds.
 use Rattle.std.specs.Prelude.{◌≡◌, ℕ, ◌⊎◌, List, [], length}
 use Rattle.rrc_cache.specs.Expiry.{NoneDiesBefore}
-use Rattle.rrc_cache.specs.Sizes.{HoldsKeys}
+use Rattle.rrc_cache.specs.Sizes.{HoldsKeys, HoldsOctets}
 use Rattle.rrc_share.specs.Shelf.{ShelfOf}
 use Rattle.rrc_wire.specs.Fault.{number_of}
 use Rattle.rrc_wire.specs.Grammar.{MessageOf}
@@ -26,12 +26,14 @@ pub record HasFault (octets : List ℕ) (number : ℕ) : Type 0 where
 abbrev pub TellsFault : List ℕ → ℕ → Type 0
 TellsFault octets number = IsMessage octets number ⊎ HasFault octets number
 
--- how many keys the shelf holds, how many events the open chapter has, and how many chapters are closed
-pub record TellsSizes (keys events chapters : ℕ) (old new : ShelfOf) : Type 0 where
+-- how many keys the shelf holds, how many events the open chapter has, how many chapters are closed, and
+-- how many octets the entries of these keys have
+pub record TellsSizes (keys events chapters octets : ℕ) (old new : ShelfOf) : Type 0 where
   pub kept : new ≡ old
   pub keys_are : HoldsKeys old.part keys
   pub events_are : events ≡ length old.part.events
   pub chapters_are : chapters ≡ length old.closed
+  pub octets_are : HoldsOctets old.part octets
 
 -- no key of the shelf is dead before a moment
 pub record TellsExpiry (moment : ℕ) (old new : ShelfOf) : Type 0 where

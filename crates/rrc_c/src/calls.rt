@@ -355,7 +355,8 @@ pub extern "C" fn rrc_next_expiry(alloc: Global, handle: &mut Handle, moment: &m
     0
 }
 
-/// Tells how many keys a shelf holds, how many events the open chapter has, and how many chapters are closed.
+/// Tells how many keys a shelf holds, how many events the open chapter has, how many chapters are closed, and how many octets the
+/// entries of the keys have.
 #[unsafe(no_mangle)]
 pub extern "C" fn rrc_sizes(
     alloc: Global,
@@ -363,13 +364,15 @@ pub extern "C" fn rrc_sizes(
     keys: &mut u64,
     events: &mut u64,
     chapters: &mut u64,
+    octets: &mut u64,
 ) -> u32
     ensures none { TellsNone handle.old.seal.shelf result }
-    ensures done { OnDone result (BothHold handle.old.seal.shelf handle.new.seal.shelf (TellsSizes keys.new events.new chapters.new)) }
+    ensures done { OnDone result (BothHold handle.old.seal.shelf handle.new.seal.shelf (TellsSizes keys.new events.new chapters.new octets.new)) }
     ensures kept { handle.new.seal.shelf ≡ handle.old.seal.shelf }
     ensures keys { OnRefused result (keys.new ≡ keys.old) }
     ensures events { OnRefused result (events.new ≡ events.old) }
     ensures chapters { OnRefused result (chapters.new ≡ chapters.old) }
+    ensures octets { OnRefused result (octets.new ≡ octets.old) }
     ensures due { OnRefused result (handle.old.seal.shelf ≡ None) }
 {
     let Some(shelf) = handle.take(alloc) else {
@@ -378,6 +381,7 @@ pub extern "C" fn rrc_sizes(
     *keys = shelf.part().len() as u64;
     *events = shelf.part().events().len() as u64;
     *chapters = shelf.closed().len() as u64;
+    *octets = shelf.part().octets();
     handle.put(shelf);
     0
 }

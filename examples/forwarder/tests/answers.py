@@ -22,7 +22,8 @@ def test_fresh():
         counters = it.counters()
         same((counters["queries"], counters["fresh"], counters["fetched"], counters["sent"]),
              (3, 2, 1, 1), "counters")
-        same(counters["keys"], 1, "keys that are held")
+        same((counters["keys"], counters["held"]), (1, 12 + 12 + 48 + 4),
+             "keys that are held, and their octets: the name twice, a record, an address")
 
 
 def test_ttl_goes_down():

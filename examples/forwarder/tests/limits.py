@@ -183,7 +183,7 @@ def test_dead_domains_starve_no_others():
 
 def test_log():
     line = (r"forwarder: in 1 s (\d+) queries, (\d+) hits, (\d+) stale, (\d+) failures, "
-            r"(\d+) octets sent; (\d+) keys")
+            r"(\d+) octets sent; (\d+) keys of (\d+) octets")
     it = Forwarder(Server(plain()), options=("-l", "1"))
     for text in ("a1.example", "a1.example", "nothing.example", "nothing.example",
                  "nothing.example"):
@@ -197,6 +197,9 @@ def test_log():
     same(sums[:4], [5, 3, 0, 0], "queries, hits, stale answers and failures")
     wanted(sums[4] > 5 * 29 and int(found[-1][6]) == 3,
            "octets that were sent, and keys: two answers and the SOA record")
+    # The SOA record's owner has 9 octets and its data 46.
+    same(int(found[-1][7]), (12 + 12 + 48 + 4) + (17 + 9 + 46) + (9 + 9 + 48 + 46),
+         "octets of these keys")
 
 
 @once
