@@ -19,6 +19,7 @@ pub mod Answering
 pub mod LeanKeeping
 pub mod Sweeping
 pub mod Closed
+pub mod Begun
 pub mod Again
 pub mod Rechecked
 pub mod Former

@@ -299,6 +299,17 @@ impl LeanPart {
         }
         Ok(())
     }
+
+    pub(crate) fn allocator(&self) -> Global {
+        self.store.allocator()
+    }
+
+    /// Lets go of what a closing alone needs (`Store::let_go`).
+    pub(crate) fn let_go(&mut self)
+        ensures { self.new ≡ self.old }
+    {
+        self.store.let_go();
+    }
 }
 
 /// It tells what is kept, and that is no history.

@@ -1,7 +1,9 @@
 // SPDX-License-Identifier: MIT
 ghost use Rattle.std.specs.Prelude.{◌≡◌, ◌<◌, ◌≤◌, ◌↔◌, ◌++◌, ◌∷◌, [], None, length, IsTrue, IfOk, IfErr, IfSome, IfNone, OnOk, OnErr, Err};
+ghost use Rattle.rrc_cache.specs.Recording.{refused_by, BeginsRecorded};
 
 use crate::lean::LeanPart;
+use crate::recording::NotRecorded;
 use crate::refusal::Refusal;
 use crate::{answer, closing};
 use rrc_history::{
@@ -238,5 +240,40 @@ impl Part {
             return Err(Refusal::MomentTooLarge);
         }
         Ok(())
+    }
+
+    /// A part that records from here on, of one that recorded nothing. The chapter of `lean` ends
+    /// with what it holds, and its events are recorded nowhere; the next one begins with that. It
+    /// takes as long as there are keys, however many calls came before, and changes no reply.
+    ///
+    /// `HistoryFull` comes exactly where the chapter's number is 2^62, else `Memory`. Either hands
+    /// the part back as it was.
+    pub fn recording(lean: LeanPart) -> Result<Part, NotRecorded>
+        ensures ok { IfOk result (BeginsRecorded lean) }
+        ensures err { IfErr result (λ refused. refused.part ≡ lean) }
+        ensures due { IsCloseDue lean (refused_by result) }
+    {
+        let mut lean = lean;
+        match lean.shut() {
+            Ok((_, snapshot)) => Ok(Part {
+                events: Vec::new(lean.allocator()),
+                lean,
+                snapshot,
+            }),
+            Err(refusal) => Err(NotRecorded {
+                part: lean,
+                refusal,
+            }),
+        }
+    }
+
+    /// The part with nothing recorded: it goes on in the same chapter, whose snapshot and events are
+    /// dropped. To have them, call `checkpoint` before. It takes no memory and refuses nothing.
+    pub fn into_lean(self) -> LeanPart
+        ensures { result ≡ self }
+    {
+        let Part { mut lean, .. } = self;
+        lean.let_go();
+        lean
     }
 }

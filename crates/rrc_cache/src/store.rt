@@ -396,6 +396,14 @@ impl Store {
         followed::note_move(&mut self.followed, entry.number);
         Some(key)
     }
+
+    /// Lets go of the snapshot with which the chapter began. The next closing then copies all
+    /// entries, as that of a chapter does in which each of them moved.
+    pub(crate) fn let_go(&mut self)
+        ensures { self.new ≡ self.old }
+    {
+        self.followed = None;
+    }
 }
 
 /// Moves the entry of a key to the front, and answers its number, if there is one.

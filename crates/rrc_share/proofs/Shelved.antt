@@ -22,6 +22,7 @@ use Rattle.rrc_history.specs.Sound.{AreSound}
 use Rattle.rrc_history.specs.lemmas.Chained.{held-joined, legal-joined, lead-joined}
 use Rattle.rrc_history.specs.lemmas.LawsHold.{laws_hold}
 use Rattle.rrc_history.specs.lemmas.Openings.{opening}
+use Rattle.rrc_cache.specs.lemmas.Closings.{same_replies}
 use Rattle.rrc_cache.specs.Part as parts
 use Rattle.rrc_cache.specs.Part.{PartOf, past_of, next_number, Adds, Closes, IsSound}
 use Rattle.rrc_cache.specs.declared.refusal.Refusal.{Refusal}
@@ -44,13 +45,6 @@ leads_of : (part next : PartOf) (chapter : ChapterOf) → Closes part next chapt
 leads_of part next chapter closes =
     subst (λ s. LeadTo s part.events chapter.closing) closes.snapshot
     (subst (λ es. LeadTo chapter.snapshot es chapter.closing) closes.events closes.closes.leads)
-
--- what is answered after a past is answered from its closing
-same_replies : (snapshot closing : Snapshot) (earlier : List Event) → IsClosing snapshot earlier closing → (ask : AskOf) → reply_to closing [] ask ≡ reply_to snapshot earlier ask
-same_replies snapshot closing earlier closes ask =
-    let held_then : (slot : Slot) → held closing [] (key_at ask slot) ≡ held snapshot earlier (key_at ask slot) = λ slot. sym (held-joined snapshot closing earlier closes (key_at ask slot) []) in
-    let same : found closing [] ask ≡ found snapshot earlier ask = λ i. record { set = held_then (Set ask.rtype) i; nx = held_then Nx i; failed = held_then (Failed ask.rtype) i } in
-    ap (λ rules. reply_by rules.stale (found closing [] ask) ask) closes.rules ∙ ap (λ f. reply_by snapshot.rules.stale f ask) same
 
 opening-shut : (closed : List ChapterOf) (part next : PartOf) (chapter : ChapterOf) → chapter.snapshot ≡ part.snapshot
     → first_snapshot (closed ++ chapter ∷ []) next ≡ first_snapshot closed part
