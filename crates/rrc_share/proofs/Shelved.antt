@@ -2,8 +2,6 @@
 -- What calls leave of a shelf.
 use Rattle.std.proofs.Common.{◌≡◌, ℕ, ◌+◌, ◌^◌, ◌≤◌, inl, inr, List, [], ◌∷◌, ◌++◌, length, reverse, Result, Ok, Err, refl, sym, ap, subst, ◌∙◌, arith, append_assoc}
 use Rattle.std.proofs.lemmas.List.{append-nil, length-reverse, reverse-append}
-use Rattle.rrc_name.specs.declared.slot.Slot.{Slot}
-use Rattle.rrc_name.specs.declared.slot.Slot.TheVariants.{Set, Nx, Failed}
 use Rattle.std.specs.Prelude.{IfOk}
 use Rattle.rrc_history.specs.declared.event.Event.{Event}
 use Rattle.rrc_history.specs.declared.event.Event.TheVariants.{Offered, Asked, Swept}
@@ -11,15 +9,12 @@ use Rattle.rrc_history.specs.declared.event.Outcome.{Outcome}
 use Rattle.rrc_history.specs.declared.event.Reply.{Reply}
 use Rattle.rrc_history.specs.declared.event.Tag.{Tag}
 use Rattle.rrc_history.specs.Fits.{OfferOf}
-use Rattle.rrc_history.specs.declared.snapshot.Snapshot.{Snapshot}
 use Rattle.rrc_history.specs.Asked.{AskOf}
-use Rattle.rrc_history.specs.Chapters.{ChapterOf, LeadTo, IsClosing}
+use Rattle.rrc_history.specs.Chapters.{ChapterOf, LeadTo}
 use Rattle.rrc_history.specs.Chains.{events_of}
-use Rattle.rrc_history.specs.Judged.{reply_by}
-use Rattle.rrc_history.specs.Past.{held, found, key_at, reply_to}
 use Rattle.rrc_history.specs.Right.{IsRight, IsLegal}
 use Rattle.rrc_history.specs.Sound.{AreSound}
-use Rattle.rrc_history.specs.lemmas.Chained.{held-joined, legal-joined, lead-joined}
+use Rattle.rrc_history.specs.lemmas.Chained.{legal-joined, lead-joined}
 use Rattle.rrc_history.specs.lemmas.LawsHold.{laws_hold}
 use Rattle.rrc_history.specs.lemmas.Openings.{opening}
 use Rattle.rrc_cache.specs.lemmas.Closings.{same_replies}

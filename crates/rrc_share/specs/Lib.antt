@@ -1,3 +1,5 @@
 -- SPDX-License-Identifier: MIT
 pub mod Shelf
 pub mod Shared
+pub mod CacheShelf
+pub mod Switching

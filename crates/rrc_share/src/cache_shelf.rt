@@ -1,0 +1,313 @@
+// SPDX-License-Identifier: MIT
+ghost use Rattle.std.specs.Prelude.{◌≡◌, ◌≤◌, [], true, false, not, Err, IfErr, IfNone, IfOk, IfSome, OnErr};
+ghost use Rattle.rrc_cache.specs.Part.{IsCloseDue};
+ghost use Rattle.rrc_share.specs.CacheShelf.{lean_shelf};
+ghost use Rattle.rrc_share.specs.Switching.{HandsOut, IsSwitchDue, Starts, Stops, refused_by};
+
+use crate::calls::{on_shelf_ask, on_shelf_checkpoint, on_shelf_offer, on_shelf_sweep};
+use crate::kept::Kept;
+use crate::shelf::Shelf;
+use rrc_cache::{LeanPart, Part, Refusal};
+use rrc_history::{Ask, Chapter, Held, Offer, Outcome, Reply, ReplyRef, Tag};
+use rrc_name::{KeyRef, Slot};
+use std::alloc::Global;
+use std::marker::Model;
+use thiserror::Error;
+
+/// A part of the cache that records its history, or does not, and is switched between two calls:
+/// `start_recording` begins a record, `stop_recording` ends it and hands it out. While nothing is
+/// recorded no chapter is ever full, and calls take less time (`LeanPart`). No reply depends on it.
+/// Contracts see whether it records, the closed chapters, of which there are none where it does
+/// not, and the part.
+#[derive(Debug, Drop)]
+pub struct CacheShelf {
+    alloc: Global,
+    kept: Kept,
+}
+
+/// Why a shelf was not switched, and that shelf, which is as it was.
+#[derive(Debug, Drop, Error)]
+#[error("{refusal}")]
+pub struct NotSwitched {
+    pub shelf: CacheShelf,
+    pub refusal: Refusal,
+}
+
+impl Model for CacheShelf {
+    ghost use Rattle.rrc_share.specs.CacheShelf.{CacheShelfOf, kept_in};
+
+    ghost Value = { CacheShelfOf };
+
+    ghost view = { λ s. kept_in s.kept };
+}
+
+impl CacheShelf {
+    ghost use Rattle.rrc_cache.specs.Expiry.{HoldsNothing, NoneDiesBefore};
+    ghost use Rattle.rrc_cache.specs.Lean.{IsLeanDue, IsLeanOpen, IsPick};
+    ghost use Rattle.rrc_cache.specs.Part.{past_of, WritesAsk};
+    ghost use Rattle.rrc_cache.specs.Sizes.{HoldsKeys};
+    ghost use Rattle.rrc_history.specs.Past.{held, reply_to};
+    ghost use Rattle.rrc_history.specs.Views.{held_in, reply_in};
+    ghost use Rattle.rrc_name.specs.KeyRef.{key_of};
+    ghost use Rattle.rrc_share.specs.CacheShelf.{IsDueBy, IsLeftBy, TakesAsk, TakesOffer, TakesSweep};
+    ghost use Rattle.rrc_share.specs.Shelf.{AreBefore};
+    ghost use Rattle.std.specs.Option.{option_map};
+
+    /// A part, of which nothing is recorded. It takes no memory.
+    pub fn new(alloc: Global, part: LeanPart) -> CacheShelf
+        ensures { result ≡ record { records = false; shelf = lean_shelf part } }
+    {
+        CacheShelf {
+            alloc,
+            kept: Kept::Lean(part),
+        }
+    }
+
+    /// Whether the history is recorded.
+    pub fn is_recording(&self) -> bool
+        ensures value { result ≡ self.now.records }
+        ensures none { result ≡ false → self.now.shelf.closed ≡ [] }
+    {
+        self.recorded().is_some()
+    }
+
+    /// The shelf with what is recorded, while it is.
+    pub fn recorded(&self) -> Option<&Shelf>
+        ensures none { IfNone result (self.now.records ≡ false) }
+        ensures some { IfSome result (λ shelf. shelf.now ≡ self.now.shelf) }
+        ensures records { IfSome result (λ shelf. self.now.records ≡ true) }
+        ensures lean { IfNone result (self.now.shelf.closed ≡ []) }
+    {
+        match &self.kept {
+            Kept::Lean(_) => None,
+            Kept::Recording(shelf) => Some(shelf),
+        }
+    }
+
+    /// How many keys the part holds. Those that are dead and not yet swept are counted too.
+    pub fn len(&self) -> usize
+        ensures keys { HoldsKeys self.now.shelf.part result }
+        ensures few { result ≤ self.now.shelf.part.snapshot.rules.capacity }
+    {
+        match &self.kept {
+            Kept::Lean(part) => part.len(),
+            Kept::Recording(shelf) => shelf.part.len(),
+        }
+    }
+
+    /// What a key holds, lent (`Part::held`). It takes no memory and touches nothing.
+    pub fn held(&self, key: KeyRef<'_>) -> Option<Held<'_>>
+        ensures { option_map held_in result ≡ held self.now.shelf.part.snapshot (past_of self.now.shelf.part) (key_of key.entry) }
+    {
+        match &self.kept {
+            Kept::Lean(part) => part.held(key),
+            Kept::Recording(shelf) => shelf.part.held(key),
+        }
+    }
+
+    /// A moment before which no key is dead, or `None` where the part holds none
+    /// (`Part::next_expiry`). It takes no memory.
+    pub fn next_expiry(&self) -> Option<u64>
+        ensures none { IfNone result (HoldsNothing self.now.shelf.part) }
+        ensures some { IfSome result (λ time. NoneDiesBefore self.now.shelf.part time) }
+    {
+        match &self.kept {
+            Kept::Lean(part) => part.next_expiry(),
+            Kept::Recording(shelf) => shelf.part.next_expiry(),
+        }
+    }
+
+    /// The reply that `ask` would give, lent (`Part::would_answer`). It takes no memory and touches
+    /// nothing.
+    pub fn would_answer(&self, ask: &Ask) -> ReplyRef<'_>
+        ensures { reply_in result ≡ reply_to self.now.shelf.part.snapshot (past_of self.now.shelf.part) ask.now }
+    {
+        match &self.kept {
+            Kept::Lean(part) => part.would_answer(ask),
+            Kept::Recording(shelf) => shelf.part.would_answer(ask),
+        }
+    }
+
+    /// Makes an offer: `on_shelf_offer` while it records, else `LeanPart::offer`.
+    ///
+    /// `HistoryFull` comes first, then `MomentTooLarge` (above 2^40 seconds), then `Memory`. After a
+    /// refusal the history is as it was; while it records, a chapter that was full may be closed.
+    pub fn offer(&mut self, tag: Tag, offer: Offer) -> Result<Outcome, Refusal>
+        ensures records { self.new.records ≡ self.old.records }
+        ensures ok { IfOk result (TakesOffer self.old.records self.old.shelf self.new.shelf tag offer) }
+        ensures err { OnErr result (IsLeftBy self.old.records self.old.shelf self.new.shelf) }
+        ensures due { IsDueBy self.old.records self.old.shelf.part offer.moment result }
+    {
+        match &mut self.kept {
+            Kept::Lean(part) => part.offer(tag, offer),
+            Kept::Recording(shelf) => on_shelf_offer(shelf, tag, offer),
+        }
+    }
+
+    /// Asks: `on_shelf_ask` while it records, else `LeanPart::ask`. The refusals are those of
+    /// `offer`.
+    pub fn ask(&mut self, tag: Tag, ask: &Ask) -> Result<Reply, Refusal>
+        ensures records { self.new.records ≡ self.old.records }
+        ensures ok { IfOk result (TakesAsk self.old.records self.old.shelf self.new.shelf tag ask.now) }
+        ensures err { OnErr result (IsLeftBy self.old.records self.old.shelf self.new.shelf) }
+        ensures due { IsDueBy self.old.records self.old.shelf.part ask.now.moment result }
+    {
+        match &mut self.kept {
+            Kept::Lean(part) => part.ask(tag, ask),
+            Kept::Recording(shelf) => on_shelf_ask(shelf, tag, ask),
+        }
+    }
+
+    /// Removes the dead keys, and answers how many there were: `on_shelf_sweep` while it records,
+    /// else `LeanPart::sweep`. The refusals are those of `offer`.
+    pub fn sweep(&mut self, tag: Tag, moment: u64) -> Result<usize, Refusal>
+        ensures records { self.new.records ≡ self.old.records }
+        ensures ok { IfOk result (TakesSweep self.old.records self.old.shelf self.new.shelf tag moment) }
+        ensures err { OnErr result (IsLeftBy self.old.records self.old.shelf self.new.shelf) }
+        ensures due { IsDueBy self.old.records self.old.shelf.part moment result }
+    {
+        match &mut self.kept {
+            Kept::Lean(part) => part.sweep(tag, moment),
+            Kept::Recording(shelf) => on_shelf_sweep(shelf, tag, moment),
+        }
+    }
+
+    /// The first half of `ask` while nothing is recorded (`LeanPart::judge`): the reply, as it is
+    /// kept, and the slot for `note_asked`. It takes no memory and touches nothing.
+    pub fn judge(&self, ask: &Ask) -> Result<(ReplyRef<'_>, Option<Slot>), Refusal>
+        requires { self.now.records ≡ false }
+        ensures reply { IfOk result (λ judged. reply_in judged.0 ≡ reply_to self.now.shelf.part.snapshot (past_of self.now.shelf.part) ask.now) }
+        ensures pick { IfOk result (λ judged. IsPick self.now.shelf.part ask.now judged.1) }
+        ensures due { IsLeanDue self.now.shelf.part ask.now.moment result }
+    {
+        match &self.kept {
+            Kept::Lean(part) => part.judge(ask),
+            Kept::Recording(_) => unreachable!(),
+        }
+    }
+
+    /// The second half of `ask` while nothing is recorded (`LeanPart::note_asked`), for an ask that
+    /// `judge` answered just before, with its slot. It takes no memory and refuses nothing.
+    pub fn note_asked(&mut self, tag: Tag, ask: &Ask, slot: Option<Slot>)
+        requires lean { self.old.records ≡ false }
+        requires open { IsLeanOpen self.old.shelf.part ask.now.moment }
+        requires pick { IsPick self.old.shelf.part ask.now slot }
+        ensures records { self.new.records ≡ false }
+        ensures written { WritesAsk self.old.shelf.part self.new.shelf.part tag ask.now (reply_to self.old.shelf.part.snapshot (past_of self.old.shelf.part) ask.now) }
+    {
+        match &mut self.kept {
+            Kept::Lean(part) => part.note_asked(tag, ask, slot),
+            Kept::Recording(_) => unreachable!(),
+        }
+    }
+
+    /// Hands out the closed chapters, the oldest first, and leaves none (`Shelf::take_chapters`).
+    /// While nothing is recorded there are none. It takes no memory.
+    pub fn take_chapters(&mut self) -> Vec<Chapter>
+        ensures chapters { result.items ≡ self.old.shelf.closed }
+        ensures before { AreBefore result.items self.old.shelf.part }
+        ensures records { self.new.records ≡ self.old.records }
+        ensures left { self.new.shelf ≡ lean_shelf self.old.shelf.part }
+    {
+        match &mut self.kept {
+            Kept::Lean(_) => Vec::new(self.alloc),
+            Kept::Recording(shelf) => shelf.take_chapters(),
+        }
+    }
+
+    /// Records from here on, with no chapter closed (`Part::recording`). Where it records already
+    /// nothing is done.
+    ///
+    /// `HistoryFull` comes exactly where it does not record and the chapter's number is 2^62, else
+    /// `Memory`. Either hands the shelf back as it was.
+    pub fn start_recording(self) -> Result<CacheShelf, NotSwitched>
+        ensures records { IfOk result (λ shelf. shelf.records ≡ true) }
+        ensures ok { IfOk result (λ shelf. Starts self.records self.shelf shelf.shelf) }
+        ensures err { IfErr result (λ refused. refused.shelf ≡ self) }
+        ensures due { IsSwitchDue (not self.records) self.shelf.part (refused_by result) }
+    {
+        let CacheShelf { alloc, kept } = self;
+        match kept {
+            Kept::Recording(shelf) => Ok(CacheShelf {
+                alloc,
+                kept: Kept::Recording(shelf),
+            }),
+            Kept::Lean(part) => started(alloc, part),
+        }
+    }
+
+    /// Records nothing from here on, and hands out the closed chapters, the oldest first, of which
+    /// the last is that which was open. Where nothing is recorded there are none.
+    ///
+    /// `HistoryFull` comes exactly where it records and the chapter's number is 2^62, else `Memory`.
+    /// Either hands the shelf back as it was.
+    pub fn stop_recording(self) -> Result<(CacheShelf, Vec<Chapter>), NotSwitched>
+        ensures records { IfOk result (λ told. told.0.records ≡ false) }
+        ensures ok { IfOk result (λ told. Stops self.records self.shelf told.0.shelf told.1.items) }
+        ensures err { IfErr result (λ refused. refused.shelf ≡ self) }
+        ensures due { IsSwitchDue self.records self.shelf.part (refused_by result) }
+    {
+        let CacheShelf { alloc, kept } = self;
+        match kept {
+            Kept::Lean(part) => Ok((CacheShelf::new(alloc, part), Vec::new(alloc))),
+            Kept::Recording(shelf) => stopped(alloc, shelf),
+        }
+    }
+
+    /// Records nothing from here on, and drops what was recorded, for where `stop_recording` is
+    /// refused. It takes no memory and refuses nothing.
+    pub fn drop_record(self) -> CacheShelf
+        ensures { result ≡ record { records = false; shelf = lean_shelf self.shelf.part } }
+    {
+        let CacheShelf { alloc, kept } = self;
+        match kept {
+            Kept::Lean(part) => CacheShelf::new(alloc, part),
+            Kept::Recording(shelf) => {
+                let Shelf { part, .. } = shelf;
+                CacheShelf::new(alloc, part.into_lean())
+            }
+        }
+    }
+}
+
+/// A shelf that records from here on, with no chapter closed.
+fn started(alloc: Global, part: LeanPart) -> Result<CacheShelf, NotSwitched>
+    ensures records { IfOk result (λ shelf. shelf.records ≡ true) }
+    ensures ok { IfOk result (λ shelf. Starts false (lean_shelf part) shelf.shelf) }
+    ensures err { IfErr result (λ refused. refused.shelf ≡ record { records = false; shelf = lean_shelf part }) }
+    ensures due { IsCloseDue part (refused_by result) }
+{
+    match Part::recording(part) {
+        Ok(part) => Ok(CacheShelf {
+            alloc,
+            kept: Kept::Recording(Shelf::new(alloc, part)),
+        }),
+        Err(refused) => Err(NotSwitched {
+            shelf: CacheShelf::new(alloc, refused.part),
+            refusal: refused.refusal,
+        }),
+    }
+}
+
+/// A shelf that records nothing from here on, and the chapters that were closed.
+fn stopped(alloc: Global, shelf: Shelf) -> Result<(CacheShelf, Vec<Chapter>), NotSwitched>
+    ensures records { IfOk result (λ told. told.0.records ≡ false) }
+    ensures ok { IfOk result (λ told. HandsOut shelf told.0.shelf told.1.items) }
+    ensures err { IfErr result (λ refused. refused.shelf ≡ record { records = true; shelf = shelf }) }
+    ensures due { IsCloseDue shelf.part (refused_by result) }
+{
+    let mut shelf = shelf;
+    match on_shelf_checkpoint(&mut shelf) {
+        Ok(()) => {
+            let Shelf { closed, part } = shelf;
+            Ok((CacheShelf::new(alloc, part.into_lean()), closed))
+        }
+        Err(refusal) => Err(NotSwitched {
+            shelf: CacheShelf {
+                alloc,
+                kept: Kept::Recording(shelf),
+            },
+            refusal,
+        }),
+    }
+}
