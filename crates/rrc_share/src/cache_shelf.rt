@@ -63,6 +63,16 @@ impl CacheShelf {
         }
     }
 
+    /// A shelf, whose history is recorded from there on. It takes no memory.
+    pub fn recording(alloc: Global, shelf: Shelf) -> CacheShelf
+        ensures { result ≡ record { records = true; shelf = shelf } }
+    {
+        CacheShelf {
+            alloc,
+            kept: Kept::Recording(shelf),
+        }
+    }
+
     /// Whether the history is recorded.
     pub fn is_recording(&self) -> bool
         ensures value { result ≡ self.now.records }
@@ -228,10 +238,7 @@ impl CacheShelf {
     {
         let CacheShelf { alloc, kept } = self;
         match kept {
-            Kept::Recording(shelf) => Ok(CacheShelf {
-                alloc,
-                kept: Kept::Recording(shelf),
-            }),
+            Kept::Recording(shelf) => Ok(CacheShelf::recording(alloc, shelf)),
             Kept::Lean(part) => started(alloc, part),
         }
     }
@@ -278,10 +285,7 @@ fn started(alloc: Global, part: LeanPart) -> Result<CacheShelf, NotSwitched>
     ensures due { IsCloseDue part (refused_by result) }
 {
     match Part::recording(part) {
-        Ok(part) => Ok(CacheShelf {
-            alloc,
-            kept: Kept::Recording(Shelf::new(alloc, part)),
-        }),
+        Ok(part) => Ok(CacheShelf::recording(alloc, Shelf::new(alloc, part))),
         Err(refused) => Err(NotSwitched {
             shelf: CacheShelf::new(alloc, refused.part),
             refusal: refused.refusal,
@@ -303,10 +307,7 @@ fn stopped(alloc: Global, shelf: Shelf) -> Result<(CacheShelf, Vec<Chapter>), No
             Ok((CacheShelf::new(alloc, part.into_lean()), closed))
         }
         Err(refusal) => Err(NotSwitched {
-            shelf: CacheShelf {
-                alloc,
-                kept: Kept::Recording(shelf),
-            },
+            shelf: CacheShelf::recording(alloc, shelf),
             refusal,
         }),
     }

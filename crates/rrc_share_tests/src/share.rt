@@ -1,6 +1,8 @@
 // SPDX-License-Identifier: MIT
 ghost use Rattle.std.specs.Prelude.{◌≡◌, ◌<◌};
 
+mod switched;
+
 use crate::cache::{TAG, failure, question, rules};
 use rrc_cache::Refusal;
 use rrc_history::Reply;
