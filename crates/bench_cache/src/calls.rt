@@ -5,8 +5,8 @@
 use crate::made::{PickedAsk, PickedOffer, put_tenth};
 use crate::numbers::Numbers;
 use crate::task::Kind;
-use rrc_cache::{Part, ReplyRef, recheck};
-use rrc_history::{Ask, Event, Offer, Outcome, Reply, Tag, audit};
+use rrc_cache::{Part, Refusal, ReplyRef, recheck};
+use rrc_history::{Event, Outcome, Reply, Tag, audit};
 use rrc_share::{Shelf, on_shelf_ask, on_shelf_checkpoint};
 use std::alloc::Global;
 use std::time::{CpuClock, Duration};
@@ -25,11 +25,11 @@ pub struct Counts {
     pub kept: u64,
     pub evicted: u64,
     pub swept: u64,
-    /// The events that were found right.
+    /// The events that were found right, or the calls that threads got an answer to.
     pub right: u64,
 }
 
-const NONE: Counts = Counts {
+pub const NONE: Counts = Counts {
     hits: 0,
     misses: 0,
     kept: 0,
@@ -37,13 +37,6 @@ const NONE: Counts = Counts {
     swept: 0,
     right: 0,
 };
-
-/// What came of the calls, and the processor time that they took, if the system tells it.
-#[derive(Clone, Copy)]
-pub struct Done {
-    pub counts: Counts,
-    pub time: Option<Duration>,
-}
 
 impl Counts {
     fn count(&mut self, is_hit: Option<bool>) {
@@ -53,6 +46,13 @@ impl Counts {
             None => {}
         }
     }
+}
+
+/// What came of the calls, and the time that they took, if the system tells it.
+#[derive(Clone, Copy)]
+pub struct Done {
+    pub counts: Counts,
+    pub time: Option<Duration>,
 }
 
 /// The processor time that the thread took so far.
@@ -65,42 +65,32 @@ fn since<R: CpuClock>(rt: &R, before: Option<Duration>) -> Option<Duration> {
     Some(clock(rt)?.saturating_sub(before?))
 }
 
-/// Asks the part, and answers whether that is a hit.
-pub fn ask_of(parts: &mut [Part], part: usize, ask: &Ask) -> Option<bool> {
-    let reply = parts.get_mut(part)?.ask(TAG, ask).ok()?;
-    Some(!matches!(reply, Reply::Miss { .. }))
+/// Whether a reply is an answer. `None` where the ask was refused.
+pub fn answered(reply: Result<Reply, Refusal>) -> Option<bool> {
+    match reply {
+        Ok(reply) => Some(!matches!(reply, Reply::Miss { .. })),
+        Err(_) => None,
+    }
 }
 
-pub fn ask_all<R: CpuClock>(rt: &R, parts: &mut [Part], asks: &[PickedAsk]) -> Done {
+/// Whether a part answers a question, would answer it, or has room for the event.
+fn is_hit(kind: Kind, parts: &mut [Part], picked: &PickedAsk) -> Option<bool> {
+    let part = parts.get_mut(picked.part)?;
+    match kind {
+        Kind::Room => Some(part.has_room()),
+        Kind::Would => Some(!matches!(part.would_answer(&picked.ask), ReplyRef::Miss { .. })),
+        _ => answered(part.ask(TAG, &picked.ask)),
+    }
+}
+
+pub fn ask_all<R: CpuClock>(rt: &R, kind: Kind, parts: &mut [Part], asks: &[PickedAsk]) -> Done {
     let mut counts = NONE;
     let before = clock(rt);
     for picked in asks {
-        counts.count(ask_of(parts, picked.part, &picked.ask));
+        counts.count(is_hit(kind, parts, picked));
     }
     let time = since(rt, before);
     Done { counts, time }
-}
-
-/// Whether the part would answer by a hit.
-fn would_answer(parts: &[Part], picked: &PickedAsk) -> Option<bool> {
-    let reply = parts.get(picked.part)?.would_answer(&picked.ask);
-    Some(!matches!(reply, ReplyRef::Miss { .. }))
-}
-
-pub fn would_answer_all<R: CpuClock>(rt: &R, parts: &[Part], asks: &[PickedAsk]) -> Done {
-    let mut counts = NONE;
-    let before = clock(rt);
-    for picked in asks {
-        counts.count(would_answer(parts, picked));
-    }
-    let time = since(rt, before);
-    Done { counts, time }
-}
-
-/// Asks the shelf, and answers whether that is a hit.
-fn ask_of_shelf(shelf: &mut Shelf, ask: &Ask) -> Option<bool> {
-    let reply = on_shelf_ask(shelf, TAG, ask).ok()?;
-    Some(!matches!(reply, Reply::Miss { .. }))
 }
 
 /// Closes the shelf's chapter, and lets it go.
@@ -117,7 +107,7 @@ pub fn ask_shelf<R: CpuClock>(rt: &R, shelf: &mut Shelf, asks: &[PickedAsk], cal
     let before = clock(rt);
     for call in 0..calls {
         if let Some(picked) = asks.get(numbers.below(asks.len() as u64) as usize) {
-            counts.count(ask_of_shelf(shelf, &picked.ask));
+            counts.count(answered(on_shelf_ask(shelf, TAG, &picked.ask)));
         }
         if call % ASKS_OF_A_CHAPTER == ASKS_OF_A_CHAPTER - 1 {
             let_go(shelf);
@@ -127,32 +117,19 @@ pub fn ask_shelf<R: CpuClock>(rt: &R, shelf: &mut Shelf, asks: &[PickedAsk], cal
     Done { counts, time }
 }
 
-/// Asks each part in turn so often whether there is room, and counts a yes as a hit.
-pub fn has_room_all<R: CpuClock>(rt: &R, parts: &[Part], calls: u32) -> Done {
-    let mut counts = NONE;
-    let before = clock(rt);
-    for part in parts {
-        for _ in 0..calls {
-            counts.count(Some(part.has_room()));
-        }
+/// Whether a part keeps an offer.
+fn is_kept(parts: &mut [Part], picked: PickedOffer) -> bool {
+    match parts.get_mut(picked.part) {
+        Some(part) => matches!(part.offer(TAG, picked.offer), Ok(Outcome::Kept)),
+        None => false,
     }
-    let time = since(rt, before);
-    Done { counts, time }
-}
-
-/// Makes the offer to the part.
-pub fn offer_to(parts: &mut [Part], part: usize, offer: Offer) -> Option<Outcome> {
-    parts.get_mut(part)?.offer(TAG, offer).ok()
 }
 
 pub fn offer_all<R: CpuClock>(rt: &R, parts: &mut [Part], offers: Vec<PickedOffer>) -> Done {
     let mut counts = NONE;
     let before = clock(rt);
     for picked in offers {
-        let outcome = offer_to(parts, picked.part, picked.offer);
-        counts.kept = counts
-            .kept
-            .wrapping_add(u64::from(outcome == Some(Outcome::Kept)));
+        counts.kept = counts.kept.wrapping_add(u64::from(is_kept(parts, picked)));
     }
     let time = since(rt, before);
     for part in parts.iter() {
@@ -165,18 +142,19 @@ pub fn offer_all<R: CpuClock>(rt: &R, parts: &mut [Part], offers: Vec<PickedOffe
 fn evicted_in(events: &[Event]) -> u64 {
     let mut evicted = 0u64;
     for event in events {
-        if let Event::Offered {
-            evicted: Some(_),
-            ..
-        } = event
-        {
-            evicted = evicted.wrapping_add(1);
-        }
+        let is_one = matches!(
+            event,
+            Event::Offered {
+                evicted: Some(_),
+                ..
+            }
+        );
+        evicted = evicted.wrapping_add(u64::from(is_one));
     }
     evicted
 }
 
-/// Sweeps the first part, and answers how many keys that removed.
+/// Sweeps the only part, and answers how many keys that removed.
 fn sweep(parts: &mut [Part], moment: u64) -> Option<usize> {
     parts.first_mut()?.sweep(TAG, moment).ok()
 }
@@ -228,7 +206,7 @@ fn is_legal(alloc: Global, kind: Kind, part: &Part) -> bool {
     }
 }
 
-/// Finds the first part's history legal.
+/// Finds the only part's history legal.
 pub fn audit_all<R: CpuClock>(rt: &R, alloc: Global, kind: Kind, parts: &[Part]) -> Option<Done> {
     let part = parts.first()?;
     let before = clock(rt);

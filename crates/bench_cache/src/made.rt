@@ -1,10 +1,10 @@
 // SPDX-License-Identifier: MIT
 // What is asked and offered, each made before the time is taken, for the addresses of
-// `www{n % 7}.zone{n}.example.` for numbers n. Each is `None` where memory was refused, or a part
-// refused a call.
+// `www{n % 7}.zone{n}.example.` for numbers n. `None` is that memory was refused, or a call.
 
-use crate::calls::{ask_of, offer_to};
-use crate::numbers::{Numbers, Source};
+use crate::calls::{TAG, answered};
+use crate::numbers::Numbers;
+use crate::task::Task;
 use rrc_cache::Part;
 use rrc_history::{Ask, Body, Mode, Offer, Purpose, Rules, Trust};
 use rrc_name::{Key, Name, Octets, Sequence, Shared, Slot};
@@ -42,27 +42,33 @@ fn name(alloc: Global, number: u64) -> Option<Name> {
 /// The data of a set of one address.
 fn address(alloc: Global) -> Option<Shared<Sequence<Octets>>> {
     let octets = Octets::from_slice(alloc, &[192, 0, 2, 1]).ok()?;
-    let mut items = Sequence::new(alloc);
-    items.push(octets).ok()?;
-    Shared::new(alloc, items).ok()
+    let items = vec![in alloc; octets].ok()?;
+    Shared::new(alloc, Sequence::from_vec(items)).ok()
 }
 
-/// An offer of one address.
-pub fn offer(alloc: Global, owner: Name, moment: u64, ttl: u32) -> Option<Offer> {
+/// A set of one address.
+fn body(alloc: Global, name: &Name, ttl: u32) -> Option<Body> {
     let items = address(alloc)?;
-    let key = Key::of(&owner, 1, Slot::Set(1)).ok()?;
-    let body = Body::Positive {
+    let owner = name.clone().ok()?;
+    Some(Body::Positive {
         owner,
         items,
         trust: Trust::AuthoritativeAnswer,
         ttl,
-    };
+    })
+}
+
+/// An offer of the address of a name.
+pub fn offer(alloc: Global, name: &Name, moment: u64, ttl: u32) -> Option<Offer> {
+    let body = body(alloc, name, ttl)?;
+    let key = Key::of(name, 1, Slot::Set(1)).ok()?;
     Offer::new(key, body, moment).ok()
 }
 
 /// An offer of the address of a number.
 pub fn numbered(alloc: Global, number: u64, moment: u64, ttl: u32) -> Option<Offer> {
-    offer(alloc, name(alloc, number)?, moment, ttl)
+    let name = name(alloc, number)?;
+    offer(alloc, &name, moment, ttl)
 }
 
 /// The key of the address of a number.
@@ -84,99 +90,104 @@ fn ask(alloc: Global, number: u64) -> Option<Ask> {
     })
 }
 
-/// The part of a number, of so many.
+/// The part of a number, of so many: they hold the numbers by turns.
 fn part_of(number: u64, parts: u64) -> usize {
     number.checked_rem(parts).unwrap_or(0) as usize
 }
 
-/// So many questions, each with its part and a name of its own.
-pub fn asks(alloc: Global, mut source: Source, count: u32, parts: u32) -> Option<Vec<PickedAsk>> {
-    let mut asks = Vec::new(alloc);
-    for _ in 0..count {
-        let number = source.next();
-        let part = part_of(number, u64::from(parts));
-        let ask = ask(alloc, number)?;
-        asks.push(PickedAsk { part, ask }).ok()?;
-    }
-    Some(asks)
+/// Adds the question for a number.
+pub fn add_ask(alloc: Global, number: u64, parts: u32, asks: &mut Vec<PickedAsk>) -> Option<()> {
+    let part = part_of(number, u64::from(parts));
+    let ask = ask(alloc, number)?;
+    asks.push(PickedAsk { part, ask }).ok()
 }
 
-/// So many offers, each with its part and a name of its own.
-pub fn offers(
-    alloc: Global,
-    mut source: Source,
-    count: u32,
-    parts: u32,
-) -> Option<Vec<PickedOffer>> {
-    let mut offers = Vec::new(alloc);
-    for _ in 0..count {
-        let number = source.next();
-        let part = part_of(number, u64::from(parts));
-        let offer = numbered(alloc, number, 1, TTL)?;
-        offers.push(PickedOffer { part, offer }).ok()?;
-    }
-    Some(offers)
+/// Adds the offer of a number.
+fn add_offer(alloc: Global, number: u64, parts: u32, offers: &mut Vec<PickedOffer>) -> Option<()> {
+    let part = part_of(number, u64::from(parts));
+    let offer = numbered(alloc, number, 1, TTL)?;
+    offers.push(PickedOffer { part, offer }).ok()
 }
 
-/// So many parts that hold nothing, and have room for so many keys each.
-pub fn parts(alloc: Global, count: u32, keys: u32) -> Option<Vec<Part>> {
+/// Adds the questions of a task, each with a name of its own.
+pub fn add_asks(alloc: Global, task: &Task<'_>, asks: &mut Vec<PickedAsk>) -> Option<()> {
+    let mut numbers = Numbers::of(0);
+    for call in 0..task.calls {
+        add_ask(alloc, task.number(call, &mut numbers), task.parts, asks)?;
+    }
+    Some(())
+}
+
+/// Adds the offers of a task, each with a name of its own.
+pub fn add_offers(alloc: Global, task: &Task<'_>, offers: &mut Vec<PickedOffer>) -> Option<()> {
+    let mut numbers = Numbers::of(0);
+    for call in 0..task.calls {
+        add_offer(alloc, task.number(call, &mut numbers), task.parts, offers)?;
+    }
+    Some(())
+}
+
+/// Adds the questions for the numbers below one, each once.
+pub fn add_each(alloc: Global, below: u32, parts: u32, asks: &mut Vec<PickedAsk>) -> Option<()> {
+    for number in 0..below {
+        add_ask(alloc, u64::from(number), parts, asks)?;
+    }
+    Some(())
+}
+
+/// Adds parts that hold nothing, and have room for so many keys each.
+pub fn add_parts(alloc: Global, count: u32, keys: u32, parts: &mut Vec<Part>) -> Option<()> {
     let rules = Rules::new(u64::from(keys), CHAPTER, 0)?;
-    let mut parts = Vec::new(alloc);
     for _ in 0..count {
         let part = Part::new(alloc, rules).ok()?;
         parts.push(part).ok()?;
     }
-    Some(parts)
-}
-
-/// Puts the address of a number into a part.
-fn put(
-    alloc: Global,
-    parts: &mut [Part],
-    part: usize,
-    number: u64,
-    moment: u64,
-    ttl: u32,
-) -> Option<()> {
-    let offer = numbered(alloc, number, moment, ttl)?;
-    offer_to(parts, part, offer)?;
     Some(())
 }
 
-/// Puts so many keys into each part: they hold the numbers by turns.
-pub fn fill(alloc: Global, parts: &mut [Part], keys: u32) -> Option<()> {
+/// Puts the address of a number into its part.
+fn put(alloc: Global, parts: &mut [Part], number: u64, moment: u64, ttl: u32) -> Option<()> {
     let count = parts.len() as u64;
-    for number in 0..count.saturating_mul(u64::from(keys)) {
-        put(alloc, parts, part_of(number, count), number, 0, TTL)?;
+    let part = parts.get_mut(part_of(number, count))?;
+    let offer = numbered(alloc, number, moment, ttl)?;
+    part.offer(TAG, offer).ok()?;
+    Some(())
+}
+
+/// Puts the addresses of the numbers below one.
+pub fn fill(alloc: Global, parts: &mut [Part], below: u64) -> Option<()> {
+    for number in 0..below {
+        put(alloc, parts, number, 0, TTL)?;
     }
     Some(())
 }
 
-/// Puts each tenth of the first part's keys for one second.
+/// Puts each tenth of the only part's keys for one second.
 pub fn put_tenth(alloc: Global, parts: &mut [Part], keys: u32, moment: u64) -> Option<()> {
     for tenth in 0..keys / 10 {
-        put(alloc, parts, 0, u64::from(tenth) * 10, moment, 1)?;
+        put(alloc, parts, u64::from(tenth) * 10, moment, 1)?;
     }
     Some(())
 }
 
-/// Asks the first part for the address of a number.
-fn ask_first(alloc: Global, parts: &mut [Part], number: u64) -> Option<()> {
+/// Asks the only part for the address of a number.
+fn ask_for(alloc: Global, parts: &mut [Part], number: u64) -> Option<bool> {
+    let part = parts.first_mut()?;
     let ask = ask(alloc, number)?;
-    ask_of(parts, 0, &ask)?;
-    Some(())
+    answered(part.ask(TAG, &ask))
 }
 
-/// So many events in the first part, of as many keys as it may hold and half as many more: a put,
+/// So many events in the only part, of as many keys as it may hold and half as many more: a put,
 /// then two asks, by turns.
 pub fn write(alloc: Global, parts: &mut [Part], keys: u32, events: u32) -> Option<()> {
     let mut numbers = Numbers::of(0);
     let names = u64::from(keys) + u64::from(keys / 2);
     for place in 0..events {
         let number = numbers.below(names);
-        match place % 3 {
-            0 => put(alloc, parts, 0, number, 0, TTL)?,
-            _ => ask_first(alloc, parts, number)?,
+        if place % 3 == 0 {
+            put(alloc, parts, number, 0, TTL)?;
+        } else {
+            let _is_hit = ask_for(alloc, parts, number)?;
         }
     }
     Some(())
@@ -184,10 +195,7 @@ pub fn write(alloc: Global, parts: &mut [Part], keys: u32, events: u32) -> Optio
 
 /// 8 MiB of places, each of which holds the next one of a way through them all that shows no order.
 pub fn places(alloc: Global) -> Option<Vec<u32>> {
-    let mut places = Vec::new(alloc);
-    for place in 0..PLACES {
-        places.push(place).ok()?;
-    }
+    let mut places = (0..PLACES).collect::<Vec<u32>>(alloc).ok()?;
     mix(places.as_mut_slice());
     Some(places)
 }

@@ -1,81 +1,130 @@
 // SPDX-License-Identifier: MIT
-// Calls a shared cache by several threads at once.
+// Calls a shared cache by several threads at once, or parts that no lock guards by one.
 
-mod calls;
-mod made;
-
-use crate::arguments::number;
-use crate::made::{PickedAsk, asks, parts};
-use crate::numbers::Source;
-use crate::shared::calls::{Turn, call_all, call_lent};
-use crate::shared::made::{NAMES, cache, fill, fill_lent, turns};
+use crate::calls::{Counts, Done, NONE, TAG, answered};
+use crate::made::{CHAPTER, PickedAsk, TTL, add_each, add_parts, fill, numbered, offer};
+use crate::numbers::Numbers;
+use crate::task::{Kind, NAMES, Task};
 use rrc_cache::Part;
+use rrc_history::{Offer, Outcome, Rules};
 use rrc_share::SharedCache;
 use std::alloc::Global;
-use std::env::Args;
 use std::sync::Wait;
 use std::thread::{Threads, map_vec};
-use std::time::{Clock, Duration, Instant};
+use std::time::{Clock, Instant};
 
 const MOST_THREADS: u32 = 64;
 
-/// What is called.
-#[derive(Clone, Copy)]
-struct Kind {
-    /// How many of each ten calls are puts.
-    puts: u32,
-    /// Of how many names they are.
-    names: u32,
-    /// Whether one thread makes them, on parts that no lock guards.
-    is_lent: bool,
+/// A call that a thread is to make.
+#[derive(Drop)]
+enum Turn<'a> {
+    Ask(&'a PickedAsk),
+    Offer(Offer),
 }
 
-/// Each kind by its name: how many of each ten calls are puts, of how many names, and whether it is
-/// on parts with no lock.
-static KINDS: [(&str, u32, u32, bool); 5] = [
-    ("hit", 0, NAMES, false),
-    ("put", 10, NAMES, false),
-    ("mix", 1, NAMES, false),
-    ("hot", 0, 1, false),
-    ("lent", 0, NAMES, true),
-];
-
-/// What is called, by how many threads, on how many parts, and how often by each.
-#[derive(Clone, Copy)]
-struct Task<'a> {
-    name: &'a str,
-    kind: Kind,
-    threads: u32,
-    parts: u32,
-    calls: u32,
+/// Makes the call on a shared cache, and answers whether it got an answer or was kept.
+fn is_served<R: Wait>(rt: &R, cache: &SharedCache, turn: Turn<'_>) -> bool {
+    match turn {
+        Turn::Ask(picked) => answered(cache.ask(rt, TAG, &picked.ask)).unwrap_or(false),
+        Turn::Offer(offer) => matches!(cache.offer(rt, TAG, offer), Ok(Outcome::Kept)),
+    }
 }
 
-/// How many calls got an answer or kept an offer, and the time that passed.
-#[derive(Clone, Copy)]
-struct Done {
-    served: u64,
-    time: Duration,
+/// Makes the calls on a shared cache, and answers how many got an answer or were kept.
+fn call_all<R: Wait>(rt: &R, cache: &SharedCache, turns: Vec<Turn<'_>>) -> u64 {
+    let mut served = 0_u64;
+    for turn in turns {
+        served = served.wrapping_add(u64::from(is_served(rt, cache, turn)));
+    }
+    served
+}
+
+/// Asks a part that no lock guards, and answers whether it got an answer.
+fn is_hit(parts: &mut [Part], picked: &PickedAsk) -> bool {
+    match parts.get_mut(picked.part) {
+        Some(part) => answered(part.ask(TAG, &picked.ask)).unwrap_or(false),
+        None => false,
+    }
+}
+
+/// Makes the asks on parts that no lock guards, and answers how many got an answer.
+fn call_lent(parts: &mut [Part], turns: &[Turn<'_>]) -> u64 {
+    let mut served = 0_u64;
+    for turn in turns {
+        if let Turn::Ask(picked) = turn {
+            served = served.wrapping_add(u64::from(is_hit(parts, picked)));
+        }
+    }
+    served
+}
+
+/// An ask, or a put of the name that is asked for.
+fn next_turn<'a>(alloc: Global, picked: &'a PickedAsk, is_put: bool) -> Option<Turn<'a>> {
+    if is_put {
+        Some(Turn::Offer(offer(alloc, &picked.ask.name, 1, TTL)?))
+    } else {
+        Some(Turn::Ask(picked))
+    }
+}
+
+/// Adds the calls of a thread, in no order that shows: so many of each ten are puts, and they are
+/// of so many names.
+fn add_turns<'a>(
+    alloc: Global,
+    task: &Task<'_>,
+    thread: u32,
+    asks: &'a [PickedAsk],
+    turns: &mut Vec<Turn<'a>>,
+) -> Option<()> {
+    let (puts, names) = match task.kind {
+        Kind::Shared(puts, names) => (puts, names),
+        _ => (0, NAMES),
+    };
+    let mut numbers = Numbers::of(thread);
+    for call in 0..task.calls {
+        let picked = asks.get(numbers.below(u64::from(names)) as usize)?;
+        let turn = next_turn(alloc, picked, call % 10 < puts)?;
+        turns.push(turn).ok()?;
+    }
+    Some(())
 }
 
 /// The calls of a thread.
-fn job<'a>(
+fn turns<'a>(
+    alloc: Global,
+    task: &Task<'_>,
+    thread: u32,
+    asks: &'a [PickedAsk],
+) -> Option<Vec<Turn<'a>>> {
+    let mut turns = Vec::new(alloc);
+    add_turns(alloc, task, thread, asks, &mut turns)?;
+    Some(turns)
+}
+
+/// Adds the calls of each thread.
+fn add_jobs<'a>(
     alloc: Global,
     task: &Task<'_>,
     asks: &'a [PickedAsk],
-    thread: u32,
-) -> Option<Vec<Turn<'a>>> {
-    let Kind { puts, names, .. } = task.kind;
-    turns(alloc, thread, asks, puts, names, task.calls)
+    jobs: &mut Vec<Vec<Turn<'a>>>,
+) -> Option<()> {
+    for thread in 0..task.threads {
+        let turns = turns(alloc, task, thread, asks)?;
+        jobs.push(turns).ok()?;
+    }
+    Some(())
 }
 
-/// The calls of each thread.
-fn jobs<'a>(alloc: Global, task: &Task<'_>, asks: &'a [PickedAsk]) -> Option<Vec<Vec<Turn<'a>>>> {
-    let mut jobs = Vec::new(alloc);
-    for thread in 0..task.threads {
-        let job = job(alloc, task, asks, thread)?;
-        jobs.push(job).ok()?;
+/// What so many calls came to, since a moment.
+fn done<R: Clock>(rt: &R, before: &Instant, served: u64) -> Done {
+    let time = before.elapsed(rt).ok();
+    Done {
+        counts: Counts {
+            right: served,
+            ..NONE
+        },
+        time,
     }
-    Some(jobs)
 }
 
 /// Makes the calls, those of each thread by a thread, and answers how many were served.
@@ -86,24 +135,22 @@ fn served_by_all<R: Threads + Wait + Sync>(
 ) -> Option<u64> {
     let served = map_vec(rt, jobs, &|turns| call_all(rt, cache, turns)).ok()?;
     let mut all = 0_u64;
-    for one in served {
-        all = all.wrapping_add(one);
+    for one in &served {
+        all = all.wrapping_add(*one);
     }
     Some(all)
 }
 
-/// How many of the calls were served, and the time that passed.
-fn timed<R: Threads + Wait + Sync + Clock>(
-    rt: &R,
-    cache: &SharedCache,
-    jobs: Vec<Vec<Turn<'_>>>,
-) -> Option<Done> {
-    let before = Instant::now(rt).ok();
-    let served = served_by_all(rt, cache, jobs)?;
-    let time = before?.elapsed(rt).ok()?;
-    Some(Done { served, time })
+/// Puts an address of each name.
+fn fill_shared<R: Wait>(rt: &R, alloc: Global, cache: &SharedCache) -> Option<()> {
+    for number in 0..u64::from(NAMES) {
+        let offer = numbered(alloc, number, 0, TTL)?;
+        cache.offer(rt, TAG, offer).ok()?;
+    }
+    Some(())
 }
 
+/// The calls by threads on a shared cache that holds nothing yet.
 fn on_cache<R: Threads + Wait + Sync + Clock>(
     rt: &R,
     alloc: Global,
@@ -111,120 +158,60 @@ fn on_cache<R: Threads + Wait + Sync + Clock>(
     asks: &[PickedAsk],
     cache: &SharedCache,
 ) -> Option<Done> {
-    fill(rt, alloc, cache)?;
-    let jobs = jobs(alloc, task, asks)?;
-    timed(rt, cache, jobs)
+    fill_shared(rt, alloc, cache)?;
+    let mut jobs = Vec::new(alloc);
+    add_jobs(alloc, task, asks, &mut jobs)?;
+    let before = Instant::now(rt).ok()?;
+    let served = served_by_all(rt, cache, jobs)?;
+    Some(done(rt, &before, served))
 }
 
-/// The calls by threads on a shared cache.
+/// The calls by threads on a shared cache. Each part has room for all names, and for as many events
+/// as a chapter may have.
 fn shared<R: Threads + Wait + Sync + Clock>(
     rt: &R,
     alloc: Global,
     task: &Task<'_>,
     asks: &[PickedAsk],
 ) -> Option<Done> {
-    let cache = cache(alloc, task.parts)?;
+    if !(1..=64).contains(&task.parts) || task.threads > MOST_THREADS {
+        return None;
+    }
+    let rules = Rules::new(u64::from(NAMES), CHAPTER, 0)?;
+    let cache = SharedCache::new(alloc, task.parts as usize, rules).ok()?;
     on_cache(rt, alloc, task, asks, &cache)
 }
 
-/// How many of the calls were served on parts that no lock guards, and the time that passed.
+/// The calls by one thread on parts that no lock guards, of which there are none yet.
 fn on_lent<R: Clock>(
     rt: &R,
     alloc: Global,
+    task: &Task<'_>,
     turns: &[Turn<'_>],
-    parts: &mut [Part],
+    parts: &mut Vec<Part>,
 ) -> Option<Done> {
-    fill_lent(alloc, parts)?;
+    add_parts(alloc, task.parts, NAMES, parts)?;
+    fill(alloc, parts.as_mut_slice(), u64::from(NAMES))?;
     let before = Instant::now(rt).ok()?;
-    let served = call_lent(parts, turns);
-    let time = before.elapsed(rt).ok()?;
-    Some(Done { served, time })
+    let served = call_lent(parts.as_mut_slice(), turns);
+    Some(done(rt, &before, served))
 }
 
-/// The calls by one thread on parts that no lock guards.
-fn lone<R: Clock>(rt: &R, alloc: Global, task: &Task<'_>, asks: &[PickedAsk]) -> Option<Done> {
-    let turns = job(alloc, task, asks, 0)?;
-    let mut parts = parts(alloc, task.parts, NAMES)?;
-    on_lent(rt, alloc, turns.as_slice(), parts.as_mut_slice())
+fn lent<R: Clock>(rt: &R, alloc: Global, task: &Task<'_>, asks: &[PickedAsk]) -> Option<Done> {
+    let turns = turns(alloc, task, 0, asks)?;
+    let mut parts = Vec::new(alloc);
+    on_lent(rt, alloc, task, turns.as_slice(), &mut parts)
 }
 
-fn called<R: Threads + Wait + Sync + Clock>(
+pub fn called<R: Threads + Wait + Sync + Clock>(
     rt: &R,
     alloc: Global,
     task: &Task<'_>,
 ) -> Option<Done> {
-    let asks = asks(alloc, Source::rising(0), NAMES, 1)?;
-    if task.kind.is_lent {
-        lone(rt, alloc, task, asks.as_slice())
-    } else {
-        shared(rt, alloc, task, asks.as_slice())
+    let mut asks = Vec::new(alloc);
+    add_each(alloc, NAMES, task.parts, &mut asks)?;
+    match task.kind {
+        Kind::Lent => lent(rt, alloc, task, asks.as_slice()),
+        _ => shared(rt, alloc, task, asks.as_slice()),
     }
-}
-
-fn report<R: Print + Eprint + Alloc<A = Global> + Threads + Wait + Sync + Clock>(
-    rt: &R,
-    task: &Task<'_>,
-) -> Option<()> {
-    if task.threads > MOST_THREADS {
-        return None;
-    }
-    let Done { served, time } = called(rt, rt.alloc(), task)?;
-    let name = task.name;
-    println!(rt; "{name}: {served} served").ok()?;
-    eprintln!(rt; "{}", time.as_nanos()).ok()
-}
-
-/// A few of each.
-pub fn report_each<R: Print + Eprint + Alloc<A = Global> + Threads + Wait + Sync + Clock>(
-    rt: &R,
-) -> Option<()> {
-    for &(name, puts, names, is_lent) in &KINDS {
-        let task = Task {
-            name,
-            kind: Kind {
-                puts,
-                names,
-                is_lent,
-            },
-            threads: 2,
-            parts: 4,
-            calls: 100,
-        };
-        report(rt, &task)?;
-    }
-    Some(())
-}
-
-/// The kind of that name.
-fn kind_of(wanted: &str) -> Option<Kind> {
-    for &(name, puts, names, is_lent) in &KINDS {
-        if name == wanted {
-            return Some(Kind {
-                puts,
-                names,
-                is_lent,
-            });
-        }
-    }
-    None
-}
-
-/// What the arguments behind its name tell of a task.
-fn task_in<'a>(name: &'a str, args: &mut Args) -> Option<Task<'a>> {
-    Some(Task {
-        name,
-        kind: kind_of(name)?,
-        threads: number(args, None)?,
-        parts: number(args, None)?,
-        calls: number(args, None)?,
-    })
-}
-
-/// Does the task that the arguments tell.
-pub fn report_told<R: Print + Eprint + Alloc<A = Global> + Threads + Wait + Sync + Clock>(
-    rt: &R,
-    args: &mut Args,
-) -> Option<()> {
-    let name = args.next()?;
-    report(rt, &task_in(name.as_str(), args)?)
 }
