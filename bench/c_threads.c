@@ -139,11 +139,12 @@ static void *work(void *argument)
 
 static void make_names(void)
 {
+    static const struct rrcache_parts division = {SHELVES, "another sixteen"};
     for (unsigned i = 0; i < NAMES; i++) {
         memcpy(names[i], "\6n00000\7example", sizeof names[0]); /* and the zero octet of the root */
         for (unsigned digit = 0, rest = i; digit < 5; digit++, rest /= 10)
             names[i][6 - digit] = (uint8_t)('0' + rest % 10);
-        if (rrcache_part_of(names[i], sizeof names[i], SHELVES, &parts[i]) != RRCACHE_DONE)
+        if (rrcache_part_of(names[i], sizeof names[i], &division, &parts[i]) != RRCACHE_DONE)
             fail("a name is none");
     }
 }

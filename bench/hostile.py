@@ -28,7 +28,7 @@ from attacks import ASKED, ENDS, LONG, MESSAGES, ROOT, label, many_keys, many_ty
 from costs import memory, timed, used_by
 from dns import A, MINFO, TXT, question, record, response
 
-MOST_KEYS = 65_536
+MOST_KEYS, SEED = 65_536, bytes(range(16))
 
 
 def tell_message(make, size, runs):
@@ -174,7 +174,7 @@ def offer_apart(message, parts):
     """Offers a message to as many shelves, each its part."""
     for part in range(parts):
         with rrcache.Shelf(MOST_KEYS // parts, MOST_KEYS // parts) as shelf:
-            shelf.offer_part(message, ROOT, parts, part, 0)
+            shelf.offer_part(message, ROOT, parts, SEED, part, 0)
 
 
 def worst(inputs, call, *, shelf=None, runs=3):
@@ -214,7 +214,7 @@ def tell_calls(size, runs):
                                    runs=runs),
         "rrcache_ask": worst({"one_key": messages["one_key"]},
                              lambda shelf, it: shelf.ask(LONG, MINFO, 1), shelf=offered, runs=runs),
-        "rrcache_part_of": worst(names, lambda _, it: rrcache.part_of(it, 16), runs=runs),
+        "rrcache_part_of": worst(names, lambda _, it: rrcache.part_of(it, 16, SEED), runs=runs),
         "rrcache_sweep, 4,096 keys": worst(ENDS, lambda shelf, _: shelf.sweep(10**6),
                                            shelf=filled_by, runs=runs),
         "rrcache_free": worst(messages, lambda shelf, _: shelf.close(), shelf=offered, runs=runs),

@@ -20,6 +20,7 @@ static struct rrcache_response response = {
     .moment = 1,
     .limits = {86400, 3600, 30},
 };
+static const struct rrcache_parts PARTS = {SHELVES, "another sixteen"};
 static struct rrcache_counts counts;
 
 static void check(uint32_t status)
@@ -39,7 +40,7 @@ static void offer_read(struct rrcache_shelf *shelves)
 {
     struct rrcache_offers offers = {0};
     uint64_t concerned;
-    check(rrcache_read_message(&offers, &response, SHELVES, &concerned));
+    check(rrcache_read_message(&offers, &response, &PARTS, &concerned));
     for (uint64_t part = 0; part < SHELVES; part++)
         check(rrcache_offer_read(&shelves[part], &offers, part, 1, &counts));
     check(rrcache_free_offers(&offers));
@@ -48,7 +49,7 @@ static void offer_read(struct rrcache_shelf *shelves)
 static void offer_parts(struct rrcache_shelf *shelves)
 {
     for (uint64_t part = 0; part < SHELVES; part++)
-        check(rrcache_offer_part(&shelves[part], &response, SHELVES, part, 1, &counts));
+        check(rrcache_offer_part(&shelves[part], &response, &PARTS, part, 1, &counts));
 }
 
 static uint64_t nanoseconds(void)

@@ -28,6 +28,9 @@ static void expect(bool holds, const char *what, int line)
 /* ---- What is offered and asked. */
 
 static const uint8_t SEED[16] = {3, 1, 4, 1, 5, 9, 2, 6, 5, 3, 5, 8, 9, 7, 9, 3};
+/* How names are divided: the seed of their parts is the octets 0 to 15. */
+#define PARTED(count)                                                                              \
+    (&(const struct rrcache_parts){(count), {0, 1, 2, 3, 4, 5, 6, 7, 8, 9, 10, 11, 12, 13, 14, 15}})
 static const uint8_t NAME[] = "\3www\7example"; /* the last octet is the literal's own 0 */
 static const uint8_t UPPER[] = "\3WWW\7Example";
 static const uint8_t ZONE[] = "\7example";
@@ -162,19 +165,20 @@ static uint32_t offer_alias(struct rrcache_shelf *shelf, uint64_t parts, uint64_
 {
     return rrcache_offer_part(shelf,
                               RESPONSE(ALIAS, sizeof ALIAS, ZONE, sizeof ZONE, moment, LIMITS),
-                              parts, part, 1, counts);
+                              PARTED(parts), part, 1, counts);
 }
 
 static uint32_t read_alias(struct rrcache_offers *offers, uint64_t parts, uint64_t *concerned)
 {
-    return rrcache_read_message(
-        offers, RESPONSE(ALIAS, sizeof ALIAS, ZONE, sizeof ZONE, FIRST, LIMITS), parts, concerned);
+    return rrcache_read_message(offers,
+                                RESPONSE(ALIAS, sizeof ALIAS, ZONE, sizeof ZONE, FIRST, LIMITS),
+                                PARTED(parts), concerned);
 }
 
 static uint64_t part_of(const uint8_t *name, size_t size)
 {
     uint64_t part = PARTS;
-    EXPECT(rrcache_part_of(name, size, PARTS, &part) == RRCACHE_DONE && part < PARTS);
+    EXPECT(rrcache_part_of(name, size, PARTED(PARTS), &part) == RRCACHE_DONE && part < PARTS);
     return part;
 }
 
@@ -700,7 +704,7 @@ static void test_parts(void)
     memset(cleared + 35, 0, 4); /* the alias's ttl */
     EXPECT(rrcache_offer_part(&shelves[alias],
                               RESPONSE(cleared, sizeof cleared, ZONE, sizeof ZONE, FIRST, LIMITS),
-                              PARTS, alias, 1, &counts)
+                              PARTED(PARTS), alias, 1, &counts)
            == RRCACHE_DONE);
     EXPECT(counts.kept == 0 && counts.cleared == 1 && counts.refused == 0
            && keys(&shelves[alias]) == 0);
@@ -712,9 +716,9 @@ static void test_parts(void)
 static uint32_t read_response(struct rrcache_offers *offers, const uint8_t *name, size_t size,
                               uint16_t type, uint16_t id, uint64_t *concerned)
 {
-    return rrcache_read_response(offers,
-                                 RESPONSE(POISON, sizeof POISON, ZONE, sizeof ZONE, FIRST, LIMITS),
-                                 QUERY(name, size, type, RRCACHE_IN, 0, 0, 0), id, 1, concerned);
+    return rrcache_read_response(
+        offers, RESPONSE(POISON, sizeof POISON, ZONE, sizeof ZONE, FIRST, LIMITS),
+        QUERY(name, size, type, RRCACHE_IN, 0, 0, 0), id, PARTED(1), concerned);
 }
 
 /* Of a response what is relevant to its query is kept, and of another response nothing. */
@@ -742,7 +746,7 @@ static void test_relevant(void)
     /* Without the query all of it is kept. */
     EXPECT(rrcache_read_message(&offers,
                                 RESPONSE(POISON, sizeof POISON, ZONE, sizeof ZONE, FIRST, LIMITS),
-                                1, &concerned)
+                                PARTED(1), &concerned)
            == RRCACHE_DONE);
     EXPECT(rrcache_offer_read(&shelf, &offers, 0, 1, &counts) == RRCACHE_DONE && counts.kept == 2
            && rrcache_free_offers(&offers) == RRCACHE_DONE);
@@ -750,7 +754,7 @@ static void test_relevant(void)
     /* A chain of aliases is relevant. */
     EXPECT(rrcache_read_response(
                &offers, RESPONSE(ALIAS, sizeof ALIAS, ZONE, sizeof ZONE, FIRST, LIMITS),
-               QUERY(NAME, sizeof NAME, A, RRCACHE_IN, 0, 0, 0), 0x1234, 1, &concerned)
+               QUERY(NAME, sizeof NAME, A, RRCACHE_IN, 0, 0, 0), 0x1234, PARTED(1), &concerned)
                == RRCACHE_DONE
            && rrcache_offer_read(&shelf, &offers, 0, 1, &counts) == RRCACHE_DONE && counts.kept == 2
            && rrcache_free_offers(&offers) == RRCACHE_DONE);
@@ -765,21 +769,21 @@ static void test_relevant(void)
     EXPECT(read_response(&offers, NO_NAME, sizeof NO_NAME, A, 0x1234, &concerned)
            == RRCACHE_BAD_NAME);
     EXPECT(rrcache_read_response(&offers, RESPONSE(POISON, 30, ZONE, sizeof ZONE, FIRST, LIMITS),
-                                 QUERY(NAME, sizeof NAME, A, RRCACHE_IN, 0, 0, 0), 0x1234, 1,
-                                 &concerned)
+                                 QUERY(NAME, sizeof NAME, A, RRCACHE_IN, 0, 0, 0), 0x1234,
+                                 PARTED(1), &concerned)
            == RRCACHE_BAD_MESSAGE);
     EXPECT(rrcache_read_response(
                &offers, RESPONSE(POISON, sizeof POISON, ZONE, sizeof ZONE, FIRST, LIMITS),
-               QUERY(NAME, sizeof NAME, A, RRCACHE_IN, 0, 0, 0), 0x1234, 0, &concerned)
+               QUERY(NAME, sizeof NAME, A, RRCACHE_IN, 0, 0, 0), 0x1234, PARTED(0), &concerned)
            == RRCACHE_BAD_RULES);
     EXPECT(rrcache_read_response(&offers,
                                  RESPONSE(POISON, sizeof POISON, ZONE, sizeof ZONE, FIRST,
                                           ((struct rrcache_limits){0, 1, 1})),
-                                 QUERY(NAME, sizeof NAME, A, RRCACHE_IN, 0, 0, 0), 0x1234, 1,
-                                 &concerned)
+                                 QUERY(NAME, sizeof NAME, A, RRCACHE_IN, 0, 0, 0), 0x1234,
+                                 PARTED(1), &concerned)
            == RRCACHE_BAD_LIMITS);
     EXPECT(rrcache_read_response(&offers, NULL, QUERY(NAME, sizeof NAME, A, RRCACHE_IN, 0, 0, 0),
-                                 0x1234, 1, &concerned)
+                                 0x1234, PARTED(1), &concerned)
                == RRCACHE_NULL
            && read_response(&offers, NULL, 1, A, 0x1234, &concerned) == RRCACHE_NULL
            && read_response(NULL, NAME, sizeof NAME, A, 0x1234, &concerned) == RRCACHE_NULL
@@ -970,7 +974,7 @@ static void compare_readings(const uint8_t *message, size_t size, uint64_t wante
     struct rrcache_offers offers = {0};
     uint64_t concerned = 0, kept = 0;
     EXPECT(rrcache_read_message(&offers, RESPONSE(message, size, ZONE, sizeof ZONE, FIRST, LIMITS),
-                                PARTS, &concerned)
+                                PARTED(PARTS), &concerned)
            == RRCACHE_DONE);
     for (uint64_t part = 0; part < PARTS; part++) {
         struct rrcache_shelf read = {0}, offered = {0};
@@ -980,8 +984,8 @@ static void compare_readings(const uint8_t *message, size_t size, uint64_t wante
                && rrcache_make(&offered, 4096, 4096, 0, SEED) == RRCACHE_DONE);
         EXPECT(rrcache_offer_read(&read, &offers, part, 1, &counts[0]) == RRCACHE_DONE);
         EXPECT(rrcache_offer_part(&offered,
-                                  RESPONSE(message, size, ZONE, sizeof ZONE, FIRST, LIMITS), PARTS,
-                                  part, 1, &counts[1])
+                                  RESPONSE(message, size, ZONE, sizeof ZONE, FIRST, LIMITS),
+                                  PARTED(PARTS), part, 1, &counts[1])
                == RRCACHE_DONE);
         EXPECT(memcmp(&counts[0], &counts[1], sizeof counts[0]) == 0);
         EXPECT((concerned >> part & 1) == (counts[0].kept != 0));
@@ -1032,7 +1036,7 @@ static void test_one_reading(void)
     memset(cleared + 35, 0, 4); /* the alias's ttl */
     EXPECT(rrcache_read_message(&offers,
                                 RESPONSE(cleared, sizeof cleared, ZONE, sizeof ZONE, FIRST, LIMITS),
-                                1, &concerned)
+                                PARTED(1), &concerned)
                == RRCACHE_DONE
            && concerned == 1);
     EXPECT(rrcache_offer_read(&shelf, &offers, 0, 1, &counts) == RRCACHE_DONE && counts.kept == 0
@@ -1044,7 +1048,7 @@ static void test_one_reading(void)
     cleared[2] |= 2;
     EXPECT(rrcache_read_message(&offers,
                                 RESPONSE(cleared, sizeof cleared, ZONE, sizeof ZONE, FIRST, LIMITS),
-                                64, &concerned)
+                                PARTED(64), &concerned)
                == RRCACHE_DONE
            && concerned == 0 && offers.is_live);
     EXPECT(rrcache_offer_read(&shelf, &offers, 63, 1, &counts) == RRCACHE_DONE && counts.kept == 0);
@@ -1067,17 +1071,17 @@ static void test_refused_readings(void)
            && rrcache_offer_read(&shelf, &offers, 0, 1, &counts) == RRCACHE_NO_OFFERS
            && counts.kept == 7 && events(&shelf) == 0);
     EXPECT(rrcache_read_message(&offers, RESPONSE(NULL, 0, NO_NAME, sizeof NO_NAME, FIRST, wrong),
-                                0, &concerned)
+                                PARTED(0), &concerned)
                == RRCACHE_BAD_RULES
            && read_alias(&offers, 65, &concerned) == RRCACHE_BAD_RULES);
     EXPECT(rrcache_read_message(&offers, RESPONSE(NULL, 0, NO_NAME, sizeof NO_NAME, FIRST, wrong),
-                                1, &concerned)
+                                PARTED(1), &concerned)
            == RRCACHE_BAD_LIMITS);
     EXPECT(rrcache_read_message(&offers, RESPONSE(NULL, 0, NO_NAME, sizeof NO_NAME, FIRST, LIMITS),
-                                1, &concerned)
+                                PARTED(1), &concerned)
            == RRCACHE_BAD_NAME);
-    EXPECT(rrcache_read_message(&offers, RESPONSE(NULL, 0, ZONE, sizeof ZONE, FIRST, LIMITS), 1,
-                                &concerned)
+    EXPECT(rrcache_read_message(&offers, RESPONSE(NULL, 0, ZONE, sizeof ZONE, FIRST, LIMITS),
+                                PARTED(1), &concerned)
            == RRCACHE_BAD_MESSAGE);
     EXPECT(concerned == 7 && offers.at == NULL && !offers.is_live);
 
@@ -1092,8 +1096,8 @@ static void test_refused_readings(void)
     /* A moment that is too large is read, and refused with the first offer. */
     EXPECT(rrcache_read_message(
                &offers,
-               RESPONSE(ALIAS, sizeof ALIAS, ZONE, sizeof ZONE, (UINT64_C(1) << 40) + 1, LIMITS), 1,
-               &concerned)
+               RESPONSE(ALIAS, sizeof ALIAS, ZONE, sizeof ZONE, (UINT64_C(1) << 40) + 1, LIMITS),
+               PARTED(1), &concerned)
                == RRCACHE_DONE
            && concerned == 1);
     counts.refused = 7;
@@ -1113,22 +1117,93 @@ static void test_octets(void)
     memcpy(query, ANSWER, sizeof query);
     query[2] = 0;
     EXPECT(rrcache_fault(query, sizeof query, &fault) == RRCACHE_DONE && fault == 6);
-    EXPECT(rrcache_part_of(NAME, sizeof NAME, 64, &part) == RRCACHE_DONE && part < 64);
-    EXPECT(rrcache_part_of(UPPER, sizeof UPPER, 64, &other) == RRCACHE_DONE && other == part);
-    EXPECT(rrcache_part_of(NAME, sizeof NAME, 1, &part) == RRCACHE_DONE && part == 0);
-    /* The hash of a name is 0 at first, and with each octet 1,000,003 times what it was and that
-       octet, in 32 bits. */
-    EXPECT(part_of(NAME, sizeof NAME) == 5 && part_of(OTHER, sizeof OTHER) == 10
-           && part_of(THIRD, sizeof THIRD) == 3);
-    EXPECT(rrcache_part_of(NAME, sizeof NAME, 0, &part) == RRCACHE_BAD_RULES
-           && rrcache_part_of(NAME, sizeof NAME, 65, &part) == RRCACHE_BAD_RULES);
-    EXPECT(rrcache_part_of(NO_NAME, sizeof NO_NAME, 4, &part) == RRCACHE_BAD_NAME && part == 0);
+    EXPECT(rrcache_part_of(NAME, sizeof NAME, PARTED(64), &part) == RRCACHE_DONE && part < 64);
+    EXPECT(rrcache_part_of(UPPER, sizeof UPPER, PARTED(64), &other) == RRCACHE_DONE
+           && other == part);
+    EXPECT(rrcache_part_of(NAME, sizeof NAME, PARTED(1), &part) == RRCACHE_DONE && part == 0);
+    /* By SipHash-1-3 in Python, which python/tests.py compares with what CPython hashes octets by.
+       By the lower 32 bits of the hash these were parts 3, 3 and 10. */
+    EXPECT(part_of(NAME, sizeof NAME) == 2 && part_of(OTHER, sizeof OTHER) == 13
+           && part_of(THIRD, sizeof THIRD) == 15);
+    EXPECT(part_of(UPPER, sizeof UPPER) == 2);
+    EXPECT(rrcache_part_of(NAME, sizeof NAME, PARTED(0), &part) == RRCACHE_BAD_RULES
+           && rrcache_part_of(NAME, sizeof NAME, PARTED(65), &part) == RRCACHE_BAD_RULES);
+    EXPECT(rrcache_part_of(NO_NAME, sizeof NO_NAME, PARTED(4), &part) == RRCACHE_BAD_NAME
+           && part == 0);
+}
+
+/* A seed has 16 octets: the inline functions hand in no other, the library proper asks. It is
+   looked at behind the number of parts, and before all else. */
+static void test_seeds(void)
+{
+    static const uint8_t seed[17] = {1};
+    const struct rrcache_limits wrong = {0, 1, 1};
+    struct rrcache_shelf shelf = {0};
+    struct rrcache_offers offers = {0};
+    struct rrcache_counts counts = {7, 7, 7};
+    struct rrcache_parts parts = *PARTED(PARTS);
+    uint64_t told = 7;
+    EXPECT(make(&shelf) == RRCACHE_DONE);
+    for (size_t size = 0; size <= 17; size++) {
+        bool is_seed = size == 16;
+        uint32_t in_turn = is_seed ? RRCACHE_BAD_LIMITS : RRCACHE_BAD_SEED;
+        EXPECT(rrc_part_of(NAME, sizeof NAME, PARTS, seed, size, &told)
+               == (is_seed ? RRCACHE_DONE : RRCACHE_BAD_SEED));
+        EXPECT((told != 7) == is_seed);
+        told = 7;
+        EXPECT(rrc_part_of(NO_NAME, sizeof NO_NAME, 0, seed, size, &told) == RRCACHE_BAD_RULES
+               && rrc_part_of(NO_NAME, sizeof NO_NAME, 65, seed, size, &told) == RRCACHE_BAD_RULES);
+        EXPECT(rrc_part_of(NO_NAME, sizeof NO_NAME, 1, seed, size, &told)
+               == (is_seed ? RRCACHE_BAD_NAME : RRCACHE_BAD_SEED));
+        EXPECT(rrc_offer_part(&shelf, ALIAS, 30, NO_NAME, sizeof NO_NAME, PARTS, seed, size, PARTS,
+                              FIRST, &wrong, 1, &counts)
+                   == RRCACHE_BAD_RULES
+               && rrc_offer_part(&shelf, ALIAS, 30, NO_NAME, sizeof NO_NAME, PARTS, seed, size, 0,
+                                 FIRST, &wrong, 1, &counts)
+                      == in_turn);
+        EXPECT(rrc_read_message(&offers, ALIAS, 30, NO_NAME, sizeof NO_NAME, 65, seed, size, FIRST,
+                                &wrong, &told)
+                   == RRCACHE_BAD_RULES
+               && rrc_read_message(&offers, ALIAS, 30, NO_NAME, sizeof NO_NAME, 64, seed, size,
+                                   FIRST, &wrong, &told)
+                      == in_turn);
+        EXPECT(rrc_read_response(&offers, ALIAS, 30, NO_NAME, sizeof NO_NAME, 1, NO_NAME,
+                                 sizeof NO_NAME, A, RRCACHE_IN, 0, seed, size, FIRST, &wrong, &told)
+                   == RRCACHE_BAD_RULES
+               && rrc_read_response(&offers, ALIAS, 30, NO_NAME, sizeof NO_NAME, 1, NO_NAME,
+                                    sizeof NO_NAME, A, RRCACHE_IN, 1, seed, size, FIRST, &wrong,
+                                    &told)
+                      == in_turn);
+        EXPECT(told == 7 && counts.kept == 0 && events(&shelf) == 0 && !offers.is_live);
+    }
+
+    /* By another seed, whichever octet is another, names lie elsewhere. */
+    for (size_t place = 0; place < sizeof parts.seed; place++) {
+        uint64_t moved = 0;
+        parts = *PARTED(64);
+        parts.seed[place] ^= 0x80;
+        for (unsigned number = 0; number < 100; number++) {
+            uint8_t name[NAME_SIZE];
+            uint64_t by_one = 64, by_other = 64;
+            write_name(name, number);
+            moved += rrcache_part_of(name, sizeof name, PARTED(64), &by_one) == RRCACHE_DONE
+                     && rrcache_part_of(name, sizeof name, &parts, &by_other) == RRCACHE_DONE
+                     && by_one != by_other;
+        }
+        EXPECT(moved > 50);
+    }
+
+    /* The parts are read before anything is written. */
+    parts = *PARTED(PARTS);
+    EXPECT(rrcache_part_of(NAME, sizeof NAME, &parts, &parts.count) == RRCACHE_DONE
+           && parts.count == 2);
+    EXPECT(rrcache_free(&shelf) == RRCACHE_DONE);
 }
 
 static uint32_t status_of(const char *name, size_t size)
 {
     uint64_t part;
-    return rrcache_part_of((const uint8_t *)name, size, PARTS, &part);
+    return rrcache_part_of((const uint8_t *)name, size, PARTED(PARTS), &part);
 }
 
 /* The status of the wire form of labels of so many octets each, which end with the root. */
@@ -1262,30 +1337,30 @@ static void test_refused_counts(void)
     EXPECT(REFUSES(offer_alias(&shelf, PARTS, PARTS, FIRST, &counts), RRCACHE_BAD_RULES));
     EXPECT(REFUSES(rrcache_offer_part(&shelf,
                                       RESPONSE(ALIAS, sizeof ALIAS, ZONE, sizeof ZONE, FIRST, bad),
-                                      1, 0, 1, &counts),
+                                      PARTED(1), 0, 1, &counts),
                    RRCACHE_BAD_LIMITS));
     EXPECT(REFUSES(
         rrcache_offer_part(&shelf,
-                           RESPONSE(ALIAS, sizeof ALIAS, NO_NAME, sizeof NO_NAME, FIRST, LIMITS), 1,
-                           0, 1, &counts),
+                           RESPONSE(ALIAS, sizeof ALIAS, NO_NAME, sizeof NO_NAME, FIRST, LIMITS),
+                           PARTED(1), 0, 1, &counts),
         RRCACHE_BAD_NAME));
     EXPECT(REFUSES(rrcache_offer_part(&shelf, RESPONSE(ALIAS, 30, ZONE, sizeof ZONE, FIRST, LIMITS),
-                                      1, 0, 1, &counts),
+                                      PARTED(1), 0, 1, &counts),
                    RRCACHE_BAD_MESSAGE));
     EXPECT(REFUSES(offer_alias(&shelf, 1, 0, late, &counts), RRCACHE_MOMENT_TOO_LARGE));
     /* Of more than one the first is told: the parts before the limits, these before the zone, and
      * that before the message. */
     EXPECT(
         REFUSES(rrcache_offer_part(&shelf, RESPONSE(ALIAS, 30, NO_NAME, sizeof NO_NAME, late, bad),
-                                   0, 0, 1, &counts),
+                                   PARTED(0), 0, 1, &counts),
                 RRCACHE_BAD_RULES));
     EXPECT(
         REFUSES(rrcache_offer_part(&shelf, RESPONSE(ALIAS, 30, NO_NAME, sizeof NO_NAME, late, bad),
-                                   1, 0, 1, &counts),
+                                   PARTED(1), 0, 1, &counts),
                 RRCACHE_BAD_LIMITS));
     EXPECT(REFUSES(rrcache_offer_part(&shelf,
-                                      RESPONSE(ALIAS, 30, NO_NAME, sizeof NO_NAME, late, LIMITS), 1,
-                                      0, 1, &counts),
+                                      RESPONSE(ALIAS, 30, NO_NAME, sizeof NO_NAME, late, LIMITS),
+                                      PARTED(1), 0, 1, &counts),
                    RRCACHE_BAD_NAME));
 #undef REFUSES
     EXPECT(events(&shelf) == 0 && rrcache_free(&shelf) == RRCACHE_DONE);
@@ -1360,15 +1435,15 @@ static void test_refusals(void)
     EXPECT(offer_alias(&shelf, PARTS, (1ULL << 32) + part, FIRST, &counts) == RRCACHE_BAD_RULES);
     EXPECT(offer_alias(&shelf, PARTS, part, late, &counts) == RRCACHE_MOMENT_TOO_LARGE
            && counts.kept == 0);
-    EXPECT(rrcache_offer_part(&shelf, RESPONSE(ALIAS, 30, ZONE, sizeof ZONE, FIRST, LIMITS), PARTS,
-                              part, 1, &counts)
+    EXPECT(rrcache_offer_part(&shelf, RESPONSE(ALIAS, 30, ZONE, sizeof ZONE, FIRST, LIMITS),
+                              PARTED(PARTS), part, 1, &counts)
            == RRCACHE_BAD_MESSAGE);
     EXPECT(rrcache_offer_part(&shelf, RESPONSE(ALIAS, sizeof ALIAS, ZONE, sizeof ZONE, FIRST, bad),
-                              PARTS, part, 1, &counts)
+                              PARTED(PARTS), part, 1, &counts)
            == RRCACHE_BAD_LIMITS);
     EXPECT(rrcache_offer_part(&shelf,
                               RESPONSE(ALIAS, sizeof ALIAS, NO_NAME, sizeof NO_NAME, FIRST, LIMITS),
-                              PARTS, part, 1, &counts)
+                              PARTED(PARTS), part, 1, &counts)
            == RRCACHE_BAD_NAME);
 
     EXPECT(ask(&shelf, late, &told, buffer, sizeof buffer) == RRCACHE_MOMENT_TOO_LARGE);
@@ -1511,26 +1586,38 @@ static void test_null(void)
                                  &counts)
            == RRCACHE_NULL);
     EXPECT(rrcache_offer_message(&shelf, NULL, 1, &counts) == RRCACHE_NULL
-           && rrcache_offer_part(&shelf, NULL, PARTS, 0, 1, &counts) == RRCACHE_NULL);
+           && rrcache_offer_part(&shelf, NULL, PARTED(PARTS), 0, 1, &counts) == RRCACHE_NULL);
+    EXPECT(rrcache_offer_part(&shelf,
+                              RESPONSE(ALIAS, sizeof ALIAS, ZONE, sizeof ZONE, FIRST, LIMITS), NULL,
+                              0, 1, &counts)
+           == RRCACHE_NULL);
+    EXPECT(rrcache_read_message(&offers,
+                                RESPONSE(ALIAS, sizeof ALIAS, ZONE, sizeof ZONE, FIRST, LIMITS),
+                                NULL, &wide)
+           == RRCACHE_NULL);
+    EXPECT(rrcache_read_response(
+               &offers, RESPONSE(ALIAS, sizeof ALIAS, ZONE, sizeof ZONE, FIRST, LIMITS),
+               QUERY(NAME, sizeof NAME, A, RRCACHE_IN, 0, 0, 0), 0x1234, NULL, &wide)
+           == RRCACHE_NULL);
     EXPECT(rrcache_offer_set(&shelf, NULL, 1, &number) == RRCACHE_NULL
            && rrcache_offer_negative(&shelf, NULL, 1, &number) == RRCACHE_NULL
            && rrcache_offer_failure(&shelf, NULL, 1, &number) == RRCACHE_NULL);
     EXPECT(rrcache_ask(&shelf, NULL, 1, &told, buffer, sizeof buffer) == RRCACHE_NULL
            && rrcache_peek(&shelf, NULL, &told, buffer, sizeof buffer) == RRCACHE_NULL);
-    EXPECT(rrcache_offer_part(&shelf, RESPONSE(ALIAS, sizeof ALIAS, NULL, 1, FIRST, LIMITS), PARTS,
-                              0, 1, &counts)
+    EXPECT(rrcache_offer_part(&shelf, RESPONSE(ALIAS, sizeof ALIAS, NULL, 1, FIRST, LIMITS),
+                              PARTED(PARTS), 0, 1, &counts)
            == RRCACHE_NULL);
     EXPECT(offer_alias(NULL, PARTS, 0, FIRST, &counts) == RRCACHE_NULL
            && offer_alias(&shelf, PARTS, 0, FIRST, NULL) == RRCACHE_NULL);
     EXPECT(read_alias(NULL, PARTS, &wide) == RRCACHE_NULL
            && read_alias(&offers, PARTS, NULL) == RRCACHE_NULL);
-    EXPECT(rrcache_read_message(&offers, RESPONSE(NULL, 1, ZONE, sizeof ZONE, FIRST, LIMITS), PARTS,
-                                &wide)
+    EXPECT(rrcache_read_message(&offers, RESPONSE(NULL, 1, ZONE, sizeof ZONE, FIRST, LIMITS),
+                                PARTED(PARTS), &wide)
            == RRCACHE_NULL);
     EXPECT(rrcache_read_message(&offers, RESPONSE(ALIAS, sizeof ALIAS, NULL, 1, FIRST, LIMITS),
-                                PARTS, &wide)
+                                PARTED(PARTS), &wide)
            == RRCACHE_NULL);
-    EXPECT(rrcache_read_message(&offers, NULL, PARTS, &wide) == RRCACHE_NULL);
+    EXPECT(rrcache_read_message(&offers, NULL, PARTED(PARTS), &wide) == RRCACHE_NULL);
     EXPECT(rrcache_offer_read(NULL, &offers, 0, 1, &counts) == RRCACHE_NULL
            && rrcache_offer_read(&shelf, NULL, 0, 1, &counts) == RRCACHE_NULL);
     EXPECT(rrcache_offer_read(&shelf, &offers, 0, 1, NULL) == RRCACHE_NULL
@@ -1575,7 +1662,8 @@ static void test_null(void)
                    || rrcache_sizes(&shelf, its[0], its[1], its[2], its[3]) == RRCACHE_NULL);
         }
     EXPECT(rrcache_fault(NULL, 1, &number) == RRCACHE_NULL
-           && rrcache_part_of(NAME, sizeof NAME, 1, NULL) == RRCACHE_NULL);
+           && rrcache_part_of(NAME, sizeof NAME, PARTED(1), NULL) == RRCACHE_NULL
+           && rrcache_part_of(NAME, sizeof NAME, NULL, &wide) == RRCACHE_NULL);
     EXPECT(events(&shelf) == 0 && rrcache_free(&shelf) == RRCACHE_DONE);
 }
 
@@ -1635,10 +1723,10 @@ static void test_overlaps(void)
                                   counts));
     IS_NULL(rrcache_offer_message(shelf, RESPONSE(ANSWER, sizeof ANSWER, end - 1, 8, FIRST, LIMITS),
                                   1, counts));
-    IS_NULL(rrcache_offer_part(shelf, RESPONSE(end - 1, 8, ZONE, sizeof ZONE, FIRST, LIMITS), 1, 0,
-                               1, counts));
-    IS_NULL(rrcache_offer_part(shelf, RESPONSE(ALIAS, sizeof ALIAS, end - 1, 8, FIRST, LIMITS), 1,
-                               0, 1, counts));
+    IS_NULL(rrcache_offer_part(shelf, RESPONSE(end - 1, 8, ZONE, sizeof ZONE, FIRST, LIMITS),
+                               PARTED(1), 0, 1, counts));
+    IS_NULL(rrcache_offer_part(shelf, RESPONSE(ALIAS, sizeof ALIAS, end - 1, 8, FIRST, LIMITS),
+                               PARTED(1), 0, 1, counts));
     IS_NULL(rrcache_offer_read(shelf, (struct rrcache_offers *)(void *)(memory.octets + 8), 0, 1,
                                counts));
     IS_NULL(rrcache_offer_read(shelf, &none, 0, 1,
@@ -1646,15 +1734,15 @@ static void test_overlaps(void)
     IS_NULL(rrcache_offer_read(shelf, offers, 0, 1, (struct rrcache_counts *)(void *)(apart + 8)));
     IS_NULL(read_alias(offers, 1, (uint64_t *)(void *)(apart + 8)));
     IS_NULL(rrcache_read_message(
-        offers, RESPONSE(apart + sizeof *offers - 1, 8, ZONE, sizeof ZONE, FIRST, LIMITS), 1,
-        &other));
+        offers, RESPONSE(apart + sizeof *offers - 1, 8, ZONE, sizeof ZONE, FIRST, LIMITS),
+        PARTED(1), &other));
     IS_NULL(rrcache_read_message(
-        offers, RESPONSE(ALIAS, sizeof ALIAS, apart + sizeof *offers - 1, 8, FIRST, LIMITS), 1,
-        &other));
-    IS_NULL(rrcache_read_message(&none, RESPONSE(apart + 7, 8, ZONE, sizeof ZONE, FIRST, LIMITS), 1,
-                                 wide));
+        offers, RESPONSE(ALIAS, sizeof ALIAS, apart + sizeof *offers - 1, 8, FIRST, LIMITS),
+        PARTED(1), &other));
+    IS_NULL(rrcache_read_message(&none, RESPONSE(apart + 7, 8, ZONE, sizeof ZONE, FIRST, LIMITS),
+                                 PARTED(1), wide));
     IS_NULL(rrcache_read_message(&none, RESPONSE(ALIAS, sizeof ALIAS, apart + 7, 8, FIRST, LIMITS),
-                                 1, wide));
+                                 PARTED(1), wide));
     IS_NULL(rrcache_offer_set(
         shelf, SET(end - 1, 8, A, RRCACHE_IN, 4, 60, ADDRESS, sizeof ADDRESS, FIRST), 1, number));
     IS_NULL(rrcache_offer_set(
@@ -1712,11 +1800,11 @@ static void test_overlaps(void)
         shelf, RESPONSE(ANSWER, sizeof ANSWER, apart + sizeof *counts - 1, 8, FIRST, LIMITS), 1,
         counts));
     IS_NULL(rrcache_offer_part(
-        shelf, RESPONSE(apart + sizeof *counts - 1, 8, ZONE, sizeof ZONE, FIRST, LIMITS), 1, 0, 1,
-        counts));
+        shelf, RESPONSE(apart + sizeof *counts - 1, 8, ZONE, sizeof ZONE, FIRST, LIMITS), PARTED(1),
+        0, 1, counts));
     IS_NULL(rrcache_offer_part(
-        shelf, RESPONSE(ALIAS, sizeof ALIAS, apart + sizeof *counts - 1, 8, FIRST, LIMITS), 1, 0, 1,
-        counts));
+        shelf, RESPONSE(ALIAS, sizeof ALIAS, apart + sizeof *counts - 1, 8, FIRST, LIMITS),
+        PARTED(1), 0, 1, counts));
     IS_NULL(rrcache_offer_set(
         shelf, SET(apart + 3, 8, A, RRCACHE_IN, 4, 60, ADDRESS, sizeof ADDRESS, FIRST), 1, number));
     IS_NULL(rrcache_offer_set(
@@ -1736,7 +1824,7 @@ static void test_overlaps(void)
     IS_NULL(
         rrcache_offer_failure(shelf, FAILURE(apart + 3, 8, A, RRCACHE_IN, 30, FIRST), 1, number));
     IS_NULL(rrcache_fault(apart + 3, 8, number));
-    IS_NULL(rrcache_part_of(apart + 7, 8, 1, wide));
+    IS_NULL(rrcache_part_of(apart + 7, 8, PARTED(1), wide));
 #undef IS_NULL
 
     /* Nothing was written, and what lies side by side, or is only read, is no overlap. */
@@ -1866,7 +1954,7 @@ static uint32_t call(int number, struct rrcache_shelf *shelf)
     case 11:
         return rrcache_free_offers(&offers);
     default:
-        return rrcache_part_of(LONG, sizeof LONG, PARTS, &removed);
+        return rrcache_part_of(LONG, sizeof LONG, PARTED(PARTS), &removed);
     }
 }
 
@@ -1945,6 +2033,7 @@ int main(void)
     test_stored();
     test_alias();
     test_octets();
+    test_seeds();
     test_wire_forms();
     test_no_shelf();
     test_making_refused();

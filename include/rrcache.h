@@ -3,8 +3,10 @@
 
    A *shelf* is one part of the cache with its history. A resolver makes 16 to 64 of them, each with
    a lock beside it, and picks the one for a name by `rrcache_part_of`: all that is known of a name
-   lies in one part, in whatever case the name is written. With more shelves fewer threads wait for
-   one lock; one shelf with no lock will do where one thread asks.
+   lies in one part, in whatever case the name is written. Which part that is goes by a hash under a
+   secret seed (`struct rrcache_parts`), so that nobody else can pick names of one part, to fill it
+   and keep its lock busy. With more shelves fewer threads wait for one lock; one shelf with no lock
+   will do where one thread asks.
 
    Who owns what
    - The caller owns the handle, the lock and each buffer, and no call keeps a pointer to any of
@@ -51,8 +53,8 @@
      no lock, which tells the shelves that it concerns. For each of these it calls
    `rrcache_offer_read` with that shelf's number, counted from 0, under that shelf's lock. Each call
    keeps what the message says of names in that shelf and nothing else, so that all calls together
-   keep all that it says, and each name's data lie where `rrcache_part_of` leads. A shelf of whose
-   names the message tells nothing gets no event.
+   keep all that it says, and each name's data lie where `rrcache_part_of` leads with the same
+   `struct rrcache_parts`. A shelf of whose names the message tells nothing gets no event.
    - `rrcache_offer_part` does the same in one call for each shelf, and reads the whole message
      anew, under that shelf's lock. That will do for one shelf's share alone.
    - A CNAME record is then followed from shelf to shelf: one `rrcache_ask_alias` for each name,
@@ -151,8 +153,8 @@ extern "C" {
 #endif
 
 /* The version of this header. `rrcache_version` tells that of the library. */
-#define RRCACHE_VERSION_MAJOR 0
-#define RRCACHE_VERSION_MINOR 2
+#define RRCACHE_VERSION_MAJOR 1
+#define RRCACHE_VERSION_MINOR 0
 #define RRCACHE_VERSION_PATCH 0
 #define RRCACHE_VERSION                                                                            \
     (RRCACHE_VERSION_MAJOR * 65536 + RRCACHE_VERSION_MINOR * 256 + RRCACHE_VERSION_PATCH)
@@ -316,6 +318,16 @@ struct rrcache_response {
     struct rrcache_limits limits;
 };
 
+/* How names are divided among shelves: how many shelves there are, 1 to 64, and 16 random octets
+   which nobody else knows, the same in each call. Draw them once, when the shelves are made: by
+   another seed a name lies in another part, and what is kept of it is not found. Names are hashed
+   by SipHash-1-3, whose key is the seed, and the upper 32 bits of the hash choose the part, so that
+   the shelves may be made with the same seed. */
+struct rrcache_parts {
+    uint64_t count;
+    uint8_t seed[16];
+};
+
 /* An RRset. The data stand one behind another, each behind its length of two octets, with no name
    compressed. */
 struct rrcache_set {
@@ -371,17 +383,19 @@ uint32_t rrc_offer_message(struct rrcache_shelf *shelf, const uint8_t *octets, s
                            const struct rrcache_limits *limits, uint64_t line,
                            struct rrcache_counts *counts);
 uint32_t rrc_offer_part(struct rrcache_shelf *shelf, const uint8_t *octets, size_t size,
-                        const uint8_t *zone, size_t zone_size, uint64_t parts, uint64_t part,
-                        uint64_t moment, const struct rrcache_limits *limits, uint64_t line,
+                        const uint8_t *zone, size_t zone_size, uint64_t parts, const uint8_t *seed,
+                        size_t seed_size, uint64_t part, uint64_t moment,
+                        const struct rrcache_limits *limits, uint64_t line,
                         struct rrcache_counts *counts);
 uint32_t rrc_read_message(struct rrcache_offers *offers, const uint8_t *octets, size_t size,
-                          const uint8_t *zone, size_t zone_size, uint64_t parts, uint64_t moment,
+                          const uint8_t *zone, size_t zone_size, uint64_t parts,
+                          const uint8_t *seed, size_t seed_size, uint64_t moment,
                           const struct rrcache_limits *limits, uint64_t *concerned);
 uint32_t rrc_read_response(struct rrcache_offers *offers, const uint8_t *octets, size_t size,
                            const uint8_t *zone, size_t zone_size, uint16_t id, const uint8_t *name,
                            size_t name_size, uint16_t rtype, uint16_t rclass, uint64_t parts,
-                           uint64_t moment, const struct rrcache_limits *limits,
-                           uint64_t *concerned);
+                           const uint8_t *seed, size_t seed_size, uint64_t moment,
+                           const struct rrcache_limits *limits, uint64_t *concerned);
 uint32_t rrc_offer_read(struct rrcache_shelf *shelf, struct rrcache_offers *offers, uint64_t part,
                         uint64_t line, struct rrcache_counts *counts);
 uint32_t rrc_free_offers(struct rrcache_offers *offers);
@@ -411,7 +425,8 @@ uint32_t rrc_drop_chapters(struct rrcache_shelf *shelf, uint64_t *dropped);
 uint32_t rrc_sizes(struct rrcache_shelf *shelf, uint64_t *keys, uint64_t *events,
                    uint64_t *chapters, uint64_t *octets);
 uint32_t rrc_fault(const uint8_t *octets, size_t size, uint32_t *fault);
-uint32_t rrc_part_of(const uint8_t *name, size_t name_size, uint64_t parts, uint64_t *part);
+uint32_t rrc_part_of(const uint8_t *name, size_t name_size, uint64_t parts, const uint8_t *seed,
+                     size_t seed_size, uint64_t *part);
 uint32_t rrc_version(void);
 
 /* ---- What a resolver calls. */
@@ -520,21 +535,23 @@ static inline enum rrcache_status rrcache_offer_message(struct rrcache_shelf *sh
         &limits, line, counts);
 }
 
-/* Offers what a response says of the names that lie in one of 1 to 64 parts, counted from 0
+/* Offers what a response says of the names that lie in one of so many parts, counted from 0
    (`rrcache_part_of`): that of `rrcache_offer_message`, but for what lies in other parts, which is
    neither offered nor counted. */
 static inline enum rrcache_status rrcache_offer_part(struct rrcache_shelf *shelf,
                                                      const struct rrcache_response *response,
-                                                     uint64_t parts, uint64_t part, uint64_t line,
+                                                     const struct rrcache_parts *parts,
+                                                     uint64_t part, uint64_t line,
                                                      struct rrcache_counts *counts)
 {
-    if (!rrcache_can_offer(shelf, response, counts))
+    if (!rrcache_can_offer(shelf, response, counts) || parts == NULL)
         return RRCACHE_NULL;
     struct rrcache_limits limits = response->limits;
+    struct rrcache_parts division = *parts;
     return (enum rrcache_status)rrc_offer_part(
         shelf, rrcache_octets(response->octets, response->size), response->size,
-        rrcache_octets(response->zone, response->zone_size), response->zone_size, parts, part,
-        response->moment, &limits, line, counts);
+        rrcache_octets(response->zone, response->zone_size), response->zone_size, division.count,
+        division.seed, sizeof division.seed, part, response->moment, &limits, line, counts);
 }
 
 /* Whether a response may be read into a handle: what is needed is there, and nothing that is
@@ -554,23 +571,26 @@ static inline bool rrcache_can_read(const struct rrcache_offers *offers,
 }
 
 /* Reads a response from a server of this zone into the offers that `rrcache_offer_message` would
-   make of it, for a handle that holds none, and tells which of 1 to 64 parts they concern: bit 0 of
+   make of it, for a handle that holds none, and tells which of the parts they concern: bit 0 of
    `concerned` is set where one lies in part 0, bit 1 for part 1, and so on. It takes no shelf and
    writes no event. A handle that holds offers keeps them, and RRCACHE_HAS_OFFERS is returned,
    whatever else would be refused. Where a response offers nothing, as one with TC set, `concerned`
    is 0, and the handle is to be freed like any other. */
 static inline enum rrcache_status rrcache_read_message(struct rrcache_offers *offers,
                                                        const struct rrcache_response *response,
-                                                       uint64_t parts, uint64_t *concerned)
+                                                       const struct rrcache_parts *parts,
+                                                       uint64_t *concerned)
 {
     struct rrcache_limits limits;
-    if (!rrcache_can_read(offers, response, concerned))
+    struct rrcache_parts division;
+    if (!rrcache_can_read(offers, response, concerned) || parts == NULL)
         return RRCACHE_NULL;
     limits = response->limits;
+    division = *parts;
     return (enum rrcache_status)rrc_read_message(
         offers, rrcache_octets(response->octets, response->size), response->size,
-        rrcache_octets(response->zone, response->zone_size), response->zone_size, parts,
-        response->moment, &limits, concerned);
+        rrcache_octets(response->zone, response->zone_size), response->zone_size, division.count,
+        division.seed, sizeof division.seed, response->moment, &limits, concerned);
 }
 
 /* Reads a response as `rrcache_read_message` does, and of its offers only those that are relevant
@@ -586,24 +606,26 @@ static inline enum rrcache_status rrcache_read_message(struct rrcache_offers *of
    type A and 16 with AAAA. No set of more than 16,384 octets is relevant. So a server of `example`
    that is asked for one name can replace what is held of another one only where it leads the
    question there by CNAME records, or names it as a host or a zone of its answer. */
-static inline enum rrcache_status rrcache_read_response(struct rrcache_offers *offers,
-                                                        const struct rrcache_response *response,
-                                                        const struct rrcache_query *query,
-                                                        uint16_t id, uint64_t parts,
-                                                        uint64_t *concerned)
+static inline enum rrcache_status
+rrcache_read_response(struct rrcache_offers *offers, const struct rrcache_response *response,
+                      const struct rrcache_query *query, uint16_t id,
+                      const struct rrcache_parts *parts, uint64_t *concerned)
 {
     struct rrcache_limits limits;
-    if (!rrcache_can_read(offers, response, concerned) || query == NULL
+    struct rrcache_parts division;
+    if (!rrcache_can_read(offers, response, concerned) || query == NULL || parts == NULL
         || !rrcache_is_there(query->name, query->name_size)
         || rrcache_touch(offers, sizeof *offers, concerned, sizeof *concerned, query->name,
                          query->name_size))
         return RRCACHE_NULL;
     limits = response->limits;
+    division = *parts;
     return (enum rrcache_status)rrc_read_response(
         offers, rrcache_octets(response->octets, response->size), response->size,
         rrcache_octets(response->zone, response->zone_size), response->zone_size, id,
         rrcache_octets(query->name, query->name_size), query->name_size, query->rtype,
-        query->rclass, parts, response->moment, &limits, concerned);
+        query->rclass, division.count, division.seed, sizeof division.seed, response->moment,
+        &limits, concerned);
 }
 
 /* Offers a shelf what was read of the names that lie in a part, counted from 0 and below the number
@@ -904,14 +926,17 @@ static inline enum rrcache_status rrcache_fault(const uint8_t *octets, size_t si
     return (enum rrcache_status)rrc_fault(rrcache_octets(octets, size), size, fault);
 }
 
-/* Tells in which of 1 to 64 parts all keys of a name lie, counted from 0. */
+/* Tells in which of so many parts all keys of a name lie, counted from 0. */
 static inline enum rrcache_status rrcache_part_of(const uint8_t *name, size_t name_size,
-                                                  uint64_t parts, uint64_t *part)
+                                                  const struct rrcache_parts *parts, uint64_t *part)
 {
-    if (part == NULL || !rrcache_is_there(name, name_size)
+    struct rrcache_parts division;
+    if (parts == NULL || part == NULL || !rrcache_is_there(name, name_size)
         || rrcache_overlap(part, sizeof *part, name, name_size))
         return RRCACHE_NULL;
-    return (enum rrcache_status)rrc_part_of(rrcache_octets(name, name_size), name_size, parts,
+    division = *parts;
+    return (enum rrcache_status)rrc_part_of(rrcache_octets(name, name_size), name_size,
+                                            division.count, division.seed, sizeof division.seed,
                                             part);
 }
 

@@ -6,6 +6,7 @@ lines is compared with the row's report.
 """
 import importlib
 import importlib.util
+import itertools
 import os
 import re
 import subprocess
@@ -21,8 +22,10 @@ import rrcache
 from dns import (A, CNAME, NS, OPT, SOA, TXT, message, name_at, pointer, question, record, response,
                  soa_data, wire)
 from harness import DNAME, NXDOMAIN, SERVFAIL, Skipped, Wrong, address, same, soa, wanted
+from model import part_of
 
 VERSION = (TOP / "VERSION").read_text().strip()
+SEED = bytes(range(16))
 MODES = {"none": 0, "failed": 1, "now": 2}
 OUTCOMES = {1: "kept", 2: "cleared", 3: "less"}
 # Fixed octets, and how many names stand behind them, of types whose data have names.
@@ -239,7 +242,7 @@ def test_limits_of_offers():
                                ((1, 0, 1), False), ((1, 604_801, 1), False),
                                ((1, 1, 0), False), ((1, 1, 301), False)):
         try:
-            rrcache.Offers(response(QUESTION), ".", 1, 100, rrcache.Limits(*numbers)).close()
+            rrcache.Offers(response(QUESTION), ".", 1, SEED, 100, rrcache.Limits(*numbers)).close()
         except rrcache.BadLimits:
             wanted(not is_within, f"{numbers} are refused")
         else:
@@ -304,7 +307,7 @@ RELEVANT = {
 
 def offered_as_relevant(shelf, octets, query):
     """How many offers of a response are relevant to a query, all of which the shelf keeps."""
-    with rrcache.Offers(octets, "example", 1, 100, query=query) as offers:
+    with rrcache.Offers(octets, "example", 1, SEED, 100, query=query) as offers:
         counts = shelf.offer_read(offers, 0)
     same(counts[1:], (0, 0), "offers that are not kept")
     return counts.kept
@@ -409,8 +412,13 @@ def test_refusals_by_python():
              (11, lambda it: it.ask(b"\0", A, 1, 2)), (12, lambda it: it.offer_set(b"\0", OPT, 4, 1, [b""], 1)),
              (13, lambda it: it.offer_set(b"\0", CNAME, 4, 1, [b"\1"], 1)), (14, lambda it: it.offer_set(b"\0", A, 4, 1, [], 1)),
              (8, lambda it: it.offer_message(b"x", b"\0", 1, rrcache.Limits(recheck=0))), (6, lambda it: rrcache.Shelf(capacity=0)),
-             (7, lambda it: rrcache.Shelf(seed=b"x")), (6, lambda it: rrcache.part_of(".", 65)),
-             (6, lambda it: it.offer_part(b"x", b"\0", 4, 4, 1)), (10, lambda it: it.offer_part(b"x", b"\0", 4, 3, 1))]
+             (7, lambda it: rrcache.Shelf(seed=b"x")),
+             (7, lambda it: rrcache.Cache(seed=SEED[:15])),
+             (6, lambda it: rrcache.part_of(".", 65, SEED)),
+             (7, lambda it: rrcache.part_of(".", 64, SEED[:15])),
+             (6, lambda it: it.offer_part(b"x", b"\0", 4, SEED, 4, 1)),
+             (7, lambda it: it.offer_part(b"x", b"\0", 4, b"", 3, 1)),
+             (10, lambda it: it.offer_part(b"x", b"\0", 4, SEED, 3, 1))]
     with rrcache.Shelf() as shelf:
         for status, call in cases:
             try:
@@ -435,15 +443,106 @@ def test_refusals_by_python():
         same(refused.status, 1, "status of a shelf that was closed")
 
 
+# ---- Parts.
+
+
+def siphash13(key, octets):
+    """SipHash-1-3 (Aumasson and Bernstein, "SipHash: a fast short-input PRF", 2012): a number of 64
+    bits."""
+    def turned(word, bits):
+        return (word << bits | word >> 64 - bits) % 2 ** 64
+
+    def mixed(v0, v1, v2, v3):
+        v0, v2 = (v0 + v1) % 2 ** 64, (v2 + v3) % 2 ** 64
+        v1, v3 = turned(v1, 13) ^ v0, turned(v3, 16) ^ v2
+        v0, v2 = (turned(v0, 32) + v3) % 2 ** 64, (v2 + v1) % 2 ** 64
+        return v0, turned(v1, 17) ^ v2, turned(v2, 32), turned(v3, 21) ^ v0
+
+    words = [int.from_bytes(key[it:it + 8], "little") for it in (0, 8)] * 2
+    first = int.from_bytes(b"somepseudorandomlygeneratedbytes", "big")
+    state = [word ^ first >> 64 * (3 - it) & 2 ** 64 - 1 for it, word in enumerate(words)]
+    padded = octets + bytes(7 - len(octets) % 8) + bytes([len(octets) % 256])
+    for at in range(0, len(padded), 8):
+        word = int.from_bytes(padded[at:at + 8], "little")
+        v0, v1, v2, v3 = mixed(*state[:3], state[3] ^ word)
+        state = [v0 ^ word, v1, v2, v3]
+    state[2] ^= 255
+    for _ in range(3):
+        state = mixed(*state)
+    return state[0] ^ state[1] ^ state[2] ^ state[3]
+
+
+def python_key(seed):
+    """The key that CPython hashes octets under with this PYTHONHASHSEED: the octets of a linear
+    congruential generator, and with 0 zeros (Python/bootstrap_hash.c)."""
+    octets, state = [], seed
+    for _ in range(16):
+        state = (state * 214_013 + 2_531_011) % 2 ** 32
+        octets.append(state >> 16 & 255)
+    return bytes(octets) if seed else bytes(16)
+
+
+def test_siphash_is_that_of_python():
+    """So the model of parts is compared with a hash that is not of this repository."""
+    if sys.hash_info.algorithm != "siphash13":
+        raise Skipped("this Python hashes octets by another function than 3.11 and later")
+    texts = [b"a", wire("www.example"), bytes(range(255)), wire(".".join(["x" * 63] * 3))]
+    for seed in (0, 1, 4_000_000_000):
+        code = f"print(*(hash(it) % 2 ** 64 for it in {texts}))"
+        told = subprocess.run([sys.executable, "-c", code], capture_output=True, text=True,
+                              env={**os.environ, "PYTHONHASHSEED": str(seed)})
+        same([int(it) for it in told.stdout.split()],
+             [siphash13(python_key(seed), it) for it in texts], f"hashes under {seed}")
+
+
+def test_parts_go_by_siphash():
+    """By the upper 32 bits of the hash, in whatever case a name is written."""
+    names = ["www.example", "other.example", "third.example", "a", ".".join(["Ab" * 31] * 4),
+             *(f"n{it}.example" for it in range(50))]
+    for seed in (SEED, bytes(16), b"\xff" * 16, SEED[::-1]):
+        for name in names:
+            hashed = siphash13(seed, wire(name.lower())) >> 32
+            for parts in (1, 2, 3, 16, 63, 64):
+                same(rrcache.part_of(wire(name.upper()), parts, seed), hashed % parts,
+                     f"the part of {name}")
+
+
+def test_names_of_one_part_want_the_seed():
+    """Names that lie in one part by the hash that has no key are spread by a seed like others."""
+    places = (b"\6%06x\7example\0" % it for it in range(2 ** 24))
+    picked = list(itertools.islice((it for it in places if part_of(it, 16) == 0), 4096))
+    for seed in (SEED, os.urandom(16)):
+        parts = [rrcache.part_of(it, 16, seed) for it in picked]
+        counts = [parts.count(it) for it in range(16)]
+        # 256 each, with a deviation of some 15.5.
+        wanted(all(150 <= it <= 360 for it in counts), f"{counts} names in each part")
+
+
+def test_a_cache_has_a_seed_of_its_own():
+    names = [f"n{it}.example" for it in range(200)]
+
+    def parts_of(cache):
+        for name in names:
+            octets = message(7, 0x8580, question(name, A), [record(name, A, 60, address(1))])
+            cache.offer_message(octets, ".", 100)
+            same(cache.ask(name.upper(), A, 110).kind, rrcache.Kind.FRESH, name)
+        return [shelf.sizes().keys for _, shelf in cache._shelves]
+    with rrcache.Cache(64) as one, rrcache.Cache(64) as other:
+        wanted(parts_of(one) != parts_of(other), "two caches divide names differently")
+    with rrcache.Cache(64, seed=SEED) as cache:
+        wanted_parts = [rrcache.part_of(it, 64, SEED) for it in names]
+        same(parts_of(cache), [wanted_parts.count(it) for it in range(64)], "keys in each part")
+
+
 def test_parts_by_python():
     names = [f"x{n}.example" for n in range(8)]
     records = [record(one, CNAME, 60, wire(other)) for one, other in zip(names, names[1:])] + [record(names[-1], A, 60, address(9))]
     octets = message(7, 0x8180, question(names[0], A), records)
-    parts = [rrcache.part_of(wire(it), 4) for it in names]
+    parts = [rrcache.part_of(wire(it), 4, SEED) for it in names]
     wanted(len(set(parts)) > 1, "names in more than one part")
     for part in range(4):
         with rrcache.Shelf() as shelf:
-            same(shelf.offer_part(octets, wire("example"), 4, part, 100), (parts.count(part), 0, 0), f"the share of part {part}")
+            same(shelf.offer_part(octets, wire("example"), 4, SEED, part, 100), (parts.count(part), 0, 0), f"the share of part {part}")
             # Twice the name, a record, and another name or an address.
             octets = [2 * 12 + rrcache.RECORD_OCTETS + size for size, home in zip([12] * 7 + [4], parts) if home == part]
             same(shelf.sizes(), (len(octets), len(octets), 0, sum(octets)), "keys, events, chapters and octets")
@@ -454,17 +553,20 @@ def test_parts_by_python():
 def test_one_reading_by_python():
     names = [f"x{n}.example" for n in range(8)]
     octets = message(7, 0x8580, question(names[0], A), [record(it, A, 60, address(9)) for it in names])
-    parts = [rrcache.part_of(wire(it), 4) for it in names]
-    with rrcache.Offers(octets, "example.", 4, 100) as offers:
+    parts = [rrcache.part_of(wire(it), 4, SEED) for it in names]
+    with rrcache.Offers(octets, "example.", 4, SEED, 100) as offers:
         same(offers.concerned, sorted(set(parts)), "the parts concerned")
         for part in range(4):
             with rrcache.Shelf() as shelf:
                 same(shelf.offer_read(offers, part), (parts.count(part), 0, 0), f"the share of part {part}")
-                same(shelf.offer_part(octets, "example.", 4, part, 100), (parts.count(part), 0, 0), "the same by a reading of its own")
+                same(shelf.offer_part(octets, "example.", 4, SEED, part, 100), (parts.count(part), 0, 0), "the same by a reading of its own")
                 keys = parts.count(part)
                 same(shelf.sizes(), (keys, 2 * keys, 0, (2 * 12 + rrcache.RECORD_OCTETS + 4) * keys), "keys, events, chapters and octets")
-    cases = [(18, lambda: shelf.offer_read(offers, 0)), (6, lambda: rrcache.Offers(octets, ".", 65, 100)),
-             (10, lambda: rrcache.Offers(b"x", ".", 4, 100)), (9, lambda: rrcache.Offers(octets, b"\1", 4, 100))]
+    cases = [(18, lambda: shelf.offer_read(offers, 0)),
+             (6, lambda: rrcache.Offers(octets, ".", 65, SEED, 100)),
+             (7, lambda: rrcache.Offers(octets, ".", 64, SEED + b"x", 100)),
+             (10, lambda: rrcache.Offers(b"x", ".", 4, SEED, 100)),
+             (9, lambda: rrcache.Offers(octets, b"\1", 4, SEED, 100))]
     with rrcache.Shelf() as shelf:
         for status, call in cases:
             try:

@@ -34,8 +34,9 @@ void *begin_thread(unsigned number)
 
 static struct shelf *shelf_of(const struct name *name)
 {
+    static const struct rrcache_parts parts = {SHARDS, {8}};
     uint64_t part;
-    if (rrcache_part_of(name->octets, name->size, SHARDS, &part) != RRCACHE_DONE)
+    if (rrcache_part_of(name->octets, name->size, &parts, &part) != RRCACHE_DONE)
         fail("no part");
     return &shelves[part];
 }

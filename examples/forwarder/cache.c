@@ -39,6 +39,7 @@ struct walk {
 static const struct rrcache_limits LIMITS = {TTL_CAP, 10800, FAILURE_SECONDS};
 static const uint8_t ROOT[1] = {0}; /* upstreams are trusted for every name */
 static struct shelf shelves[SHELVES];
+static struct rrcache_parts parts = {.count = SHELVES};
 static _Thread_local void *reserve;
 
 static uint64_t moment(void)
@@ -48,6 +49,8 @@ static uint64_t moment(void)
 
 bool make_cache(void)
 {
+    if (getentropy(parts.seed, sizeof parts.seed) != 0)
+        return false;
     for (struct shelf *shelf = shelves; shelf < shelves + SHELVES; shelf++) {
         uint8_t seed[16];
         if (getentropy(seed, sizeof seed) != 0 || pthread_mutex_init(&shelf->lock, NULL) != 0
@@ -107,7 +110,7 @@ static uint32_t ask(const struct question *at, uint16_t type, const struct walk 
                     struct found *found)
 {
     uint64_t part = 0;
-    enum rrcache_status status = rrcache_part_of(at->name, at->size, SHELVES, &part);
+    enum rrcache_status status = rrcache_part_of(at->name, at->size, &parts, &part);
     if (status == RRCACHE_DONE)
         status = ask_shelf(&shelves[part], at, type, walk, found);
     if (status == RRCACHE_MEMORY)
@@ -291,7 +294,7 @@ static bool offer(const struct question *question, const uint8_t *message, size_
     const uint16_t id = (uint16_t)word_at(message);
     uint64_t concerned = 0;
     enum rrcache_status status =
-        rrcache_read_response(&offers, &response, &query, id, SHELVES, &concerned);
+        rrcache_read_response(&offers, &response, &query, id, &parts, &concerned);
     for (uint64_t part = 0; part < SHELVES; part++) {
         struct shelf *shelf = &shelves[part];
         if ((concerned >> part & 1) == 0)
@@ -339,7 +342,7 @@ void remember_failure(const struct question *question)
     };
     uint64_t part = 0;
     uint32_t outcome;
-    if (rrcache_part_of(question->name, question->size, SHELVES, &part) != RRCACHE_DONE)
+    if (rrcache_part_of(question->name, question->size, &parts, &part) != RRCACHE_DONE)
         return;
     struct shelf *shelf = &shelves[part];
     pthread_mutex_lock(&shelf->lock);

@@ -2,6 +2,7 @@
 """A cache of several parts, for any number of threads."""
 from __future__ import annotations
 
+import os
 import threading
 from types import TracebackType
 from typing import Any
@@ -17,8 +18,9 @@ CNAME, LINKS_MOST = 5, 16
 
 
 class Cache:
-    """1 to 64 shelves, each with a lock: all that is known of a name lies in one of them.
-    `capacity` is the most keys of each; the other arguments are those of `Shelf`.
+    """1 to 64 shelves, each with a lock: all that is known of a name lies in one of them. Which one
+    that is goes by a random seed of the cache's own, or by the one that is given. `capacity` is the
+    most keys of each; the other arguments are those of `Shelf`.
 
     >>> with Cache(parts=4) as cache:
     ...     cache.ask("www.example.", 1, moment=1000).kind.name
@@ -26,12 +28,14 @@ class Cache:
     """
 
     def __init__(self, parts: int = 16, **rules: Any) -> None:
-        part_of(".", parts)  # refuses a wrong number of them
+        seed = rules.get("seed")
+        self._seed = os.urandom(16) if seed is None else seed
+        part_of(".", parts, self._seed)  # refuses a wrong number of them
         self._shelves = [(threading.Lock(), Shelf(**rules)) for _ in range(parts)]
 
     def ask(self, name: Name, rtype: int, moment: int, **more: Any) -> Reply:
         """Asks the part of the name, as `Shelf.ask` does."""
-        lock, shelf = self._shelves[part_of(name, len(self._shelves))]
+        lock, shelf = self._shelves[part_of(name, len(self._shelves), self._seed)]
         with lock:
             return shelf.ask(name, rtype, moment, **more)
 
@@ -59,7 +63,8 @@ class Cache:
         was sent only what is relevant to it. It is read once, under no lock. Where one part refuses
         its share, that is raised, and what other parts took stays."""
         total = Counts(0, 0, 0)
-        with Offers(message, zone, len(self._shelves), moment, limits, query) as offers:
+        parts, seed = len(self._shelves), self._seed
+        with Offers(message, zone, parts, seed, moment, limits, query) as offers:
             for part in offers.concerned:
                 lock, shelf = self._shelves[part]
                 with lock:

@@ -10,7 +10,7 @@ from typing import Any
 from .names import to_wire
 from .refusals import Status, refusal
 
-MAJOR, SONAME = 0, "librrcache.so.0"
+MAJOR, SONAME = 1, "librrcache.so.1"
 # What calls take: p a pointer, o octets and how many, t a type or a class, n a number of 32 bits,
 # m one of 64.
 TYPES: dict[str, list[Any]] = {
@@ -19,12 +19,13 @@ TYPES: dict[str, list[Any]] = {
 }
 CALLS = {
     "rrc_make": "pmmmo", "rrc_free": "p", "rrc_offer_message": "poompmp",
-    "rrc_offer_part": "poommmpmp", "rrc_read_message": "poommpp",
-    "rrc_read_response": "pootottmmpp", "rrc_offer_read": "ppmmp", "rrc_free_offers": "p", "rrc_offer_set": "pottnnommp",
+    "rrc_offer_part": "poomommpmp", "rrc_read_message": "poomompp",
+    "rrc_read_response": "pootottmompp", "rrc_offer_read": "ppmmp", "rrc_free_offers": "p",
+    "rrc_offer_set": "pottnnommp",
     "rrc_offer_negative": "pottnnnoommp", "rrc_offer_failure": "pottnmmp", "rrc_ask": "pottmnnmpo",
     "rrc_peek": "pottmnnpo", "rrc_sweep": "pmmp", "rrc_next_expiry": "pp", "rrc_stored": "pottp",
     "rrc_drop_chapters": "pp", "rrc_sizes": "ppppp",
-    "rrc_fault": "op", "rrc_part_of": "omp", "rrc_version": "",
+    "rrc_fault": "op", "rrc_part_of": "omop", "rrc_version": "",
 }
 
 
@@ -90,13 +91,15 @@ def fault(message: bytes) -> int:
     return told("rrc_fault", c_uint32, *sized(message))
 
 
-def part_of(name: str | bytes, parts: int) -> int:
-    """In which of 1 to 64 parts all keys of a name lie.
+def part_of(name: str | bytes, parts: int, seed: bytes) -> int:
+    """In which of 1 to 64 parts all keys of a name lie. Who does not know the seed, of 16 random
+    octets, cannot pick names of one part.
 
-    >>> part_of("WWW.example.", 16) == part_of("www.example.", 16)
+    >>> seed = os.urandom(16)
+    >>> part_of("WWW.example.", 16, seed) == part_of("www.example.", 16, seed)
     True
     """
-    return told("rrc_part_of", c_uint64, *sized(to_wire(name)), parts)
+    return told("rrc_part_of", c_uint64, *sized(to_wire(name)), parts, *sized(seed))
 
 
 def library_version() -> tuple[int, int, int]:

@@ -15,23 +15,23 @@ class Offers:
     `Shelf.offer_read` then offers the share of a part. It is for one thread at a time. A `with`
     frees it at its end.
 
-    `concerned` are the parts, of 1 to 64, that the response has something for. With the query that
-    was sent only what is relevant to it is taken, and `OtherQuery` is raised where the response has
-    another identifier or question.
+    `concerned` are the parts, of 1 to 64, that the response has something for, by the seed that
+    `part_of` takes. With the query that was sent only what is relevant to it is taken, and
+    `OtherQuery` is raised where the response has another identifier or question.
 
     >>> message = bytes([0x12, 0x34, 0x84, 0, 0, 1, 0, 0, 0, 0, 0, 0])
     >>> message += b"\\3www\\7example\\0\\0\\1\\0\\1"
-    >>> with Offers(message, "example.", 16, moment=1000) as offers:
+    >>> with Offers(message, "example.", 16, seed=bytes(16), moment=1000) as offers:
     ...     offers.concerned
     []
     """
 
-    def __init__(self, message: bytes, zone: str | bytes, parts: int, moment: int,
+    def __init__(self, message: bytes, zone: str | bytes, parts: int, seed: bytes, moment: int,
                  limits: Limits = Limits(), query: Query | None = None) -> None:
         # A handle that begins with a null pointer holds no offers.
         self._handle = (c_void_p * 2)()
         octets, owner = sized(message), sized(to_wire(zone))
-        numbers = parts, moment, (c_uint32 * 3)(*limits)
+        numbers = parts, *sized(seed), moment, (c_uint32 * 3)(*limits)
         if query is None:
             bits = told("rrc_read_message", c_uint64, self._handle, *octets, *owner, *numbers)
         else:

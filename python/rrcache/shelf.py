@@ -82,11 +82,12 @@ class Shelf:
         return self._offer("rrc_offer_message", *sized(message), *sized(to_wire(zone)), moment,
                            (c_uint32 * 3)(*limits), line)
 
-    def offer_part(self, message: bytes, zone: Name, parts: int, part: int, moment: int,
-                   limits: Limits = Limits(), line: int = 0) -> Counts:
-        """The same of what it says of the names that lie in one of so many parts."""
-        return self._offer("rrc_offer_part", *sized(message), *sized(to_wire(zone)), parts, part,
-                           moment, (c_uint32 * 3)(*limits), line)
+    def offer_part(self, message: bytes, zone: Name, parts: int, seed: bytes, part: int,
+                   moment: int, limits: Limits = Limits(), line: int = 0) -> Counts:
+        """The same of what it says of the names that lie in one of so many parts, by the seed that
+        `part_of` takes."""
+        return self._offer("rrc_offer_part", *sized(message), *sized(to_wire(zone)), parts,
+                           *sized(seed), part, moment, (c_uint32 * 3)(*limits), line)
 
     def offer_read(self, offers: Offers, part: int, line: int = 0) -> Counts:
         """The same of a message that was read for so many parts."""

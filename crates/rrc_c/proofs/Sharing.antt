@@ -5,9 +5,9 @@ use Rattle.std.proofs.Math.Nat.{two-pow-succ}
 use Rattle.std.proofs.Math.Pow.{pow_mono}
 use Rattle.std.proofs.lemmas.List.Elements.{All-filter}
 use Rattle.rrc_history.specs.Fits.{OfferOf}
-use Rattle.rrc_name.specs.Parts.{part_of}
 use Rattle.rrc_c.specs.Offered.{AreAt, TakesAll, TakesFirst}
 use Rattle.rrc_c.specs.Parted.{lying_in, IsPart}
+use Rattle.rrc_c.specs.Parts.{keyed_part_of}
 use Rattle.rrc_c.specs.Readings.{bit_of, has_part, parts_below, placed_in, share_of, IsReading, RefusedShareIsPart, ShareIsPart}
 use Rattle.rrc_c.specs.declared.counts.Bounds.{Bounds}
 use Rattle.rrc_c.specs.declared.reading.Placed.{Placed}
@@ -21,37 +21,40 @@ pick true one behind offers same = ap (λ them. one.offer ∷ them) same
 pick false one behind offers same = same
 
 -- offers that were placed in their parts give by a part those that lie in it
-share_placed : (parts part : ℕ) (offers : List OfferOf) → share_of part (map (placed_in parts) offers) ≡ lying_in parts part offers
-share_placed parts part [] = refl
-share_placed parts part (offer ∷ behind) =
-    pick (part_of offer.key.name parts == part) (placed_in parts offer) (filter (λ (one : Placed). one.part == part) (map (placed_in parts) behind)) (lying_in parts part behind) (share_placed parts part behind)
+share_placed : (parts : ℕ) (seed : List ℕ) (part : ℕ) (offers : List OfferOf) → share_of part (map (placed_in parts seed) offers) ≡ lying_in parts seed part offers
+share_placed parts seed part [] = refl
+share_placed parts seed part (offer ∷ behind) =
+    pick (keyed_part_of seed offer.key.name parts == part) (placed_in parts seed offer) (filter (λ (one : Placed). one.part == part) (map (placed_in parts seed) behind)) (lying_in parts seed part behind)
+    (share_placed parts seed part behind)
 
-share_same : (octets zone : List ℕ) (parts part at : ℕ) (bounds : Bounds) (reading : Reading) (is : IsReading octets zone parts at bounds reading) → share_of part reading.placed.items ≡ lying_in parts part is.offers
-share_same octets zone parts part at bounds reading is = ap (share_of part) is.placed ∙ share_placed parts part is.offers
+share_same : (octets zone : List ℕ) (parts : ℕ) (seed : List ℕ) (part at : ℕ) (bounds : Bounds) (reading : Reading) (is : IsReading octets zone parts seed at bounds reading)
+    → share_of part reading.placed.items ≡ lying_in parts seed part is.offers
+share_same octets zone parts seed part at bounds reading is = ap (share_of part) is.placed ∙ share_placed parts seed part is.offers
 
 pub share_is_part : ShareIsPart
-share_is_part octets zone parts part at line bounds reading counts old new is takes =
+share_is_part octets zone parts seed part at line bounds reading counts old new is takes =
     record {
       offers = is.offers;
       offered = is.offered;
-      takes = subst (λ offers. TakesAll line offers counts old new) (share_same octets zone parts part at bounds reading is) takes;
+      takes = subst (λ offers. TakesAll line offers counts old new) (share_same octets zone parts seed part at bounds reading is) takes;
     }
 
-is_part : (octets zone : List ℕ) (parts part at : ℕ) (bounds : Bounds) (reading : Reading) → IsReading octets zone parts at bounds reading → part < reading.parts → IsPart parts part
-is_part octets zone parts part at bounds reading is below = record { some = is.are_parts.some; few = is.are_parts.few; below = subst (λ n. part < n) is.parts_are below }
+is_part : (octets zone : List ℕ) (parts : ℕ) (seed : List ℕ) (part at : ℕ) (bounds : Bounds) (reading : Reading) → IsReading octets zone parts seed at bounds reading → part < reading.parts → IsPart parts part
+is_part octets zone parts seed part at bounds reading is below = record { some = is.division.are_parts.some; few = is.division.are_parts.few; below = subst (λ n. part < n) is.parts_are below }
 
 is_no_part : (parts part all : ℕ) → all ≡ parts → all ≤ part → IsPart parts part → ⊥
 is_no_part parts part all same above fit = let below = fit.below in omega (arith, same, above, below)
 
 pub refused_share_is_part : RefusedShareIsPart
-refused_share_is_part octets zone number parts part at line bounds reading counts old new is (inl (none, inl (told, above))) = inl (none, inl (told, is_no_part parts part reading.parts is.parts_are above))
-refused_share_is_part octets zone number parts part at line bounds reading counts old new is (inl (none, inr (below, memory))) =
-    inl (none, inr (is_part octets zone parts part at bounds reading is below, inr (is.are_limits, inl (inl memory))))
-refused_share_is_part octets zone number parts part at line bounds reading counts old new is (inr beginning) =
-    let same = share_same octets zone parts part at bounds reading is in
+refused_share_is_part octets zone number parts seed part at line bounds reading counts old new is (inl (none, inl (told, above))) = inl (none, inl (told, is_no_part parts part reading.parts is.parts_are above))
+refused_share_is_part octets zone number parts seed part at line bounds reading counts old new is (inl (none, inr (below, memory))) =
+    inl (none, inr (is_part octets zone parts seed part at bounds reading is below, inr (is.division.is_seed, inr (is.are_limits, inl (inl memory)))))
+refused_share_is_part octets zone number parts seed part at line bounds reading counts old new is (inr beginning) =
+    let same = share_same octets zone parts seed part at bounds reading is in
     let moment = All-filter _ (λ (offer : OfferOf). offer.moment ≡ at) is.offers is.moment in
     inr (record {
-      is_part = is_part octets zone parts part at bounds reading is beginning.below;
+      is_part = is_part octets zone parts seed part at bounds reading is beginning.below;
+      is_seed = is.division.is_seed;
       offers = is.offers;
       offered = is.offered;
       takes = subst (λ offers. AreAt at offers → TakesFirst number line at offers counts old new) same (beginning.takes at) moment;

@@ -7,6 +7,7 @@ pub mod Made
 pub mod Told
 pub mod Asked
 pub mod Refusals
+pub mod Parts
 pub mod Offered
 pub mod Parted
 pub mod Readings

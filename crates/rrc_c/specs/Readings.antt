@@ -3,12 +3,12 @@
 use Rattle.std.specs.Prelude.{◌≡◌, ℕ, zero, suc, ◌+◌, ◌^◌, ◌<◌, ◌≤◌, ◌⊎◌, ◌==◌, List, Bool, Option, None, Some, map, filter, if◌then◌else◌}
 use Rattle.std.specs.List.{list_any}
 use Rattle.rrc_history.specs.Fits.{OfferOf}
-use Rattle.rrc_name.specs.Parts.{part_of}
 use Rattle.rrc_share.specs.Shelf.{ShelfOf}
 use Rattle.rrc_c.specs.Handles.{BothHold}
 use Rattle.rrc_c.specs.Offered.{AreAt, AreOffered, TakesAll, TakesFirst, TakesNone}
 use Rattle.rrc_c.specs.Parted.{TakesPart, TakesSomeOfPart}
-use Rattle.rrc_c.specs.Refusals.{AreLimits, AreParts, Because, OffersRefused, OutOfMemory, Then}
+use Rattle.rrc_c.specs.Parts.{keyed_part_of}
+use Rattle.rrc_c.specs.Refusals.{AreLimits, Because, DivisionRefused, IsDivision, OffersRefused, OutOfMemory, Then}
 use Rattle.rrc_c.specs.declared.counts.Bounds.{Bounds}
 use Rattle.rrc_c.specs.declared.counts.Counts.{Counts}
 use Rattle.rrc_c.specs.declared.reading.Placed.{Placed}
@@ -17,28 +17,28 @@ use Rattle.rrc_c.specs.declared.status.Status.TheVariants.{BadRules}
 
 -- ---- reading
 
--- an offer, and the part that its name lies in, so many being all
-abbrev pub placed_in : ℕ → OfferOf → Placed
-placed_in parts offer = record { part = part_of offer.key.name parts; offer = offer }
+-- an offer, and the part that its name lies in by a seed, so many being all
+abbrev pub placed_in : ℕ → List ℕ → OfferOf → Placed
+placed_in parts seed offer = record { part = keyed_part_of seed offer.key.name parts; offer = offer }
 
 -- a reading of a message: all that it offers, in order, each beside its part
-pub record IsReading (octets zone : List ℕ) (parts at : ℕ) (bounds : Bounds) (reading : Reading) : Type 0 where
-  pub are_parts : AreParts parts
+pub record IsReading (octets zone : List ℕ) (parts : ℕ) (seed : List ℕ) (at : ℕ) (bounds : Bounds) (reading : Reading) : Type 0 where
+  pub division : IsDivision parts seed
   pub parts_are : reading.parts ≡ parts
   pub are_limits : AreLimits bounds
   pub offers : List OfferOf
   pub offered : AreOffered octets zone at bounds offers
   pub moment : AreAt at offers
-  pub placed : reading.placed.items ≡ map (placed_in parts) offers
+  pub placed : reading.placed.items ≡ map (placed_in parts seed) offers
 
 -- a message is not read into offers for so many parts
-abbrev pub ReadingRefused : List ℕ → List ℕ → ℕ → Bounds → ℕ → Type 0
-ReadingRefused octets zone parts bounds = Then (Because BadRules (AreParts parts → ⊥)) (AreParts parts) (OffersRefused octets zone bounds)
+abbrev pub ReadingRefused : List ℕ → List ℕ → ℕ → List ℕ → Bounds → ℕ → Type 0
+ReadingRefused octets zone parts seed bounds = Then (DivisionRefused parts seed) (IsDivision parts seed) (OffersRefused octets zone bounds)
 
 -- when a message is read into a handle, and when that is refused with what: 19 is answered exactly where the handle holds offers
-abbrev pub ReadingDue : List ℕ → List ℕ → ℕ → Bounds → Option Reading → ℕ → Type 0
-ReadingDue octets zone parts bounds (Some reading) number = number ≡ 19
-ReadingDue octets zone parts bounds None number = (number ≡ 0) ⊎ ReadingRefused octets zone parts bounds number
+abbrev pub ReadingDue : List ℕ → List ℕ → ℕ → List ℕ → Bounds → Option Reading → ℕ → Type 0
+ReadingDue octets zone parts seed bounds (Some reading) number = number ≡ 19
+ReadingDue octets zone parts seed bounds None number = (number ≡ 0) ⊎ ReadingRefused octets zone parts seed bounds number
 
 -- ---- the parts concerned
 
@@ -111,11 +111,11 @@ TellsNoOffers (Some reading) status = status ≡ 18 → ⊥
 -- what a reading of a message offers by a part is what the message offers under names of that part
 abbrev pub ShareIsPart : Type 0
 ShareIsPart =
-    (octets zone : List ℕ) (parts part at line : ℕ) (bounds : Bounds) (reading : Reading) (counts : Counts) (old new : ShelfOf) → IsReading octets zone parts at bounds reading
-    → TakesShare line part counts reading old new → TakesPart line octets zone parts part at bounds counts old new
+    (octets zone : List ℕ) (parts : ℕ) (seed : List ℕ) (part at line : ℕ) (bounds : Bounds) (reading : Reading) (counts : Counts) (old new : ShelfOf) → IsReading octets zone parts seed at bounds reading
+    → TakesShare line part counts reading old new → TakesPart line octets zone parts seed part at bounds counts old new
 
 -- and a refusal leaves what a refusal of the message's part leaves
 abbrev pub RefusedShareIsPart : Type 0
 RefusedShareIsPart =
-    (octets zone : List ℕ) (number parts part at line : ℕ) (bounds : Bounds) (reading : Reading) (counts : Counts) (old new : ShelfOf) → IsReading octets zone parts at bounds reading
-    → TakesSomeOfShare number line part counts reading old new → TakesSomeOfPart number line octets zone parts part at bounds counts old new
+    (octets zone : List ℕ) (number parts : ℕ) (seed : List ℕ) (part at line : ℕ) (bounds : Bounds) (reading : Reading) (counts : Counts) (old new : ShelfOf) → IsReading octets zone parts seed at bounds reading
+    → TakesSomeOfShare number line part counts reading old new → TakesSomeOfPart number line octets zone parts seed part at bounds counts old new

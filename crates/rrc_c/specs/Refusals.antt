@@ -96,11 +96,15 @@ DatumRefused rtype octets number = OutOfMemory number ⊎ Because BadData (IsPla
 abbrev pub IsSeed : List ℕ → Type 0
 IsSeed seed = length seed ≡ 16
 
+-- it is refused, since the seed has not 16 octets
+abbrev pub SeedRefused : List ℕ → ℕ → Type 0
+SeedRefused seed = Because BadSeed (IsSeed seed → ⊥)
+
 -- when an empty shelf is made, and when that is refused with what
 abbrev pub NewDue : ℕ → ℕ → ℕ → List ℕ → ℕ → Type 0
 NewDue capacity chapter stale seed =
     Then (Because BadRules (AreWithin capacity chapter stale → ⊥)) (AreWithin capacity chapter stale)
-    (Then (Because BadSeed (IsSeed seed → ⊥)) (IsSeed seed) IsDoneOrMemory)
+    (Then (SeedRefused seed) (IsSeed seed) IsDoneOrMemory)
 
 -- the same for a handle: 2 is answered exactly where it holds a shelf
 abbrev pub MakingDue : ℕ → ℕ → ℕ → List ℕ → Option ShelfOf → ℕ → Type 0
@@ -251,11 +255,20 @@ pub record AreParts (parts : ℕ) : Type 0 where
   pub some : 1 ≤ parts
   pub few : parts ≤ 64
 
+-- names are divided among so many parts by a seed
+pub record IsDivision (parts : ℕ) (seed : List ℕ) : Type 0 where
+  pub are_parts : AreParts parts
+  pub is_seed : IsSeed seed
+
+-- it is refused to divide names so: by the number of parts, and then by the seed
+abbrev pub DivisionRefused : ℕ → List ℕ → ℕ → Type 0
+DivisionRefused parts seed = Then (Because BadRules (AreParts parts → ⊥)) (AreParts parts) (SeedRefused seed)
+
 -- when it is told what a key holds, and when that is refused with what
 abbrev pub StoredDue : List ℕ → ℕ → Type 0
 StoredDue name = Then (NameRefused name) (IsWireForm name) (λ number. number ≡ 0)
 
 -- when the part of a name is told, and when that is refused with what
-abbrev pub PartDue : List ℕ → ℕ → ℕ → Type 0
-PartDue name parts =
-    Then (Because BadRules (AreParts parts → ⊥)) (AreParts parts) (Then (NameRefused name) (IsWireForm name) (λ number. number ≡ 0))
+abbrev pub PartDue : List ℕ → ℕ → List ℕ → ℕ → Type 0
+PartDue name parts seed =
+    Then (DivisionRefused parts seed) (IsDivision parts seed) (Then (NameRefused name) (IsWireForm name) (λ number. number ≡ 0))

@@ -12,10 +12,10 @@ use Rattle.rrc_sets.specs.declared.query.QueryFault.{QueryFault}
 use Rattle.rrc_sets.specs.declared.relevance.RelevanceLimits.{RelevanceLimits}
 use Rattle.rrc_c.specs.Offered.{AreAt}
 use Rattle.rrc_c.specs.Readings.{placed_in}
-use Rattle.rrc_c.specs.Refusals.{AreLimits, AreParts, Because, MessageRefused, NameRefused, Then}
+use Rattle.rrc_c.specs.Refusals.{AreLimits, Because, DivisionRefused, IsDivision, MessageRefused, NameRefused, Then}
 use Rattle.rrc_c.specs.declared.counts.Bounds.{Bounds}
 use Rattle.rrc_c.specs.declared.reading.Reading.{Reading}
-use Rattle.rrc_c.specs.declared.status.Status.TheVariants.{BadLimits, BadRules}
+use Rattle.rrc_c.specs.declared.status.Status.TheVariants.{BadLimits}
 
 -- the query that was sent
 abbrev pub query_of : ℕ → List ℕ → ℕ → ℕ → Query
@@ -35,29 +35,29 @@ pub record AreRelevant (octets zone : List ℕ) (query : Query) (at : ℕ) (boun
   pub relevant : BringsByDefault query limits octets zone at offers
 
 -- a reading of a response: what of it is relevant, in order, each offer beside its part
-pub record IsResponseReading (octets zone : List ℕ) (query : Query) (parts at : ℕ) (bounds : Bounds) (reading : Reading) : Type 0 where
-  pub are_parts : AreParts parts
+pub record IsResponseReading (octets zone : List ℕ) (query : Query) (parts : ℕ) (seed : List ℕ) (at : ℕ) (bounds : Bounds) (reading : Reading) : Type 0 where
+  pub division : IsDivision parts seed
   pub parts_are : reading.parts ≡ parts
   pub are_limits : AreLimits bounds
   pub offers : List OfferOf
   pub offered : AreRelevant octets zone query at bounds offers
   pub moment : AreAt at offers
-  pub placed : reading.placed.items ≡ map (placed_in parts) offers
+  pub placed : reading.placed.items ≡ map (placed_in parts seed) offers
 
 -- octets are a message that answers another query
 abbrev pub IsOther : Query → List ℕ → Type 0
 IsOther query octets = (fault : QueryFault) × IsOfOtherQuery query octets fault
 
 -- a response is not read
-abbrev pub ResponseRefused : List ℕ → List ℕ → List ℕ → ℕ → Bounds → ℕ → Type 0
-ResponseRefused octets zone name parts bounds =
-    Then (Because BadRules (AreParts parts → ⊥)) (AreParts parts)
+abbrev pub ResponseRefused : List ℕ → List ℕ → List ℕ → ℕ → List ℕ → Bounds → ℕ → Type 0
+ResponseRefused octets zone name parts seed bounds =
+    Then (DivisionRefused parts seed) (IsDivision parts seed)
     (Then (Because BadLimits (AreLimits bounds → ⊥)) (AreLimits bounds)
     (Then (NameRefused zone) (IsWireForm zone) (Then (NameRefused name) (IsWireForm name) (MessageRefused octets))))
 
 -- when a response is read into a handle, and when that is refused with what: 19 is answered exactly where the handle holds offers, and
 -- 20 of a message that answers another query
-abbrev pub ResponseDue : List ℕ → List ℕ → Query → ℕ → Bounds → Option Reading → ℕ → Type 0
-ResponseDue octets zone query parts bounds (Some reading) number = number ≡ 19
-ResponseDue octets zone query parts bounds None number =
-    (number ≡ 0) ⊎ (((number ≡ 20) × IsOther query octets) ⊎ ResponseRefused octets zone query.question.name parts bounds number)
+abbrev pub ResponseDue : List ℕ → List ℕ → Query → ℕ → List ℕ → Bounds → Option Reading → ℕ → Type 0
+ResponseDue octets zone query parts seed bounds (Some reading) number = number ≡ 19
+ResponseDue octets zone query parts seed bounds None number =
+    (number ≡ 0) ⊎ (((number ≡ 20) × IsOther query octets) ⊎ ResponseRefused octets zone query.question.name parts seed bounds number)

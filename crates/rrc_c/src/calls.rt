@@ -7,9 +7,9 @@ ghost use Rattle.rrc_c.specs.Kept.{TellsExpiry, TellsFault, TellsSizes, DropsCha
 ghost use Rattle.rrc_c.specs.Offered.{denial_offer, failure_offer, TakesMessage, TakesOne, TakesSet, TakesSome};
 ghost use Rattle.rrc_c.specs.Stored.{TellsStored};
 ghost use Rattle.rrc_c.specs.Parted.{IsPart, TakesPart, TakesSomeOfPart};
-ghost use Rattle.rrc_c.specs.Refusals.{AskDue, DenialDue, FailureDue, IfHeld, IsDenial, IsFailure, IsQuestion, IsSet, OutOfMemory, PartDue, PeekDue, SetDue, StoredDue, WriteDue};
+ghost use Rattle.rrc_c.specs.Parts.{keyed_part_of};
+ghost use Rattle.rrc_c.specs.Refusals.{AskDue, DenialDue, FailureDue, IfHeld, IsDenial, IsFailure, IsQuestion, IsSeed, IsSet, OutOfMemory, PartDue, PeekDue, SetDue, StoredDue, WriteDue};
 ghost use Rattle.rrc_share.specs.Shelf.{AppendsSweep};
-ghost use Rattle.rrc_name.specs.Parts.{part_of};
 
 use crate::asking::{ask_shelf, peek_at_shelf};
 use crate::counts::{Bounds, Counts};
@@ -171,7 +171,8 @@ pub extern "C" fn rrc_offer_message(
     number_of_call(done)
 }
 
-/// Offers what a message offers of the names that lie in one of so many parts, each offer as one event.
+/// Offers what a message offers of the names that lie by a seed in one of so many parts, each offer
+/// as one event.
 #[unsafe(no_mangle)]
 pub extern "C" fn rrc_offer_part(
     alloc: Global,
@@ -179,6 +180,7 @@ pub extern "C" fn rrc_offer_part(
     octets: &[u8],
     zone: &[u8],
     parts: u64,
+    seed: &[u8],
     part: u64,
     moment: u64,
     bounds: &Bounds,
@@ -186,16 +188,17 @@ pub extern "C" fn rrc_offer_part(
     counts: &mut Counts,
 ) -> u32
     ensures none { TellsNone handle.old.seal.shelf result }
-    ensures done { OnDone result (BothHold handle.old.seal.shelf handle.new.seal.shelf (TakesPart line octets.now zone.now parts part moment bounds.now counts.new)) }
+    ensures done { OnDone result (BothHold handle.old.seal.shelf handle.new.seal.shelf (TakesPart line octets.now zone.now parts seed.now part moment bounds.now counts.new)) }
     ensures part { OnDone result (IsPart parts part) }
-    ensures refused { OnRefused result (HoldsNone handle.old.seal.shelf handle.new.seal.shelf ⊎ BothHold handle.old.seal.shelf handle.new.seal.shelf (TakesSomeOfPart result line octets.now zone.now parts part moment bounds.now counts.new)) }
+    ensures seed { OnDone result (IsSeed seed.now) }
+    ensures refused { OnRefused result (HoldsNone handle.old.seal.shelf handle.new.seal.shelf ⊎ BothHold handle.old.seal.shelf handle.new.seal.shelf (TakesSomeOfPart result line octets.now zone.now parts seed.now part moment bounds.now counts.new)) }
     ensures counts { OnNoShelf result (counts.new ≡ counts.old) }
 {
     let Some(mut shelf) = handle.take(alloc) else {
         return NO_SHELF;
     };
     let done = offer_part(
-        alloc, &mut shelf, line, octets, zone, parts, part, moment, bounds, counts,
+        alloc, &mut shelf, line, octets, zone, parts, seed, part, moment, bounds, counts,
     );
     handle.put(shelf);
     number_of_call(done)
@@ -426,13 +429,19 @@ pub extern "C" fn rrc_fault(alloc: Global, octets: &[u8], fault: &mut u32) -> u3
     number_of_u32(fault_in(alloc, octets), fault)
 }
 
-/// Tells in which of so many parts all keys of a name lie.
+/// Tells in which of so many parts all keys of a name lie by a seed.
 #[unsafe(no_mangle)]
-pub extern "C" fn rrc_part_of(alloc: Global, name: &[u8], parts: u64, part: &mut u64) -> u32
-    ensures done { OnDone result (part.new ≡ part_of name.now parts) }
+pub extern "C" fn rrc_part_of(
+    alloc: Global,
+    name: &[u8],
+    parts: u64,
+    seed: &[u8],
+    part: &mut u64,
+) -> u32
+    ensures done { OnDone result (part.new ≡ keyed_part_of seed.now name.now parts) }
     ensures below { OnDone result (part.new < parts) }
     ensures refused { OnRefused result (part.new ≡ part.old) }
-    ensures due { PartDue name.now parts result }
+    ensures due { PartDue name.now parts seed.now result }
 {
-    number_of_u64(part_in(alloc, name, parts), part)
+    number_of_u64(part_in(alloc, name, parts, seed), part)
 }

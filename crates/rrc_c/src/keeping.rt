@@ -2,15 +2,15 @@
 ghost use Rattle.std.specs.Prelude.{◌≡◌, ◌≤◌, ◌<◌, IfOk, IfErr, OnOk, OnErr};
 ghost use Rattle.rrc_cache.specs.Expiry.{NoneDiesBefore};
 ghost use Rattle.rrc_c.specs.Kept.{TellsFault};
+ghost use Rattle.rrc_c.specs.Parts.{keyed_part_of};
 ghost use Rattle.rrc_c.specs.Refusals.{OutOfMemory, PartDue, WriteDue};
 ghost use Rattle.rrc_c.specs.Statuses.{number_of, number_of_call};
-ghost use Rattle.rrc_name.specs.Parts.{part_of};
 ghost use Rattle.rrc_share.specs.Shelf.{AppendsSweep, IsLeft};
 
 use crate::asking::name_of;
+use crate::division::{check_division, keyed_part_of};
 use crate::status::Status;
 use rrc_history::Tag;
-use rrc_name::part_of;
 use rrc_share::{Shelf, on_shelf_sweep};
 use rrc_wire::{WireFault, read_message};
 use std::alloc::Global;
@@ -47,15 +47,13 @@ pub(crate) fn fault_in(alloc: Global, octets: &[u8]) -> Result<u32, Status>
     }
 }
 
-/// The part that a name lies in, so many being all.
-pub(crate) fn part_in(alloc: Global, name: &[u8], parts: u64) -> Result<u64, Status>
-    ensures value { IfOk result (λ part. part ≡ part_of name.now parts) }
+/// The part that a name lies in by a seed, so many being all.
+pub(crate) fn part_in(alloc: Global, name: &[u8], parts: u64, seed: &[u8]) -> Result<u64, Status>
+    ensures value { IfOk result (λ part. part ≡ keyed_part_of seed.now name.now parts) }
     ensures below { IfOk result (λ part. part < parts) }
-    ensures due { PartDue name.now parts (number_of_call result) }
+    ensures due { PartDue name.now parts seed.now (number_of_call result) }
 {
-    if !(1..=64).contains(&parts) {
-        return Err(Status::BadRules);
-    }
-    let name = name_of(alloc, name)?;
-    Ok(part_of(&name, parts as usize) as u64)
+    let seed = check_division(parts, seed)?;
+    let name = name_of(alloc, name)?.folded()?;
+    Ok(keyed_part_of(&name, &seed, parts as usize) as u64)
 }

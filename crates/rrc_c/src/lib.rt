@@ -5,6 +5,7 @@
 mod asking;
 mod calls;
 mod counts;
+mod division;
 mod handle;
 mod keeping;
 mod lookup;

@@ -5,6 +5,7 @@ ghost use Rattle.rrc_c.specs.Statuses.{number_of_call, OnDone, OnRefused};
 ghost use Rattle.rrc_c.specs.Handles.{TellsNone};
 ghost use Rattle.rrc_c.specs.Made.{IsNew, HoldsNew};
 
+use crate::division::seed_of;
 use crate::handle::Handle;
 use crate::status::{HAS_SHELF, NO_SHELF, Status};
 use rrc_cache::Part;
@@ -26,9 +27,7 @@ fn new_shelf(
     let Some(rules) = Rules::new(capacity, chapter, stale) else {
         return Err(Status::BadRules);
     };
-    let Ok(seed) = <[u8; 16]>::try_from(seed) else {
-        return Err(Status::BadSeed);
-    };
+    let seed = seed_of(seed)?;
     let part = Part::seeded(alloc, rules, seed)?;
     Ok(Box::new(alloc, Shelf::new(alloc, part))?)
 }

@@ -4,7 +4,7 @@ ghost use Rattle.std.specs.List.{AllByRecursion};
 ghost use Rattle.rrc_c.specs.Told.{datum, data_text};
 ghost use Rattle.rrc_c.specs.Offered.{trust_of, denied, denial_offer, failure_offer, outcome_number, count_more, counts_of, AreAt, AreOffered, IsSetOffer, TakesOne, TakesAll, TakesFirst, TakesMessage, TakesSet, TakesSome, total};
 ghost use Rattle.rrc_c.specs.Parted.{lying_in, IsPart, TakesPart, TakesSomeOfPart};
-ghost use Rattle.rrc_c.specs.Refusals.{AreLimits, AreData, Because, DataRefused, DatumRefused, DenialDue, DenialRefused, FailureDue, FailureRefused, IsCutOff, IsDenial, IsFailure, IsSet, MessageRefused, OffersRefused, SetDue, SetRefused, WriteDue, denies_kept};
+ghost use Rattle.rrc_c.specs.Refusals.{AreLimits, AreData, Because, DataRefused, DatumRefused, DenialDue, DenialRefused, FailureDue, FailureRefused, IsCutOff, IsDenial, IsFailure, IsSeed, IsSet, MessageRefused, OffersRefused, SetDue, SetRefused, WriteDue, denies_kept};
 ghost use Rattle.rrc_c.specs.Statuses.{number_of, number_of_call};
 ghost use Rattle.rrc_history.specs.Fits.{fits};
 ghost use Rattle.rrc_sets.specs.Limits.{Are};
@@ -14,9 +14,10 @@ ghost use Rattle.rrc_share.specs.Shelf.{IsLeft};
 
 use crate::asking::name_of;
 use crate::counts::{Bounds, Counts};
+use crate::division::{keyed_part_of, seed_of};
 use crate::status::Status;
 use rrc_history::{Body, Offer, Outcome, Tag, Trust};
-use rrc_name::{Key, Name, Octets, Sequence, Shared, Slot, part_of};
+use rrc_name::{Key, Name, Octets, Sequence, Shared, Slot};
 use rrc_sets::Limits;
 use rrc_share::{Shelf, on_shelf_offer};
 use rrc_wire::{WireFault, is_kept, is_kept_class, plain_rdata};
@@ -326,14 +327,14 @@ pub(crate) fn offer_message(
     take_each(shelf, line, offered, counts)
 }
 
-/// The offers whose names lie in a part, so many being all.
-fn offers_of_part(offers: Vec<Offer>, parts: usize, part: usize) -> Vec<Offer>
+/// The offers whose names lie by a seed in a part, so many being all.
+fn offers_of_part(offers: Vec<Offer>, parts: usize, seed: &[u8; 16], part: usize) -> Vec<Offer>
     requires some { 1 ≤ parts }
     requires few { parts ≤ 64 }
-    ensures { result.items ≡ lying_in parts part offers.items }
+    ensures { result.items ≡ lying_in parts seed.now part offers.items }
 {
     let mut offers = offers;
-    offers.retain(|offer| part_of(offer.key.name(), parts) == part);
+    offers.retain(|offer| keyed_part_of(offer.key.name(), seed, parts) == part);
     offers
 }
 
@@ -348,7 +349,8 @@ fn check_part(parts: u64, part: u64) -> Result<(), Status>
     Ok(())
 }
 
-/// Offers a shelf what a message offers of the names that lie in a part, so many being all.
+/// Offers a shelf what a message offers of the names that lie by a seed in a part, so many being
+/// all.
 pub(crate) fn offer_part(
     alloc: Global,
     shelf: &mut Shelf,
@@ -356,14 +358,16 @@ pub(crate) fn offer_part(
     octets: &[u8],
     zone: &[u8],
     parts: u64,
+    seed: &[u8],
     part: u64,
     moment: u64,
     bounds: &Bounds,
     counts: &mut Counts,
 ) -> Result<(), Status>
-    ensures ok { OnOk result (TakesPart line octets.now zone.now parts part moment bounds.now counts.new shelf.old shelf.new) }
+    ensures ok { OnOk result (TakesPart line octets.now zone.now parts seed.now part moment bounds.now counts.new shelf.old shelf.new) }
     ensures part { OnOk result (IsPart parts part) }
-    ensures err { IfErr result (λ status. TakesSomeOfPart (number_of status) line octets.now zone.now parts part moment bounds.now counts.new shelf.old shelf.new) }
+    ensures seed { OnOk result (IsSeed seed.now) }
+    ensures err { IfErr result (λ status. TakesSomeOfPart (number_of status) line octets.now zone.now parts seed.now part moment bounds.now counts.new shelf.old shelf.new) }
 {
     *counts = Counts {
         kept: 0,
@@ -371,8 +375,9 @@ pub(crate) fn offer_part(
         refused: 0,
     };
     check_part(parts, part)?;
+    let seed = seed_of(seed)?;
     let offered = offers_in(alloc, octets, zone, moment, bounds)?;
-    let offered = offers_of_part(offered, parts as usize, part as usize);
+    let offered = offers_of_part(offered, parts as usize, &seed, part as usize);
     take_each(shelf, line, offered, counts)
 }
 

@@ -1,14 +1,14 @@
 // SPDX-License-Identifier: MIT
 ghost use Rattle.std.specs.Prelude.{◌≡◌, ◌≤◌, ◌<◌, [], map, IfOk, IfErr, OnOk, OnErr};
 ghost use Rattle.rrc_c.specs.Readings.{bit_of, has_part, parts_below, placed_in, share_of, IsReading, ReadingRefused, ShareIsPart, RefusedShareIsPart, ShareRefused, TakesShare, TakesSomeOfShare};
-ghost use Rattle.rrc_c.specs.Refusals.{AreParts, Because, OutOfMemory};
+ghost use Rattle.rrc_c.specs.Refusals.{OutOfMemory};
 ghost use Rattle.rrc_c.specs.Statuses.{number_of};
 
 use crate::counts::{Bounds, Counts};
+use crate::division::{check_division, keyed_part_of};
 use crate::offering::{offers_in, take_each};
 use crate::status::Status;
 use rrc_history::Offer;
-use rrc_name::part_of;
 use rrc_share::Shelf;
 use std::alloc::Global;
 
@@ -26,51 +26,43 @@ pub struct Reading {
     pub placed: Vec<Placed>,
 }
 
-/// Whether there may be so many parts.
-pub(crate) fn check_parts(parts: u64) -> Result<(), Status>
-    ensures fit { OnOk result (AreParts parts) }
-    ensures refused { IfErr result (λ status. Because Status.BadRules (AreParts parts → ⊥) (number_of status)) }
-{
-    if !(1..=64).contains(&parts) {
-        return Err(Status::BadRules);
-    }
-    Ok(())
-}
-
-/// Each offer beside the part of its name, so many being all.
+/// Each offer beside the part of its name by a seed, so many being all.
 pub(crate) fn placed_in(
     alloc: Global,
     offers: Vec<Offer>,
     parts: usize,
+    seed: &[u8; 16],
 ) -> Result<Vec<Placed>, Status>
     requires some { 1 ≤ parts }
     requires few { parts ≤ 64 }
-    ensures placed { IfOk result (λ placed. placed.items ≡ map (placed_in parts) offers.items) }
+    ensures placed { IfOk result (λ placed. placed.items ≡ map (placed_in parts seed.now) offers.items) }
     ensures memory { IfErr result (λ status. OutOfMemory (number_of status)) }
 {
     let mut placed = Vec::with_capacity(alloc, offers.len())?;
     for offer in offers {
-        let part = part_of(offer.key.name(), parts) as u64;
+        let part = keyed_part_of(offer.key.name(), seed, parts) as u64;
         placed.push(Placed { part, offer })?;
     }
     Ok(placed)
 }
 
-/// Reads a message that was received from a zone into what it offers, so many parts being all.
+/// Reads a message that was received from a zone into what it offers, so many parts being all, by a
+/// seed.
 pub(crate) fn read(
     alloc: Global,
     octets: &[u8],
     zone: &[u8],
     parts: u64,
+    seed: &[u8],
     moment: u64,
     bounds: &Bounds,
 ) -> Result<Box<Reading>, Status>
-    ensures reading { IfOk result (λ reading. IsReading octets.now zone.now parts moment bounds.now reading.value) }
-    ensures refused { IfErr result (λ status. ReadingRefused octets.now zone.now parts bounds.now (number_of status)) }
+    ensures reading { IfOk result (λ reading. IsReading octets.now zone.now parts seed.now moment bounds.now reading.value) }
+    ensures refused { IfErr result (λ status. ReadingRefused octets.now zone.now parts seed.now bounds.now (number_of status)) }
 {
-    check_parts(parts)?;
+    let seed = check_division(parts, seed)?;
     let offers = offers_in(alloc, octets, zone, moment, bounds)?;
-    let placed = placed_in(alloc, offers, parts as usize)?;
+    let placed = placed_in(alloc, offers, parts as usize, &seed)?;
     Ok(Box::new(alloc, Reading { parts, placed })?)
 }
 

@@ -15,7 +15,8 @@ use crate::response::read_response;
 use crate::status::{HAS_OFFERS, NO_OFFERS, NO_SHELF, OTHER_QUERY};
 use std::alloc::Global;
 
-/// Reads a message into a handle that holds no offers, and tells in which of so many parts its offers lie, as bits.
+/// Reads a message into a handle that holds no offers, and tells in which of so many parts its
+/// offers lie by a seed, as bits.
 #[unsafe(no_mangle)]
 pub extern "C" fn rrc_read_message(
     alloc: Global,
@@ -23,12 +24,13 @@ pub extern "C" fn rrc_read_message(
     octets: &[u8],
     zone: &[u8],
     parts: u64,
+    seed: &[u8],
     moment: u64,
     bounds: &Bounds,
     concerned: &mut u64,
 ) -> u32
-    ensures due { ReadingDue octets.now zone.now parts bounds.now offers.old.seal.reading result }
-    ensures done { OnDone result (HoldsReading offers.new.seal.reading (IsReading octets.now zone.now parts moment bounds.now)) }
+    ensures due { ReadingDue octets.now zone.now parts seed.now bounds.now offers.old.seal.reading result }
+    ensures done { OnDone result (HoldsReading offers.new.seal.reading (IsReading octets.now zone.now parts seed.now moment bounds.now)) }
     ensures concerned { OnDone result (HoldsReading offers.new.seal.reading (λ reading. concerned.new ≡ parts_below reading.placed.items parts)) }
     ensures refused { OnRefused result (offers.new.seal.reading ≡ offers.old.seal.reading) }
     ensures untold { OnRefused result (concerned.new ≡ concerned.old) }
@@ -36,7 +38,7 @@ pub extern "C" fn rrc_read_message(
     if offers.is_live() {
         return HAS_OFFERS;
     }
-    match read(alloc, octets, zone, parts, moment, bounds) {
+    match read(alloc, octets, zone, parts, seed, moment, bounds) {
         Err(status) => status.number(),
         Ok(reading) => {
             *concerned = parts_concerned(reading.placed.as_slice(), parts);
@@ -47,7 +49,7 @@ pub extern "C" fn rrc_read_message(
 }
 
 /// Reads a response to a query into a handle that holds no offers: what of it is relevant. It tells in which of so many parts these
-/// offers lie, as bits.
+/// offers lie by a seed, as bits.
 #[unsafe(no_mangle)]
 pub extern "C" fn rrc_read_response(
     alloc: Global,
@@ -59,12 +61,13 @@ pub extern "C" fn rrc_read_response(
     rtype: u16,
     class: u16,
     parts: u64,
+    seed: &[u8],
     moment: u64,
     bounds: &Bounds,
     concerned: &mut u64,
 ) -> u32
-    ensures due { ResponseDue octets.now zone.now (query_of id name.now rtype class) parts bounds.now offers.old.seal.reading result }
-    ensures done { OnDone result (HoldsReading offers.new.seal.reading (IsResponseReading octets.now zone.now (query_of id name.now rtype class) parts moment bounds.now)) }
+    ensures due { ResponseDue octets.now zone.now (query_of id name.now rtype class) parts seed.now bounds.now offers.old.seal.reading result }
+    ensures done { OnDone result (HoldsReading offers.new.seal.reading (IsResponseReading octets.now zone.now (query_of id name.now rtype class) parts seed.now moment bounds.now)) }
     ensures concerned { OnDone result (HoldsReading offers.new.seal.reading (λ reading. concerned.new ≡ parts_below reading.placed.items parts)) }
     ensures refused { OnRefused result (offers.new.seal.reading ≡ offers.old.seal.reading) }
     ensures untold { OnRefused result (concerned.new ≡ concerned.old) }
@@ -74,7 +77,7 @@ pub extern "C" fn rrc_read_response(
         return HAS_OFFERS;
     }
     match read_response(
-        alloc, octets, zone, id, name, rtype, class, parts, moment, bounds,
+        alloc, octets, zone, id, name, rtype, class, parts, seed, moment, bounds,
     ) {
         Err(status) => status.number(),
         Ok(None) => OTHER_QUERY,

@@ -8,8 +8,9 @@ ghost use Rattle.rrc_name.specs.Wire.{IsWireForm};
 
 use crate::asking::name_of;
 use crate::counts::Bounds;
+use crate::division::check_division;
 use crate::offering::limits_of;
-use crate::reading::{Reading, check_parts, placed_in};
+use crate::reading::{Reading, placed_in};
 use crate::status::Status;
 use rrc_history::Offer;
 use rrc_name::Name;
@@ -55,7 +56,8 @@ fn relevant_in(
     }
 }
 
-/// Reads a response to a query that a zone's server sent, so many parts being all; `None` where it answers another query.
+/// Reads a response to a query that a zone's server sent, so many parts being all, by a seed; `None`
+/// where it answers another query.
 pub(crate) fn read_response(
     alloc: Global,
     octets: &[u8],
@@ -65,20 +67,21 @@ pub(crate) fn read_response(
     rtype: u16,
     class: u16,
     parts: u64,
+    seed: &[u8],
     moment: u64,
     bounds: &Bounds,
 ) -> Result<Option<Box<Reading>>, Status>
-    ensures some { IfOk result (λ found. IfSome found (λ reading. IsResponseReading octets.now zone.now (query_of id name.now rtype class) parts moment bounds.now reading.value)) }
+    ensures some { IfOk result (λ found. IfSome found (λ reading. IsResponseReading octets.now zone.now (query_of id name.now rtype class) parts seed.now moment bounds.now reading.value)) }
     ensures none { IfOk result (λ found. IfNone found (IsOther (query_of id name.now rtype class) octets.now)) }
-    ensures refused { IfErr result (λ status. ResponseRefused octets.now zone.now name.now parts bounds.now (number_of status)) }
+    ensures refused { IfErr result (λ status. ResponseRefused octets.now zone.now name.now parts seed.now bounds.now (number_of status)) }
 {
-    check_parts(parts)?;
+    let seed = check_division(parts, seed)?;
     let limits = limits_of(bounds)?;
     let zone = name_of(alloc, zone)?;
     let query = query_of(alloc, id, name, rtype, class)?;
     let Some(offers) = relevant_in(alloc, octets, &query, &zone, moment, &limits)? else {
         return Ok(None);
     };
-    let placed = placed_in(alloc, offers, parts as usize)?;
+    let placed = placed_in(alloc, offers, parts as usize, &seed)?;
     Ok(Some(Box::new(alloc, Reading { parts, placed })?))
 }

@@ -5,7 +5,7 @@ use Rattle.rrc_sets.specs.declared.limits.Limits.{Limits}
 use Rattle.rrc_sets.specs.declared.query.Query.{Query}
 use Rattle.rrc_c.specs.Offered.{AreAt}
 use Rattle.rrc_c.specs.Readings.{placed_in}
-use Rattle.rrc_c.specs.Responses.{query_of, BringsByDefault}
+use Rattle.rrc_c.specs.Responses.{BringsByDefault}
 use Rattle.rrc_c.proofs.response.read_response.Goals as goal
 
 pub returns-clause-some : goal.returns-clause-some
@@ -17,9 +17,10 @@ returns-clause-some c =
     subst (λ zone. BringsByDefault c.in_ok-query.query limits c.args.octets.now zone c.args.moment made) c.in_ok-zone.ensures.name brings in
     let moment : AreAt c.args.moment made = search rules in
     let parts : c.in_ok-new.field-0.value.parts ≡ c.args.parts = search rules in
-    let placed : c.in_ok-new.field-0.value.placed.items ≡ map (placed_in c.args.parts) made = search rules in
+    let by_seed : c.in_ok-new.field-0.value.placed.items ≡ map (placed_in c.args.parts c.in_ok-seed.seed) made = search rules in
+    let placed = subst (λ seed. c.in_ok-new.field-0.value.placed.items ≡ map (placed_in c.args.parts seed) made) c.in_ok-seed.ensures.seed by_seed in
     record {
-      are_parts = c.in_ok-check_parts.ensures.fit;
+      division = c.in_ok-seed.ensures.fit;
       parts_are = parts;
       are_limits = c.in_ok-limits.ensures.fit;
       offers = made;
