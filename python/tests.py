@@ -138,7 +138,7 @@ def test_docstrings_of_python():
     # doctest reads standard output, which other tests write to.
     told = subprocess.run([sys.executable, "-c", DOCSTRINGS], cwd=TOP / "python",
                           capture_output=True, text=True)
-    same(told.stdout, "0 of 10\n", told.stderr or "examples that are wrong")
+    same(told.stdout, "0 of 11\n", told.stderr or "examples that are wrong")
 
 
 def test_names_by_python():
