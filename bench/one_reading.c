@@ -1,8 +1,9 @@
 /* SPDX-License-Identifier: MIT */
 /* one_reading MESSAGE TIMES RUNS: times what it takes to offer a message to one shelf, to 16
    shelves by one reading of it, and to 16 shelves by a reading for each. It prints the nanoseconds
-   of processor time of each, the least of so many runs of so many times. bench/one_reading.py runs
-   it. */
+   of processor time of each, the least of so many runs of so many times, and then those of the
+   longest call of `rrcache_offer_read`, for which a shelf's lock is held, in the run in which that
+   took least. bench/one_reading.py runs it. */
 #include <stdio.h>
 #include <stdlib.h>
 #include <time.h>
@@ -36,6 +37,13 @@ static void offer_whole(struct rrcache_shelf *shelves)
     check(rrcache_offer_message(shelves, &response, 1, &counts));
 }
 
+static uint64_t nanoseconds(void)
+{
+    struct timespec now;
+    clock_gettime(CLOCK_THREAD_CPUTIME_ID, &now);
+    return (uint64_t)now.tv_sec * 1000000000 + (uint64_t)now.tv_nsec;
+}
+
 static void offer_read(struct rrcache_shelf *shelves)
 {
     struct rrcache_offers offers = {0};
@@ -46,17 +54,29 @@ static void offer_read(struct rrcache_shelf *shelves)
     check(rrcache_free_offers(&offers));
 }
 
+/* The same, once, on empty shelves: how long the share took that took longest. */
+static uint64_t took_longest(void)
+{
+    struct rrcache_shelf shelves[SHELVES] = {{0}};
+    struct rrcache_offers offers = {0};
+    uint64_t concerned, longest = 0;
+    check(rrcache_read_message(&offers, &response, &PARTS, &concerned));
+    for (uint64_t part = 0; part < SHELVES; part++) {
+        check(rrcache_make(&shelves[part], KEYS, KEYS, 0, SEED));
+        uint64_t begin = nanoseconds();
+        check(rrcache_offer_read(&shelves[part], &offers, part, 1, &counts));
+        uint64_t it = nanoseconds() - begin;
+        longest = it > longest ? it : longest;
+        check(rrcache_free(&shelves[part]));
+    }
+    check(rrcache_free_offers(&offers));
+    return longest;
+}
+
 static void offer_parts(struct rrcache_shelf *shelves)
 {
     for (uint64_t part = 0; part < SHELVES; part++)
         check(rrcache_offer_part(&shelves[part], &response, &PARTS, part, 1, &counts));
-}
-
-static uint64_t nanoseconds(void)
-{
-    struct timespec now;
-    clock_gettime(CLOCK_THREAD_CPUTIME_ID, &now);
-    return (uint64_t)now.tv_sec * 1000000000 + (uint64_t)now.tv_nsec;
 }
 
 static uint64_t took(void (*offer)(struct rrcache_shelf *), unsigned long times)
@@ -76,18 +96,21 @@ static uint64_t took(void (*offer)(struct rrcache_shelf *), unsigned long times)
 int main(int argc, char **argv)
 {
     void (*const ways[])(struct rrcache_shelf *) = {offer_whole, offer_read, offer_parts};
-    uint64_t least[] = {UINT64_MAX, UINT64_MAX, UINT64_MAX};
+    uint64_t least[] = {UINT64_MAX, UINT64_MAX, UINT64_MAX}, share = UINT64_MAX;
     FILE *file = argc == 4 ? fopen(argv[1], "rb") : NULL;
     if (file == NULL)
         return 1;
     response.size = fread(message, 1, sizeof message, file);
     fclose(file);
-    for (unsigned long run = 0; run < strtoul(argv[3], NULL, 10); run++)
+    for (unsigned long run = 0; run < strtoul(argv[3], NULL, 10); run++) {
         for (int i = 0; i < 3; i++) {
             uint64_t it = took(ways[i], strtoul(argv[2], NULL, 10));
             least[i] = it < least[i] ? it : least[i];
         }
-    printf("%llu %llu %llu\n", (unsigned long long)least[0], (unsigned long long)least[1],
-           (unsigned long long)least[2]);
+        uint64_t longest = took_longest();
+        share = longest < share ? longest : share;
+    }
+    printf("%llu %llu %llu %llu\n", (unsigned long long)least[0], (unsigned long long)least[1],
+           (unsigned long long)least[2], (unsigned long long)share);
     return 0;
 }

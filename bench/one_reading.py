@@ -4,23 +4,29 @@
 shelf, and beside a reading for each shelf. It fails where one reading for 16 takes more than MOST
 times what one shelf takes.
 
-Build the library for C first, by `bin/build-c`. Times are of a processor, the least of RUNS: of a
-usual response, which names four servers with their addresses, and of the hostile ones of
-bench/hostile.py.
+It also tells the longest share of a shelf, for which that shelf's lock is held. Build the library
+for C first, by `bin/build-c`. Times are of a processor, the least of RUNS: of a usual response,
+which names four servers with their addresses, and of the hostile ones of bin/attacks.py. `--write`
+writes them to docs/PERFORMANCE.md.
 """
 import argparse
 import pathlib
 import subprocess
 import sys
 import tempfile
+import textwrap
 
 TOP = pathlib.Path(__file__).resolve().parent.parent
 sys.path[:0] = [str(TOP / "bin"), str(TOP / "bench")]
-from dns import A, NS, question, record, response, wire
-from hostile import many_keys, many_labels, many_types, one_key
+from attacks import many_keys, many_labels, many_types, one_key  # noqa: E402
+from dns import A, NS, question, record, response, wire  # noqa: E402
+from page import machine, write_section  # noqa: E402
 
 PROGRAM = TOP / "build" / "one_reading"
 SIZE, MOST = 65_535, 1.5
+TITLE = "One message for 16 shelves"
+HEAD = ["Message", "octets", "one shelf", "16 shelves, one reading", "a reading for each",
+        "longest share"]
 
 
 def usual(_size):
@@ -42,7 +48,8 @@ def compile_program():
 
 
 def times(message, count, runs):
-    """Nanoseconds of one shelf, of 16 by one reading and of 16 by a reading for each."""
+    """Nanoseconds of one shelf, of 16 by one reading, of 16 by a reading for each, and of the longest
+    share."""
     with tempfile.NamedTemporaryFile() as file:
         file.write(message)
         file.flush()
@@ -51,19 +58,42 @@ def times(message, count, runs):
     return [int(it) for it in ran.stdout.split()]
 
 
+def row(name, message, took):
+    """The cells of a row of the table."""
+    return [f"`{name}`", f"{len(message):,}", *(f"{it / 1000:,.1f}" for it in took)]
+
+
+def section(rows, runs):
+    written = (
+        f"Written by `bench/one_reading.py --write` on {machine()}: microseconds of a processor that "
+        f"it takes to offer a message to one shelf, to 16 by one reading of it (`rrcache_read_message` "
+        f"and `rrcache_offer_read`), and to 16 by a reading for each (`rrcache_offer_part`), the least "
+        f"of {runs} runs; and the longest of the 16 shares of one reading, for which a lock is held. "
+        f"Names are divided by a keyed hash.")
+    table = [HEAD, ["---"] * len(HEAD), *rows]
+    return textwrap.fill(written, 100) + "\n\n" + "\n".join("| " + " | ".join(it) + " |" for it in table)
+
+
 def main():
     parser = argparse.ArgumentParser(description=__doc__.splitlines()[0])
     parser.add_argument("--runs", type=int, default=7, help="runs of each (default 7)")
+    parser.add_argument("--write", action="store_true", help="write docs/PERFORMANCE.md")
     args = parser.parse_args()
     compile_program()
-    slow = []
+    slow, rows = [], []
     for make in (usual, one_key, many_keys, many_types, many_labels):
-        whole, read, each = times(make(SIZE), 500 if make is usual else 1, args.runs)
+        message = make(SIZE)
+        took = times(message, 500 if make is usual else 1, args.runs)
+        whole, read, each, share = took
         print(f"{make.__name__:12} one shelf {whole / 1000:9,.1f} us, 16 by one reading"
               f" {read / 1000:9,.1f} us ({read / whole:4.2f}), by a reading for each"
-              f" {each / 1000:9,.1f} us ({each / whole:5.2f})", flush=True)
+              f" {each / 1000:9,.1f} us ({each / whole:5.2f}), the longest share"
+              f" {share / 1000:9,.1f} us", flush=True)
+        rows.append(row(make.__name__, message, took))
         if read > MOST * whole:
             slow.append(make.__name__)
+    if args.write:
+        write_section(TITLE, section(rows, args.runs))
     if slow:
         sys.exit(f"one reading for 16 shelves takes over {MOST} times as long: {', '.join(slow)}")
 
