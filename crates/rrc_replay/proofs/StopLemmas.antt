@@ -7,8 +7,8 @@ use Rattle.rrc_trace.specs.declared.fault.ReplayFault.{ReplayFault}
 use Rattle.rrc_trace.specs.declared.fault.ReplayFault.TheVariants.{Spent, Strayed}
 use Rattle.rrc_replay.specs.declared.calls.Refused.{Refused}
 use Rattle.rrc_replay.specs.declared.calls.Refused.TheVariants as refused
-use Rattle.rrc_replay.specs.declared.working.Stop.{Stop}
-use Rattle.rrc_replay.specs.declared.working.Worked.{Worked}
+use Rattle.rrc_replay.specs.declared.worker.Stop.{Stop}
+use Rattle.rrc_replay.specs.declared.worker.Worked.{Worked}
 use Rattle.rrc_replay.specs.Faults.{IsOfReplay}
 use Rattle.rrc_replay.specs.Stops.{lower, lowest, fault_at, fault_of, first_fault}
 

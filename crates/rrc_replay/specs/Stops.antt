@@ -5,8 +5,8 @@ use Rattle.rrc_trace.specs.declared.fault.ReplayFault.{ReplayFault}
 use Rattle.rrc_trace.specs.declared.fault.ReplayFault.TheVariants.{Memory, Spent, Strayed}
 use Rattle.rrc_replay.specs.declared.calls.Refused.{Refused}
 use Rattle.rrc_replay.specs.declared.calls.Refused.TheVariants as refused
-use Rattle.rrc_replay.specs.declared.working.Stop.{Stop}
-use Rattle.rrc_replay.specs.declared.working.Worked.{Worked}
+use Rattle.rrc_replay.specs.declared.worker.Stop.{Stop}
+use Rattle.rrc_replay.specs.declared.worker.Worked.{Worked}
 
 -- of two stops, where there are two, the one at the lower line
 abbrev pub lower : Option Stop → Option Stop → Option Stop

@@ -2,19 +2,19 @@
 //! Replays traces by many workers on one cache that they share, and a whole run from its trace to its report.
 #![tactic(auto)]
 
-mod answering;
-mod auditing;
+mod answers;
+mod audit;
 mod calls;
 mod gate;
 mod limits;
-mod replaying;
-mod running;
-mod working;
+mod whole_run;
+mod worker;
+mod workers;
 
-pub use auditing::Audit;
+pub use audit::Audit;
 pub use gate::{Gate, OpenGate};
 pub use limits::usual_limits;
-pub use replaying::replay;
 pub use rrc_report as report;
 pub use rrc_trace as trace;
-pub use running::run;
+pub use whole_run::run;
+pub use workers::replay;

@@ -8,7 +8,7 @@ ghost use Rattle.rrc_replay.specs.Stops.{Tells, first_fault, lower, fault_of};
 
 use crate::calls::Refused;
 use crate::gate::Gate;
-use crate::working::{Common, Stop, Worked, Worker, work};
+use crate::worker::{Common, Stop, Worked, Worker, work};
 use rrc_marks::{Marks, MarksFault, Pass};
 use rrc_report::{Done, Report, collate};
 use rrc_script::Config;

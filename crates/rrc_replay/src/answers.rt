@@ -6,7 +6,7 @@ ghost use Rattle.rrc_history.specs.Lives.{LAST_MOMENT};
 
 use crate::calls::{Refused, close, reply, sweep, tell, tell_all};
 use crate::gate::Gate;
-use crate::working::Common;
+use crate::worker::Common;
 use rrc_history::{Mode, Reply, Tag};
 use rrc_marks::{Began, Pass};
 use rrc_script::{ask_at, failure_at, offer_at, offers_fetched};

@@ -1,7 +1,7 @@
 -- SPDX-License-Identifier: MIT
 use Rattle.std.proofs.Common.{◌≡◌, ◌+◌, ◌-◌, ◌*◌, []}
 use Rattle.rrc_marks.specs.Seen.{IsPassOf}
-use Rattle.rrc_replay.proofs.replaying.hired.Given as goal
+use Rattle.rrc_replay.proofs.workers.hired.Given as goal
 
 -- the pass is of the table, drew nothing, and has the turns of the workers that are left and of one more
 abbrev pub invariant-loop : goal.invariant-loop

@@ -5,9 +5,9 @@ ghost use Rattle.rrc_report.specs.Reports.{IsCollated};
 ghost use Rattle.rrc_replay.specs.Faults.{IsOfReplay};
 ghost use Rattle.rrc_replay.specs.Run.{Reports, IsReportOf, IsFirstFaultOf, LeavesWriter};
 
-use crate::auditing::{Audit, audit_all};
+use crate::audit::{Audit, audit_all};
 use crate::gate::Gate;
-use crate::replaying::replay;
+use crate::workers::replay;
 use rrc_report::Report;
 use rrc_script::Config;
 use rrc_trace::{ReplayFault, Trace, read_trace, write_report};

@@ -5,7 +5,7 @@ use Rattle.rrc_history.specs.declared.snapshot.Snapshot.{Snapshot}
 use Rattle.rrc_history.specs.Audits.{IsFirstBad}
 use Rattle.rrc_cache.specs.Rechecks.{IsFault}
 use Rattle.rrc_replay.proofs.AuditLemmas.{never_bad}
-use Rattle.rrc_replay.proofs.auditing.audit_whole.Goals as goal
+use Rattle.rrc_replay.proofs.audit.audit_whole.Goals as goal
 
 pub returns-in-Err-FirstBad : goal.returns-in-Err-FirstBad
 returns-in-Err-FirstBad c =

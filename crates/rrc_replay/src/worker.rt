@@ -3,7 +3,7 @@ ghost use Rattle.std.specs.Prelude.{◌≡◌, ◌<◌, ◌≤◌, [], length};
 ghost use Rattle.rrc_marks.specs.Seen.{IsPassOf};
 ghost use Rattle.rrc_trace.specs.Questions.{questions_of};
 
-use crate::answering::answer;
+use crate::answers::answer;
 use crate::calls::Refused;
 use crate::gate::Gate;
 use rrc_marks::{Marks, Pass};

@@ -1,7 +1,7 @@
 -- SPDX-License-Identifier: MIT
 use Rattle.std.proofs.Common.{◌≡◌, []}
 use Rattle.rrc_marks.specs.Seen.{IsPassOf}
-use Rattle.rrc_replay.proofs.working.work.Given as goal
+use Rattle.rrc_replay.proofs.worker.work.Given as goal
 
 -- the pass is of the table, and holds no mark
 abbrev pub invariant-loop-common : goal.invariant-loop-common

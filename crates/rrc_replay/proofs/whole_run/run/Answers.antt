@@ -1,6 +1,6 @@
 -- SPDX-License-Identifier: MIT
 use Rattle.std.proofs.Common.{rules}
-use Rattle.rrc_replay.proofs.running.run.Goals as goal
+use Rattle.rrc_replay.proofs.whole_run.run.Goals as goal
 
 pub returns-clause-ok : goal.returns-clause-ok
 returns-clause-ok g c = search rules

@@ -1,7 +1,7 @@
 -- SPDX-License-Identifier: MIT
 use Rattle.std.proofs.Common.{◌≡◌, drop}
 use Rattle.rrc_replay.specs.Stops.{lower, lowest}
-use Rattle.rrc_replay.proofs.replaying.first_fault.Given as goal
+use Rattle.rrc_replay.proofs.workers.first_fault.Given as goal
 
 -- the lowest stop so far and those of the others give that of all
 abbrev pub invariant-loop-one : goal.invariant-loop-one

@@ -1,7 +1,7 @@
 -- SPDX-License-Identifier: MIT
 use Rattle.std.proofs.Common.{sym, ◌∙◌}
 use Rattle.rrc_replay.proofs.QuestionNumbers.{numbered}
-use Rattle.rrc_replay.proofs.answering.fetch_or_join.Goals as goal
+use Rattle.rrc_replay.proofs.answers.fetch_or_join.Goals as goal
 
 pub unreachable-requires : goal.unreachable-requires
 unreachable-requires g c =
