@@ -1,5 +1,6 @@
 // SPDX-License-Identifier: MIT
-/// What makes numbers in no order that shows, the same in each run: a linear congruential generator.
+/// What makes numbers in no order that shows, the same in each run: a linear congruential
+/// generator.
 #[derive(Clone, Copy)]
 pub struct Numbers {
     state: u64,
