@@ -1,5 +1,5 @@
 -- SPDX-License-Identifier: MIT
--- What a chapter leaves of which nothing was recorded, and that two records chain where nothing lies between.
+-- What a chapter leaves of which nothing was recorded, and two records with nothing between them.
 use Rattle.std.specs.Prelude.{◌==◌}
 use Rattle.std.proofs.Common.{◌≡◌, ℕ, ◌+◌, List, [], ◌∷◌, reverse, true, None, refl, sym, ap, subst, ◌∙◌, arith}
 use Rattle.std.specs.Option.{option_or}
@@ -19,7 +19,8 @@ use Rattle.rrc_cache.specs.lemmas.Closings.{same_held, same_replies}
 
 -- ---- a part that begins to record
 
-pub begins_recorded : (old new : PartOf) (closing : Snapshot) → Shuts old new closing → BeginsRecorded old new
+pub begins_recorded : (old new : PartOf) (closing : Snapshot) → Shuts old new closing
+    → BeginsRecorded old new
 begins_recorded old new closing shuts =
     subst (BeginsRecorded old) (sym shuts.next)
     (record {

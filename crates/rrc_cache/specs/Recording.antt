@@ -40,7 +40,7 @@ abbrev pub idle_chapter : PartOf → ChapterOf
 idle_chapter part =
     record { number = part.number; snapshot = part.snapshot; events = []; closing = part.snapshot }
 
--- nothing was written between the end of one record, whose last chapter this is, and the begin of the next one
+-- nothing was written between the end of one record, whose last chapter this is, and the next one
 pub record IsIdle (last : ChapterOf) (between : PartOf) : Type 0 where
   pub number : between.number ≡ last.number + 1
   pub snapshot : between.snapshot ≡ last.closing

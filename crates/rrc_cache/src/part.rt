@@ -267,8 +267,8 @@ impl Part {
         }
     }
 
-    /// The part with nothing recorded: it goes on in the same chapter, whose snapshot and events are
-    /// dropped. To have them, call `checkpoint` before. It takes no memory and refuses nothing.
+    /// The part with nothing recorded: it goes on in the same chapter, whose snapshot and events
+    /// are dropped. To have them, call `checkpoint` before. It takes no memory and refuses nothing.
     pub fn into_lean(self) -> LeanPart
         ensures { result ≡ self }
     {

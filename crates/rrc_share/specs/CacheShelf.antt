@@ -1,13 +1,16 @@
 -- SPDX-License-Identifier: MIT
 -- A shelf that records its history, or does not.
-use Rattle.std.specs.Prelude.{◌≡◌, ℕ, [], Bool, true, false, Result}
+use Rattle.std.specs.Prelude.{◌≡◌, ℕ, [], Bool, true, false, Option, Result}
+use Rattle.rrc_name.specs.Key.{KeyOf}
 use Rattle.rrc_history.specs.Asked.{AskOf}
 use Rattle.rrc_history.specs.Fits.{OfferOf}
+use Rattle.rrc_history.specs.Past.{held, reply_to}
 use Rattle.rrc_history.specs.declared.event.Outcome.{Outcome}
 use Rattle.rrc_history.specs.declared.event.Reply.{Reply}
 use Rattle.rrc_history.specs.declared.event.Tag.{Tag}
+use Rattle.rrc_history.specs.declared.snapshot.Entry.{Entry}
 use Rattle.rrc_cache.specs.Lean.{IsLeanDue}
-use Rattle.rrc_cache.specs.Part.{PartOf, WritesOffer, WritesAsk, WritesSweep}
+use Rattle.rrc_cache.specs.Part.{PartOf, past_of, WritesOffer, WritesAsk, WritesSweep}
 use Rattle.rrc_cache.specs.declared.refusal.Refusal.{Refusal}
 use Rattle.rrc_share.specs.Shelf.{ShelfOf, AppendsOffer, AppendsAsk, AppendsSweep, IsDue, IsLeft}
 use Rattle.rrc_share.specs.declared.kept.Kept.{Kept}
@@ -25,6 +28,18 @@ lean_shelf part = record { closed = []; part = part }
 abbrev pub kept_in : Kept → CacheShelfOf
 kept_in (Lean part) = record { records = false; shelf = lean_shelf part }
 kept_in (Recording shelf) = record { records = true; shelf = shelf }
+
+-- what a key of the part holds
+abbrev pub held_by : ShelfOf → KeyOf → Option Entry
+held_by shelf key = held shelf.part.snapshot (past_of shelf.part) key
+
+-- the reply that the part has for an ask
+abbrev pub reply_of : ShelfOf → AskOf → Reply
+reply_of shelf ask = reply_to shelf.part.snapshot (past_of shelf.part) ask
+
+-- an ask was written, with the reply that the part had for it; no chapter was closed
+abbrev pub NotesAsk : ShelfOf → ShelfOf → Tag → AskOf → Type 0
+NotesAsk old new tag ask = WritesAsk old.part new.part tag ask (reply_of old ask)
 
 -- ---- calls, by whether the history is recorded: if so, those of a shelf; if not, the history goes
 -- on by just this event, which is right and keeps the laws, and no chapter is closed

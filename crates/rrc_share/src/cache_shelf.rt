@@ -44,12 +44,10 @@ impl Model for CacheShelf {
 impl CacheShelf {
     ghost use Rattle.rrc_cache.specs.Expiry.{HoldsNothing, NoneDiesBefore};
     ghost use Rattle.rrc_cache.specs.Lean.{IsLeanDue, IsLeanOpen, IsPick};
-    ghost use Rattle.rrc_cache.specs.Part.{past_of, WritesAsk};
     ghost use Rattle.rrc_cache.specs.Sizes.{HoldsKeys};
-    ghost use Rattle.rrc_history.specs.Past.{held, reply_to};
     ghost use Rattle.rrc_history.specs.Views.{held_in, reply_in};
     ghost use Rattle.rrc_name.specs.KeyRef.{key_of};
-    ghost use Rattle.rrc_share.specs.CacheShelf.{IsDueBy, IsLeftBy, TakesAsk, TakesOffer, TakesSweep};
+    ghost use Rattle.rrc_share.specs.CacheShelf.{held_by, reply_of, IsDueBy, IsLeftBy, NotesAsk, TakesAsk, TakesOffer, TakesSweep};
     ghost use Rattle.rrc_share.specs.Shelf.{AreBefore};
     ghost use Rattle.std.specs.Option.{option_map};
 
@@ -107,7 +105,7 @@ impl CacheShelf {
 
     /// What a key holds, lent (`Part::held`). It takes no memory and touches nothing.
     pub fn held(&self, key: KeyRef<'_>) -> Option<Held<'_>>
-        ensures { option_map held_in result ≡ held self.now.shelf.part.snapshot (past_of self.now.shelf.part) (key_of key.entry) }
+        ensures { option_map held_in result ≡ held_by self.now.shelf (key_of key.entry) }
     {
         match &self.kept {
             Kept::Lean(part) => part.held(key),
@@ -130,7 +128,7 @@ impl CacheShelf {
     /// The reply that `ask` would give, lent (`Part::would_answer`). It takes no memory and touches
     /// nothing.
     pub fn would_answer(&self, ask: &Ask) -> ReplyRef<'_>
-        ensures { reply_in result ≡ reply_to self.now.shelf.part.snapshot (past_of self.now.shelf.part) ask.now }
+        ensures { reply_in result ≡ reply_of self.now.shelf ask.now }
     {
         match &self.kept {
             Kept::Lean(part) => part.would_answer(ask),
@@ -186,7 +184,7 @@ impl CacheShelf {
     /// kept, and the slot for `note_asked`. It takes no memory and touches nothing.
     pub fn judge(&self, ask: &Ask) -> Result<(ReplyRef<'_>, Option<Slot>), Refusal>
         requires { self.now.records ≡ false }
-        ensures reply { IfOk result (λ judged. reply_in judged.0 ≡ reply_to self.now.shelf.part.snapshot (past_of self.now.shelf.part) ask.now) }
+        ensures reply { IfOk result (λ judged. reply_in judged.0 ≡ reply_of self.now.shelf ask.now) }
         ensures pick { IfOk result (λ judged. IsPick self.now.shelf.part ask.now judged.1) }
         ensures due { IsLeanDue self.now.shelf.part ask.now.moment result }
     {
@@ -203,7 +201,7 @@ impl CacheShelf {
         requires open { IsLeanOpen self.old.shelf.part ask.now.moment }
         requires pick { IsPick self.old.shelf.part ask.now slot }
         ensures records { self.new.records ≡ false }
-        ensures written { WritesAsk self.old.shelf.part self.new.shelf.part tag ask.now (reply_to self.old.shelf.part.snapshot (past_of self.old.shelf.part) ask.now) }
+        ensures written { NotesAsk self.old.shelf self.new.shelf tag ask.now }
     {
         match &mut self.kept {
             Kept::Lean(part) => part.note_asked(tag, ask, slot),
