@@ -64,13 +64,40 @@ def tell_room(what, keys, offer, times=1):
           f" {(stay - told.octets) / keys:,.0f} more", flush=True)
 
 
+def tell_evicting(what, keys, offer):
+    """The most that keys take which evict each other, beside twice the octets that are told: looked
+    at right after a chapter was closed and dropped."""
+    before, most = memory(), 0
+    with rrcache.Shelf(keys, keys // 4) as shelf:
+        for number in range(9 * keys):
+            offer(shelf, number)
+            if number % (keys // 4) == 0:
+                shelf.drop_chapters()
+                stay, told = memory() - before, shelf.sizes()
+                if told.keys == keys:
+                    most = max(most, (stay - 2 * told.octets) / keys)
+    print(f"{keys:,} {what} that evict each other: at most twice the octets told and"
+          f" {most:,.0f} for each key", flush=True)
+
+
 def tell_rooms(keys, size):
     short, long = ENDS["short names"], ENDS["names of 255 octets"]
-    data = data_of(size)
+    data, repeated = data_of(size), 15 * [record(ASKED, A, 600, bytes(4))]
 
     def name(number, end):
         # A factor with no divisor of 36, so that names come in no order and none twice.
         return label(number * 40_507 % 36**4, 4) + end
+    # The timestamps go up, so that there are expiries of many times.
+    tell_evicting("small sets", keys // 16, lambda shelf, it:
+                  shelf.offer_set(name(it, short), A, 4, 600, [bytes(4)], it // 1000))
+    tell_evicting("sets of a record that came 15 times, whose owner has 255 octets in capitals",
+                  keys // 16, lambda shelf, it: shelf.offer_message(
+                      response(question(name(it, long).upper(), A), repeated), ROOT, it // 1000))
+    tell_evicting("negative answers of names of 255 octets in capitals", keys // 16,
+                  lambda shelf, it: shelf.offer_negative(
+                      name(it, long).upper(), A, rrcache.Denial.NAME, 3, 600,
+                      name(it, long).upper(), name(it, long) + name(it + 7, long) + bytes(20),
+                      it // 1000))
     tell_room("small sets", keys, lambda shelf, it:
               shelf.offer_set(name(it, short), A, 4, 600, [bytes(4)], 0))
     tell_room("small sets whose owner is in capitals", keys, lambda shelf, it:
@@ -81,7 +108,6 @@ def tell_rooms(keys, size):
     tell_room("such sets after four times as many", keys // 16,
               lambda shelf, it: shelf.offer_set(name(it, long).upper(), TXT, 4, 600,
                                                 [bytes(33)], 0), 4)
-    repeated = 15 * [record(ASKED, A, 600, bytes(4))]
     tell_room("sets of a record that came 15 times", keys // 4,
               lambda shelf, it: shelf.offer_message(
                   response(question(name(it, short), A), repeated), ROOT, 0))

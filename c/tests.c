@@ -1576,7 +1576,7 @@ static void test_null(void)
     struct rrcache_counts counts;
     struct rrcache_told told;
     uint32_t number;
-    uint64_t wide, other;
+    uint64_t wide;
     bool is_done;
     uint8_t buffer[64] = {0};
     EXPECT(rrcache_make(NULL, 1, 1, 0, SEED) == RRCACHE_NULL

@@ -895,9 +895,9 @@ static inline enum rrcache_status rrcache_drop_chapters(struct rrcache_shelf *sh
 
    Its octets are those of its name, of a set those of its owner and of the data of its records, and
    RRCACHE_RECORD_OCTETS for each record, of a negative answer those of the SOA record's owner and
-   data. They are counted as keys come and go, so telling them takes no time. Memory is bounded by
-   keys and octets: SECURITY.md tells what a key takes beside its octets. What events and closed
-   chapters keep is not counted. */
+   data. They are counted as keys come and go, so to tell them takes no longer where there are more.
+   Each key takes room of its own beside. What events and chapters keep of keys that were evicted,
+   replaced or swept is not counted. */
 static inline enum rrcache_status rrcache_sizes(struct rrcache_shelf *shelf, uint64_t *keys,
                                                 uint64_t *events, uint64_t *chapters,
                                                 uint64_t *octets)

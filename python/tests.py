@@ -544,8 +544,8 @@ def test_parts_by_python():
         with rrcache.Shelf() as shelf:
             same(shelf.offer_part(octets, wire("example"), 4, SEED, part, 100), (parts.count(part), 0, 0), f"the share of part {part}")
             # Twice the name, a record, and another name or an address.
-            octets = [2 * 12 + rrcache.RECORD_OCTETS + size for size, home in zip([12] * 7 + [4], parts) if home == part]
-            same(shelf.sizes(), (len(octets), len(octets), 0, sum(octets)), "keys, events, chapters and octets")
+            held = [2 * 12 + rrcache.RECORD_OCTETS + size for size, home in zip([12] * 7 + [4], parts) if home == part]
+            same(shelf.sizes(), (len(held), len(held), 0, sum(held)), "keys, events, chapters and octets")
             for name, rtype, home in zip(names, [CNAME] * 7 + [A], parts):
                 same(shelf.peek(wire(name), rtype, 100).kind, rrcache.Kind.FRESH if home == part else rrcache.Kind.MISS, f"{name} in part {part}")
 

@@ -26,8 +26,8 @@ pub record HasFault (octets : List ℕ) (number : ℕ) : Type 0 where
 abbrev pub TellsFault : List ℕ → ℕ → Type 0
 TellsFault octets number = IsMessage octets number ⊎ HasFault octets number
 
--- how many keys the shelf holds, how many events the open chapter has, how many chapters are closed, and
--- how many octets the entries of these keys have
+-- how many keys the shelf holds, how many events the open chapter has, how many chapters are
+-- closed, and how many octets the entries of these keys have
 pub record TellsSizes (keys events chapters octets : ℕ) (old new : ShelfOf) : Type 0 where
   pub kept : new ≡ old
   pub keys_are : HoldsKeys old.part keys

@@ -358,8 +358,8 @@ pub extern "C" fn rrc_next_expiry(alloc: Global, handle: &mut Handle, moment: &m
     0
 }
 
-/// Tells how many keys a shelf holds, how many events the open chapter has, how many chapters are closed, and how many octets the
-/// entries of the keys have.
+/// Tells how many keys a shelf holds, how many events the open chapter has, how many chapters are
+/// closed, and how many octets the entries of the keys have.
 #[unsafe(no_mangle)]
 pub extern "C" fn rrc_sizes(
     alloc: Global,

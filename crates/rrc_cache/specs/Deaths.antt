@@ -57,7 +57,8 @@ abbrev pub is_gone_by : ℕ → ℕ → Option Entry → Bool
 is_gone_by stale time None = false
 is_gone_by stale time (Some entry) = nat_le (time_of_death stale entry) time
 
--- of an entry that another comes in the place of: its number, from when on it is dead, and its octets modulo 2^64
+-- of an entry that another comes in the place of: its number, from when on it is dead, and its octets
+-- modulo 2^64
 abbrev pub leaving_of : ℕ → Entry → Leaving
 leaving_of stale entry = record { number = entry.number; dies = time_of_death stale entry; octets = counted_octets entry }
 

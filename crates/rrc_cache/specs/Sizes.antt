@@ -12,7 +12,8 @@ pub record HoldsKeys (part : PartOf) (number : ℕ) : Type 0 where
   pub held : AreContents part.snapshot (past_of part) entries
   pub counted : (contents : List Entry) → AreContents part.snapshot (past_of part) contents → number ≡ length contents
 
--- the keys of a part hold entries, and whatever entries they are said to hold, these have so many octets, modulo 2^64
+-- the keys of a part hold entries, and whatever entries they are said to hold, these have so many
+-- octets, modulo 2^64
 pub record HoldsOctets (part : PartOf) (number : ℕ) : Type 0 where
   pub entries : List Entry
   pub held : AreContents part.snapshot (past_of part) entries

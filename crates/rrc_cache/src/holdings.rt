@@ -21,8 +21,9 @@ use rrc_name::{Key, KeyRef, Name};
 use std::alloc::{AllocError, Global};
 use std::marker::Model;
 
-/// Entries by their keys, in the order of touch, and how many octets they have. Each call that puts, writes over or removes an
-/// entry counts its octets, so nobody has to go over all entries to tell them. Contracts see what they see of the entries.
+/// Entries by their keys, in the order of touch, and how many octets they have. Each call that
+/// puts, writes over or removes an entry counts its octets, so nobody has to go over all entries to
+/// tell them. Contracts see what they see of a `Keyed`.
 #[derive(Debug, Drop)]
 pub struct Holdings {
     keyed: Keyed,
@@ -164,8 +165,8 @@ impl Holdings {
         Ok(old)
     }
 
-    /// Writes what an offer stores over the entry of its key, whose octets are told, and moves that to the front. An `Err` leaves
-    /// all as it was.
+    /// Writes what an offer stores over the entry of its key, whose octets are told, and moves that
+    /// to the front. An `Err` leaves all as it was.
     pub(crate) fn overwrite(
         &mut self,
         hash: u64,

@@ -97,9 +97,9 @@ impl LeanPart {
         self.store.len()
     }
 
-    /// How many octets the part holds: of each key its name, of an RRset its owner and its rdata, and `RECORD_OCTETS` for each record,
-    /// of a negative answer the owner and the rdata of its SOA record. They are counted already; where they were 2^64 or more,
-    /// that many less.
+    /// How many octets the part holds: of each key its name, of an RRset its owner and its rdata,
+    /// and `RECORD_OCTETS` for each record, of a negative answer the owner and the rdata of its SOA
+    /// record. They are counted already, modulo 2^64.
     pub fn octets(&self) -> u64
         ensures { HoldsOctets self.now result }
     {

@@ -30,7 +30,8 @@ use rrc_name::{Key, KeyRef, Name, Shared};
 use std::alloc::{AllocError, Global};
 use std::marker::Model;
 
-/// Of an entry that another comes in the place of: its number, from when on it is dead, and its octets, modulo 2^64.
+/// Of an entry that another comes in the place of: its number, from when on it is dead, and its
+/// octets, modulo 2^64.
 #[derive(Clone, Copy)]
 pub(crate) struct Leaving {
     pub(crate) number: u64,

@@ -6,8 +6,8 @@ use Rattle.rrc_history.specs.declared.body.Body.{Body}
 use Rattle.rrc_history.specs.declared.body.Body.TheVariants.{Positive, Negative, Failure}
 use Rattle.rrc_history.specs.declared.snapshot.Entry.{Entry}
 
--- the room that each record of a set takes beside its octets, or more: the size of an Octets value. So
--- what many small records take is bounded by what they count
+-- the room that each record of a set takes beside its octets, or more: the size of an Octets
+-- value. So what many small records take is bounded by what they count
 abbrev pub RECORD_OCTETS : ℕ
 RECORD_OCTETS = 48
 
@@ -16,8 +16,8 @@ abbrev pub records_octets : List (List ℕ) → ℕ
 records_octets [] = 0
 records_octets (rdata ∷ records) = RECORD_OCTETS + length rdata + records_octets records
 
--- the octets of a body: of a set those of its owner (RFC 1035 3.1) and of its records, of a negative answer
--- those of the owner and the RDATA of its SOA record (RFC 2308 5), of a failure none
+-- the octets of a body: of a set those of its owner (RFC 1035 3.1) and of its records, of a
+-- negative answer those of the owner and the RDATA of its SOA record (RFC 2308 5), of a failure none
 abbrev pub body_octets : Body → ℕ
 body_octets (Positive trust ttl owner items) = length owner + records_octets items
 body_octets (Negative trust ttl soa_owner soa) = length soa_owner + length soa

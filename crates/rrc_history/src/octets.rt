@@ -10,8 +10,9 @@ use std::mem::size_of;
 pub const RECORD_OCTETS: u64 = size_of::<Octets>() as u64;
 
 impl Body {
-    /// How many octets an entry of this body has under the key: those of the key's name, and those of the
-    /// body, where each record of a set counts `RECORD_OCTETS` more. It goes over the records.
+    /// How many octets an entry of this body has under the key: those of the key's name, and those
+    /// of the body, where each record of a set counts `RECORD_OCTETS` more. It goes over the
+    /// records.
     pub fn octets_under(&self, key: &Key) -> u64
         ensures { result ≡ octets_under key.now self.now % 2 ^ 64 }
     {
