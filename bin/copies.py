@@ -1,20 +1,28 @@
 # SPDX-License-Identifier: MIT
-"""Copies of a function under names of their own, each with its contract and its written proofs, so that several edits of one function can be tried in one check."""
+"""Copies of a function under names of their own, each with its contract and its written proofs.
+
+So several edits of one function can be tried in one check."""
 import re
 from dataclasses import replace
 
 from items import items_in, module_of
 
 # What stands before a function's name on its first line.
-HEAD = re.compile(r"(?P<indent>\s*)(?:pub(?:\([^)]*\))?\s+)?(?P<words>(?:(?:const|unsafe|extern)\s+(?:\"C\"\s+)?)*fn\s+)(?P<name>\w+)\b")
-# An attribute by which a second function could not be linked beside the first, or proved apart from it.
-NOT_TWICE = re.compile(r"#\[(?:unsafe\(no_mangle\)|unsafe\(export_name\b.*|no_mangle)\]$")
+HEAD = re.compile(
+    r"(?P<indent>\s*)(?P<seen>pub(?:\([^)]*\))?\s+)?"
+    r"(?P<words>(?:(?:const|unsafe|extern)\s+(?:\"C\"\s+)?)*fn\s+)(?P<name>\w+)\b"
+)
+# The attribute of a function that C calls by its name. Each function of C's kind has it.
+FOR_C = "#[unsafe(no_mangle)]"
+# That of a function which has its proof together with others.
 IN_A_CYCLE = re.compile(r"#\[cycle\b")
 
 
 def span_of(lines, blanked, path, item):
-    """The lines of a function, from those of its attributes to that of its last brace, and the line of its name, counted from 0. None where it has none of its own,
-    or where a trait says which functions there are."""
+    """The first line of a function with its attributes, that of its name, and the one behind it.
+
+    They are counted from 0. None where the lines hold anything else, or where a trait says which
+    functions there are."""
     found = items_in(blanked, module_of(path))
     spans = [span for span, it in found if it == item]
     if len(spans) != 1:
@@ -30,20 +38,27 @@ def span_of(lines, blanked, path, item):
 
 
 def begin_of(lines, name):
-    """The first of the lines of comments and attributes right above a function's name."""
+    """The first of the lines of comments and attributes right above that of a function's name."""
     at = name
     while at:
         line = lines[at - 1].strip()
-        if line.endswith("]") and not line.startswith("#["):
-            opening = next((it for it in range(at - 1, -1, -1) if lines[it].strip().startswith("#[")), None)
-            if opening is None or any("}" in lines[it] and "{" not in lines[it] for it in range(opening, at)):
-                return at
-            at = opening
-        elif line.startswith(("#[", "//")):
+        if line.startswith(("#[", "//")):
             at -= 1
+        elif line.endswith("]") and (opening := opening_of(lines, at - 1)) is not None:
+            at = opening
         else:
             return at
     return at
+
+
+def opening_of(lines, last):
+    """The first line of an attribute that ends on this line, or None where there is none."""
+    for at in range(last, -1, -1):
+        if lines[at].strip().startswith("#["):
+            return at
+        if lines[at].strip() in ("", "}"):
+            return None
+    return None
 
 
 def named(item, name):
@@ -52,7 +67,9 @@ def named(item, name):
 
 
 def copy_of(lines, span, hunks, name):
-    """The lines of a copy under this name, with these hunks made in it, or None where it can't be made. It is private, and no other language sees it."""
+    """The lines of a copy under this name, with these hunks made in it.
+
+    None where it can't be made. It is private, but for one that C calls."""
     begin, head, end = span
     body = lines[begin:end]
     for hunk in sorted(hunks, key=lambda it: -it.start):
@@ -60,16 +77,24 @@ def copy_of(lines, span, hunks, name):
             return None
         body[hunk.start - begin : hunk.end - begin] = hunk.lines
     # The line of the name, where hunks above it made it another.
-    at = head - begin + sum(len(it.lines) - (it.end - it.start) for it in hunks if it.end <= head)
+    above = [it for it in hunks if it.end <= head]
+    at = head - begin + sum(len(it.lines) - (it.end - it.start) for it in above)
     if any(IN_A_CYCLE.search(it) for it in body[:at]):
         return None
-    body[at] = HEAD.sub(rf"\g<indent>\g<words>{name}", body[at], count=1)
-    return ["", *(it for it in body[:at] if not NOT_TWICE.match(it.strip())), *body[at:]]
+    seen = r"\g<seen>" if FOR_C in map(str.strip, body[:at]) else ""
+    body[at] = HEAD.sub(rf"\g<indent>{seen}\g<words>{name}", body[at], count=1)
+    return ["", *body]
 
 
 def proofs_of_copy(texts, crate, path, name):
-    """The texts of a function's written proofs as those of its copy: by the files below its folder, with the copy's name where they name the function. The path
-    is that of the function in the crate, as `record::read_record`."""
+    """The texts of a function's written proofs as those of its copy, by the files they stand in.
+
+    They have the copy's name where they name the function, of which this is the path in the
+    crate, as `record::read_record`."""
     of = re.escape(path.replace("::", "."))
     names = re.compile(rf"\b(Rattle\.{crate}\.(?:proofs|specs\.contracts)\.{of})(?![\w'-])")
-    return {file: names.sub(lambda it: it[1].rpartition(".")[0] + "." + name, text) for file, text in texts.items()}
+    copied = f".{name}"
+    return {
+        file: names.sub(lambda it: it[1].rpartition(".")[0] + copied, text)
+        for file, text in texts.items()
+    }

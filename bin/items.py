@@ -89,7 +89,8 @@ def items_in(text, module):
                 found.append(((head.start(), stop), Item(module, head["fn"], impl)))
             elif head["impl"] is not None or head["trait"]:
                 names = impl_of(head["impl"]) if head["impl"] is not None else (head["trait"],)
-                found.append(((head.start(), stop), Item(module, "", names, "trait" if head["trait"] else "impl")))
+                kind = "trait" if head["trait"] else "impl"
+                found.append(((head.start(), stop), Item(module, "", names, kind)))
                 scan(head.end(), stop, names)
             else:
                 found.append(((head.start(), stop), Item(module, head["other"], (), head["kind"])))
