@@ -120,7 +120,7 @@ static void *work(void *argument)
         worker->shelves = make_shelves();
     pthread_barrier_wait(&start);
     for (uint64_t call = 0; call < worker->calls; call++, worker->done++) {
-        uint64_t drawn = draw(&worker->seed), dropped, name = drawn % NAMES;
+        uint64_t drawn = draw(&worker->seed), name = drawn % NAMES;
         struct shelf *shelf = &worker->shelves[parts[name]];
         if (worker->is_locked)
             pthread_mutex_lock(&shelf->lock);
@@ -128,8 +128,6 @@ static void *work(void *argument)
             put(shelf, names[name], call);
         else
             ask(shelf, names[name], call);
-        if (call % NAMES == 0)
-            rrcache_drop_chapters(&shelf->cache, &dropped);
         if (worker->is_locked)
             pthread_mutex_unlock(&shelf->lock);
     }

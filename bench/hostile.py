@@ -4,7 +4,8 @@
 
 Build the library for C first, by `bin/build-c`, or name it in RRCACHE_LIBRARY, and for traces the
 program, by `bin/build`, or name it in RRCACHE_PROGRAM. Each message has no more than SIZE octets
-and is offered to an empty shelf. What stays is what the C library's allocator has given out more
+and is offered to an empty shelf. A shelf records its history where events or chapters are measured,
+and nowhere else. What stays is what the C library's allocator has given out more
 than before (mallinfo2, of glibc). Times are milliseconds of the thread's processor time: of a
 message the least of RUNS, of a full part those of one call each. A caller spends them under the
 lock of the shelf, but for what only reads a message. All runs in a thread whose stack has STACK KB,
@@ -49,7 +50,7 @@ def tell_room(what, keys, offer, times=1):
     """What keys take beside the octets that are told of them: while the events of their offers are
     there, and once these were dropped. Of several times as many the last ones stay."""
     before = memory()
-    with rrcache.Shelf(keys, keys) as shelf:
+    with rrcache.Shelf(keys, keys, record=True) as shelf:
         for number in range(times * keys):
             offer(shelf, number)
             if number % keys == 0:
@@ -122,7 +123,7 @@ def tell_rooms(keys, size):
 
 def tell_history(size, offers):
     """What stays of offers with a TTL of 0, which store nothing."""
-    with rrcache.Shelf(16, 4096) as shelf:
+    with rrcache.Shelf(16, 4096, record=True) as shelf:
         before = memory()
         for _ in range(offers):
             shelf.offer_message(one_key(size, 0), ROOT, 0)
@@ -132,7 +133,7 @@ def tell_history(size, offers):
 
 def tell_drop(size, offers):
     """What it takes to drop a chapter of such offers."""
-    with rrcache.Shelf(16, offers) as shelf:
+    with rrcache.Shelf(16, offers, record=True) as shelf:
         for _ in range(offers + 1):
             shelf.offer_message(one_key(size), ROOT, 0)
         print(f"a chapter of {offers} events of one_key dropped"
@@ -142,7 +143,7 @@ def tell_drop(size, offers):
 def tell_full(size, chapter):
     """What one message does to a full part of 4,096 keys, with chapters of so many events."""
     names = [label(it, 4) + ENDS["short names"] for it in range(4096)]
-    with rrcache.Shelf(4096, chapter) as shelf:
+    with rrcache.Shelf(4096, chapter, record=True) as shelf:
         for name in names:
             shelf.offer_set(name, A, 4, 600, [bytes(4)], 0)
         shelf.drop_chapters()
@@ -156,7 +157,7 @@ def tell_full(size, chapter):
 
 def tell_sweep(kind, keys):
     """What a full chapter, its drop and a sweep of a full part take."""
-    with rrcache.Shelf(keys, keys, 0) as shelf:
+    with rrcache.Shelf(keys, keys, 0, record=True) as shelf:
         for number in range(keys):
             # A factor with no divisor of 36, so that names come in no order and none twice.
             name = label(number * 40_507 % 36**4, 4) + ENDS[kind]

@@ -24,9 +24,10 @@ GROUPS = {
         "rrcache_read_message", "rrcache_read_response", "rrcache_offer_read",
         "rrcache_free_offers"],
     "ask a shelf": ["rrcache_ask", "rrcache_ask_alias", "rrcache_peek", "rrcache_tell_stored"],
-    "sweep a shelf, drop its chapters, tell its sizes": [
-        "rrcache_sweep", "rrcache_next_expiry", "rrcache_sweep_some", "rrcache_drop_chapters",
-        "rrcache_sizes"],
+    "sweep a shelf, tell its sizes": [
+        "rrcache_sweep", "rrcache_next_expiry", "rrcache_sweep_some", "rrcache_sizes"],
+    "record the history of a shelf, or not": [
+        "rrcache_record", "rrcache_release", "rrcache_drop_chapters"],
     "tell a name's part, a message's fault and the library's version": [
         "rrcache_part_of", "rrcache_fault", "rrcache_version"],
 }

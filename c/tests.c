@@ -100,9 +100,17 @@ static const uint8_t SOA_DATA[] = {0, 0, 0, 0, 0, 1, 0, 0, 0, 2, 0,
 #define FAILURE(name, size, type, class, ttl, moment)                                              \
     (&(const struct rrcache_failure){(name), (size), (type), (class), (ttl), (moment)})
 
+/* A shelf that records its history, so that its events can be counted. */
+static uint32_t make_by(struct rrcache_shelf *shelf, uint64_t capacity, uint64_t chapter,
+                        uint64_t stale)
+{
+    uint32_t status = rrcache_make(shelf, capacity, chapter, stale, SEED);
+    return status == RRCACHE_DONE ? rrcache_record(shelf) : status;
+}
+
 static uint32_t make(struct rrcache_shelf *shelf)
 {
-    return rrcache_make(shelf, 100, 4, 3600, SEED);
+    return make_by(shelf, 100, 4, 3600);
 }
 
 static uint32_t offer_answer(struct rrcache_shelf *shelf, uint64_t moment,
@@ -478,6 +486,57 @@ static void test_full_chapter(void)
     EXPECT(rrcache_free(&shelf) == RRCACHE_DONE);
 }
 
+/* Offers and asks as often as this with both of two shelves, and answers whether they tell the same
+   and hold as many keys and octets. */
+static bool are_alike(struct rrcache_shelf *one, struct rrcache_shelf *other, uint64_t moment)
+{
+    struct rrcache_counts counts[2];
+    struct rrcache_told told[2];
+    uint8_t buffers[2][64];
+    bool alike = true;
+    memset(told, 0, sizeof told);
+    memset(buffers, 0, sizeof buffers);
+    for (int n = 0; n < 5; n++) {
+        uint64_t at = moment + 100 * (uint64_t)n;
+        EXPECT(ask(one, at, &told[0], buffers[0], sizeof buffers[0]) == RRCACHE_DONE
+               && ask(other, at, &told[1], buffers[1], sizeof buffers[1]) == RRCACHE_DONE);
+        alike = alike && memcmp(&told[0], &told[1], sizeof told[0]) == 0
+                && memcmp(buffers[0], buffers[1], sizeof buffers[0]) == 0;
+    }
+    EXPECT(offer_answer(one, moment, &counts[0]) == RRCACHE_DONE
+           && offer_answer(other, moment, &counts[1]) == RRCACHE_DONE);
+    return alike && memcmp(&counts[0], &counts[1], sizeof counts[0]) == 0
+           && keys(one) == keys(other) && octets_of_keys(one) == octets_of_keys(other);
+}
+
+/* A shelf that records nothing has no events, and no chapter of it is ever full. It answers as one
+   does that records, and so it does when its record begins, and when that is dropped. */
+static void test_records(void)
+{
+    struct rrcache_shelf shelf = {0}, other = {0};
+    uint64_t dropped = 9;
+    EXPECT(rrcache_make(&shelf, 100, 4, 3600, SEED) == RRCACHE_DONE
+           && make(&other) == RRCACHE_DONE);
+    for (uint64_t n = 0; n < 3; n++)
+        EXPECT(are_alike(&shelf, &other, FIRST + 200 * n) && events(&shelf) == 0);
+    EXPECT(rrcache_drop_chapters(&shelf, &dropped) == RRCACHE_DONE && dropped == 0);
+    /* 18 events, of which chapters have four. */
+    EXPECT(events(&other) == 4002);
+
+    EXPECT(rrcache_release(&shelf) == RRCACHE_DONE && events(&shelf) == 0);
+    EXPECT(rrcache_record(&shelf) == RRCACHE_DONE && events(&shelf) == 0);
+    EXPECT(are_alike(&shelf, &other, FIRST + 600) && events(&shelf) == 1002);
+    EXPECT(rrcache_record(&shelf) == RRCACHE_DONE && events(&shelf) == 1002);
+    EXPECT(are_alike(&shelf, &other, FIRST + 800) && events(&shelf) == 2004);
+
+    EXPECT(rrcache_release(&shelf) == RRCACHE_DONE && events(&shelf) == 0);
+    EXPECT(rrcache_drop_chapters(&shelf, &dropped) == RRCACHE_DONE && dropped == 0);
+    EXPECT(are_alike(&shelf, &other, FIRST + 1000) && events(&shelf) == 0);
+    EXPECT(rrcache_record(&shelf) == RRCACHE_DONE && are_alike(&shelf, &other, FIRST + 1200)
+           && events(&shelf) == 1002);
+    EXPECT(rrcache_free(&shelf) == RRCACHE_DONE && rrcache_free(&other) == RRCACHE_DONE);
+}
+
 /* What is renewed often is removed by its last time, whether that is the latest or the earliest. */
 static void test_renewed(void)
 {
@@ -543,7 +602,7 @@ static void test_keys(void)
     uint64_t number = 9;
     uint32_t outcome = 0;
     uint8_t buffer[64];
-    EXPECT(rrcache_make(&shelf, 3, 4, 0, SEED) == RRCACHE_DONE && keys(&shelf) == 0);
+    EXPECT(make_by(&shelf, 3, 4, 0) == RRCACHE_DONE && keys(&shelf) == 0);
     EXPECT(ask(&shelf, FIRST, &told, buffer, sizeof buffer) == RRCACHE_DONE && keys(&shelf) == 0);
     EXPECT(offer_answer(&shelf, FIRST, &counts) == RRCACHE_DONE && keys(&shelf) == 1);
     EXPECT(offer_address(&shelf, UPPER, sizeof UPPER, 4, 60) == RRCACHE_KEPT && keys(&shelf) == 1);
@@ -600,7 +659,7 @@ static void test_octets_of_keys(void)
     uint64_t number = 9;
     uint32_t outcome = 0;
     uint8_t buffer[64];
-    EXPECT(rrcache_make(&shelf, 2, 3, 0, SEED) == RRCACHE_DONE && octets_of_keys(&shelf) == 0);
+    EXPECT(make_by(&shelf, 2, 3, 0) == RRCACHE_DONE && octets_of_keys(&shelf) == 0);
 
     /* A set of one address: 13 + 13 + 52. */
     EXPECT(offer_address(&shelf, NAME, sizeof NAME, 3, 60) == RRCACHE_KEPT
@@ -980,8 +1039,8 @@ static void compare_readings(const uint8_t *message, size_t size, uint64_t wante
         struct rrcache_shelf read = {0}, offered = {0};
         struct rrcache_counts counts[2] = {{9, 9, 9}, {8, 8, 8}};
         bool alike = true;
-        EXPECT(rrcache_make(&read, 4096, 4096, 0, SEED) == RRCACHE_DONE
-               && rrcache_make(&offered, 4096, 4096, 0, SEED) == RRCACHE_DONE);
+        EXPECT(make_by(&read, 4096, 4096, 0) == RRCACHE_DONE
+               && make_by(&offered, 4096, 4096, 0) == RRCACHE_DONE);
         EXPECT(rrcache_offer_read(&read, &offers, part, 1, &counts[0]) == RRCACHE_DONE);
         EXPECT(rrcache_offer_part(&offered,
                                   RESPONSE(message, size, ZONE, sizeof ZONE, FIRST, LIMITS),
@@ -1269,6 +1328,8 @@ static void test_no_shelf(void)
            && buffer[0] == 7);
     EXPECT(rrcache_sweep(&shelf, FIRST, 1, &number) == RRCACHE_NO_SHELF
            && rrcache_drop_chapters(&shelf, &number) == RRCACHE_NO_SHELF);
+    EXPECT(rrcache_record(&shelf) == RRCACHE_NO_SHELF && rrcache_release(&shelf) == RRCACHE_NO_SHELF
+           && shelf.at == NULL && !shelf.is_live);
     EXPECT(rrcache_sizes(&shelf, &number, &other, &third, &fourth) == RRCACHE_NO_SHELF
            && number == 7 && other == 7 && third == 7 && fourth == 7);
     EXPECT(make(&shelf) == RRCACHE_DONE && rrcache_free(&shelf) == RRCACHE_DONE
@@ -1647,6 +1708,7 @@ static void test_null(void)
            && rrcache_sweep_some(&shelf, FIRST, 1, 1, &wide, NULL) == RRCACHE_NULL);
     EXPECT(rrcache_sweep(&shelf, FIRST, 1, NULL) == RRCACHE_NULL
            && rrcache_drop_chapters(&shelf, NULL) == RRCACHE_NULL);
+    EXPECT(rrcache_record(NULL) == RRCACHE_NULL && rrcache_release(NULL) == RRCACHE_NULL);
     uint64_t four[4] = {0};
     EXPECT(rrcache_sizes(NULL, four, four + 1, four + 2, four + 3) == RRCACHE_NULL
            && rrcache_sizes(&shelf, NULL, four + 1, four + 2, four + 3) == RRCACHE_NULL
@@ -1690,7 +1752,8 @@ static void test_overlaps(void)
     memcpy(far, NAME, sizeof NAME);
 #define IS_NULL(call) EXPECT((call) == RRCACHE_NULL)
     EXPECT(rrcache_make(shelf, 100, 4, 3600, end - 1) == RRCACHE_NULL && !shelf->is_live
-           && rrcache_make(shelf, 100, 4, 3600, end) == RRCACHE_DONE);
+           && rrcache_make(shelf, 100, 4, 3600, end) == RRCACHE_DONE
+           && rrcache_record(shelf) == RRCACHE_DONE);
     memcpy(&held, shelf, sizeof held);
 
     /* The handle with what else is written, and with what is read. */
@@ -1908,8 +1971,8 @@ static const uint8_t LONG[] = "\46a-label-that-is-longer-than-most-names\7exampl
 /* The part of OTHER. */
 static uint64_t target;
 /* Which of the calls have met a refusal of memory, and behind them whether the making of the shelf
-   has. */
-static bool met_refusal[CALLS + 1];
+   has, and the beginning of its record. */
+static bool met_refusal[CALLS + 2];
 /* What one call reads, the next one offers and the one after that frees. */
 static struct rrcache_offers offers;
 
@@ -1958,22 +2021,44 @@ static uint32_t call(int number, struct rrcache_shelf *shelf)
     }
 }
 
-/*
-   * Makes the calls with one allocation refused, and answers whether all were made with none
-   refused. A call that does without what it * was refused, as a note of what a chapter moved, is
-   done like any other. */
-static bool run_refused(long refused)
+/* Makes an empty shelf, where one allocation may be refused, and answers whether what is told and
+   left of that is right. */
+static bool make_refused(struct rrcache_shelf *shelf)
+{
+    bool right = true;
+    uint32_t made = rrcache_make(shelf, 100, 4, 3600, SEED);
+    if (made == RRCACHE_MEMORY) {
+        met_refusal[CALLS] = true;
+        right = shelf->at == NULL && !shelf->is_live && blocks == 0;
+        made = rrcache_make(shelf, 100, 4, 3600, SEED);
+    }
+    return right && made == RRCACHE_DONE;
+}
+
+/* The same where its history is to be recorded. */
+static bool record_refused(struct rrcache_shelf *shelf)
+{
+    struct state before = state_of(shelf);
+    bool right = true;
+    uint32_t status = rrcache_record(shelf);
+    struct state after = state_of(shelf);
+    if (status == RRCACHE_MEMORY) {
+        met_refusal[CALLS + 1] = true;
+        right = memcmp(&before, &after, sizeof before) == 0;
+        status = rrcache_record(shelf);
+    }
+    return right && status == RRCACHE_DONE;
+}
+
+/* Makes the calls with one allocation refused, for a shelf that records or does not, and answers
+   whether all were made with none refused. A call that does without what it was refused, as a note
+   of what a chapter moved, is done like any other. */
+static bool run_refused(long refused, bool records)
 {
     struct rrcache_shelf shelf = {0};
     bool right = true;
     granted = refused;
-    uint32_t made = make(&shelf);
-    if (made == RRCACHE_MEMORY) {
-        met_refusal[CALLS] = true;
-        right = right && shelf.at == NULL && !shelf.is_live && blocks == 0;
-        made = make(&shelf);
-    }
-    right = right && made == RRCACHE_DONE;
+    right = make_refused(&shelf) && (!records || record_refused(&shelf));
     for (int number = 0; number < CALLS; number++) {
         struct state before = state_of(&shelf);
         uint32_t status = call(number, &shelf);
@@ -1987,7 +2072,8 @@ static bool run_refused(long refused)
     }
     bool is_whole = granted >= 0;
     granted = -1;
-    right = right && rrcache_free(&shelf) == RRCACHE_DONE && blocks == 0;
+    right = right && rrcache_release(&shelf) == RRCACHE_DONE && rrcache_free(&shelf) == RRCACHE_DONE
+            && blocks == 0;
     EXPECT(right);
     return is_whole;
 }
@@ -1998,10 +2084,15 @@ static void test_refused_memory(void)
     long out = blocks;
     target = part_of(OTHER, sizeof OTHER);
     blocks = 0;
-    while (refused < 1000 && !run_refused(refused))
+    while (refused < 1000 && !run_refused(refused, false))
         refused++;
     EXPECT(refused > 20 && refused < 1000);
-    for (int number = 0; number <= CALLS; number++)
+    printf("refused each of %ld allocations in turn while nothing is recorded\n", refused);
+    refused = 0;
+    while (refused < 1000 && !run_refused(refused, true))
+        refused++;
+    EXPECT(refused > 20 && refused < 1000);
+    for (int number = 0; number <= CALLS + 1; number++)
         EXPECT(met_refusal[number] == (number != 11)); /* to free takes no memory */
     printf("refused each of %ld allocations in turn\n", refused);
     blocks = out;
@@ -2021,6 +2112,7 @@ int main(void)
     test_stale();
     test_chapters();
     test_full_chapter();
+    test_records();
     test_renewed();
     test_failed_names();
     test_keys();

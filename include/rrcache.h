@@ -1,9 +1,10 @@
 /* SPDX-License-Identifier: MIT */
 /* rrcache.h: the RRset cache of a recursive DNS resolver, for resolvers written in C.
 
-   A *shelf* is one part of the cache with its history. A resolver makes 16 to 64 of them, each with
-   a lock beside it, and picks the one for a name by `rrcache_part_of`: all that is known of a name
-   lies in one part, in whatever case the name is written. Which part that is goes by a hash under a
+   A *shelf* is one part of the cache, and where it is asked to (`rrcache_record`) it records its
+   history. A resolver makes 16 to 64 of them, each with a lock beside it, and picks the one for a
+   name by `rrcache_part_of`: all that is known of a name lies in one part, in whatever case the
+   name is written. Which part that is goes by a hash under a
    secret seed (`struct rrcache_parts`), so that nobody else can pick names of one part, to fill it
    and keep its lock busy. With more shelves fewer threads wait for one lock; one shelf with no lock
    will do where one thread asks.
@@ -37,11 +38,12 @@
    What a refusal leaves
    - Every call returns a status. RRCACHE_DONE is 0; each other one is a refusal, and nothing ends
      the process.
-   - A refusal leaves the shelf's history and its replies as they were; a chapter that was full may
-     have been closed. `rrcache_offer_message`, `rrcache_offer_part`, `rrcache_offer_read` and
-     `rrcache_sweep_some` alone may leave a part of their work: the offers of one message, and the
-     sweeps of one call, are made one after another, and where one is refused, those before it stay.
-     `counts`, and of the last `removed`, tells how many they are.
+   - A refusal leaves the shelf's history and its replies as they were; while the history is
+     recorded, a chapter that was full may have been closed. `rrcache_offer_message`,
+     `rrcache_offer_part`, `rrcache_offer_read` and `rrcache_sweep_some` alone may leave a part of
+     their work: the offers of one message, and the sweeps of one call, are made one after another,
+     and where one is refused, those before it stay. `counts`, and of the last `removed`, tells how
+     many they are.
    - What a call was to write for the caller is as it was after a refusal, but for `counts`, for
      `removed` and `is_done` of `rrcache_sweep_some`, and for `told` and `is_alias` after
      RRCACHE_SMALL. RRCACHE_NULL, RRCACHE_NO_SHELF and RRCACHE_NO_OFFERS leave all of it.
@@ -97,8 +99,13 @@
    The history and its chapters
    - The history of a shelf grows by one event with each ask, each sweep and each offer of a set, a
      negative return or a failure that returns RRCACHE_DONE, and with a message by one for each of
-     its offers that was made. An event takes 96 octets, beside the names and the data that it tells
-     of.
+     its offers that was made.
+   - A shelf is made to record none of it. Then an event takes a number and no memory, no chapter is
+     ever full or closed, and there is nothing to drop. `rrcache_record` records the history from
+     that call on, which an audit by other software may want, and `rrcache_release` ends that and
+     drops what was recorded. No reply depends on it. What is told below of events that are kept and
+     of chapters is so while the history is recorded.
+   - An event takes 96 octets, beside the names and the data that it tells of.
    - A call that is to write an event and finds the open chapter full closes it and opens the next,
      and then does what it is to do: all within the call, and so under the lock. With a message that
      may come before any one of its offers. No reply depends on where chapters end.
@@ -108,15 +115,15 @@
      chapter and of one with more touches and removals than keys at its beginning. No name and no
      data are copied, and no event. A chapter should have about as many events as the shelf has
      keys.
-   - Whoever needs no history drops the closed chapters from time to time. That frees each of their
-     events, one by one, and each of the copied entries that nothing else holds. So its time goes
-     with the events that were written since the last time, and it is spent under the lock as well:
-     it is short where chapters are dropped often.
-   - Numbers are spent where the next event would have the number 2^62, or where the open chapter is
-     full and has that number. From then on each call that is to write an event is refused with
-     RRCACHE_HISTORY_FULL, whatever is dropped; `rrcache_peek` still tells replies. The resolver
-     then frees the shelf and makes a new one, which is empty. At 10^9 events a second that is after
-     146 years.
+   - Whoever records drops the closed chapters from time to time. That frees each of their events,
+     one by one, and each of the copied entries that nothing else holds. So its time goes with the
+     events that were written since the last time, and it is spent under the lock as well: it is
+     short where chapters are dropped often.
+   - Numbers are spent where the next event would have the number 2^62, whether it is recorded or
+     not, or where the open chapter is full and has that number. From then on each call that is to
+     write an event is refused with RRCACHE_HISTORY_FULL, whatever is dropped; `rrcache_peek` still
+     tells replies. The resolver then frees the shelf and makes a new one, which is empty. At 10^9
+     events a second that is after 146 years.
 
    Which refusal is told
    - Where more than one is due, the first of these, of which each call has some: RRCACHE_NULL;
@@ -378,6 +385,8 @@ enum { RRCACHE_RECORD_OCTETS = 48 };
 uint32_t rrc_make(struct rrcache_shelf *shelf, uint64_t capacity, uint64_t chapter, uint64_t stale,
                   const uint8_t *seed, size_t seed_size);
 uint32_t rrc_free(struct rrcache_shelf *shelf);
+uint32_t rrc_record(struct rrcache_shelf *shelf);
+uint32_t rrc_release(struct rrcache_shelf *shelf);
 uint32_t rrc_offer_message(struct rrcache_shelf *shelf, const uint8_t *octets, size_t size,
                            const uint8_t *zone, size_t zone_size, uint64_t moment,
                            const struct rrcache_limits *limits, uint64_t line,
@@ -478,7 +487,8 @@ static inline bool rrcache_holds(const struct rrcache_shelf *shelf, const void *
 
 /* Makes an empty shelf for a handle that holds none: for 1 to 65,536 keys, with 1 to 1,048,576
    events in a chapter, and sets that may answer for 0 to 604,800 seconds past their time to live.
-   Names are hashed by SipHash-1-3 under the seed of 16 octets. Let it be random and keep it
+   It records none of its history until `rrcache_record` is called, and till then no chapter is
+   full. Names are hashed by SipHash-1-3 under the seed of 16 octets. Let it be random and keep it
    secret: then nobody can pick names whose hashes are alike, which would make calls slow. Where the
    handle holds a shelf RRCACHE_HAS_SHELF is returned, whatever the rules are, and that shelf is as
    it was. */
@@ -491,13 +501,36 @@ static inline enum rrcache_status rrcache_make(struct rrcache_shelf *shelf, uint
     return (enum rrcache_status)rrc_make(shelf, capacity, chapter, stale, seed, 16);
 }
 
-/* Frees the shelf of a handle, which then holds none, with all its keys and the events of all its
-   chapters, one by one. Where it held none RRCACHE_NO_SHELF is returned and nothing done. */
+/* Frees the shelf of a handle, which then holds none, with all its keys and the events that are
+   recorded, one by one. Where it held none RRCACHE_NO_SHELF is returned and nothing done. */
 static inline enum rrcache_status rrcache_free(struct rrcache_shelf *shelf)
 {
     if (shelf == NULL)
         return RRCACHE_NULL;
     return (enum rrcache_status)rrc_free(shelf);
+}
+
+/* Records the history of the shelf from here on. The chapter that was open ends unrecorded, and the
+   next one begins with what the shelf holds, which takes the memory and the time that it takes to
+   close a chapter in which each key was touched. No reply changes. Where the history is recorded
+   already nothing is done. RRCACHE_HISTORY_FULL is returned where the chapter has the number 2^62,
+   and after it and RRCACHE_MEMORY the shelf is as it was. */
+static inline enum rrcache_status rrcache_record(struct rrcache_shelf *shelf)
+{
+    if (shelf == NULL)
+        return RRCACHE_NULL;
+    return (enum rrcache_status)rrc_record(shelf);
+}
+
+/* Records nothing from here on, and drops what was recorded: each event of the closed chapters and
+   of the open one is freed before the call returns. No reply changes, and no key is lost. It takes
+   no memory, and is refused only where a handle holds no shelf. Where nothing is recorded nothing
+   is done. */
+static inline enum rrcache_status rrcache_release(struct rrcache_shelf *shelf)
+{
+    if (shelf == NULL)
+        return RRCACHE_NULL;
+    return (enum rrcache_status)rrc_release(shelf);
 }
 
 /* Whether a response may be offered: what is needed is there, and the counts overlap nothing that
@@ -878,8 +911,8 @@ static inline enum rrcache_status rrcache_sweep_some(struct rrcache_shelf *shelf
     return status;
 }
 
-/* Takes the closed chapters and drops them, and tells how many they were. No reply changes. Each
-   event of these chapters is freed before the call returns. */
+/* Takes the closed chapters and drops them, and tells how many they were, which is 0 while nothing
+   is recorded. No reply changes. Each event of these chapters is freed before the call returns. */
 static inline enum rrcache_status rrcache_drop_chapters(struct rrcache_shelf *shelf,
                                                         uint64_t *dropped)
 {
@@ -889,9 +922,9 @@ static inline enum rrcache_status rrcache_drop_chapters(struct rrcache_shelf *sh
 }
 
 /* Tells how many keys the shelf holds, those that are dead and not yet swept with them, how many
-   events the open chapter has, how many chapters are closed, and how many octets the keys have. A
-   key is a name and a class with a type, with no type where the name does not exist, or with a type
-   that asking failed for.
+   events of the open chapter are recorded, how many chapters are closed, both 0 while nothing is
+   recorded, and how many octets the keys have. A key is a name and a class with a type, with no
+   type where the name does not exist, or with a type that asking failed for.
 
    Its octets are those of its name, of a set those of its owner and of the data of its records, and
    RRCACHE_RECORD_OCTETS for each record, of a negative answer those of the SOA record's owner and

@@ -119,11 +119,14 @@ def told_row(row):
 def replay_row(row):
     lines, arguments, report = told_row(row)
     same(len(lines), len(report), "lines")
-    with rrcache.Shelf(**arguments) as shelf:
-        for number, (words, line) in enumerate(zip(lines, report)):
-            same(answer_line(shelf, words), wanted_text(line), f"line {number}")
-        shelf.drop_chapters()
-        same(shelf.sizes().chapters, 0, "closed chapters that are left")
+    for record in (False, True):
+        with rrcache.Shelf(record=record, **arguments) as shelf:
+            for number, (words, line) in enumerate(zip(lines, report)):
+                same(answer_line(shelf, words), wanted_text(line), f"line {number}, {record=}")
+            if not record:
+                same((shelf.sizes().events, shelf.sizes().chapters), (0, 0), "events and chapters that are not recorded")
+            shelf.drop_chapters()
+            same(shelf.sizes().chapters, 0, "closed chapters that are left")
 
 
 DOCSTRINGS = """
@@ -138,7 +141,7 @@ def test_docstrings_of_python():
     # doctest reads standard output, which other tests write to.
     told = subprocess.run([sys.executable, "-c", DOCSTRINGS], cwd=TOP / "python",
                           capture_output=True, text=True)
-    same(told.stdout, "0 of 11\n", told.stderr or "examples that are wrong")
+    same(told.stdout, "0 of 12\n", told.stderr or "examples that are wrong")
 
 
 def test_names_by_python():
@@ -349,6 +352,24 @@ def test_how_much_is_relevant():
                  f"{number} {octets_of.__name__}")
 
 
+def test_records_begin_and_end():
+    with rrcache.Shelf(capacity=8, chapter=2) as shelf:
+        shelf.offer_set("a", A, 4, 60, [b"\xc0\0\2\1"], 100)
+        for record, sizes in ((None, (0, 0)), (shelf.record, (1, 1)), (shelf.record, (2, 2)), (shelf.release, (0, 0)),
+                              (shelf.release, (0, 0)), (shelf.record, (1, 1))):
+            if record:
+                record()
+            for moment in (110, 120, 130):
+                same(shelf.ask("A", A, moment).left, 160 - moment, "what is left of its TTL")
+            same(shelf.sizes()[:3], (1, *sizes), "keys, events and chapters")
+    for call in (shelf.record, shelf.release):
+        try:
+            call()
+        except rrcache.NoShelf:
+            continue
+        raise Wrong("a shelf that was closed records")
+
+
 def test_what_is_stored_is_told():
     with rrcache.Shelf(capacity=8, chapter=64, stale=0) as shelf:
         same(shelf.stored("a", A), None, "what an empty shelf holds")
@@ -419,7 +440,7 @@ def test_refusals_by_python():
              (6, lambda it: it.offer_part(b"x", b"\0", 4, SEED, 4, 1)),
              (7, lambda it: it.offer_part(b"x", b"\0", 4, b"", 3, 1)),
              (10, lambda it: it.offer_part(b"x", b"\0", 4, SEED, 3, 1))]
-    with rrcache.Shelf() as shelf:
+    with rrcache.Shelf(record=True) as shelf:
         for status, call in cases:
             try:
                 call(shelf)
@@ -541,7 +562,7 @@ def test_parts_by_python():
     parts = [rrcache.part_of(wire(it), 4, SEED) for it in names]
     wanted(len(set(parts)) > 1, "names in more than one part")
     for part in range(4):
-        with rrcache.Shelf() as shelf:
+        with rrcache.Shelf(record=True) as shelf:
             same(shelf.offer_part(octets, wire("example"), 4, SEED, part, 100), (parts.count(part), 0, 0), f"the share of part {part}")
             # Twice the name, a record, and another name or an address.
             held = [2 * 12 + rrcache.RECORD_OCTETS + size for size, home in zip([12] * 7 + [4], parts) if home == part]
@@ -557,7 +578,7 @@ def test_one_reading_by_python():
     with rrcache.Offers(octets, "example.", 4, SEED, 100) as offers:
         same(offers.concerned, sorted(set(parts)), "the parts concerned")
         for part in range(4):
-            with rrcache.Shelf() as shelf:
+            with rrcache.Shelf(record=True) as shelf:
                 same(shelf.offer_read(offers, part), (parts.count(part), 0, 0), f"the share of part {part}")
                 same(shelf.offer_part(octets, "example.", 4, SEED, part, 100), (parts.count(part), 0, 0), "the same by a reading of its own")
                 keys = parts.count(part)

@@ -1,6 +1,5 @@
 /* SPDX-License-Identifier: MIT */
-/* rrcache under bench/beside/work.c: 64 shelves, each with a lock, whose closed chapters are
-   dropped. */
+/* rrcache under bench/beside/work.c: 64 shelves, each with a lock, that record no history. */
 #include <pthread.h>
 
 #include "rrcache.h"
@@ -9,20 +8,17 @@
 struct shelf {
     pthread_mutex_t lock;
     struct rrcache_shelf cache;
-    uint64_t calls;
     char apart[64]; /* so that two locks lie on two lines of the processor's cache */
 };
 
 static struct shelf shelves[SHARDS];
-static uint64_t chapter;
 
 void make_cache(size_t sets)
 {
     static const uint8_t seed[16] = {7};
-    chapter = sets / SHARDS;
     for (struct shelf *shelf = shelves; shelf < shelves + SHARDS; shelf++)
         if (pthread_mutex_init(&shelf->lock, NULL) != 0
-            || rrcache_make(&shelf->cache, chapter, chapter, 0, seed) != RRCACHE_DONE)
+            || rrcache_make(&shelf->cache, sets / SHARDS, 4096, 0, seed) != RRCACHE_DONE)
             fail("no shelf");
 }
 
@@ -39,15 +35,6 @@ static struct shelf *shelf_of(const struct name *name)
     if (rrcache_part_of(name->octets, name->size, &parts, &part) != RRCACHE_DONE)
         fail("no part");
     return &shelves[part];
-}
-
-/* Ends a call on a shelf. */
-static void leave(struct shelf *shelf)
-{
-    uint64_t dropped;
-    if (++shelf->calls % chapter == 0)
-        rrcache_drop_chapters(&shelf->cache, &dropped);
-    pthread_mutex_unlock(&shelf->lock);
 }
 
 void put(void *thread, const struct name *name, unsigned turn)
@@ -70,7 +57,7 @@ void put(void *thread, const struct name *name, unsigned turn)
     pthread_mutex_lock(&shelf->lock);
     if (rrcache_offer_set(&shelf->cache, &set, 0, &outcome) != RRCACHE_DONE)
         fail("a put was refused");
-    leave(shelf);
+    pthread_mutex_unlock(&shelf->lock);
 }
 
 bool ask(void *thread, const struct name *name)
@@ -90,6 +77,6 @@ bool ask(void *thread, const struct name *name)
     pthread_mutex_lock(&shelf->lock);
     if (rrcache_ask(&shelf->cache, &query, 0, &told, buffer, sizeof buffer) != RRCACHE_DONE)
         fail("an ask was refused");
-    leave(shelf);
+    pthread_mutex_unlock(&shelf->lock);
     return told.kind == RRCACHE_FRESH;
 }

@@ -75,8 +75,8 @@ void leave_cache(void)
 
 /* ---- Looking up. */
 
-/* Asks the shelf of a name for a type. An ask writes an event. Where memory is refused for that,
-   the chapters that are closed are freed, and the shelf is asked for nothing but the reply. */
+/* Asks the shelf of a name for a type. Where memory is refused the shelf is asked for nothing but
+   the reply, which touches no key. */
 static enum rrcache_status ask_shelf(struct shelf *shelf, const struct question *at, uint16_t type,
                                      const struct walk *walk, struct found *found)
 {
@@ -89,17 +89,14 @@ static enum rrcache_status ask_shelf(struct shelf *shelf, const struct question 
         .purpose = RRCACHE_QUESTION,
         .mode = walk->mode,
     };
-    uint64_t dropped;
     enum rrcache_status status = RRCACHE_MEMORY;
     pthread_mutex_lock(&shelf->lock);
     if (!walk->only_looks)
         status = rrcache_ask(&shelf->cache, &query, shelf->calls++, &found->told, found->octets,
                              sizeof found->octets);
-    if (status == RRCACHE_MEMORY) {
-        rrcache_drop_chapters(&shelf->cache, &dropped);
+    if (status == RRCACHE_MEMORY)
         status =
             rrcache_peek(&shelf->cache, &query, &found->told, found->octets, sizeof found->octets);
-    }
     pthread_mutex_unlock(&shelf->lock);
     return status;
 }
@@ -357,7 +354,6 @@ void sweep(void)
         uint64_t removed = 0, keys = 0, events, chapters, octets = 0;
         pthread_mutex_lock(&shelf->lock);
         rrcache_sweep(&shelf->cache, moment(), shelf->calls++, &removed);
-        rrcache_drop_chapters(&shelf->cache, &chapters);
         rrcache_sizes(&shelf->cache, &keys, &events, &chapters, &octets);
         pthread_mutex_unlock(&shelf->lock);
         count(SWEPT, removed);

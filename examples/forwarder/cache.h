@@ -53,8 +53,8 @@ bool keep(const struct question *question, const uint8_t *message, size_t size,
 /* Remembers for FAILURE_SECONDS that nothing came of asking (RFC 2308 section 7). */
 void remember_failure(const struct question *question);
 
-/* Removes dead keys, drops the closed chapters of the shelves' histories, which nobody audits here,
-   and counts the keys. */
+/* Removes dead keys, and counts the others. The shelves record no history, which nobody audits
+   here. */
 void sweep(void);
 
 #endif

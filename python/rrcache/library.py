@@ -18,7 +18,8 @@ TYPES: dict[str, list[Any]] = {
     "m": [c_uint64],
 }
 CALLS = {
-    "rrc_make": "pmmmo", "rrc_free": "p", "rrc_offer_message": "poompmp",
+    "rrc_make": "pmmmo", "rrc_free": "p", "rrc_record": "p", "rrc_release": "p",
+    "rrc_offer_message": "poompmp",
     "rrc_offer_part": "poomommpmp", "rrc_read_message": "poomompp",
     "rrc_read_response": "pootottmompp", "rrc_offer_read": "ppmmp", "rrc_free_offers": "p",
     "rrc_offer_set": "pottnnommp",

@@ -28,10 +28,10 @@ RECORD_OCTETS = 48
 
 
 class Sizes(NamedTuple):
-    """How many keys a shelf holds, how many events its open chapter has, how many chapters are
-    closed, and how many octets the keys have: of each its name, of an RRset its owner and its
-    rdata, and `RECORD_OCTETS` for each record, of a negative answer its SOA record's owner and
-    rdata."""
+    """How many keys a shelf holds, how many events of its open chapter are recorded, how many
+    chapters are closed, both 0 where nothing is recorded, and how many octets the keys have: of
+    each its name, of an RRset its owner and its rdata, and `RECORD_OCTETS` for each record, of a
+    negative answer its SOA record's owner and rdata."""
 
     keys: int
     events: int

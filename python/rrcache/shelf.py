@@ -29,12 +29,13 @@ def data_of(octets: bytes) -> tuple[bytes, ...]:
 
 
 class Shelf:
-    """A part of the cache with its history, for one thread at a time: ctypes lets other threads of
-    Python run within a call, so two threads need a lock. A `with` closes it at its end.
+    """A part of the cache, for one thread at a time: ctypes lets other threads of Python run within
+    a call, so two threads need a lock. A `with` closes it at its end.
 
     `capacity` is the most keys (1 to 65,536), `chapter` the events of a chapter (1 to 1,048,576),
     `stale` how long a set may answer past its TTL (0 to 604,800), `seed` the 16 secret octets by
-    which names are hashed, random where none are given.
+    which names are hashed, random where none are given. With `record` its history is recorded from
+    the start (`Shelf.record`).
 
     >>> with Shelf() as shelf:
     ...     outcome = shelf.offer_set("www.example.", 1, Rank.AUTHORITATIVE_ANSWER, 60,
@@ -45,11 +46,13 @@ class Shelf:
     """
 
     def __init__(self, capacity: int = 1024, chapter: int = 4096, stale: int = 86_400,
-                 seed: bytes | None = None) -> None:
+                 seed: bytes | None = None, record: bool = False) -> None:
         # A handle that begins with a null pointer holds no shelf.
         self._handle, self._room = (c_void_p * 2)(), 1024
         octets = os.urandom(16) if seed is None else seed
         call("rrc_make", self._handle, capacity, chapter, stale, *sized(octets))
+        if record:
+            self.record()
 
     def close(self) -> None:
         """Frees the shelf; it may be closed again. Calls after that raise `NoShelf`."""
@@ -171,8 +174,26 @@ class Shelf:
         due = self.next_expiry()
         return removed, due is None or due > moment
 
+    def record(self) -> None:
+        """Records the history from here on. No reply depends on it. Where it is recorded already
+        nothing is done.
+
+        >>> with Shelf() as shelf:
+        ...     shelf.ask("www.example.", 1, moment=1000).kind.name, shelf.sizes().events
+        ...     shelf.record()
+        ...     shelf.ask("www.example.", 1, moment=1000).kind.name, shelf.sizes().events
+        ('MISS', 0)
+        ('MISS', 1)
+        """
+        call("rrc_record", self._handle)
+
+    def release(self) -> None:
+        """Records nothing from here on, and drops what was recorded."""
+        call("rrc_release", self._handle)
+
     def drop_chapters(self) -> int:
-        """Drops the closed chapters of the history, and tells how many."""
+        """Drops the closed chapters of the history, and tells how many: none where nothing is
+        recorded."""
         return told("rrc_drop_chapters", c_uint64, self._handle)
 
     def sizes(self) -> Sizes:

@@ -9,8 +9,8 @@ use Rattle.std_alloc.proofs.BoxSteps.Form.{Bx}
 use Rattle.std_heap.specs.contracts.Global as Heap
 use Rattle.std_heap.specs.contracts.GlobalAllocator.TheImpl.{ghosts, dict}
 use Rattle.std_heap.proofs.Global.TheLaws as heap
-use Rattle.rrc_share.specs.contracts.shelf.Shelf as Shelf
-use Rattle.rrc_share.proofs.shelf.Shelf.TheLaws as shelf
+use Rattle.rrc_share.specs.contracts.cache_shelf.CacheShelf as Shelf
+use Rattle.rrc_share.proofs.cache_shelf.CacheShelf.TheLaws as shelf
 use Rattle.rrc_c.specs.contracts.seal.parts.Parts as Parts
 use Rattle.rrc_c.specs.contracts.seal.Seal as Seal
 

@@ -1,6 +1,6 @@
 -- SPDX-License-Identifier: MIT
 -- Why calls are refused.
-use Rattle.std.proofs.Common.{◌≡◌, ℕ, ◌+◌, ◌^◌, ◌<◌, ◌≤◌, List, [], ◌∷◌, ◌++◌, length, drop, get_or, refl, sym, ap, subst, inl, inr, arith, Option, Some, Result, Ok, Err}
+use Rattle.std.proofs.Common.{◌≡◌, ℕ, ◌+◌, ◌^◌, ◌<◌, ◌≤◌, List, [], ◌∷◌, ◌++◌, length, drop, get_or, refl, sym, ap, subst, inl, inr, arith, Bool, true, false, Option, Some, Result, Ok, Err}
 use Rattle.std.proofs.lemmas.List.{drop_all}
 use Rattle.std.specs.List.{AllByRecursion}
 use Rattle.std.specs.Prelude.{IfErr, IsErrAnd}
@@ -8,20 +8,30 @@ use Rattle.rrc_history.specs.declared.event.Outcome.{Outcome}
 use Rattle.rrc_cache.specs.Part.{PartOf}
 use Rattle.rrc_cache.specs.declared.refusal.Refusal.{Refusal}
 use Rattle.rrc_cache.specs.declared.refusal.Refusal.TheVariants as Refusals
-use Rattle.rrc_share.specs.Shelf.{ShelfOf, IsDue}
-use Rattle.rrc_c.specs.Refusals.{IfHeld, WriteDue}
+use Rattle.rrc_share.specs.CacheShelf.{CacheShelfOf, IsDueBy}
+use Rattle.rrc_history.specs.Lives.{LAST_MOMENT}
+use Rattle.rrc_c.specs.Refusals.{Because, IfHeld, IsDoneOrMemory, Then, WriteDue}
+use Rattle.rrc_c.specs.Shelves.{CanWriteBy, IsSpentBy}
 use Rattle.rrc_c.specs.Statuses.{number_of, number_of_call, refused_as}
 use Rattle.rrc_c.specs.Told.{data_text, AreNarrow, AreTellable}
 use Rattle.rrc_c.specs.declared.status.Status.{Status}
+use Rattle.rrc_c.specs.declared.status.Status.TheVariants.{HistoryFull, MomentTooLarge}
 use Rattle.rrc_c.proofs.Filling.{narrow_next}
 
 -- ---- events
 
+refused_by : (A : Type 0) (records : Bool) (part : PartOf) (at : ℕ) (refusal : Refusal) → IsDueBy {A = A} records part at (Err refusal)
+    → Then (Because HistoryFull (IsSpentBy records part)) (CanWriteBy records part) (Then (Because MomentTooLarge (LAST_MOMENT < at)) (at ≤ LAST_MOMENT) IsDoneOrMemory) (number_of (refused_as refusal))
+refused_by A true part at Refusals.HistoryFull spent = inl (refl, spent)
+refused_by A true part at Refusals.MomentTooLarge (can, late) = inr (can, inl (refl, late))
+refused_by A true part at Refusals.Memory ready = inr (ready.room, inr (ready.moment, inl refl))
+refused_by A false part at Refusals.HistoryFull spent = inl (refl, spent)
+refused_by A false part at Refusals.MomentTooLarge (can, late) = inr (can, inl (refl, late))
+refused_by A false part at Refusals.Memory ready = inr (ready.number, inr (ready.moment, inl refl))
+
 -- a shelf that refuses an offer tells why
-pub write_refused : (part : PartOf) (at : ℕ) (refusal : Refusal) → IsDue {A = Outcome} part at (Err refusal) → WriteDue part at (number_of (refused_as refusal))
-write_refused part at Refusals.HistoryFull spent = inl (refl, spent)
-write_refused part at Refusals.MomentTooLarge (can, late) = inr (can, inl (refl, late))
-write_refused part at Refusals.Memory ready = inr (ready.room, inr (ready.moment, inl refl))
+pub write_refused : (shelf : CacheShelfOf) (at : ℕ) (refusal : Refusal) → IsDueBy {A = Outcome} shelf.records shelf.shelf.part at (Err refusal) → WriteDue shelf at (number_of (refused_as refusal))
+write_refused shelf at refusal due = refused_by Outcome shelf.records shelf.shelf.part at refusal due
 
 -- what is said of a refusal is said of the number that a call answers
 pub refused_told : {A : Type 0} (result : Result A Status) (status : Status) (X : ℕ → Type 0) → IsErrAnd result (λ one. one ≡ status) → X (number_of status) → X (number_of_call result)
@@ -35,7 +45,7 @@ on_err (Err one) status X is x = subst (λ it. X (number_of it)) (sym is) x
 -- ---- handles
 
 -- what a call says of the shelf that it took and of its number
-pub told_of_held : (held : Option ShelfOf) (shelf : ShelfOf) (told number : ℕ) (fact : ShelfOf → ℕ → Type 0) → Some shelf ≡ held → told ≡ number → fact shelf number
+pub told_of_held : (held : Option CacheShelfOf) (shelf : CacheShelfOf) (told number : ℕ) (fact : CacheShelfOf → ℕ → Type 0) → Some shelf ≡ held → told ≡ number → fact shelf number
     → IfHeld held (λ one. fact one told)
 told_of_held held shelf told number fact is same holds = subst (λ one. IfHeld one (λ it. fact it told)) is (subst (fact shelf) (sym same) holds)
 

@@ -6,9 +6,10 @@ use Rattle.std.specs.Prelude.{OnOk, IfErr}
 use Rattle.rrc_history.specs.Fits.{OfferOf}
 use Rattle.rrc_history.specs.declared.event.Outcome.{Outcome}
 use Rattle.rrc_history.specs.declared.event.Outcome.TheVariants.{Kept, Cleared, LessTrusted}
-use Rattle.rrc_share.specs.Shelf.{ShelfOf, AppendsOffer, IsLeft}
+use Rattle.rrc_share.specs.CacheShelf.{CacheShelfOf}
 use Rattle.rrc_c.specs.declared.counts.Counts.{Counts}
 use Rattle.rrc_c.specs.Refusals.{WriteDue}
+use Rattle.rrc_c.specs.Shelves.{IsLeftAs, MakesOffer}
 use Rattle.rrc_c.specs.Offered.{AreAt, Takes, TakesAll, TakesFirst, count_more, total}
 
 -- one more is counted
@@ -18,26 +19,26 @@ total_more Cleared counts = omega arith
 total_more LessTrusted counts = omega arith
 
 -- one more offer
-pub takes_more : (line : ℕ) (offers : List OfferOf) (offer : OfferOf) (outcome : Outcome) (counts after : Counts) (old middle new : ShelfOf) (place : ℕ)
+pub takes_more : (line : ℕ) (offers : List OfferOf) (offer : OfferOf) (outcome : Outcome) (counts after : Counts) (old middle new : CacheShelfOf) (place : ℕ)
     → TakesAll line offers counts old middle × (total counts ≡ length offers) → place ≡ total counts
-    → AppendsOffer middle new (record { line = line; place = place }) offer outcome → after ≡ count_more outcome counts
+    → MakesOffer middle new (record { line = line; place = place }) offer outcome → after ≡ count_more outcome counts
     → TakesAll line (offers ++ offer ∷ []) after old new × (total after ≡ length (offers ++ offer ∷ []))
 takes_more line offers offer outcome counts after old middle new place (all, sized) here appended counted =
     let back : reverse (offers ++ offer ∷ []) ≡ offer ∷ reverse offers = reverse-append offers (offer ∷ []) in
     let at : place ≡ length (reverse offers) = here ∙ sized ∙ sym (length-reverse offers) in
-    let last = subst (λ n. AppendsOffer middle new (record { line = line; place = n }) offer outcome) at appended in
+    let last = subst (λ n. MakesOffer middle new (record { line = line; place = n }) offer outcome) at appended in
     let takes : Takes line (reverse (offers ++ offer ∷ [])) (outcome ∷ all.outcomes) old new =
     subst (λ xs. Takes line xs (outcome ∷ all.outcomes) old new) (sym back) (middle, all.takes, last) in
     let sum : total after ≡ total counts + 1 = ap total counted ∙ total_more outcome counts in
     (record { outcomes = outcome ∷ all.outcomes; takes = takes; counted = counted ∙ ap (count_more outcome) all.counted }, sum ∙ ap (λ n. n + 1) sized ∙ sym (length-append offers (offer ∷ [])))
 
 -- the next one was refused
-pub takes_first : (number line : ℕ) (offers taken others : List OfferOf) (next : OfferOf) (counts : Counts) (old middle new : ShelfOf) → offers ≡ taken ++ next ∷ others
-    → (length taken < length offers) × (next ≡ get_or offers (length taken) next) → TakesAll line taken counts old middle → WriteDue middle.part next.moment number → IsLeft middle new
+pub takes_first : (number line : ℕ) (offers taken others : List OfferOf) (next : OfferOf) (counts : Counts) (old middle new : CacheShelfOf) → offers ≡ taken ++ next ∷ others
+    → (length taken < length offers) × (next ≡ get_or offers (length taken) next) → TakesAll line taken counts old middle → WriteDue middle next.moment number → IsLeftAs middle new
     → (at : ℕ) → AreAt at offers → TakesFirst number line at offers counts old new
 takes_first number line offers taken others next counts old middle new parts (below, is) all due left at are =
     let moment : next.moment ≡ at = ap (λ (offer : OfferOf). offer.moment) is ∙ are (length taken) next below in
-    record { taken = taken; next = next; others = others; parts = parts; middle = middle; all = all; due = subst (λ m. WriteDue middle.part m number) moment due; left = left }
+    record { taken = taken; next = next; others = others; parts = parts; middle = middle; all = all; due = subst (λ m. WriteDue middle m number) moment due; left = left }
 
 -- what a vector's iterator yields next stands behind what it has yielded
 pub parts_at : (offers yielded : List OfferOf) (next : OfferOf) → yielded ≡ take (length yielded) offers → (length yielded < length offers) × (next ≡ get_or offers (length yielded) next)

@@ -10,7 +10,8 @@ use Rattle.rrc_history.specs.declared.ask.Mode.{Mode}
 use Rattle.rrc_history.specs.declared.ask.Mode.TheVariants.{NoStale, Failed, Now}
 use Rattle.rrc_history.specs.declared.event.Reply.{Reply}
 use Rattle.rrc_cache.specs.Part.{past_of}
-use Rattle.rrc_share.specs.Shelf.{ShelfOf, AppendsAsk}
+use Rattle.rrc_share.specs.CacheShelf.{CacheShelfOf}
+use Rattle.rrc_c.specs.Shelves.{MakesAsk}
 use Rattle.rrc_c.specs.Told.{told_of, text_of, IsFilled}
 use Rattle.rrc_c.specs.declared.told.Told.{Told}
 
@@ -32,8 +33,8 @@ pub record AreChoices (purpose mode : ℕ) : Type 0 where
   pub mode_known : mode ≤ 2
 
 -- the reply that a shelf has for a question
-abbrev pub reply_of : ShelfOf → AskOf → Reply
-reply_of shelf ask = reply_to shelf.part.snapshot (past_of shelf.part) ask
+abbrev pub reply_of : CacheShelfOf → AskOf → Reply
+reply_of shelf ask = reply_to shelf.shelf.part.snapshot (past_of shelf.shelf.part) ask
 
 -- the record and the buffer tell a reply
 pub record Tells (told : Told) (before after : List ℕ) (reply : Reply) : Type 0 where
@@ -41,34 +42,34 @@ pub record Tells (told : Told) (before after : List ℕ) (reply : Reply) : Type 
   pub buffer_is : IsFilled before (text_of reply) after
 
 -- one event was written, the question with its answer, which is what is told
-pub record Answers (ask : AskOf) (line : ℕ) (told : Told) (before after : List ℕ) (old new : ShelfOf) : Type 0 where
+pub record Answers (ask : AskOf) (line : ℕ) (told : Told) (before after : List ℕ) (old new : CacheShelfOf) : Type 0 where
   pub reply : Reply
-  pub appended : AppendsAsk old new (record { line = line; place = 0 }) ask reply
+  pub made : MakesAsk old new (record { line = line; place = 0 }) ask reply
   pub tells : Tells told before after reply
 
 -- nothing was written, and the reply that the shelf has is told
-pub record Shows (ask : AskOf) (told : Told) (before after : List ℕ) (old new : ShelfOf) : Type 0 where
+pub record Shows (ask : AskOf) (told : Told) (before after : List ℕ) (old new : CacheShelfOf) : Type 0 where
   pub kept : new ≡ old
   pub tells : Tells told before after (reply_of old ask)
 
 -- nothing was written, and the record tells a reply whose octets are more than the buffer has
-pub record TellsSize (ask : AskOf) (told : Told) (buffer : List ℕ) (old new : ShelfOf) : Type 0 where
+pub record TellsSize (ask : AskOf) (told : Told) (buffer : List ℕ) (old new : CacheShelfOf) : Type 0 where
   pub kept : new ≡ old
   pub record_is : told ≡ told_of (reply_of old ask)
   pub small : length buffer < length (text_of (reply_of old ask))
 
 -- the buffer is as it was
-pub record TellsSizeAlone (ask : AskOf) (told : Told) (before after : List ℕ) (old new : ShelfOf) : Type 0 where
+pub record TellsSizeAlone (ask : AskOf) (told : Told) (before after : List ℕ) (old new : CacheShelfOf) : Type 0 where
   pub size : TellsSize ask told before old new
   pub untouched : after ≡ before
 
 -- a question was answered, or where the buffer is too small only the size told
-abbrev pub AnswersOr : Bool → AskOf → ℕ → Told → List ℕ → List ℕ → ShelfOf → ShelfOf → Type 0
+abbrev pub AnswersOr : Bool → AskOf → ℕ → Told → List ℕ → List ℕ → CacheShelfOf → CacheShelfOf → Type 0
 AnswersOr true ask line told before after old new = Answers ask line told before after old new
 AnswersOr false ask line told before after old new = TellsSizeAlone ask told before after old new
 
 -- the reply that there is was told, or where the buffer is too small only its size
-abbrev pub ShowsOr : Bool → AskOf → Told → List ℕ → List ℕ → ShelfOf → ShelfOf → Type 0
+abbrev pub ShowsOr : Bool → AskOf → Told → List ℕ → List ℕ → CacheShelfOf → CacheShelfOf → Type 0
 ShowsOr true ask told before after old new = Shows ask told before after old new
 ShowsOr false ask told before after old new = TellsSizeAlone ask told before after old new
 

@@ -1,28 +1,30 @@
 -- SPDX-License-Identifier: MIT
 -- What a handle holds before and after a call.
 use Rattle.std.specs.Prelude.{◌≡◌, ℕ, Option, None, Some}
-use Rattle.rrc_share.specs.Shelf.{ShelfOf, IsLeft}
+use Rattle.rrc_share.specs.CacheShelf.{CacheShelfOf}
+use Rattle.rrc_c.specs.Shelves.{IsLeftAs}
 
 -- the handle holds a shelf, and held one, of which two this is true
-abbrev pub BothHold : Option ShelfOf → Option ShelfOf → (ShelfOf → ShelfOf → Type 0) → Type 0
+abbrev pub BothHold : Option CacheShelfOf → Option CacheShelfOf → (CacheShelfOf → CacheShelfOf → Type 0) → Type 0
 BothHold None new fact = ⊥
 BothHold (Some before) None fact = ⊥
 BothHold (Some before) (Some after) fact = fact before after
 
--- the handle holds what it held; a chapter that was full may have been closed, which changes no history and no reply
-abbrev pub IsKept : Option ShelfOf → Option ShelfOf → Type 0
+-- the handle holds what it held; while the history is recorded, a chapter that was full may have been closed, which changes no
+-- history and no reply
+abbrev pub IsKept : Option CacheShelfOf → Option CacheShelfOf → Type 0
 IsKept None None = Unit {0}
 IsKept None (Some after) = ⊥
 IsKept (Some before) None = ⊥
-IsKept (Some before) (Some after) = IsLeft before after
+IsKept (Some before) (Some after) = IsLeftAs before after
 
 -- the handle held no shelf, and holds none
-abbrev pub HoldsNone : Option ShelfOf → Option ShelfOf → Type 0
+abbrev pub HoldsNone : Option CacheShelfOf → Option CacheShelfOf → Type 0
 HoldsNone None None = Unit {0}
 HoldsNone None (Some after) = ⊥
 HoldsNone (Some before) after = ⊥
 
 -- a call answers 1 exactly where the handle holds no shelf
-abbrev pub TellsNone : Option ShelfOf → ℕ → Type 0
+abbrev pub TellsNone : Option CacheShelfOf → ℕ → Type 0
 TellsNone None status = status ≡ 1
 TellsNone (Some shelf) status = status ≡ 1 → ⊥

@@ -1,14 +1,15 @@
 -- SPDX-License-Identifier: MIT
 -- What C is told of octets, and of what a shelf holds.
-use Rattle.std.specs.Prelude.{◌≡◌, ℕ, ◌⊎◌, List, [], length}
+use Rattle.std.specs.Prelude.{◌≡◌, ℕ, ◌⊎◌, List}
 use Rattle.rrc_cache.specs.Expiry.{NoneDiesBefore}
 use Rattle.rrc_cache.specs.Sizes.{HoldsKeys, HoldsOctets}
-use Rattle.rrc_share.specs.Shelf.{ShelfOf}
+use Rattle.rrc_share.specs.CacheShelf.{CacheShelfOf, lean_shelf}
 use Rattle.rrc_wire.specs.Fault.{number_of}
 use Rattle.rrc_wire.specs.Grammar.{MessageOf}
 use Rattle.rrc_wire.specs.Message.{FirstFault}
 use Rattle.rrc_wire.specs.declared.fault.WireFault.{WireFault}
 use Rattle.rrc_wire.specs.declared.message.Message.{Message}
+use Rattle.rrc_c.specs.Shelves.{recorded_chapters, recorded_events}
 
 -- octets are a message
 pub record IsMessage (octets : List ℕ) (number : ℕ) : Type 0 where
@@ -26,21 +27,22 @@ pub record HasFault (octets : List ℕ) (number : ℕ) : Type 0 where
 abbrev pub TellsFault : List ℕ → ℕ → Type 0
 TellsFault octets number = IsMessage octets number ⊎ HasFault octets number
 
--- how many keys the shelf holds, how many events the open chapter has, how many chapters are
--- closed, and how many octets the entries of these keys have
-pub record TellsSizes (keys events chapters octets : ℕ) (old new : ShelfOf) : Type 0 where
+-- how many keys the shelf holds, how many events the open chapter has and how many chapters are closed,
+-- of which there are none where nothing is recorded, and how many octets the entries of these keys have
+pub record TellsSizes (keys events chapters octets : ℕ) (old new : CacheShelfOf) : Type 0 where
   pub kept : new ≡ old
-  pub keys_are : HoldsKeys old.part keys
-  pub events_are : events ≡ length old.part.events
-  pub chapters_are : chapters ≡ length old.closed
-  pub octets_are : HoldsOctets old.part octets
+  pub keys_are : HoldsKeys old.shelf.part keys
+  pub events_are : events ≡ recorded_events old.records old.shelf
+  pub chapters_are : chapters ≡ recorded_chapters old.records old.shelf
+  pub octets_are : HoldsOctets old.shelf.part octets
 
 -- no key of the shelf is dead before a moment
-pub record TellsExpiry (moment : ℕ) (old new : ShelfOf) : Type 0 where
+pub record TellsExpiry (moment : ℕ) (old new : CacheShelfOf) : Type 0 where
   pub kept : new ≡ old
-  pub before : NoneDiesBefore old.part moment
+  pub before : NoneDiesBefore old.shelf.part moment
 
--- the closed chapters were dropped, and as many of them are told
-pub record DropsChapters (chapters : ℕ) (old new : ShelfOf) : Type 0 where
-  pub left : new ≡ record { closed = []; part = old.part }
-  pub told : chapters ≡ length old.closed
+-- the closed chapters were dropped, and as many of them are told, of which there are none where nothing
+-- is recorded
+pub record DropsChapters (chapters : ℕ) (old new : CacheShelfOf) : Type 0 where
+  pub left : new ≡ record { records = old.records; shelf = lean_shelf old.shelf.part }
+  pub told : chapters ≡ recorded_chapters old.records old.shelf

@@ -2,6 +2,7 @@
 pub mod Sealed
 pub mod SealedReading
 pub mod Statuses
+pub mod Shelves
 pub mod Handles
 pub mod Made
 pub mod Told

@@ -1,15 +1,16 @@
 -- SPDX-License-Identifier: MIT
 -- The shelf that a handle holds when it was made.
-use Rattle.std.specs.Prelude.{◌≡◌, ℕ, [], Option, None, Some}
+use Rattle.std.specs.Prelude.{◌≡◌, ℕ, false, Option, None, Some}
 use Rattle.rrc_history.specs.Limits.{Are}
 use Rattle.rrc_history.specs.declared.rules.Rules.{Rules}
-use Rattle.rrc_share.specs.Shelf.{ShelfOf}
+use Rattle.rrc_cache.specs.Lean.{first_chapter}
+use Rattle.rrc_share.specs.CacheShelf.{CacheShelfOf, lean_shelf}
 
--- an empty part by these rules, in its first chapter, with none closed
-abbrev pub IsNew : ℕ → ℕ → ℕ → ShelfOf → Type 0
-IsNew capacity chapter stale shelf = (rules : Rules) × Are rules capacity chapter stale × (shelf ≡ record { closed = []; part = record { number = 1; snapshot = record { rules = rules; first = 0; entries = [] }; events = [] } })
+-- an empty part by these rules, in its first chapter, of which nothing is recorded
+abbrev pub IsNew : ℕ → ℕ → ℕ → CacheShelfOf → Type 0
+IsNew capacity chapter stale shelf = (rules : Rules) × Are rules capacity chapter stale × (shelf ≡ record { records = false; shelf = lean_shelf (first_chapter rules) })
 
 -- a handle that holds such a shelf
-abbrev pub HoldsNew : ℕ → ℕ → ℕ → Option ShelfOf → Type 0
+abbrev pub HoldsNew : ℕ → ℕ → ℕ → Option CacheShelfOf → Type 0
 HoldsNew capacity chapter stale None = ⊥
 HoldsNew capacity chapter stale (Some shelf) = IsNew capacity chapter stale shelf

@@ -11,10 +11,11 @@ use Rattle.rrc_history.specs.declared.body.Trust.{Trust}
 use Rattle.rrc_history.specs.declared.body.Trust.TheVariants.{Additional, NonAuthoritativeAnswer, Authority, AuthoritativeAnswer}
 use Rattle.rrc_history.specs.declared.event.Outcome.{Outcome}
 use Rattle.rrc_history.specs.declared.event.Outcome.TheVariants.{Kept, Cleared, LessTrusted}
-use Rattle.rrc_share.specs.Shelf.{ShelfOf, AppendsOffer, IsLeft}
+use Rattle.rrc_share.specs.CacheShelf.{CacheShelfOf}
 use Rattle.rrc_sets.specs.Limits.{Are}
 use Rattle.rrc_sets.specs.Message.{Brings}
 use Rattle.rrc_sets.specs.declared.limits.Limits.{Limits}
+use Rattle.rrc_c.specs.Shelves.{IsLeftAs, MakesOffer}
 use Rattle.rrc_c.specs.Told.{data_text}
 use Rattle.rrc_c.specs.Refusals.{OffersRefused, WriteDue}
 use Rattle.rrc_c.specs.declared.counts.Counts.{Counts}
@@ -52,13 +53,13 @@ abbrev pub failure_offer : List ℕ → ℕ → ℕ → ℕ → ℕ → OfferOf
 failure_offer name rtype class ttl at = record { key = record { name = folded name; class = class; slot = Failed rtype }; body = Failure ttl; moment = at }
 
 -- an offer is written, which is one event, and what became of it is told by its number
-pub record TakesOne (line : ℕ) (offer : OfferOf) (number : ℕ) (old new : ShelfOf) : Type 0 where
+pub record TakesOne (line : ℕ) (offer : OfferOf) (number : ℕ) (old new : CacheShelfOf) : Type 0 where
   pub outcome : Outcome
-  pub appended : AppendsOffer old new (record { line = line; place = 0 }) offer outcome
+  pub made : MakesOffer old new (record { line = line; place = 0 }) offer outcome
   pub told : number ≡ outcome_number outcome
 
 -- the same of an offer of a set
-pub record TakesSet (line : ℕ) (owner : List ℕ) (rtype class trust ttl : ℕ) (octets : List ℕ) (at number : ℕ) (old new : ShelfOf) : Type 0 where
+pub record TakesSet (line : ℕ) (owner : List ℕ) (rtype class trust ttl : ℕ) (octets : List ℕ) (at number : ℕ) (old new : CacheShelfOf) : Type 0 where
   pub offer : OfferOf
   pub is_offer : IsSetOffer owner rtype class trust ttl octets at offer
   pub takes : TakesOne line offer number old new
@@ -77,15 +78,15 @@ counts_of [] = record { kept = 0; cleared = 0; refused = 0 }
 counts_of (outcome ∷ before) = count_more outcome (counts_of before)
 
 -- offers were written, each as one event with its place among them; the last offer comes first
-abbrev pub Takes : ℕ → List OfferOf → List Outcome → ShelfOf → ShelfOf → Type 0
+abbrev pub Takes : ℕ → List OfferOf → List Outcome → CacheShelfOf → CacheShelfOf → Type 0
 Takes line [] [] old new = new ≡ old
 Takes line [] (outcome ∷ before) old new = ⊥
 Takes line (offer ∷ earlier) [] old new = ⊥
 Takes line (offer ∷ earlier) (outcome ∷ before) old new =
-    (middle : ShelfOf) × Takes line earlier before old middle × AppendsOffer middle new (record { line = line; place = length earlier }) offer outcome
+    (middle : CacheShelfOf) × Takes line earlier before old middle × MakesOffer middle new (record { line = line; place = length earlier }) offer outcome
 
 -- all offers were written, and what became of them is counted
-pub record TakesAll (line : ℕ) (offers : List OfferOf) (counts : Counts) (old new : ShelfOf) : Type 0 where
+pub record TakesAll (line : ℕ) (offers : List OfferOf) (counts : Counts) (old new : CacheShelfOf) : Type 0 where
   pub outcomes : List Outcome
   pub takes : Takes line (reverse offers) outcomes old new
   pub counted : counts ≡ counts_of outcomes
@@ -95,15 +96,15 @@ abbrev pub AreAt : ℕ → List OfferOf → Type 0
 AreAt at offers = All (λ offer. offer.moment ≡ at) offers
 
 -- the first of the offers were written, and what became of them is counted; the next one, which there is, was refused by this number at their moment
-pub record TakesFirst (number line at : ℕ) (offers : List OfferOf) (counts : Counts) (old new : ShelfOf) : Type 0 where
+pub record TakesFirst (number line at : ℕ) (offers : List OfferOf) (counts : Counts) (old new : CacheShelfOf) : Type 0 where
   pub taken : List OfferOf
   pub next : OfferOf
   pub others : List OfferOf
   pub parts : offers ≡ taken ++ next ∷ others
-  pub middle : ShelfOf
+  pub middle : CacheShelfOf
   pub all : TakesAll line taken counts old middle
-  pub due : WriteDue middle.part at number
-  pub left : IsLeft middle new
+  pub due : WriteDue middle at number
+  pub left : IsLeftAs middle new
 
 -- what the message offers that some octets are
 pub record AreOffered (octets zone : List ℕ) (at : ℕ) (bounds : Bounds) (offers : List OfferOf) : Type 0 where
@@ -113,24 +114,24 @@ pub record AreOffered (octets zone : List ℕ) (at : ℕ) (bounds : Bounds) (off
   pub brought : Brings limits octets zone at offers
 
 -- all that a message offers was written
-pub record TakesMessage (line : ℕ) (octets zone : List ℕ) (at : ℕ) (bounds : Bounds) (counts : Counts) (old new : ShelfOf) : Type 0 where
+pub record TakesMessage (line : ℕ) (octets zone : List ℕ) (at : ℕ) (bounds : Bounds) (counts : Counts) (old new : CacheShelfOf) : Type 0 where
   pub offers : List OfferOf
   pub offered : AreOffered octets zone at bounds offers
   pub takes : TakesAll line offers counts old new
 
 -- the first of what a message offers was written, and then it was refused by this number
-pub record TakesBeginning (number line : ℕ) (octets zone : List ℕ) (at : ℕ) (bounds : Bounds) (counts : Counts) (old new : ShelfOf) : Type 0 where
+pub record TakesBeginning (number line : ℕ) (octets zone : List ℕ) (at : ℕ) (bounds : Bounds) (counts : Counts) (old new : CacheShelfOf) : Type 0 where
   pub offers : List OfferOf
   pub offered : AreOffered octets zone at bounds offers
   pub takes : TakesFirst number line at offers counts old new
 
 -- nothing was written and nothing counted
-pub record TakesNone (counts : Counts) (old new : ShelfOf) : Type 0 where
+pub record TakesNone (counts : Counts) (old new : CacheShelfOf) : Type 0 where
   pub counted : counts ≡ counts_of []
   pub kept : new ≡ old
 
 -- what a refusal by this number leaves: nothing was written, as what was handed in is refused, or the first of what the message offers
-abbrev pub TakesSome : ℕ → ℕ → List ℕ → List ℕ → ℕ → Bounds → Counts → ShelfOf → ShelfOf → Type 0
+abbrev pub TakesSome : ℕ → ℕ → List ℕ → List ℕ → ℕ → Bounds → Counts → CacheShelfOf → CacheShelfOf → Type 0
 TakesSome number line octets zone at bounds counts old new =
     (TakesNone counts old new × OffersRefused octets zone bounds number) ⊎ TakesBeginning number line octets zone at bounds counts old new
 

@@ -3,7 +3,7 @@
 use Rattle.std.specs.Prelude.{◌≡◌, ℕ, zero, suc, ◌+◌, ◌^◌, ◌<◌, ◌≤◌, ◌⊎◌, ◌==◌, List, Bool, Option, None, Some, map, filter, if◌then◌else◌}
 use Rattle.std.specs.List.{list_any}
 use Rattle.rrc_history.specs.Fits.{OfferOf}
-use Rattle.rrc_share.specs.Shelf.{ShelfOf}
+use Rattle.rrc_share.specs.CacheShelf.{CacheShelfOf}
 use Rattle.rrc_c.specs.Handles.{BothHold}
 use Rattle.rrc_c.specs.Offered.{AreAt, AreOffered, TakesAll, TakesFirst, TakesNone}
 use Rattle.rrc_c.specs.Parted.{TakesPart, TakesSomeOfPart}
@@ -62,7 +62,7 @@ abbrev pub share_of : ℕ → List Placed → List OfferOf
 share_of part placed = map (λ (one : Placed). one.offer) (filter (λ (one : Placed). one.part == part) placed)
 
 -- all offers of a reading that lie in a part were written, and nothing else
-abbrev pub TakesShare : ℕ → ℕ → Counts → Reading → ShelfOf → ShelfOf → Type 0
+abbrev pub TakesShare : ℕ → ℕ → Counts → Reading → CacheShelfOf → CacheShelfOf → Type 0
 TakesShare line part counts reading old new = TakesAll line (share_of part reading.placed.items) counts old new
 
 -- nothing is offered, since there is no such part, or for want of memory
@@ -70,12 +70,12 @@ abbrev pub ShareRefused : ℕ → Reading → ℕ → Type 0
 ShareRefused part reading = Then (Because BadRules (reading.parts ≤ part)) (part < reading.parts) OutOfMemory
 
 -- the first of these offers, which are of one moment, were written, and nothing else, and then it was refused by this number
-pub record TakesBeginningOfShare (number line part : ℕ) (counts : Counts) (reading : Reading) (old new : ShelfOf) : Type 0 where
+pub record TakesBeginningOfShare (number line part : ℕ) (counts : Counts) (reading : Reading) (old new : CacheShelfOf) : Type 0 where
   pub below : part < reading.parts
   pub takes : (at : ℕ) → AreAt at (share_of part reading.placed.items) → TakesFirst number line at (share_of part reading.placed.items) counts old new
 
 -- what a refusal by this number leaves: nothing was written, or the first of the offers that lie in the part
-abbrev pub TakesSomeOfShare : ℕ → ℕ → ℕ → Counts → Reading → ShelfOf → ShelfOf → Type 0
+abbrev pub TakesSomeOfShare : ℕ → ℕ → ℕ → Counts → Reading → CacheShelfOf → CacheShelfOf → Type 0
 TakesSomeOfShare number line part counts reading old new =
     (TakesNone counts old new × ShareRefused part reading number) ⊎ TakesBeginningOfShare number line part counts reading old new
 
@@ -92,12 +92,12 @@ HoldsReading None fact = ⊥
 HoldsReading (Some reading) fact = fact reading
 
 -- handles hold a reading and a shelf, and the second one held a shelf, of which three this is true
-abbrev pub AllHold : Option Reading → Option ShelfOf → Option ShelfOf → (Reading → ShelfOf → ShelfOf → Type 0) → Type 0
+abbrev pub AllHold : Option Reading → Option CacheShelfOf → Option CacheShelfOf → (Reading → CacheShelfOf → CacheShelfOf → Type 0) → Type 0
 AllHold None old new fact = ⊥
 AllHold (Some reading) old new fact = BothHold old new (fact reading)
 
 -- one of the handles holds nothing, and that of the shelf holds what it held
-pub record OneLacks (reading : Option Reading) (old new : Option ShelfOf) : Type 0 where
+pub record OneLacks (reading : Option Reading) (old new : Option CacheShelfOf) : Type 0 where
   pub lacks : (old ≡ None) ⊎ (reading ≡ None)
   pub kept : new ≡ old
 
@@ -111,11 +111,11 @@ TellsNoOffers (Some reading) status = status ≡ 18 → ⊥
 -- what a reading of a message offers by a part is what the message offers under names of that part
 abbrev pub ShareIsPart : Type 0
 ShareIsPart =
-    (octets zone : List ℕ) (parts : ℕ) (seed : List ℕ) (part at line : ℕ) (bounds : Bounds) (reading : Reading) (counts : Counts) (old new : ShelfOf) → IsReading octets zone parts seed at bounds reading
+    (octets zone : List ℕ) (parts : ℕ) (seed : List ℕ) (part at line : ℕ) (bounds : Bounds) (reading : Reading) (counts : Counts) (old new : CacheShelfOf) → IsReading octets zone parts seed at bounds reading
     → TakesShare line part counts reading old new → TakesPart line octets zone parts seed part at bounds counts old new
 
 -- and a refusal leaves what a refusal of the message's part leaves
 abbrev pub RefusedShareIsPart : Type 0
 RefusedShareIsPart =
-    (octets zone : List ℕ) (number parts : ℕ) (seed : List ℕ) (part at line : ℕ) (bounds : Bounds) (reading : Reading) (counts : Counts) (old new : ShelfOf) → IsReading octets zone parts seed at bounds reading
+    (octets zone : List ℕ) (number parts : ℕ) (seed : List ℕ) (part at line : ℕ) (bounds : Bounds) (reading : Reading) (counts : Counts) (old new : CacheShelfOf) → IsReading octets zone parts seed at bounds reading
     → TakesSomeOfShare number line part counts reading old new → TakesSomeOfPart number line octets zone parts seed part at bounds counts old new

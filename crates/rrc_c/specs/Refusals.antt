@@ -1,6 +1,6 @@
 -- SPDX-License-Identifier: MIT
 -- Why calls are refused. A number is that of a status, and what is said of a refusal is a fact of the number.
-use Rattle.std.specs.Prelude.{◌≡◌, ℕ, ◌+◌, ◌*◌, ◌<◌, ◌≤◌, ◌⊎◌, List, [], ◌++◌, length, slice_index, true, false, Option, None, Some, Bool, if◌then◌else◌, ◌==◌}
+use Rattle.std.specs.Prelude.{◌≡◌, ℕ, ◌+◌, ◌*◌, ◌^◌, ◌<◌, ◌≤◌, ◌⊎◌, List, [], ◌++◌, length, slice_index, true, false, Option, None, Some, Bool, if◌then◌else◌, ◌==◌}
 use Rattle.std.specs.List.{AllByRecursion}
 use Rattle.rrc_name.specs.Wire.{IsWireForm}
 use Rattle.rrc_name.specs.WireFault.{IsFirstFaultOfWire}
@@ -15,8 +15,9 @@ use Rattle.rrc_history.specs.Fits.{is_lifetime}
 use Rattle.rrc_history.specs.declared.event.Reply.{Reply}
 use Rattle.rrc_sets.specs.Limits.{AreWithin as AreWithinLimits}
 use Rattle.rrc_cache.specs.Part.{PartOf}
-use Rattle.rrc_share.specs.Shelf.{ShelfOf, CanWrite, IsSpent}
+use Rattle.rrc_share.specs.CacheShelf.{CacheShelfOf}
 use Rattle.rrc_c.specs.Asked.{asked, reply_of, AreChoices}
+use Rattle.rrc_c.specs.Shelves.{CanWriteBy, IsSpentBy}
 use Rattle.rrc_c.specs.Statuses.{number_of}
 use Rattle.rrc_c.specs.Told.{data_of, data_text, datum, text_of, AreTellable}
 use Rattle.rrc_c.specs.declared.counts.Bounds.{Bounds}
@@ -42,7 +43,7 @@ abbrev pub IsDoneOrMemory : ℕ → Type 0
 IsDoneOrMemory number = OutOfMemory number ⊎ (number ≡ 0)
 
 -- what holds of the shelf that a handle holds
-abbrev pub IfHeld : Option ShelfOf → (ShelfOf → Type 0) → Type 0
+abbrev pub IfHeld : Option CacheShelfOf → (CacheShelfOf → Type 0) → Type 0
 IfHeld None fact = Unit {0}
 IfHeld (Some shelf) fact = fact shelf
 
@@ -107,16 +108,29 @@ NewDue capacity chapter stale seed =
     (Then (SeedRefused seed) (IsSeed seed) IsDoneOrMemory)
 
 -- the same for a handle: 2 is answered exactly where it holds a shelf
-abbrev pub MakingDue : ℕ → ℕ → ℕ → List ℕ → Option ShelfOf → ℕ → Type 0
+abbrev pub MakingDue : ℕ → ℕ → ℕ → List ℕ → Option CacheShelfOf → ℕ → Type 0
 MakingDue capacity chapter stale seed (Some shelf) number = number ≡ 2
 MakingDue capacity chapter stale seed None number = NewDue capacity chapter stale seed number
 
 -- ---- events
 
--- when an event is written at a moment, and when that is refused with what
-abbrev pub WriteDue : PartOf → ℕ → ℕ → Type 0
-WriteDue part at =
-    Then (Because HistoryFull (IsSpent part)) (CanWrite part) (Then (Because MomentTooLarge (LAST_MOMENT < at)) (at ≤ LAST_MOMENT) IsDoneOrMemory)
+-- when an event is written at a moment, and when that is refused with what: while nothing is recorded
+-- no chapter is ever full
+abbrev pub WriteDue : CacheShelfOf → ℕ → ℕ → Type 0
+WriteDue shelf at =
+    Then (Because HistoryFull (IsSpentBy shelf.records shelf.shelf.part)) (CanWriteBy shelf.records shelf.shelf.part)
+    (Then (Because MomentTooLarge (LAST_MOMENT < at)) (at ≤ LAST_MOMENT) IsDoneOrMemory)
+
+-- ---- recording
+
+-- when a part is recorded, and when that is refused with what: HistoryFull exactly where it was not
+-- and its chapter's number is 2^62
+abbrev pub RecordDueBy : Bool → PartOf → ℕ → Type 0
+RecordDueBy true part number = number ≡ 0
+RecordDueBy false part number = Then (Because HistoryFull (part.number ≡ 2 ^ 62)) (part.number < 2 ^ 62) IsDoneOrMemory number
+
+abbrev pub RecordDue : CacheShelfOf → ℕ → Type 0
+RecordDue shelf = RecordDueBy shelf.records shelf.shelf.part
 
 -- ---- asking
 
@@ -148,13 +162,13 @@ abbrev pub TellingThen : Reply → ℕ → (ℕ → Type 0) → ℕ → Type 0
 TellingThen reply room next = Then (ReplyRefused reply) (AreTellable (data_of reply)) (Then (IsSmall reply room) (HasRoomFor reply room) next)
 
 -- when a question is answered, and when that is refused with what
-abbrev pub AskDue : List ℕ → ℕ → ℕ → ℕ → ℕ → ℕ → ℕ → ShelfOf → ℕ → Type 0
+abbrev pub AskDue : List ℕ → ℕ → ℕ → ℕ → ℕ → ℕ → ℕ → CacheShelfOf → ℕ → Type 0
 AskDue name rtype class at purpose mode room shelf =
     Then (QuestionRefused name purpose mode) (IsQuestion name purpose mode)
-    (TellingThen (reply_of shelf (asked name rtype class at purpose mode)) room (WriteDue shelf.part at))
+    (TellingThen (reply_of shelf (asked name rtype class at purpose mode)) room (WriteDue shelf at))
 
 -- when the reply to a question is told, and when that is refused with what
-abbrev pub PeekDue : List ℕ → ℕ → ℕ → ℕ → ℕ → ℕ → ℕ → ShelfOf → ℕ → Type 0
+abbrev pub PeekDue : List ℕ → ℕ → ℕ → ℕ → ℕ → ℕ → ℕ → CacheShelfOf → ℕ → Type 0
 PeekDue name rtype class at purpose mode room shelf =
     Then (QuestionRefused name purpose mode) (IsQuestion name purpose mode)
     (TellingThen (reply_of shelf (asked name rtype class at purpose mode)) room (λ number. number ≡ 0))
@@ -188,9 +202,9 @@ SetRefused owner rtype class trust ttl octets =
     (Because WrongBody ((octets ≡ []) ⊎ (is_lifetime ttl ≡ false))))))
 
 -- when a set is offered, and when that is refused with what
-abbrev pub SetDue : List ℕ → ℕ → ℕ → ℕ → ℕ → List ℕ → ℕ → ShelfOf → ℕ → Type 0
+abbrev pub SetDue : List ℕ → ℕ → ℕ → ℕ → ℕ → List ℕ → ℕ → CacheShelfOf → ℕ → Type 0
 SetDue owner rtype class trust ttl octets at shelf =
-    Then (SetRefused owner rtype class trust ttl octets) (IsSet owner rtype class trust ttl octets) (WriteDue shelf.part at)
+    Then (SetRefused owner rtype class trust ttl octets) (IsSet owner rtype class trust ttl octets) (WriteDue shelf at)
 
 -- the type of SOA records (RFC 1035 3.2.2)
 abbrev pub SOA : ℕ
@@ -219,9 +233,9 @@ DenialRefused name rtype class denial trust ttl soa_owner soa =
     (Because WrongBody (is_lifetime ttl ≡ false))))))
 
 -- when a negative answer is offered, and when that is refused with what
-abbrev pub DenialDue : List ℕ → ℕ → ℕ → ℕ → ℕ → ℕ → List ℕ → List ℕ → ℕ → ShelfOf → ℕ → Type 0
+abbrev pub DenialDue : List ℕ → ℕ → ℕ → ℕ → ℕ → ℕ → List ℕ → List ℕ → ℕ → CacheShelfOf → ℕ → Type 0
 DenialDue name rtype class denial trust ttl soa_owner soa at shelf =
-    Then (DenialRefused name rtype class denial trust ttl soa_owner soa) (IsDenial name rtype class denial trust ttl soa_owner soa) (WriteDue shelf.part at)
+    Then (DenialRefused name rtype class denial trust ttl soa_owner soa) (IsDenial name rtype class denial trust ttl soa_owner soa) (WriteDue shelf at)
 
 -- the failure may be offered
 pub record IsFailure (octets : List ℕ) (rtype class ttl : ℕ) : Type 0 where
@@ -236,8 +250,8 @@ FailureRefused name rtype class ttl =
     (Because WrongBody (is_lifetime ttl ≡ false)))
 
 -- when a failure is offered, and when that is refused with what
-abbrev pub FailureDue : List ℕ → ℕ → ℕ → ℕ → ℕ → ShelfOf → ℕ → Type 0
-FailureDue name rtype class ttl at shelf = Then (FailureRefused name rtype class ttl) (IsFailure name rtype class ttl) (WriteDue shelf.part at)
+abbrev pub FailureDue : List ℕ → ℕ → ℕ → ℕ → ℕ → CacheShelfOf → ℕ → Type 0
+FailureDue name rtype class ttl at shelf = Then (FailureRefused name rtype class ttl) (IsFailure name rtype class ttl) (WriteDue shelf at)
 
 -- ---- messages and parts
 

@@ -8,7 +8,7 @@ use Rattle.std.specs.Coded.{coded_option}
 use Rattle.std.specs.Box.Ownership.{box_owns}
 use Rattle.std.specs.Global.{Global}
 use Rattle.std_heap.specs.contracts.GlobalAllocator.TheImpl.{ghosts}
-use Rattle.rrc_share.specs.contracts.shelf.Shelf.{the_row}
+use Rattle.rrc_share.specs.contracts.cache_shelf.CacheShelf.{the_row}
 
 -- the shelf that a seal holds, if it holds one
 abbrev pub Held : Type 0

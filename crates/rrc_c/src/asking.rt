@@ -2,17 +2,17 @@
 ghost use Rattle.std.specs.Prelude.{◌≡◌, ◌+◌, ◌≤◌, ◌↔◌, length, IsTrue, IfOk, IfErr, OnOk, OnErr};
 ghost use Rattle.rrc_c.specs.Asked.{asked, purpose_of, mode_of, reply_of, AreKept, AnswersOr, ShowsOr};
 ghost use Rattle.rrc_c.specs.Refusals.{AskDue, IsQuestion, NameRefused, PeekDue, QuestionRefused, ReplyRefused, TellingThen, WriteDue};
+ghost use Rattle.rrc_c.specs.Shelves.{IsLeftAs, MakesAsk};
 ghost use Rattle.rrc_c.specs.Statuses.{number_of, number_of_call, number_of_reply};
 ghost use Rattle.rrc_c.specs.Told.{told_of, data_of, AreTellable};
 ghost use Rattle.rrc_name.specs.Wire.{IsWireForm};
-ghost use Rattle.rrc_share.specs.Shelf.{AppendsAsk, IsLeft};
 
 use crate::status::Status;
 use crate::text::fill;
 use crate::told::{Told, data_of, owner_of, told_of};
 use rrc_history::{Ask, Mode, Purpose, Reply, Tag};
 use rrc_name::{Name, WireNameFault};
-use rrc_share::{Shelf, on_shelf_ask};
+use rrc_share::CacheShelf;
 use std::alloc::Global;
 
 /// The name whose wire form some octets are.
@@ -78,13 +78,13 @@ pub(crate) fn ask_of(
 }
 
 /// What a shelf would answer, and the record of it.
-fn peeked(shelf: &Shelf, ask: &Ask) -> Result<(Reply, Told), Status>
+fn peeked(shelf: &CacheShelf, ask: &Ask) -> Result<(Reply, Told), Status>
     ensures reply { IfOk result (λ both. both.0 ≡ reply_of shelf.now ask.now) }
     ensures told { IfOk result (λ both. both.1 ≡ told_of both.0) }
     ensures tellable { OnOk result (AreTellable (data_of (reply_of shelf.now ask.now))) }
     ensures refused { IfErr result (λ status. ReplyRefused (reply_of shelf.now ask.now) (number_of status)) }
 {
-    let reply = shelf.would_answer(ask)?;
+    let reply = shelf.would_answer(ask).to_owned()?;
     match told_of(&reply) {
         Some(told) => Ok((reply, told)),
         None => Err(Status::WideAnswer),
@@ -100,7 +100,7 @@ fn has_room(buffer: &[u8], told: &Told) -> bool
 }
 
 /// Tells what a shelf would answer, and writes nothing. False is answered where the buffer is too small.
-fn show(shelf: &Shelf, ask: &Ask, told: &mut Told, buffer: &mut [u8]) -> Result<bool, Status>
+fn show(shelf: &CacheShelf, ask: &Ask, told: &mut Told, buffer: &mut [u8]) -> Result<bool, Status>
     ensures ok { IfOk result (λ fits. ShowsOr fits ask.now told.new buffer.old buffer.new shelf.now shelf.now) }
     ensures err { OnErr result (AreKept told.old buffer.old told.new buffer.new) }
     ensures due { TellingThen (reply_of shelf.now ask.now) (length buffer.old) (λ number. number ≡ 0) (number_of_reply result) }
@@ -115,18 +115,18 @@ fn show(shelf: &Shelf, ask: &Ask, told: &mut Told, buffer: &mut [u8]) -> Result<
 }
 
 /// Writes the event of a question, with the reply that the shelf has.
-fn write_ask(shelf: &mut Shelf, ask: &Ask, line: u64) -> Result<(), Status>
-    ensures ok { OnOk result (AppendsAsk shelf.old shelf.new (record { line = line; place = 0 }) ask.now (reply_of shelf.old ask.now)) }
-    ensures left { OnErr result (IsLeft shelf.old shelf.new) }
-    ensures due { WriteDue shelf.old.part ask.now.moment (number_of_call result) }
+fn write_ask(shelf: &mut CacheShelf, ask: &Ask, line: u64) -> Result<(), Status>
+    ensures ok { OnOk result (MakesAsk shelf.old shelf.new (record { line = line; place = 0 }) ask.now (reply_of shelf.old ask.now)) }
+    ensures left { OnErr result (IsLeftAs shelf.old shelf.new) }
+    ensures due { WriteDue shelf.old ask.now.moment (number_of_call result) }
 {
-    on_shelf_ask(shelf, Tag { line, place: 0 }, ask)?;
+    shelf.ask(Tag { line, place: 0 }, ask)?;
     Ok(())
 }
 
 /// Answers a question, which is one event. False is answered where the buffer is too small, and then no event is written.
 fn answer(
-    shelf: &mut Shelf,
+    shelf: &mut CacheShelf,
     ask: &Ask,
     line: u64,
     told: &mut Told,
@@ -134,8 +134,8 @@ fn answer(
 ) -> Result<bool, Status>
     ensures ok { IfOk result (λ fits. AnswersOr fits ask.now line told.new buffer.old buffer.new shelf.old shelf.new) }
     ensures err { OnErr result (AreKept told.old buffer.old told.new buffer.new) }
-    ensures left { OnErr result (IsLeft shelf.old shelf.new) }
-    ensures due { TellingThen (reply_of shelf.old ask.now) (length buffer.old) (WriteDue shelf.old.part ask.now.moment) (number_of_reply result) }
+    ensures left { OnErr result (IsLeftAs shelf.old shelf.new) }
+    ensures due { TellingThen (reply_of shelf.old ask.now) (length buffer.old) (WriteDue shelf.old ask.now.moment) (number_of_reply result) }
 {
     let (reply, record) = peeked(shelf, ask)?;
     let is_written = has_room(buffer, &record);
@@ -150,7 +150,7 @@ fn answer(
 /// Asks a shelf what C asks.
 pub(crate) fn ask_shelf(
     alloc: Global,
-    shelf: &mut Shelf,
+    shelf: &mut CacheShelf,
     name: &[u8],
     rtype: u16,
     class: u16,
@@ -163,7 +163,7 @@ pub(crate) fn ask_shelf(
 ) -> Result<bool, Status>
     ensures ok { IfOk result (λ fits. AnswersOr fits (asked name.now rtype class moment purpose mode) line told.new buffer.old buffer.new shelf.old shelf.new) }
     ensures err { OnErr result (AreKept told.old buffer.old told.new buffer.new) }
-    ensures left { OnErr result (IsLeft shelf.old shelf.new) }
+    ensures left { OnErr result (IsLeftAs shelf.old shelf.new) }
     ensures fit { OnOk result (IsQuestion name.now purpose mode) }
     ensures due { AskDue name.now rtype class moment purpose mode (length buffer.old) shelf.old (number_of_reply result) }
 {
@@ -174,7 +174,7 @@ pub(crate) fn ask_shelf(
 /// Tells C what a shelf would answer to what it asks.
 pub(crate) fn peek_at_shelf(
     alloc: Global,
-    shelf: &Shelf,
+    shelf: &CacheShelf,
     name: &[u8],
     rtype: u16,
     class: u16,

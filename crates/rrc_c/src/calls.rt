@@ -5,16 +5,18 @@ ghost use Rattle.rrc_c.specs.Handles.{BothHold, HoldsNone, IsKept, TellsNone};
 ghost use Rattle.rrc_c.specs.Asked.{asked, Answers, Shows, TellsSizeAlone};
 ghost use Rattle.rrc_c.specs.Kept.{TellsExpiry, TellsFault, TellsSizes, DropsChapters};
 ghost use Rattle.rrc_c.specs.Offered.{denial_offer, failure_offer, TakesMessage, TakesOne, TakesSet, TakesSome};
+ghost use Rattle.rrc_c.specs.Shelves.{DropsRecord, MakesSweep, StartsRecord};
 ghost use Rattle.rrc_c.specs.Stored.{TellsStored};
 ghost use Rattle.rrc_c.specs.Parted.{IsPart, TakesPart, TakesSomeOfPart};
 ghost use Rattle.rrc_c.specs.Parts.{keyed_part_of};
-ghost use Rattle.rrc_c.specs.Refusals.{AskDue, DenialDue, FailureDue, IfHeld, IsDenial, IsFailure, IsQuestion, IsSeed, IsSet, OutOfMemory, PartDue, PeekDue, SetDue, StoredDue, WriteDue};
-ghost use Rattle.rrc_share.specs.Shelf.{AppendsSweep};
+ghost use Rattle.rrc_c.specs.Refusals.{AskDue, DenialDue, FailureDue, IfHeld, IsDenial, IsFailure, IsQuestion, IsSeed, IsSet, OutOfMemory, PartDue, PeekDue, RecordDue, SetDue, StoredDue, WriteDue};
 
 use crate::asking::{ask_shelf, peek_at_shelf};
 use crate::counts::{Bounds, Counts};
 use crate::handle::Handle;
-use crate::keeping::{expiry_of, fault_in, part_in, sweep};
+use crate::keeping::{
+    chapters_of, drop_chapters, events_of, expiry_of, fault_in, part_in, record, release, sweep,
+};
 use crate::lookup::stored_in;
 use crate::offering::{offer_message, offer_part, take_failure, take_negative, take_set};
 use crate::status::{NO_SHELF, SMALL_BUFFER, Status};
@@ -308,10 +310,10 @@ pub extern "C" fn rrc_sweep(
     removed: &mut u64,
 ) -> u32
     ensures none { TellsNone handle.old.seal.shelf result }
-    ensures done { OnDone result (BothHold handle.old.seal.shelf handle.new.seal.shelf (λ old new. AppendsSweep old new (record { line = line; place = 0 }) moment removed.new)) }
+    ensures done { OnDone result (BothHold handle.old.seal.shelf handle.new.seal.shelf (λ old new. MakesSweep old new (record { line = line; place = 0 }) moment removed.new)) }
     ensures refused { OnRefused result (IsKept handle.old.seal.shelf handle.new.seal.shelf) }
     ensures removed { OnRefused result (removed.new ≡ removed.old) }
-    ensures due { IfHeld handle.old.seal.shelf (λ shelf. WriteDue shelf.part moment result) }
+    ensures due { IfHeld handle.old.seal.shelf (λ shelf. WriteDue shelf moment result) }
 {
     let Some(mut shelf) = handle.take(alloc) else {
         return NO_SHELF;
@@ -319,6 +321,40 @@ pub extern "C" fn rrc_sweep(
     let done = sweep(&mut shelf, line, moment);
     handle.put(shelf);
     number_of_u64(done, removed)
+}
+
+/// Records the history of a shelf from here on, with no chapter closed. Where it is recorded already
+/// nothing is done.
+#[unsafe(no_mangle)]
+pub extern "C" fn rrc_record(alloc: Global, handle: &mut Handle) -> u32
+    ensures none { TellsNone handle.old.seal.shelf result }
+    ensures done { OnDone result (BothHold handle.old.seal.shelf handle.new.seal.shelf StartsRecord) }
+    ensures refused { OnRefused result (handle.new.seal.shelf ≡ handle.old.seal.shelf) }
+    ensures due { IfHeld handle.old.seal.shelf (λ shelf. RecordDue shelf result) }
+{
+    let Some(mut shelf) = handle.take(alloc) else {
+        return NO_SHELF;
+    };
+    let done = record(&mut shelf);
+    handle.put(shelf);
+    number_of_call(done)
+}
+
+/// Records nothing from here on, and drops what was recorded. Where nothing is recorded nothing is
+/// done.
+#[unsafe(no_mangle)]
+pub extern "C" fn rrc_release(alloc: Global, handle: &mut Handle) -> u32
+    ensures none { TellsNone handle.old.seal.shelf result }
+    ensures done { OnDone result (BothHold handle.old.seal.shelf handle.new.seal.shelf DropsRecord) }
+    ensures refused { OnRefused result (handle.new.seal.shelf ≡ handle.old.seal.shelf) }
+    ensures due { OnRefused result (handle.old.seal.shelf ≡ None) }
+{
+    let Some(mut shelf) = handle.take(alloc) else {
+        return NO_SHELF;
+    };
+    release(&mut shelf);
+    handle.put(shelf);
+    0
 }
 
 /// Takes the closed chapters, drops them, and tells how many there were.
@@ -333,9 +369,7 @@ pub extern "C" fn rrc_drop_chapters(alloc: Global, handle: &mut Handle, dropped:
     let Some(mut shelf) = handle.take(alloc) else {
         return NO_SHELF;
     };
-    let chapters = shelf.take_chapters();
-    *dropped = chapters.len() as u64;
-    drop(chapters);
+    *dropped = drop_chapters(&mut shelf);
     handle.put(shelf);
     0
 }
@@ -358,8 +392,9 @@ pub extern "C" fn rrc_next_expiry(alloc: Global, handle: &mut Handle, moment: &m
     0
 }
 
-/// Tells how many keys a shelf holds, how many events the open chapter has, how many chapters are
-/// closed, and how many octets the entries of the keys have.
+/// Tells how many keys a shelf holds, how many events the open chapter has and how many chapters are
+/// closed, of which there are none where nothing is recorded, and how many octets the entries of the
+/// keys have.
 #[unsafe(no_mangle)]
 pub extern "C" fn rrc_sizes(
     alloc: Global,
@@ -381,10 +416,10 @@ pub extern "C" fn rrc_sizes(
     let Some(shelf) = handle.take(alloc) else {
         return NO_SHELF;
     };
-    *keys = shelf.part().len() as u64;
-    *events = shelf.part().events().len() as u64;
-    *chapters = shelf.closed().len() as u64;
-    *octets = shelf.part().octets();
+    *keys = shelf.len() as u64;
+    *events = events_of(&shelf);
+    *chapters = chapters_of(&shelf);
+    *octets = shelf.octets();
     handle.put(shelf);
     0
 }

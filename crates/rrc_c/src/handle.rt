@@ -3,7 +3,7 @@ ghost use Rattle.std.specs.Prelude.{◌≡◌, None, Some, is_some};
 ghost use Rattle.std.specs.Option.{option_map};
 
 use crate::seal::Seal;
-use rrc_share::Shelf;
+use rrc_share::CacheShelf;
 use std::alloc::Global;
 use std::mem;
 
@@ -25,7 +25,7 @@ impl Handle {
     }
 
     /// Takes the shelf out, if there is one.
-    pub(crate) fn take(&mut self, alloc: Global) -> Option<Box<Shelf>>
+    pub(crate) fn take(&mut self, alloc: Global) -> Option<Box<CacheShelf>>
         ensures taken { option_map (λ shelf. shelf.value) result ≡ self.old.seal.shelf }
         ensures left { self.new.seal.shelf ≡ None }
     {
@@ -38,7 +38,7 @@ impl Handle {
     }
 
     /// Puts a shelf in, in the place of none.
-    pub(crate) fn put(&mut self, shelf: Box<Shelf>)
+    pub(crate) fn put(&mut self, shelf: Box<CacheShelf>)
         ensures { self.new.seal.shelf ≡ Some shelf.value }
     {
         self.seal = Seal::of(shelf);

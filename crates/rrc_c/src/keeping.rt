@@ -1,35 +1,100 @@
 // SPDX-License-Identifier: MIT
-ghost use Rattle.std.specs.Prelude.{◌≡◌, ◌≤◌, ◌<◌, IfOk, IfErr, OnOk, OnErr};
+ghost use Rattle.std.specs.Prelude.{◌≡◌, ◌≤◌, ◌<◌, true, false, IfOk, IfErr, OnOk, OnErr};
 ghost use Rattle.rrc_cache.specs.Expiry.{NoneDiesBefore};
-ghost use Rattle.rrc_c.specs.Kept.{TellsFault};
+ghost use Rattle.rrc_c.specs.Kept.{DropsChapters, TellsFault};
 ghost use Rattle.rrc_c.specs.Parts.{keyed_part_of};
-ghost use Rattle.rrc_c.specs.Refusals.{OutOfMemory, PartDue, WriteDue};
+ghost use Rattle.rrc_c.specs.Refusals.{OutOfMemory, PartDue, RecordDue, WriteDue};
+ghost use Rattle.rrc_c.specs.Shelves.{DropsRecord, IsLeftAs, MakesSweep, StartsRecord, recorded_chapters, recorded_events};
 ghost use Rattle.rrc_c.specs.Statuses.{number_of, number_of_call};
-ghost use Rattle.rrc_share.specs.Shelf.{AppendsSweep, IsLeft};
 
 use crate::asking::name_of;
 use crate::division::{check_division, keyed_part_of};
 use crate::status::Status;
+use core::mem::replace_with;
 use rrc_history::Tag;
-use rrc_share::{Shelf, on_shelf_sweep};
+use rrc_share::{CacheShelf, NotSwitched};
 use rrc_wire::{WireFault, read_message};
 use std::alloc::Global;
 
 /// Sweeps a shelf, and tells how many keys were removed.
-pub(crate) fn sweep(shelf: &mut Shelf, line: u64, moment: u64) -> Result<u64, Status>
-    ensures ok { IfOk result (AppendsSweep shelf.old shelf.new (record { line = line; place = 0 }) moment) }
-    ensures left { OnErr result (IsLeft shelf.old shelf.new) }
-    ensures due { WriteDue shelf.old.part moment (number_of_call result) }
+pub(crate) fn sweep(shelf: &mut CacheShelf, line: u64, moment: u64) -> Result<u64, Status>
+    ensures ok { IfOk result (MakesSweep shelf.old shelf.new (record { line = line; place = 0 }) moment) }
+    ensures left { OnErr result (IsLeftAs shelf.old shelf.new) }
+    ensures due { WriteDue shelf.old moment (number_of_call result) }
 {
-    let removed = on_shelf_sweep(shelf, Tag { line, place: 0 }, moment)?;
+    let removed = shelf.sweep(Tag { line, place: 0 }, moment)?;
     Ok(removed as u64)
 }
 
-/// A moment before which no key of a shelf is dead.
-pub(crate) fn expiry_of(shelf: &Shelf) -> u64
-    ensures { NoneDiesBefore shelf.now.part result }
+/// A shelf that records from here on, or that shelf as it was, and why.
+fn recording(shelf: CacheShelf, _nothing: ()) -> (CacheShelf, Result<(), Status>)
+    ensures ok { OnOk result.1 (StartsRecord shelf result.0) }
+    ensures err { OnErr result.1 (result.0 ≡ shelf) }
+    ensures due { RecordDue shelf (number_of_call result.1) }
 {
-    match shelf.part().next_expiry() {
+    match shelf.start_recording() {
+        Ok(shelf) => (shelf, Ok(())),
+        Err(NotSwitched { shelf, refusal }) => (shelf, Err(Status::from(refusal))),
+    }
+}
+
+/// Records from here on.
+pub(crate) fn record(shelf: &mut CacheShelf) -> Result<(), Status>
+    ensures ok { OnOk result (StartsRecord shelf.old shelf.new) }
+    ensures err { OnErr result (shelf.new ≡ shelf.old) }
+    ensures due { RecordDue shelf.old (number_of_call result) }
+{
+    replace_with(shelf, (), recording)
+}
+
+/// A shelf that records nothing from here on.
+fn released(shelf: CacheShelf, _nothing: ()) -> (CacheShelf, ())
+    ensures { DropsRecord shelf result.0 }
+{
+    (shelf.drop_record(), ())
+}
+
+/// Records nothing from here on, and drops what was recorded.
+pub(crate) fn release(shelf: &mut CacheShelf)
+    ensures { DropsRecord shelf.old shelf.new }
+{
+    replace_with(shelf, (), released);
+}
+
+/// How many events the open chapter has, if they are recorded.
+pub(crate) fn events_of(shelf: &CacheShelf) -> u64
+    ensures { result ≡ recorded_events shelf.now.records shelf.now.shelf }
+{
+    match shelf.recorded() {
+        Some(shelf) => shelf.part().events().len() as u64,
+        None => 0,
+    }
+}
+
+/// How many chapters are closed, if they are recorded.
+pub(crate) fn chapters_of(shelf: &CacheShelf) -> u64
+    ensures { result ≡ recorded_chapters shelf.now.records shelf.now.shelf }
+{
+    match shelf.recorded() {
+        Some(shelf) => shelf.closed().len() as u64,
+        None => 0,
+    }
+}
+
+/// Drops the closed chapters, and tells how many there were.
+pub(crate) fn drop_chapters(shelf: &mut CacheShelf) -> u64
+    ensures { DropsChapters result shelf.old shelf.new }
+{
+    let dropped = chapters_of(shelf);
+    drop(shelf.take_chapters());
+    dropped
+}
+
+/// A moment before which no key of a shelf is dead.
+pub(crate) fn expiry_of(shelf: &CacheShelf) -> u64
+    ensures { NoneDiesBefore shelf.now.shelf.part result }
+{
+    match shelf.next_expiry() {
         Some(moment) => moment,
         None => u64::MAX,
     }

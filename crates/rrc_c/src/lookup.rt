@@ -12,7 +12,7 @@ use crate::status::Status;
 use crate::stored::Stored;
 use rrc_history::{Body, Held, Trust};
 use rrc_name::{KeyRef, Slot};
-use rrc_share::Shelf;
+use rrc_share::CacheShelf;
 use std::alloc::Global;
 
 fn rank(trust: Trust) -> u32
@@ -52,7 +52,7 @@ fn stored_of(held: Option<Held<'_>>) -> Stored
 /// What a shelf holds of a name, a type and a class: a set, or that the name has no data of the type.
 pub(crate) fn stored_in(
     alloc: Global,
-    shelf: &Shelf,
+    shelf: &CacheShelf,
     name: &[u8],
     rtype: u16,
     class: u16,
@@ -66,5 +66,5 @@ pub(crate) fn stored_in(
         class,
         slot: Slot::Set(rtype),
     };
-    Ok(stored_of(shelf.part().held(key)))
+    Ok(stored_of(shelf.held(key)))
 }

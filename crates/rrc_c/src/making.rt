@@ -8,19 +8,19 @@ ghost use Rattle.rrc_c.specs.Made.{IsNew, HoldsNew};
 use crate::division::seed_of;
 use crate::handle::Handle;
 use crate::status::{HAS_SHELF, NO_SHELF, Status};
-use rrc_cache::Part;
+use rrc_cache::LeanPart;
 use rrc_history::Rules;
-use rrc_share::Shelf;
+use rrc_share::CacheShelf;
 use std::alloc::Global;
 
-/// An empty shelf by these rules, whose keys are hashed behind the seed.
+/// An empty shelf by these rules, whose keys are hashed behind the seed. Nothing is recorded.
 fn new_shelf(
     alloc: Global,
     capacity: u64,
     chapter: u64,
     stale: u64,
     seed: &[u8],
-) -> Result<Box<Shelf>, Status>
+) -> Result<Box<CacheShelf>, Status>
     ensures new { IfOk result (λ shelf. IsNew capacity chapter stale shelf.value) }
     ensures due { NewDue capacity chapter stale seed.now (number_of_call result) }
 {
@@ -28,11 +28,11 @@ fn new_shelf(
         return Err(Status::BadRules);
     };
     let seed = seed_of(seed)?;
-    let part = Part::seeded(alloc, rules, seed)?;
-    Ok(Box::new(alloc, Shelf::new(alloc, part))?)
+    let part = LeanPart::seeded(alloc, rules, seed)?;
+    Ok(Box::new(alloc, CacheShelf::new(alloc, part))?)
 }
 
-/// Makes an empty shelf for a handle that holds none.
+/// Makes an empty shelf for a handle that holds none. Its history is not recorded.
 #[unsafe(no_mangle)]
 pub extern "C" fn rrc_make(
     alloc: Global,

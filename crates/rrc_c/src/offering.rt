@@ -5,12 +5,12 @@ ghost use Rattle.rrc_c.specs.Told.{datum, data_text};
 ghost use Rattle.rrc_c.specs.Offered.{trust_of, denied, denial_offer, failure_offer, outcome_number, count_more, counts_of, AreAt, AreOffered, IsSetOffer, TakesOne, TakesAll, TakesFirst, TakesMessage, TakesSet, TakesSome, total};
 ghost use Rattle.rrc_c.specs.Parted.{lying_in, IsPart, TakesPart, TakesSomeOfPart};
 ghost use Rattle.rrc_c.specs.Refusals.{AreLimits, AreData, Because, DataRefused, DatumRefused, DenialDue, DenialRefused, FailureDue, FailureRefused, IsCutOff, IsDenial, IsFailure, IsSeed, IsSet, MessageRefused, OffersRefused, SetDue, SetRefused, WriteDue, denies_kept};
+ghost use Rattle.rrc_c.specs.Shelves.{IsLeftAs};
 ghost use Rattle.rrc_c.specs.Statuses.{number_of, number_of_call};
 ghost use Rattle.rrc_history.specs.Fits.{fits};
 ghost use Rattle.rrc_sets.specs.Limits.{Are};
 ghost use Rattle.rrc_sets.specs.Message.{Brings};
 ghost use Rattle.rrc_wire.specs.Plain.{IsPlain};
-ghost use Rattle.rrc_share.specs.Shelf.{IsLeft};
 
 use crate::asking::name_of;
 use crate::counts::{Bounds, Counts};
@@ -19,7 +19,7 @@ use crate::status::Status;
 use rrc_history::{Body, Offer, Outcome, Tag, Trust};
 use rrc_name::{Key, Name, Octets, Sequence, Shared, Slot};
 use rrc_sets::Limits;
-use rrc_share::{Shelf, on_shelf_offer};
+use rrc_share::CacheShelf;
 use rrc_wire::{WireFault, is_kept, is_kept_class, plain_rdata};
 use std::alloc::Global;
 
@@ -214,12 +214,12 @@ fn outcome_number(outcome: Outcome) -> u32
 }
 
 /// Makes an offer to a shelf, and tells the number of what became of it.
-fn make_offer(shelf: &mut Shelf, line: u64, offer: Offer) -> Result<u32, Status>
+fn make_offer(shelf: &mut CacheShelf, line: u64, offer: Offer) -> Result<u32, Status>
     ensures ok { IfOk result (λ number. TakesOne line offer number shelf.old shelf.new) }
-    ensures left { OnErr result (IsLeft shelf.old shelf.new) }
-    ensures due { WriteDue shelf.old.part offer.moment (number_of_call result) }
+    ensures left { OnErr result (IsLeftAs shelf.old shelf.new) }
+    ensures due { WriteDue shelf.old offer.moment (number_of_call result) }
 {
-    let outcome = on_shelf_offer(shelf, Tag { line, place: 0 }, offer)?;
+    let outcome = shelf.offer(Tag { line, place: 0 }, offer)?;
     Ok(outcome_number(outcome))
 }
 
@@ -237,7 +237,7 @@ fn count(counts: &mut Counts, outcome: Outcome)
 
 /// Makes offers to a shelf, in order, and counts what became of them.
 pub(crate) fn take_each(
-    shelf: &mut Shelf,
+    shelf: &mut CacheShelf,
     line: u64,
     offers: Vec<Offer>,
     counts: &mut Counts,
@@ -248,7 +248,7 @@ pub(crate) fn take_each(
 {
     for offer in offers {
         let place = counts.kept + counts.cleared + counts.refused;
-        let outcome = on_shelf_offer(shelf, Tag { line, place }, offer)?;
+        let outcome = shelf.offer(Tag { line, place }, offer)?;
         count(counts, outcome);
     }
     Ok(())
@@ -307,7 +307,7 @@ pub(crate) fn offers_in(
 /// Offers a shelf what a message offers.
 pub(crate) fn offer_message(
     alloc: Global,
-    shelf: &mut Shelf,
+    shelf: &mut CacheShelf,
     line: u64,
     octets: &[u8],
     zone: &[u8],
@@ -353,7 +353,7 @@ fn check_part(parts: u64, part: u64) -> Result<(), Status>
 /// all.
 pub(crate) fn offer_part(
     alloc: Global,
-    shelf: &mut Shelf,
+    shelf: &mut CacheShelf,
     line: u64,
     octets: &[u8],
     zone: &[u8],
@@ -384,7 +384,7 @@ pub(crate) fn offer_part(
 /// Offers a shelf a set.
 pub(crate) fn take_set(
     alloc: Global,
-    shelf: &mut Shelf,
+    shelf: &mut CacheShelf,
     owner: &[u8],
     rtype: u16,
     class: u16,
@@ -395,7 +395,7 @@ pub(crate) fn take_set(
     line: u64,
 ) -> Result<u32, Status>
     ensures ok { IfOk result (λ number. TakesSet line owner.now rtype class trust ttl octets.now moment number shelf.old shelf.new) }
-    ensures left { OnErr result (IsLeft shelf.old shelf.new) }
+    ensures left { OnErr result (IsLeftAs shelf.old shelf.new) }
     ensures fit { OnOk result (IsSet owner.now rtype class trust ttl octets.now) }
     ensures due { SetDue owner.now rtype class trust ttl octets.now moment shelf.old (number_of_call result) }
 {
@@ -406,7 +406,7 @@ pub(crate) fn take_set(
 /// Offers a shelf a negative answer.
 pub(crate) fn take_negative(
     alloc: Global,
-    shelf: &mut Shelf,
+    shelf: &mut CacheShelf,
     name: &[u8],
     rtype: u16,
     class: u16,
@@ -419,7 +419,7 @@ pub(crate) fn take_negative(
     line: u64,
 ) -> Result<u32, Status>
     ensures ok { IfOk result (λ number. TakesOne line (denial_offer name.now rtype class denial trust ttl soa_owner.now soa.now moment) number shelf.old shelf.new) }
-    ensures left { OnErr result (IsLeft shelf.old shelf.new) }
+    ensures left { OnErr result (IsLeftAs shelf.old shelf.new) }
     ensures fit { OnOk result (IsDenial name.now rtype class denial trust ttl soa_owner.now soa.now) }
     ensures due { DenialDue name.now rtype class denial trust ttl soa_owner.now soa.now moment shelf.old (number_of_call result) }
 {
@@ -432,7 +432,7 @@ pub(crate) fn take_negative(
 /// Offers a shelf that asking failed.
 pub(crate) fn take_failure(
     alloc: Global,
-    shelf: &mut Shelf,
+    shelf: &mut CacheShelf,
     name: &[u8],
     rtype: u16,
     class: u16,
@@ -441,7 +441,7 @@ pub(crate) fn take_failure(
     line: u64,
 ) -> Result<u32, Status>
     ensures ok { IfOk result (λ number. TakesOne line (failure_offer name.now rtype class ttl moment) number shelf.old shelf.new) }
-    ensures left { OnErr result (IsLeft shelf.old shelf.new) }
+    ensures left { OnErr result (IsLeftAs shelf.old shelf.new) }
     ensures fit { OnOk result (IsFailure name.now rtype class ttl) }
     ensures due { FailureDue name.now rtype class ttl moment shelf.old (number_of_call result) }
 {

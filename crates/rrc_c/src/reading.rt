@@ -9,7 +9,7 @@ use crate::division::{check_division, keyed_part_of};
 use crate::offering::{offers_in, take_each};
 use crate::status::Status;
 use rrc_history::Offer;
-use rrc_share::Shelf;
+use rrc_share::CacheShelf;
 use std::alloc::Global;
 
 /// An offer, and the part that its name lies in.
@@ -122,7 +122,7 @@ fn share_in(alloc: Global, reading: &Reading, part: u64) -> Result<Vec<Offer>, S
 /// Offers a shelf what a reading has for a part.
 pub(crate) fn offer_share(
     alloc: Global,
-    shelf: &mut Shelf,
+    shelf: &mut CacheShelf,
     reading: &Reading,
     part: u64,
     line: u64,

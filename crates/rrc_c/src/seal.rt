@@ -5,7 +5,7 @@ ghost use Rattle.rrc_c.specs.Sealed.{Held, held_coded, sealed_owns};
 pub(crate) mod parts;
 
 use parts::Parts;
-use rrc_share::Shelf;
+use rrc_share::CacheShelf;
 use std::alloc::Global;
 use std::marker::Model;
 use std::ptr;
@@ -35,21 +35,21 @@ impl Seal {
     }
 
     /// A box, sealed.
-    pub(crate) fn of(shelf: Box<Shelf>) -> Seal
+    pub(crate) fn of(shelf: Box<CacheShelf>) -> Seal
         ensures { result.shelf ≡ Some shelf.value }
     {
         Seal::of_parts(Parts::of(shelf))
     }
 
     /// The box that was sealed.
-    pub(crate) fn into_box(self) -> Box<Shelf>
+    pub(crate) fn into_box(self) -> Box<CacheShelf>
         requires { IsSome self.shelf }
         ensures { self.shelf ≡ Some result.value }
     {
         self.into_parts().into_box()
     }
 
-    fn of_parts(parts: Parts<Shelf, Global>) -> Seal
+    fn of_parts(parts: Parts<CacheShelf, Global>) -> Seal
         ensures { result.shelf ≡ Some parts.value }
     {
         let Parts { ptr, alloc } = parts;
@@ -59,13 +59,13 @@ impl Seal {
         }
     }
 
-    fn into_parts(self) -> Parts<Shelf, Global>
+    fn into_parts(self) -> Parts<CacheShelf, Global>
         requires { IsSome self.shelf }
         ensures { self.shelf ≡ Some result.value }
     {
         let Seal { at, alloc } = self;
         Parts {
-            ptr: at as *mut Shelf,
+            ptr: at as *mut CacheShelf,
             alloc,
         }
     }

@@ -44,7 +44,7 @@ impl Model for CacheShelf {
 impl CacheShelf {
     ghost use Rattle.rrc_cache.specs.Expiry.{HoldsNothing, NoneDiesBefore};
     ghost use Rattle.rrc_cache.specs.Lean.{IsLeanDue, IsLeanOpen, IsPick};
-    ghost use Rattle.rrc_cache.specs.Sizes.{HoldsKeys};
+    ghost use Rattle.rrc_cache.specs.Sizes.{HoldsKeys, HoldsOctets};
     ghost use Rattle.rrc_history.specs.Views.{held_in, reply_in};
     ghost use Rattle.rrc_name.specs.KeyRef.{key_of};
     ghost use Rattle.rrc_share.specs.CacheShelf.{held_by, reply_of, IsDueBy, IsLeftBy, NotesAsk, TakesAsk, TakesOffer, TakesSweep};
@@ -100,6 +100,16 @@ impl CacheShelf {
         match &self.kept {
             Kept::Lean(part) => part.len(),
             Kept::Recording(shelf) => shelf.part.len(),
+        }
+    }
+
+    /// How many octets the entries of these keys have (`Part::octets`), modulo 2^64.
+    pub fn octets(&self) -> u64
+        ensures { HoldsOctets self.now.shelf.part result }
+    {
+        match &self.kept {
+            Kept::Lean(part) => part.octets(),
+            Kept::Recording(shelf) => shelf.part.octets(),
         }
     }
 

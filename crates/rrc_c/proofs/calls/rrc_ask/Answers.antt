@@ -1,6 +1,6 @@
 -- SPDX-License-Identifier: MIT
 use Rattle.std.proofs.Common.{length, Some, ap, ◌∙◌}
-use Rattle.rrc_share.specs.Shelf.{ShelfOf}
+use Rattle.rrc_share.specs.CacheShelf.{CacheShelfOf}
 use Rattle.rrc_c.specs.Refusals.{AskDue}
 use Rattle.rrc_c.specs.Statuses.{number_of_reply}
 use Rattle.rrc_c.proofs.Refusing.{told_of_held}
@@ -9,5 +9,5 @@ use Rattle.rrc_c.proofs.calls.rrc_ask.Goals as goal
 pub returns-clause-due : goal.returns-clause-due
 returns-clause-due c =
     told_of_held c.args.handle.now.seal.shelf c.deref_mut.result.now c.number_of_reply.result (number_of_reply c.ask_shelf-fits.result)
-    (AskDue c.args.name.now c.args.rtype c.args.class c.args.moment c.args.purpose c.args.mode (length c.args.buffer.now)) (ap (λ (shelf : ShelfOf). Some shelf) c.deref_mut.ensures.value ∙ c.in-Some.ensures.taken)
+    (AskDue c.args.name.now c.args.rtype c.args.class c.args.moment c.args.purpose c.args.mode (length c.args.buffer.now)) (ap (λ (shelf : CacheShelfOf). Some shelf) c.deref_mut.ensures.value ∙ c.in-Some.ensures.taken)
     c.number_of_reply.ensures.value c.ask_shelf-fits.ensures.due

@@ -18,10 +18,10 @@ returns-in_err-outcome-clause-err c =
     let turn = YieldsList-turn from yielded c.loop-offer.offer-iterator c.loop-offer.yielded_by c.next.result c.next.new.self c.in-Some.offer c.in-Some.is c.next.ensures.steps in
     let refusal = c.in_err-outcome.field-0.0 in
     let middle = c.loop-offer.shelf in
-    on_err c.from_residual.result (refused_as refusal) (λ number. (at : ℕ) → AreAt at offers.items → TakesFirst number c.args.line at offers.items c.loop-offer.counts c.args.shelf.now c.on_shelf_offer.new.shelf) c.from_residual.ensures.1
-    (takes_first (number_of (refused_as refusal)) c.args.line offers.items yielded _ c.in-Some.offer c.loop-offer.counts c.args.shelf.now middle c.on_shelf_offer.new.shelf
-    (parts_at offers.items yielded c.in-Some.offer first turn) turn c.loop-offer.invariant.0 (write_refused middle.part c.in-Some.offer.moment refusal c.in_err-outcome.ensures.due) c.in_err-outcome.ensures.err)
+    on_err c.from_residual.result (refused_as refusal) (λ number. (at : ℕ) → AreAt at offers.items → TakesFirst number c.args.line at offers.items c.loop-offer.counts c.args.shelf.now c.offer.new.self) c.from_residual.ensures.1
+    (takes_first (number_of (refused_as refusal)) c.args.line offers.items yielded _ c.in-Some.offer c.loop-offer.counts c.args.shelf.now middle c.offer.new.self
+    (parts_at offers.items yielded c.in-Some.offer first turn) turn c.loop-offer.invariant.0 (write_refused middle c.in-Some.offer.moment refusal c.in_err-outcome.ensures.due) (record { records = c.in_err-outcome.ensures.records; left = c.in_err-outcome.ensures.err }))
 
 pub loop-offer-preserved : goal.loop-offer-preserved
 loop-offer-preserved c =
-    takes_more c.args.line c.loop-offer.yielded c.in-Some.offer c.in_ok-outcome.outcome c.loop-offer.counts c.count.new.counts c.args.shelf.now c.loop-offer.shelf c.on_shelf_offer.new.shelf _ c.loop-offer.invariant refl c.in_ok-outcome.ensures.ok c.count.ensures
+    takes_more c.args.line c.loop-offer.yielded c.in-Some.offer c.in_ok-outcome.outcome c.loop-offer.counts c.count.new.counts c.args.shelf.now c.loop-offer.shelf c.offer.new.self _ c.loop-offer.invariant refl (record { records = c.in_ok-outcome.ensures.records; takes = c.in_ok-outcome.ensures.ok }) c.count.ensures

@@ -13,8 +13,8 @@ use Rattle.std.proofs.Crossing as heap
 use Rattle.std_alloc.proofs.SendSync.{quiet, lies}
 use Rattle.std_heap.proofs.Global.TheSendSync as handle
 use Rattle.rrc_c.specs.Sealed.{Held, sealed_owns}
-use Rattle.rrc_share.specs.contracts.shelf.Shelf as Shelf
-use Rattle.rrc_share.proofs.shelf.Shelf.TheSendSync.{the_send as shelf}
+use Rattle.rrc_share.specs.contracts.cache_shelf.CacheShelf as Shelf
+use Rattle.rrc_share.proofs.cache_shelf.CacheShelf.TheSendSync.{the_send as shelf}
 use Rattle.rrc_c.specs.contracts.seal.Seal.{the_row, the_type}
 
 sealed : (alloc : Global) (at : Ptr) (held : Held) → Keyless (sealed_owns alloc at held)
