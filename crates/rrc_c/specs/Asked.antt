@@ -41,6 +41,17 @@ pub record Tells (told : Told) (before after : List ℕ) (reply : Reply) : Type 
   pub record_is : told ≡ told_of reply
   pub buffer_is : IsFilled before (text_of reply) after
 
+-- the record tells a reply whose octets are more than the buffer has, which is as it was
+pub record TellsSizeOf (told : Told) (before after : List ℕ) (reply : Reply) : Type 0 where
+  pub record_is : told ≡ told_of reply
+  pub small : length before < length (text_of reply)
+  pub untouched : after ≡ before
+
+-- a reply was told, for which the buffer has room, or where that is too small only its size
+abbrev pub TellsOr : Bool → Reply → Told → List ℕ → List ℕ → Type 0
+TellsOr true reply told before after = (length (text_of reply) ≤ length before) × Tells told before after reply
+TellsOr false reply told before after = TellsSizeOf told before after reply
+
 -- one event was written, the question with its answer, which is what is told
 pub record Answers (ask : AskOf) (line : ℕ) (told : Told) (before after : List ℕ) (old new : CacheShelfOf) : Type 0 where
   pub reply : Reply

@@ -1,16 +1,17 @@
 // SPDX-License-Identifier: MIT
-ghost use Rattle.std.specs.Prelude.{◌≡◌, ◌+◌, ◌≤◌, ◌↔◌, length, IsTrue, IfOk, IfErr, OnOk, OnErr};
-ghost use Rattle.rrc_c.specs.Asked.{asked, purpose_of, mode_of, reply_of, AreKept, AnswersOr, ShowsOr};
-ghost use Rattle.rrc_c.specs.Refusals.{AskDue, IsQuestion, NameRefused, PeekDue, QuestionRefused, ReplyRefused, TellingThen, WriteDue};
+ghost use Rattle.std.specs.Prelude.{◌≡◌, ◌+◌, ◌≤◌, ◌↔◌, length, false, IsTrue, IfOk, IfErr, IfNone, IfSome, OnOk, OnErr};
+ghost use Rattle.rrc_c.specs.Asked.{asked, purpose_of, mode_of, reply_of, AreKept, AnswersOr, ShowsOr, TellsOr};
+ghost use Rattle.rrc_c.specs.Refusals.{AskDue, IsQuestion, NameRefused, PeekDue, QuestionRefused, TellingThen, WriteDue};
 ghost use Rattle.rrc_c.specs.Shelves.{IsLeftAs, MakesAsk};
 ghost use Rattle.rrc_c.specs.Statuses.{number_of, number_of_call, number_of_reply};
-ghost use Rattle.rrc_c.specs.Told.{told_of, data_of, AreTellable};
+ghost use Rattle.rrc_c.specs.Told.{data_of, AreTellable};
+ghost use Rattle.rrc_history.specs.Views.{reply_in};
 ghost use Rattle.rrc_name.specs.Wire.{IsWireForm};
 
 use crate::status::Status;
 use crate::text::fill;
-use crate::told::{Told, data_of, owner_of, told_of};
-use rrc_history::{Ask, Mode, Purpose, Reply, Tag};
+use crate::told::{Told, data_of, lent, owner_of, told_of};
+use rrc_history::{Ask, Mode, Purpose, Reply, ReplyRef, Tag};
 use rrc_name::{Name, WireNameFault};
 use rrc_share::CacheShelf;
 use std::alloc::Global;
@@ -77,20 +78,6 @@ pub(crate) fn ask_of(
     })
 }
 
-/// What a shelf would answer, and the record of it.
-fn peeked(shelf: &CacheShelf, ask: &Ask) -> Result<(Reply, Told), Status>
-    ensures reply { IfOk result (λ both. both.0 ≡ reply_of shelf.now ask.now) }
-    ensures told { IfOk result (λ both. both.1 ≡ told_of both.0) }
-    ensures tellable { OnOk result (AreTellable (data_of (reply_of shelf.now ask.now))) }
-    ensures refused { IfErr result (λ status. ReplyRefused (reply_of shelf.now ask.now) (number_of status)) }
-{
-    let reply = shelf.would_answer(ask).to_owned()?;
-    match told_of(&reply) {
-        Some(told) => Ok((reply, told)),
-        None => Err(Status::WideAnswer),
-    }
-}
-
 /// Whether a buffer has as many octets as a reply takes.
 fn has_room(buffer: &[u8], told: &Told) -> bool
     ensures { IsTrue result ↔ (told.now.owner_size + told.now.data_size ≤ length buffer.now) }
@@ -99,29 +86,96 @@ fn has_room(buffer: &[u8], told: &Told) -> bool
     told.owner_size <= room && told.data_size <= room - told.owner_size
 }
 
+/// Tells a reply, and writes it to a buffer, where that has room for it; false is answered where it
+/// has not, and `None` where no record can tell the reply.
+fn tell(reply: ReplyRef<'_>, told: &mut Told, buffer: &mut [u8]) -> Option<bool>
+    ensures some { IfSome result (λ fits. TellsOr fits (reply_in reply.entry) told.new buffer.old buffer.new) }
+    ensures tellable { IfSome result (λ fits. AreTellable (data_of (reply_in reply.entry))) }
+    ensures none { IfNone result (AreTellable (data_of (reply_in reply.entry)) → ⊥) }
+    ensures kept { IfNone result (AreKept told.old buffer.old told.new buffer.new) }
+{
+    let record = told_of(reply)?;
+    let fits = has_room(buffer, &record);
+    if fits {
+        fill(buffer, owner_of(reply), data_of(reply));
+    }
+    *told = record;
+    Some(fits)
+}
+
 /// Tells what a shelf would answer, and writes nothing. False is answered where the buffer is too small.
 fn show(shelf: &CacheShelf, ask: &Ask, told: &mut Told, buffer: &mut [u8]) -> Result<bool, Status>
     ensures ok { IfOk result (λ fits. ShowsOr fits ask.now told.new buffer.old buffer.new shelf.now shelf.now) }
     ensures err { OnErr result (AreKept told.old buffer.old told.new buffer.new) }
     ensures due { TellingThen (reply_of shelf.now ask.now) (length buffer.old) (λ number. number ≡ 0) (number_of_reply result) }
 {
-    let (reply, record) = peeked(shelf, ask)?;
-    let fits = has_room(buffer, &record);
-    if fits {
-        fill(buffer, owner_of(&reply), data_of(&reply));
+    match tell(shelf.would_answer(ask), told, buffer) {
+        Some(fits) => Ok(fits),
+        None => Err(Status::WideAnswer),
     }
-    *told = record;
-    Ok(fits)
 }
 
-/// Writes the event of a question, with the reply that the shelf has.
-fn write_ask(shelf: &mut CacheShelf, ask: &Ask, line: u64) -> Result<(), Status>
+/// Writes the event of a question, and answers the reply that the shelf has.
+fn write_ask(shelf: &mut CacheShelf, ask: &Ask, line: u64) -> Result<Reply, Status>
     ensures ok { OnOk result (MakesAsk shelf.old shelf.new (record { line = line; place = 0 }) ask.now (reply_of shelf.old ask.now)) }
+    ensures reply { IfOk result (λ reply. reply ≡ reply_of shelf.old ask.now) }
     ensures left { OnErr result (IsLeftAs shelf.old shelf.new) }
     ensures due { WriteDue shelf.old ask.now.moment (number_of_call result) }
 {
-    shelf.ask(Tag { line, place: 0 }, ask)?;
-    Ok(())
+    Ok(shelf.ask(Tag { line, place: 0 }, ask)?)
+}
+
+/// Answers a question whose reply is sized first, so that no event is written where the buffer is
+/// too small.
+fn answer_sized(
+    shelf: &mut CacheShelf,
+    ask: &Ask,
+    line: u64,
+    told: &mut Told,
+    buffer: &mut [u8],
+) -> Result<bool, Status>
+    ensures ok { IfOk result (λ fits. AnswersOr fits ask.now line told.new buffer.old buffer.new shelf.old shelf.new) }
+    ensures err { OnErr result (AreKept told.old buffer.old told.new buffer.new) }
+    ensures left { OnErr result (IsLeftAs shelf.old shelf.new) }
+    ensures due { TellingThen (reply_of shelf.old ask.now) (length buffer.old) (WriteDue shelf.old ask.now.moment) (number_of_reply result) }
+{
+    let Some(record) = told_of(shelf.would_answer(ask)) else {
+        return Err(Status::WideAnswer);
+    };
+    let is_written = has_room(buffer, &record);
+    if is_written {
+        let reply = write_ask(shelf, ask, line)?;
+        fill(buffer, owner_of(lent(&reply)), data_of(lent(&reply)));
+    }
+    *told = record;
+    Ok(is_written)
+}
+
+/// Answers a question of which nothing is recorded: it is looked up once, and the reply is copied
+/// to the buffer alone. Where the call is to be refused, that is found out as for any other shelf.
+fn answer_lean(
+    shelf: &mut CacheShelf,
+    ask: &Ask,
+    line: u64,
+    told: &mut Told,
+    buffer: &mut [u8],
+) -> Result<bool, Status>
+    requires { shelf.old.records ≡ false }
+    ensures ok { IfOk result (λ fits. AnswersOr fits ask.now line told.new buffer.old buffer.new shelf.old shelf.new) }
+    ensures err { OnErr result (AreKept told.old buffer.old told.new buffer.new) }
+    ensures left { OnErr result (IsLeftAs shelf.old shelf.new) }
+    ensures due { TellingThen (reply_of shelf.old ask.now) (length buffer.old) (WriteDue shelf.old ask.now.moment) (number_of_reply result) }
+{
+    let Ok((reply, slot)) = shelf.judge(ask) else {
+        return answer_sized(shelf, ask, line, told, buffer);
+    };
+    let Some(fits) = tell(reply, told, buffer) else {
+        return Err(Status::WideAnswer);
+    };
+    if fits {
+        shelf.note_asked(Tag { line, place: 0 }, ask, slot);
+    }
+    Ok(fits)
 }
 
 /// Answers a question, which is one event. False is answered where the buffer is too small, and then no event is written.
@@ -137,14 +191,11 @@ fn answer(
     ensures left { OnErr result (IsLeftAs shelf.old shelf.new) }
     ensures due { TellingThen (reply_of shelf.old ask.now) (length buffer.old) (WriteDue shelf.old ask.now.moment) (number_of_reply result) }
 {
-    let (reply, record) = peeked(shelf, ask)?;
-    let is_written = has_room(buffer, &record);
-    if is_written {
-        write_ask(shelf, ask, line)?;
-        fill(buffer, owner_of(&reply), data_of(&reply));
+    if shelf.is_recording() {
+        answer_sized(shelf, ask, line, told, buffer)
+    } else {
+        answer_lean(shelf, ask, line, told, buffer)
     }
-    *told = record;
-    Ok(is_written)
 }
 
 /// Asks a shelf what C asks.

@@ -1,9 +1,10 @@
 // SPDX-License-Identifier: MIT
 ghost use Rattle.std.specs.Prelude.{◌≡◌, IfSome, IfNone};
 ghost use Rattle.rrc_c.specs.Told.{owner_of, data_of, kind_of, left_of, retry_of, told_of, AreTellable};
+ghost use Rattle.rrc_history.specs.Views.{reply_in};
 
 use crate::text::size_of_data;
-use rrc_history::Reply;
+use rrc_history::{Reply, ReplyRef, SetRef, SoaRef};
 use rrc_name::Octets;
 use std::slice;
 
@@ -23,71 +24,112 @@ pub struct Told {
     pub data_size: u64,
 }
 
-/// The owner of a reply's data, which a miss has none of.
-pub(crate) fn owner_of(reply: &Reply) -> &[u8]
-    ensures { result.now ≡ owner_of reply.now }
+/// A reply that is owned, lent.
+pub(crate) fn lent(reply: &Reply) -> ReplyRef<'_>
+    ensures { reply_in result ≡ reply.now }
 {
     match reply {
-        Reply::Fresh { set, .. } | Reply::Stale { set, .. } => set.owner.as_slice(),
-        Reply::NoData { soa, .. } | Reply::NxDomain { soa, .. } => soa.owner.as_slice(),
-        Reply::Miss { .. } => &[],
+        Reply::Fresh { set, left } => ReplyRef::Fresh {
+            set: SetRef {
+                owner: &set.owner,
+                items: &set.items,
+            },
+            left: *left,
+        },
+        Reply::Stale { set, left } => ReplyRef::Stale {
+            set: SetRef {
+                owner: &set.owner,
+                items: &set.items,
+            },
+            left: *left,
+        },
+        Reply::NoData { soa, left } => ReplyRef::NoData {
+            soa: SoaRef {
+                owner: &soa.owner,
+                octets: &soa.octets,
+            },
+            left: *left,
+        },
+        Reply::NxDomain { soa, left } => ReplyRef::NxDomain {
+            soa: SoaRef {
+                owner: &soa.owner,
+                octets: &soa.octets,
+            },
+            left: *left,
+        },
+        Reply::Miss { retry_from } => ReplyRef::Miss {
+            retry_from: *retry_from,
+        },
+    }
+}
+
+/// The owner of a reply's data, which a miss has none of.
+pub(crate) fn owner_of<'a>(reply: ReplyRef<'a>) -> &'a [u8]
+    ensures { result.now ≡ owner_of (reply_in reply.entry) }
+{
+    match reply {
+        ReplyRef::Fresh { set, .. } | ReplyRef::Stale { set, .. } => set.owner.as_slice(),
+        ReplyRef::NoData { soa, .. } | ReplyRef::NxDomain { soa, .. } => soa.owner.as_slice(),
+        ReplyRef::Miss { .. } => &[],
     }
 }
 
 /// The data of a reply.
-pub(crate) fn data_of(reply: &Reply) -> &[Octets]
-    ensures { result.now ≡ data_of reply.now }
+pub(crate) fn data_of<'a>(reply: ReplyRef<'a>) -> &'a [Octets]
+    ensures { result.now ≡ data_of (reply_in reply.entry) }
 {
     match reply {
-        Reply::Fresh { set, .. } | Reply::Stale { set, .. } => set.items.as_slice(),
-        Reply::NoData { soa, .. } | Reply::NxDomain { soa, .. } => slice::from_ref(&*soa.octets),
-        Reply::Miss { .. } => &[],
+        ReplyRef::Fresh { set, .. } | ReplyRef::Stale { set, .. } => set.items.as_slice(),
+        ReplyRef::NoData { soa, .. } | ReplyRef::NxDomain { soa, .. } => {
+            slice::from_ref(&**soa.octets)
+        }
+        ReplyRef::Miss { .. } => &[],
     }
 }
 
-fn kind_of(reply: &Reply) -> u32
-    ensures { result ≡ kind_of reply.now }
+fn kind_of(reply: ReplyRef<'_>) -> u32
+    ensures { result ≡ kind_of (reply_in reply.entry) }
 {
     match reply {
-        Reply::Fresh { .. } => 1,
-        Reply::Stale { .. } => 2,
-        Reply::NoData { .. } => 3,
-        Reply::NxDomain { .. } => 4,
-        Reply::Miss { retry_from: None } => 5,
-        Reply::Miss {
+        ReplyRef::Fresh { .. } => 1,
+        ReplyRef::Stale { .. } => 2,
+        ReplyRef::NoData { .. } => 3,
+        ReplyRef::NxDomain { .. } => 4,
+        ReplyRef::Miss { retry_from: None } => 5,
+        ReplyRef::Miss {
             retry_from: Some(_),
         } => 6,
     }
 }
 
-fn left_of(reply: &Reply) -> u32
-    ensures { result ≡ left_of reply.now }
+fn left_of(reply: ReplyRef<'_>) -> u32
+    ensures { result ≡ left_of (reply_in reply.entry) }
 {
     match reply {
-        Reply::Fresh { left, .. }
-        | Reply::Stale { left, .. }
-        | Reply::NoData { left, .. }
-        | Reply::NxDomain { left, .. } => *left,
-        Reply::Miss { .. } => 0,
+        ReplyRef::Fresh { left, .. }
+        | ReplyRef::Stale { left, .. }
+        | ReplyRef::NoData { left, .. }
+        | ReplyRef::NxDomain { left, .. } => left,
+        ReplyRef::Miss { .. } => 0,
     }
 }
 
-fn retry_of(reply: &Reply) -> u64
-    ensures { result ≡ retry_of reply.now }
+fn retry_of(reply: ReplyRef<'_>) -> u64
+    ensures { result ≡ retry_of (reply_in reply.entry) }
 {
     match reply {
-        Reply::Miss {
+        ReplyRef::Miss {
             retry_from: Some(moment),
-        } => *moment,
+        } => moment,
         _ => 0,
     }
 }
 
 /// The record of a reply, where each of its data has as many octets as its length can tell, and all can be counted.
-pub(crate) fn told_of(reply: &Reply) -> Option<Told>
-    ensures told { IfSome result (λ told. told ≡ told_of reply.now) }
-    ensures some { IfSome result (λ told. AreTellable (data_of reply.now)) }
-    ensures none { IfNone result (AreTellable (data_of reply.now) → ⊥) }
+pub(crate) fn told_of(reply: ReplyRef<'_>) -> Option<Told>
+    ensures told { IfSome result (λ told. told ≡ told_of (reply_in reply.entry)) }
+    ensures some { IfSome result (λ told. AreTellable (data_of (reply_in reply.entry))) }
+    ensures none { IfNone result (AreTellable (data_of (reply_in reply.entry)) → ⊥) }
 {
     let data_size = size_of_data(data_of(reply))? as u64;
     Some(Told {
