@@ -231,22 +231,36 @@ static void test_answers(void)
     EXPECT(rrcache_free(&shelf) == RRCACHE_DONE && shelf.at == NULL && !shelf.is_live);
 }
 
-static void test_small_buffers(void)
+/* A buffer that is too small, of a shelf that records or does not. */
+static void test_small_buffers_of(bool records)
 {
     struct rrcache_shelf shelf = {0};
     struct rrcache_counts counts;
     struct rrcache_told told = {0};
     uint8_t buffer[sizeof ADDRESSES];
-    EXPECT(make(&shelf) == RRCACHE_DONE && offer_answer(&shelf, FIRST, &counts) == RRCACHE_DONE);
+    EXPECT(make(&shelf) == RRCACHE_DONE && (records || rrcache_release(&shelf) == RRCACHE_DONE));
+    EXPECT(offer_answer(&shelf, FIRST, &counts) == RRCACHE_DONE);
     for (size_t size = 0; size < sizeof ADDRESSES; size++) {
         memset(buffer, 0xee, sizeof buffer);
         memset(&told, 0, sizeof told);
         EXPECT(ask(&shelf, FIRST, &told, buffer, size) == RRCACHE_SMALL);
         EXPECT(told.kind == RRCACHE_FRESH && told.owner_size + told.data_size == sizeof ADDRESSES);
         EXPECT(peek(&shelf, FIRST, &told, buffer, size) == RRCACHE_SMALL);
-        EXPECT(buffer[0] == 0xee && buffer[sizeof buffer - 1] == 0xee && events(&shelf) == 1);
+        EXPECT(buffer[0] == 0xee && buffer[sizeof buffer - 1] == 0xee && events(&shelf) == records);
     }
+    /* A moment that is too large tells nothing. */
+    memset(&told, 7, sizeof told);
+    EXPECT(ask(&shelf, (1ULL << 40) + 1, &told, buffer, sizeof buffer) == RRCACHE_MOMENT_TOO_LARGE
+           && told.kind == 0x07070707 && buffer[0] == 0xee && events(&shelf) == records);
+    EXPECT(ask(&shelf, FIRST, &told, buffer, sizeof buffer) == RRCACHE_DONE
+           && told.kind == RRCACHE_FRESH && memcmp(buffer, ADDRESSES, sizeof ADDRESSES) == 0);
     EXPECT(rrcache_free(&shelf) == RRCACHE_DONE);
+}
+
+static void test_small_buffers(void)
+{
+    test_small_buffers_of(false);
+    test_small_buffers_of(true);
 }
 
 static void test_peek(void)
