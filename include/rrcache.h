@@ -101,8 +101,8 @@
      negative return or a failure that returns RRCACHE_DONE, and with a message by one for each of
      its offers that was made.
    - A shelf is made to record none of it. Then an event takes a number and no memory, no chapter is
-     ever full or closed, and there is nothing to drop. `rrcache_record` records the history from
-     that call on, which an audit by other software may want, and `rrcache_release` ends that and
+     ever full or closed, and there is nothing to drop. `rrcache_record` keeps the events from that
+     call on in memory, where they stay: no call hands them out. `rrcache_release` ends that, and
      drops what was recorded. No reply depends on it. What is told below of events that are kept and
      of chapters is so while the history is recorded.
    - An event takes 96 octets, beside the names and the data that it tells of.
