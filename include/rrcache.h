@@ -4,10 +4,9 @@
    A *shelf* is one part of the cache, and where it is asked to (`rrcache_record`) it records its
    history. A resolver makes 16 to 64 of them, each with a lock beside it, and picks the one for a
    name by `rrcache_part_of`: all that is known of a name lies in one part, in whatever case the
-   name is written. Which part that is goes by a hash under a
-   secret seed (`struct rrcache_parts`), so that nobody else can pick names of one part, to fill it
-   and keep its lock busy. With more shelves fewer threads wait for one lock; one shelf with no lock
-   will do where one thread asks.
+   name is written. Which part that is goes by a hash under a secret seed (`struct rrcache_parts`),
+   so that nobody else can pick names of one part, to fill it and keep its lock busy. With more
+   shelves fewer threads wait for one lock; one shelf with no lock will do where one thread asks.
 
    Who owns what
    - The caller owns the handle, the lock and each buffer, and no call keeps a pointer to any of
@@ -25,7 +24,7 @@
      needed beside it.
    - `rrcache_read_message`, `rrcache_read_response` and `rrcache_free_offers` take no shelf, and so
      need no lock of one. Of a handle of offers the same is true as of a shelf's: one call at a
-   time, and `rrcache_offer_read` writes into both of its handles for a while.
+     time, and `rrcache_offer_read` writes into both of its handles for a while.
    - `rrcache_fault` and `rrcache_part_of` take no handle and need no lock.
    - No call waits, sleeps, takes a lock or calls back. None may be made in a signal handler, nor in
      the child of a process with threads that forked.
@@ -53,10 +52,10 @@
      target of an alias, a zone's SOA record, the addresses of name servers. A resolver with so many
      shelves reads the message once, by `rrcache_read_response` or `rrcache_read_message` and under
      no lock, which tells the shelves that it concerns. For each of these it calls
-   `rrcache_offer_read` with that shelf's number, counted from 0, under that shelf's lock. Each call
-   keeps what the message says of names in that shelf and nothing else, so that all calls together
-   keep all that it says, and each name's data lie where `rrcache_part_of` leads with the same
-   `struct rrcache_parts`. A shelf of whose names the message tells nothing gets no event.
+     `rrcache_offer_read` with that shelf's number, counted from 0, under that shelf's lock. Each
+     call keeps what the message says of names in that shelf and nothing else, so that all calls
+     together keep all that it says, and each name's data lie where `rrcache_part_of` leads with the
+     same `struct rrcache_parts`. A shelf of whose names the message tells nothing gets no event.
    - `rrcache_offer_part` does the same in one call for each shelf, and reads the whole message
      anew, under that shelf's lock. That will do for one shelf's share alone.
    - A CNAME record is then followed from shelf to shelf: one `rrcache_ask_alias` for each name,
@@ -98,7 +97,7 @@
 
    The history and its chapters
    - The history of a shelf grows by one event with each ask, each sweep and each offer of a set, a
-     negative return or a failure that returns RRCACHE_DONE, and with a message by one for each of
+     negative answer or a failure that returns RRCACHE_DONE, and with a message by one for each of
      its offers that was made.
    - A shelf is made to record none of it. Then an event takes a number and no memory, no chapter is
      ever full or closed, and there is nothing to drop. `rrcache_record` keeps the events from that
