@@ -2,9 +2,11 @@
 # SPDX-License-Identifier: MIT
 """Times the library for C: asks and puts by threads of C on shelves of their own and on shared ones under locks, and asks through Python.
 
-It takes the library as bin/build-c made it and compiles bench/c_threads.c. Each number is the best of RUNS runs of CALLS calls on 16 shelves
-with 16,384 names, and nothing is recorded. Asks all hit; of `both` one half are puts, which replace. Rates are calls a second
-by the clock, of all threads together, on a machine that should do nothing else. `--write` writes them to docs/PERFORMANCE.md.
+It takes the library as bin/build-c made it and compiles bench/c_threads.c. Each number is the best
+of RUNS runs of CALLS calls on 16 shelves with 16,384 names, of which no history is recorded. Asks
+all hit; of `both` one half are puts, which replace. Rates are calls a second by the clock, of all
+threads together, on a machine that should do nothing else. `--write` writes them to
+docs/PERFORMANCE.md.
 """
 import argparse
 import pathlib

@@ -69,7 +69,7 @@ def tell_evicting(what, keys, offer):
     """The most that keys take which evict each other, beside twice the octets that are told: looked
     at right after a chapter was closed and dropped."""
     before, most = memory(), 0
-    with rrcache.Shelf(keys, keys // 4) as shelf:
+    with rrcache.Shelf(keys, keys // 4, record=True) as shelf:
         for number in range(9 * keys):
             offer(shelf, number)
             if number % (keys // 4) == 0:
