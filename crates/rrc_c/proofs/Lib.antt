@@ -6,3 +6,4 @@ pub mod Answering
 pub mod Taking
 pub mod Refusing
 pub mod Sharing
+pub mod Bounding

@@ -10,8 +10,8 @@ BothHold None new fact = ⊥
 BothHold (Some before) None fact = ⊥
 BothHold (Some before) (Some after) fact = fact before after
 
--- the handle holds what it held; while the history is recorded, a chapter that was full may have been closed, which changes no
--- history and no reply
+-- the handle holds what it held; while the history is recorded, a chapter that was full may have
+-- been closed, which changes no history and no reply
 abbrev pub IsKept : Option CacheShelfOf → Option CacheShelfOf → Type 0
 IsKept None None = Unit {0}
 IsKept None (Some after) = ⊥

@@ -27,8 +27,9 @@ pub record HasFault (octets : List ℕ) (number : ℕ) : Type 0 where
 abbrev pub TellsFault : List ℕ → ℕ → Type 0
 TellsFault octets number = IsMessage octets number ⊎ HasFault octets number
 
--- how many keys the shelf holds, how many events the open chapter has and how many chapters are closed,
--- of which there are none where nothing is recorded, and how many octets the entries of these keys have
+-- how many keys the shelf holds, how many events the open chapter has and how many chapters are
+-- closed, of which there are none where nothing is recorded, and how many octets the entries of
+-- these keys have
 pub record TellsSizes (keys events chapters octets : ℕ) (old new : CacheShelfOf) : Type 0 where
   pub kept : new ≡ old
   pub keys_are : HoldsKeys old.shelf.part keys
@@ -41,8 +42,8 @@ pub record TellsExpiry (moment : ℕ) (old new : CacheShelfOf) : Type 0 where
   pub kept : new ≡ old
   pub before : NoneDiesBefore old.shelf.part moment
 
--- the closed chapters were dropped, and as many of them are told, of which there are none where nothing
--- is recorded
+-- the closed chapters were dropped, and as many of them are told, of which there are none where
+-- nothing is recorded
 pub record DropsChapters (chapters : ℕ) (old new : CacheShelfOf) : Type 0 where
   pub left : new ≡ record { records = old.records; shelf = lean_shelf old.shelf.part }
   pub told : chapters ≡ recorded_chapters old.records old.shelf

@@ -15,3 +15,4 @@ pub mod Readings
 pub mod Kept
 pub mod Stored
 pub mod Responses
+pub mod Bounds

@@ -114,8 +114,8 @@ MakingDue capacity chapter stale seed None number = NewDue capacity chapter stal
 
 -- ---- events
 
--- when an event is written at a moment, and when that is refused with what: while nothing is recorded
--- no chapter is ever full
+-- when an event is written at a moment, and when that is refused with what: while nothing is
+-- recorded no chapter is ever full
 abbrev pub WriteDue : CacheShelfOf → ℕ → ℕ → Type 0
 WriteDue shelf at =
     Then (Because HistoryFull (IsSpentBy shelf.records shelf.shelf.part)) (CanWriteBy shelf.records shelf.shelf.part)

@@ -35,7 +35,8 @@ pub record IsLeftAs (old new : CacheShelfOf) : Type 0 where
   pub records : new.records ≡ old.records
   pub left : IsLeftBy old.records old.shelf new.shelf
 
--- the next event has a number below 2^62, and where a chapter that is recorded is full it can be closed
+-- the next event has a number below 2^62, and where a chapter that is recorded is full it can be
+-- closed
 abbrev pub CanWriteBy : Bool → PartOf → Type 0
 CanWriteBy true part = CanWrite part
 CanWriteBy false part = next_number part < 2 ^ 62

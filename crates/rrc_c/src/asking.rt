@@ -178,7 +178,8 @@ fn answer_lean(
     Ok(fits)
 }
 
-/// Answers a question, which is one event. False is answered where the buffer is too small, and then no event is written.
+/// Answers a question, which is one event. False is answered where the buffer is too small, and then
+/// no event is written.
 fn answer(
     shelf: &mut CacheShelf,
     ask: &Ask,

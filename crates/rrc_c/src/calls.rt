@@ -323,8 +323,8 @@ pub extern "C" fn rrc_sweep(
     number_of_u64(done, removed)
 }
 
-/// Records the history of a shelf from here on, with no chapter closed. Where it is recorded already
-/// nothing is done.
+/// Records the history of a shelf from here on, with no chapter closed. Where it is recorded
+/// already nothing is done.
 #[unsafe(no_mangle)]
 pub extern "C" fn rrc_record(alloc: Global, handle: &mut Handle) -> u32
     ensures none { TellsNone handle.old.seal.shelf result }
@@ -392,9 +392,9 @@ pub extern "C" fn rrc_next_expiry(alloc: Global, handle: &mut Handle, moment: &m
     0
 }
 
-/// Tells how many keys a shelf holds, how many events the open chapter has and how many chapters are
-/// closed, of which there are none where nothing is recorded, and how many octets the entries of the
-/// keys have.
+/// Tells how many keys a shelf holds, how many events the open chapter has and how many chapters
+/// are closed, of which there are none where nothing is recorded, and how many octets the entries
+/// of the keys have.
 #[unsafe(no_mangle)]
 pub extern "C" fn rrc_sizes(
     alloc: Global,

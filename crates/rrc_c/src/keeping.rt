@@ -1,6 +1,7 @@
 // SPDX-License-Identifier: MIT
 ghost use Rattle.std.specs.Prelude.{◌≡◌, ◌≤◌, ◌<◌, true, false, IfOk, IfErr, OnOk, OnErr};
 ghost use Rattle.rrc_cache.specs.Expiry.{NoneDiesBefore};
+ghost use Rattle.rrc_c.specs.Bounds.{AreBounded};
 ghost use Rattle.rrc_c.specs.Kept.{DropsChapters, TellsFault};
 ghost use Rattle.rrc_c.specs.Parts.{keyed_part_of};
 ghost use Rattle.rrc_c.specs.Refusals.{OutOfMemory, PartDue, RecordDue, WriteDue};
@@ -122,3 +123,9 @@ pub(crate) fn part_in(alloc: Global, name: &[u8], parts: u64, seed: &[u8]) -> Re
     let name = name_of(alloc, name)?.folded()?;
     Ok(keyed_part_of(&name, &seed, parts as usize) as u64)
 }
+
+/// The law of the octets that `rrc_sizes` tells: where no entry has more than some number, they are
+/// at most that times the keys. The function does nothing; its contract is the law.
+pub fn keys_times_the_most_bound_the_octets()
+    ensures { AreBounded }
+{}
