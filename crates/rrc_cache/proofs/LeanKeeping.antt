@@ -1,10 +1,13 @@
 -- SPDX-License-Identifier: MIT
 -- What a part that keeps no events keeps is what its history leaves, through every event.
-use Rattle.std.proofs.Common.{◌≡◌, ℕ, ◌+◌, ◌<◌, ◌^◌, List, [], ◌∷◌, ◌++◌, length, Option, refl, sym, ap, subst, ◌∙◌, arith}
+use Rattle.std.proofs.Common.{◌≡◌, ℕ, ◌+◌, ◌<◌, ◌≤◌, ◌^◌, List, [], ◌∷◌, ◌++◌, length, Option, refl, sym, ap, subst, ◌∙◌, arith}
 use Rattle.std.proofs.lemmas.List.{length-append}
 use Rattle.rrc_history.specs.declared.rules.Rules.{Rules}
 use Rattle.rrc_history.specs.declared.event.Event.{Event}
 use Rattle.rrc_history.specs.declared.snapshot.Entry.{Entry}
+use Rattle.rrc_history.specs.declared.snapshot.Snapshot.{Snapshot}
+use Rattle.rrc_history.specs.Sound.{AreSound}
+use Rattle.rrc_history.specs.lemmas.Openings.{opening}
 use Rattle.rrc_name.specs.declared.slot.Slot.{Slot}
 use Rattle.rrc_history.specs.declared.event.Reply.{Reply}
 use Rattle.rrc_history.specs.Asked.{AskOf}
@@ -15,7 +18,7 @@ use Rattle.rrc_history.specs.Right.{IsLegal}
 use Rattle.rrc_history.specs.lemmas.AskLaws.{found-contents}
 use Rattle.rrc_history.specs.lemmas.LawsHold.{laws_hold}
 use Rattle.rrc_cache.specs.Calls.{Leaves, Writes, moment_of}
-use Rattle.rrc_cache.specs.Lean.{HoldsLean, IsLeanOpen, IsPick, first_chapter, with_event}
+use Rattle.rrc_cache.specs.Lean.{HoldsLean, IsLeanOpen, IsPick, begun_with, first_chapter, with_event}
 use Rattle.rrc_cache.specs.Pairs.{StoreOf}
 use Rattle.rrc_cache.specs.Part.{PartOf, past_of, Adds}
 use Rattle.rrc_cache.specs.Taken.{IsAnswered, slot_of}
@@ -34,6 +37,25 @@ empty_holds rules store none stale = record {
         legal = tt;
         contents = record { agree = λ key. refl; falling = tt };
         kept = record { few = omega arith; apart = tt; before = tt; numbered = tt; fit = tt; timely = tt };
+      });
+  stale = stale;
+  chapter = refl;
+  following = omega arith;
+  ruled = refl;
+}
+
+-- a part with what a snapshot holds
+pub restored_holds : (snapshot : Snapshot) (store : StoreOf) → store.entries ≡ snapshot.entries → store.stale ≡ snapshot.rules.stale → snapshot.first ≤ 2 ^ 62
+    → AreSound snapshot.rules.capacity snapshot.first snapshot.entries → HoldsLean (begun_with snapshot) 2 snapshot.first snapshot.rules store
+restored_holds snapshot store is stale numbered sound = record {
+  sound = record { legal = tt; numbered = omega (arith, numbered); chapter = omega arith };
+  leaves =
+      let P : List Entry → Type 0 = Leaves snapshot [] in
+      let next : snapshot.first ≡ number_after snapshot [] = omega arith in
+      subst P (sym is) (record {
+        legal = tt;
+        contents = (opening snapshot sound).contents;
+        kept = subst (λ n. AreSound snapshot.rules.capacity n snapshot.entries) next sound;
       });
   stale = stale;
   chapter = refl;

@@ -22,6 +22,10 @@ use Rattle.rrc_cache.specs.declared.refusal.Refusal.TheVariants.{HistoryFull, Mo
 abbrev pub first_chapter : Rules → PartOf
 first_chapter rules = record { number = 1; snapshot = record { rules = rules; first = 0; entries = [] }; events = [] }
 
+-- the second chapter, which begins with a snapshot
+abbrev pub begun_with : Snapshot → PartOf
+begun_with snapshot = record { number = 2; snapshot = snapshot; events = [] }
+
 -- one more event
 abbrev pub with_event : PartOf → Event → PartOf
 with_event part event = record { number = part.number; snapshot = part.snapshot; events = part.events ++ event ∷ [] }
@@ -46,6 +50,14 @@ IsLeanDue part moment (Ok answer) = IsLeanOpen part moment
 IsLeanDue part moment (Err HistoryFull) = 2 ^ 62 ≤ next_number part
 IsLeanDue part moment (Err MomentTooLarge) = (next_number part < 2 ^ 62) × (LAST_MOMENT < moment)
 IsLeanDue part moment (Err Memory) = IsLeanOpen part moment
+
+-- when a snapshot is restored, and when that is refused with what: HistoryFull exactly where its
+-- first event has a number above 2^62
+abbrev pub IsRestoreDue : {A : Type 0} → Snapshot → Result A Refusal → Type 0
+IsRestoreDue snapshot (Ok part) = snapshot.first ≤ 2 ^ 62
+IsRestoreDue snapshot (Err HistoryFull) = 2 ^ 62 < snapshot.first
+IsRestoreDue snapshot (Err MomentTooLarge) = ⊥
+IsRestoreDue snapshot (Err Memory) = snapshot.first ≤ 2 ^ 62
 
 -- its history is legal, and has numbers left
 pub record IsLeanSound (part : PartOf) : Type 0 where

@@ -1,21 +1,16 @@
 // SPDX-License-Identifier: MIT
 //! Chapters that were made before keys had a class.
-ghost use Rattle.std.specs.Prelude.{◌≡◌, ◌+◌, length, reverse, IfOk, IfErr, OnOk};
-ghost use Rattle.rrc_history.specs.Right.{IsLegal};
+ghost use Rattle.std.specs.Prelude.{◌≡◌, IfOk, IfErr, OnOk};
 ghost use Rattle.rrc_history.specs.classless.Chapters.{LeadTo};
-ghost use Rattle.rrc_cache.specs.Calls.{Leaves};
 ghost use Rattle.rrc_cache.specs.Classless.{IsNumber, IsWhyNoChapter, IsWhyNotLegal};
-ghost use Rattle.rrc_cache.specs.Rechecks.{IsFault};
 
 use crate::part::KNOWN_SEED;
-use crate::rechecks::{RecheckFault, replayed};
+use crate::rechecks::RecheckFault;
+use crate::restored::closing_after;
 use crate::seeded::Seeded;
 use rrc_history::classless::{Chapter, Event, Snapshot};
-use rrc_history::{
-    Event as NowEvent, Snapshot as NowSnapshot, events_from_classless, snapshot_from_classless,
-    snapshot_without_class,
-};
-use rrc_name::{Sequence, Shared};
+use rrc_history::{events_from_classless, snapshot_from_classless, snapshot_without_class};
+use rrc_name::Sequence;
 use std::alloc::{AllocError, Global};
 use thiserror::Error;
 
@@ -133,32 +128,6 @@ fn closing_of(
 {
     let image = snapshot_from_classless(alloc, snapshot)?;
     let images = events_from_classless(alloc, events)?;
-    let closing = closing_now(alloc, seeded, &image, images.as_slice())?;
+    let closing = closing_after(alloc, seeded, &image, images.as_slice())?;
     Ok(snapshot_without_class(alloc, &closing)?)
-}
-
-/// The snapshot that events with classes lead to, or the first of them that is not right.
-fn closing_now(
-    alloc: Global,
-    seeded: Seeded,
-    snapshot: &NowSnapshot,
-    events: &[NowEvent],
-) -> Result<Shared<NowSnapshot>, RecheckFault>
-    ensures leaves { IfOk result (λ closing. Leaves snapshot.now (reverse events.now) closing.entries) }
-    ensures rules { IfOk result (λ closing. closing.rules ≡ snapshot.now.rules) }
-    ensures first { IfOk result (λ closing. closing.first ≡ snapshot.now.first + length events.now) }
-    ensures err { IfErr result (IsFault snapshot.now events.now) }
-{
-    let mut store = replayed(alloc, seeded, snapshot, events)?;
-    let first = number_after(snapshot, events);
-    let closing = store.close(alloc, snapshot.rules(), first)?;
-    Ok(closing)
-}
-
-/// The number of the event behind a history.
-fn number_after(snapshot: &NowSnapshot, events: &[NowEvent]) -> u64
-    requires { IsLegal snapshot.now (reverse events.now) }
-    ensures { result ≡ snapshot.now.first + length events.now }
-{
-    snapshot.first + events.len() as u64
 }

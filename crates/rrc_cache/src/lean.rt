@@ -47,7 +47,7 @@ impl LeanPart {
     ghost use Rattle.rrc_name.specs.KeyRef.{key_of};
     ghost use Rattle.std.specs.Option.{option_map};
     ghost use Rattle.rrc_cache.specs.Expiry.{HoldsNothing, NoneDiesBefore};
-    ghost use Rattle.rrc_cache.specs.Lean.{IsLeanDue, IsLeanOpen, IsLeanSound, IsPick, Shuts};
+    ghost use Rattle.rrc_cache.specs.Lean.{begun_with, IsLeanDue, IsLeanOpen, IsLeanSound, IsPick, IsRestoreDue, Shuts};
     ghost use Rattle.rrc_cache.specs.Part.{past_of, next_number, Adds, IsCloseDue, IsOfMoments, WritesOffer, WritesAsk, WritesSweep};
     ghost use Rattle.rrc_cache.specs.Sizes.{HoldsKeys, HoldsOctets};
 
@@ -77,6 +77,29 @@ impl LeanPart {
             next: 0,
             store: Store::new(alloc, Seeded::new(seed), rules)?,
             history: History::new(&rules),
+        })
+    }
+
+    /// A part that holds what a snapshot does, the key touched last first, in the second chapter of
+    /// its history: what led to the snapshot is the first. So what a cache held is held again, after
+    /// a restart say. Names are hashed as those of `seeded`.
+    ///
+    /// `HistoryFull` comes exactly where the snapshot's first event has a number above 2^62, else
+    /// `Memory`.
+    pub fn restored(alloc: Global, snapshot: &Snapshot, seed: [u8; 16]) -> Result<LeanPart, Refusal>
+        ensures ok { IfOk result (λ part. part ≡ begun_with snapshot.now) }
+        ensures due { IsRestoreDue snapshot.now result }
+    {
+        if snapshot.first > SPENT {
+            return Err(Refusal::HistoryFull);
+        }
+        let rules = snapshot.rules();
+        Ok(LeanPart {
+            number: 2,
+            rules,
+            next: snapshot.first,
+            store: Store::of(alloc, Seeded::new(seed), snapshot)?,
+            history: History::new(&rules).then(&Told::Closed { opening: snapshot }),
         })
     }
 

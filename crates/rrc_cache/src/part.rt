@@ -43,6 +43,7 @@ impl Model for Part {
 }
 
 impl Part {
+    ghost use Rattle.rrc_cache.specs.Lean.{begun_with, IsRestoreDue};
     ghost use Rattle.rrc_cache.specs.Part.{past_of, Closes, HasRoom, IsCloseDue, IsDue, IsOfMoments, IsSound, WritesOffer, WritesAsk, WritesSweep};
     ghost use Rattle.rrc_cache.specs.Sizes.{HoldsKeys, HoldsOctets};
     ghost use Rattle.rrc_cache.specs.Expiry.{HoldsNothing, NoneDiesBefore};
@@ -73,6 +74,22 @@ impl Part {
         Ok(Part {
             lean: LeanPart::seeded(alloc, rules, seed)?,
             snapshot: closing::nothing(alloc, rules)?,
+            events: Vec::new(alloc),
+        })
+    }
+
+    /// A part that holds what a snapshot does, and records from there on (`LeanPart::restored`).
+    pub fn restored(
+        alloc: Global,
+        snapshot: Shared<Snapshot>,
+        seed: [u8; 16],
+    ) -> Result<Part, Refusal>
+        ensures ok { IfOk result (λ part. part ≡ begun_with snapshot) }
+        ensures due { IsRestoreDue snapshot result }
+    {
+        Ok(Part {
+            lean: LeanPart::restored(alloc, &snapshot, seed)?,
+            snapshot,
             events: Vec::new(alloc),
         })
     }

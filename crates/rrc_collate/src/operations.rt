@@ -86,6 +86,7 @@ impl Operations {
         }
     }
 
+    /// How many operations there are.
     pub fn len(&self) -> usize
         ensures { result ≡ length self.now }
     {

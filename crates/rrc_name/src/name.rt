@@ -100,9 +100,11 @@ impl Name {
         self.wire.as_slice()
     }
 
-    /// The name with its letters A to Z as a to z. Where it has none, that is a clone, which takes no memory.
+    /// The name with its letters A to Z as a to z (RFC 4343). Where it has none, that is a clone,
+    /// which takes no memory.
     pub fn folded(&self) -> Result<Name, AllocError>
-        ensures { IfOk result (λ name. name ≡ folded self.now) }
+        ensures name { IfOk result (λ name. name ≡ folded self.now) }
+        ensures low { IfOk result IsFolded }
     {
         if is_folded(self.wire.as_slice()) {
             return self.clone();

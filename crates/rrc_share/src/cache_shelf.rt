@@ -1,6 +1,6 @@
 // SPDX-License-Identifier: MIT
 ghost use Rattle.std.specs.Prelude.{◌≡◌, ◌≤◌, [], true, false, not, Err, IfErr, IfNone, IfOk, IfSome, OnErr};
-ghost use Rattle.rrc_cache.specs.Part.{IsCloseDue};
+ghost use Rattle.rrc_cache.specs.Part.{IsCloseDue, IsOfMoments};
 ghost use Rattle.rrc_share.specs.CacheShelf.{lean_shelf};
 ghost use Rattle.rrc_share.specs.Switching.{HandsOut, IsSwitchDue, Starts, Stops, refused_by};
 
@@ -197,6 +197,7 @@ impl CacheShelf {
         ensures reply { IfOk result (λ judged. reply_in judged.0 ≡ reply_of self.now.shelf ask.now) }
         ensures pick { IfOk result (λ judged. IsPick self.now.shelf.part ask.now judged.1) }
         ensures due { IsLeanDue self.now.shelf.part ask.now.moment result }
+        ensures only { IfErr result IsOfMoments }
     {
         match &self.kept {
             Kept::Lean(part) => part.judge(ask),

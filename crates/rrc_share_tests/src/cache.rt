@@ -6,6 +6,7 @@ mod classless;
 mod lean;
 mod owners;
 mod rechecks;
+mod restored;
 mod seeds;
 
 use rrc_cache::Refusal;

@@ -2,6 +2,7 @@
 use Rattle.std.proofs.Common.{◌≡◌, ◌∙◌, ap, subst, sym, rules}
 use Rattle.rrc_name.specs.Wire.{IsWireForm, folded}
 use Rattle.rrc_name.specs.Key.{IsFolded}
+use Rattle.rrc_name.specs.lemmas.Folding.{folded-folded}
 use Rattle.rrc_name.proofs.WireForms.{folded-IsWireForm}
 use Rattle.rrc_name.proofs.name.Name.folded.Goals as goal
 
@@ -13,3 +14,7 @@ returns-then-is_folded c =
 pub invariant_of-result : goal.invariant_of-result
 invariant_of-result c =
     subst IsWireForm (sym (c.in_ok-new.ensures.ok ∙ (c.in_ok-lowered.ensures ∙ ap folded c.deref-3.ensures))) (folded-IsWireForm c.self.inside.wire c.self.invariant)
+
+pub returns-clause-low : goal.returns-clause-low
+returns-clause-low c =
+    subst IsFolded (sym (c.in_ok-new.ensures.ok ∙ (c.in_ok-lowered.ensures ∙ ap folded c.deref-3.ensures))) (folded-folded c.self.inside.wire)

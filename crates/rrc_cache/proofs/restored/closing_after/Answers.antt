@@ -8,7 +8,7 @@ use Rattle.rrc_history.specs.declared.snapshot.Snapshot.{Snapshot}
 use Rattle.rrc_history.specs.Past.{number_after}
 use Rattle.rrc_history.specs.Sound.{AreSound}
 use Rattle.rrc_cache.specs.Calls.{Leaves}
-use Rattle.rrc_cache.proofs.classless.closing_now.Goals as goal
+use Rattle.rrc_cache.proofs.restored.closing_after.Goals as goal
 
 pub close-requires : goal.close-requires
 close-requires c =
@@ -29,3 +29,14 @@ returns-clause-rules c = ap (λ (closing : Snapshot). closing.rules) c.in_ok-clo
 
 pub returns-clause-first : goal.returns-clause-first
 returns-clause-first c = ap (λ (closing : Snapshot). closing.first) c.in_ok-closing.ensures.ok ∙ c.number_after-first.ensures
+
+pub returns-clause-leads : goal.returns-clause-leads
+returns-clause-leads c =
+    let snapshot : Snapshot = c.args.snapshot.now in
+    let past : List Image = reverse c.args.events.now in
+    let closing : Snapshot = c.in_ok-closing.closing in
+    let rules : closing.rules ≡ snapshot.rules = ap (λ (closing : Snapshot). closing.rules) c.in_ok-closing.ensures.ok ∙ c.rules.ensures.value in
+    let first : closing.first ≡ number_after snapshot past =
+    ap (λ (closing : Snapshot). closing.first) c.in_ok-closing.ensures.ok ∙ (c.number_after-first.ensures ∙ sym (ap (λ n. snapshot.first + n) (length-reverse c.args.events.now))) in
+    let leaves : Leaves snapshot past closing.entries = subst (λ (closing : Snapshot). Leaves snapshot past closing.entries) (sym c.in_ok-closing.ensures.ok) c.in_ok-store.ensures.ok in
+    record { legal = leaves.legal; closes = record { rules = rules; first = first; contents = leaves.contents } }

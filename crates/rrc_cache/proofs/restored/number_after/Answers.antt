@@ -3,7 +3,7 @@ use Rattle.std.proofs.Common.{◌≡◌, ◌+◌, ◌<◌, ◌^◌, length, reve
 use Rattle.std.proofs.lemmas.List.{length-reverse}
 use Rattle.rrc_history.specs.declared.snapshot.Snapshot.{Snapshot}
 use Rattle.rrc_cache.proofs.Former.{below_numbers}
-use Rattle.rrc_cache.proofs.classless.number_after.Goals as goal
+use Rattle.rrc_cache.proofs.restored.number_after.Goals as goal
 
 pub overflow_add-result : goal.overflow_add-result
 overflow_add-result c =

@@ -1,8 +1,0 @@
--- SPDX-License-Identifier: MIT
-use Rattle.std.proofs.Common.{subst, sym}
-use Rattle.rrc_name.specs.lemmas.Folding.{folded-folded}
-use Rattle.rrc_name.specs.Key.{IsFolded}
-use Rattle.rrc_script.proofs.offers.ask_at.Goals as goal
-
-pub invariant_of-result : goal.invariant_of-result
-invariant_of-result c = subst IsFolded (sym c.in_ok-folded.ensures) (folded-folded c.args.fetch.now.name)
