@@ -13,6 +13,7 @@ pub mod Trace
 pub mod Questions
 pub mod Lawful
 pub mod Report
+pub mod Archive
 pub mod Writer
 pub mod Output
 pub mod Faults

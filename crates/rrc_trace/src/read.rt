@@ -1,7 +1,8 @@
 // SPDX-License-Identifier: MIT
-// How a trace is read, from octets to lines.
+// How traces and archives are read, from octets to lines.
 
 mod ahead;
+pub(crate) mod archive;
 mod digits;
 mod field;
 mod item;

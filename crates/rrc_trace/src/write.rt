@@ -1,6 +1,7 @@
 // SPDX-License-Identifier: MIT
-// How the text of a report is written.
+// How the texts of reports and archives are written.
 
+pub(crate) mod archive;
 mod buffer;
 mod output;
 mod pieces;
