@@ -21,3 +21,4 @@ pub mod TraceLaw
 pub mod LawfulItems
 pub mod LawfulLemmas
 pub mod PieceLemmas
+pub mod ArchiveLemmas

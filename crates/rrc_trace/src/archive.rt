@@ -1,8 +1,7 @@
 // SPDX-License-Identifier: MIT
-ghost use Rattle.std.specs.Prelude.{◌≡◌, IfSome, IfNone, length};
-ghost use Rattle.rrc_trace.specs.Archive.{line_text, lines_of, written_of};
+ghost use Rattle.std.specs.Prelude.{◌≡◌, slice_get};
 ghost use Rattle.std.specs.Option.{option_map};
-ghost use Rattle.std.specs.Prelude.{slice_get};
+ghost use Rattle.rrc_trace.specs.Archive.{line_text, lines_of, written_of};
 
 use rrc_history::{Chapter, Entry, Event, Rules};
 use std::alloc::{AllocError, AllocFailed};

@@ -17,8 +17,8 @@ pub fn write_archive_line<W: Write>(
     writer: &mut W,
     line: ArchiveLine<'_>,
 ) -> Result<(), ReplayFault>
-    ensures ok { OnOk result (Appends (W.contents writer.old) (W.contents writer.new) (line_text line ++ 10 ∷ [])) }
-    ensures err { IfErr result (LeavesText (W.contents writer.old) (W.contents writer.new) (line_text line ++ 10 ∷ [])) }
+    ensures ok { OnOk result (Appends (W.contents writer.old) (W.contents writer.new) (line_text line.entry ++ 10 ∷ [])) }
+    ensures err { IfErr result (LeavesText (W.contents writer.old) (W.contents writer.new) (line_text line.entry ++ 10 ∷ [])) }
 {
     Err(ReplayFault::Memory)
 }
