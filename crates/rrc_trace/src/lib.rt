@@ -22,5 +22,5 @@ pub use read::archive::read_archive;
 pub use read::name::names_are_spelled;
 pub use read::trace::{one_trace_or_fault, read_trace};
 pub use trace::Trace;
-pub use write::archive::write_archive_line;
+pub use write::archive::{write_archive_line, write_chapter};
 pub use write::report::write_report;

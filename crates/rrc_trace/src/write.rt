@@ -3,6 +3,7 @@
 
 pub(crate) mod archive;
 mod buffer;
+mod fields;
 mod output;
 mod pieces;
 pub(crate) mod report;

@@ -16,7 +16,7 @@ use rrc_name::{Key, Octets, Slot};
 use std::alloc::Global;
 use std::io::Write;
 
-fn outcome_word(outcome: Outcome) -> &'static str
+pub(crate) fn outcome_word(outcome: Outcome) -> &'static str
     ensures { result.now ≡ outcome_text outcome }
 {
     match outcome {
@@ -26,7 +26,7 @@ fn outcome_word(outcome: Outcome) -> &'static str
     }
 }
 
-fn put_slot<W: Write>(output: &mut Output<'_, W>, slot: Slot)
+pub(crate) fn put_slot<W: Write>(output: &mut Output<'_, W>, slot: Slot)
     ensures { Puts W.contents output.old output.new (slot_text slot) }
 {
     match slot {
@@ -40,7 +40,7 @@ fn put_slot<W: Write>(output: &mut Output<'_, W>, slot: Slot)
 }
 
 /// The class of a key, where it is another one than IN.
-fn put_class<W: Write>(output: &mut Output<'_, W>, class: u16)
+pub(crate) fn put_class<W: Write>(output: &mut Output<'_, W>, class: u16)
     ensures { Puts W.contents output.old output.new (class_text class) }
 {
     if class != IN {
@@ -74,7 +74,7 @@ fn put_told<W: Write>(output: &mut Output<'_, W>, told: &Told)
 }
 
 /// Octets in hexadecimal, or a dash for none.
-fn put_item<W: Write>(output: &mut Output<'_, W>, item: &Octets)
+pub(crate) fn put_item<W: Write>(output: &mut Output<'_, W>, item: &Octets)
     ensures { Puts W.contents output.old output.new (item_text item.now) }
 {
     if item.is_empty() {
@@ -85,7 +85,7 @@ fn put_item<W: Write>(output: &mut Output<'_, W>, item: &Octets)
 }
 
 /// Items with a comma between two.
-fn put_items<W: Write>(output: &mut Output<'_, W>, items: &[Octets])
+pub(crate) fn put_items<W: Write>(output: &mut Output<'_, W>, items: &[Octets])
     ensures { Puts W.contents output.old output.new (items_text items.now) }
 {
     let Some((first, others)) = items.split_first() else {
@@ -120,7 +120,7 @@ fn put_soa<W: Write>(output: &mut Output<'_, W>, soa: &Soa, left: u32)
     put_item(output, &soa.octets);
 }
 
-fn put_reply<W: Write>(output: &mut Output<'_, W>, reply: &Reply)
+pub(crate) fn put_reply<W: Write>(output: &mut Output<'_, W>, reply: &Reply)
     ensures { Puts W.contents output.old output.new (reply_text reply.now) }
 {
     match reply {
