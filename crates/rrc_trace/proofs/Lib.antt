@@ -21,4 +21,5 @@ pub mod TraceLaw
 pub mod LawfulItems
 pub mod LawfulLemmas
 pub mod PieceLemmas
+pub mod LfLemmas
 pub mod ArchiveLemmas

@@ -14,6 +14,7 @@ pub mod Questions
 pub mod Lawful
 pub mod Report
 pub mod Archive
+pub mod ArchiveLines
 pub mod Writer
 pub mod Output
 pub mod Faults

@@ -3,7 +3,10 @@
 
 mod ahead;
 pub(crate) mod archive;
+mod body;
+mod chapters;
 mod digits;
+mod event;
 mod field;
 mod item;
 mod line;
@@ -12,5 +15,8 @@ pub(crate) mod name;
 mod names;
 mod number;
 mod octets;
+mod reply;
+mod said;
+mod slot;
 pub(crate) mod trace;
 mod word;

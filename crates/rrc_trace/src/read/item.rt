@@ -52,7 +52,7 @@ fn first_comma(octets: &[u8]) -> Option<usize>
 }
 
 /// The octets before the first comma, and those behind it.
-fn cut_at_comma(octets: &[u8]) -> Option<(&[u8], &[u8])>
+pub(crate) fn cut_at_comma(octets: &[u8]) -> Option<(&[u8], &[u8])>
     ensures { option_map (λ cut. (cut.0.now, cut.1.now)) result ≡ cut_at_comma octets.now }
 {
     let end = first_comma(octets)?;

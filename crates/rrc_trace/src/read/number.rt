@@ -10,6 +10,7 @@ use crate::read::line_fault::LineFault;
 use memchr::memchr;
 use rrc_history::{LAST_MOMENT, Trust};
 use rrc_wire::is_kept;
+use std::str;
 
 /// The number that decimal digits spell, where it is at most `most`. Zeros may stand in front.
 fn number_in(digits: &[u8], most: u64) -> Result<u64, LineFault>
@@ -32,6 +33,18 @@ fn number_in(digits: &[u8], most: u64) -> Result<u64, LineFault>
     Ok(number)
 }
 
+/// A number of 64 bits, and the octets behind it. A sign and zeros may stand in front.
+pub(crate) fn count_at(octets: &[u8]) -> Result<(u64, &[u8]), LineFault> {
+    let (field, rest) = field_at(octets)?;
+    let Ok(text) = str::from_utf8(field) else {
+        return Err(LineFault::NotOne);
+    };
+    match text.parse::<u64>() {
+        Ok(count) => Ok((count, rest)),
+        Err(_) => Err(LineFault::NotOne),
+    }
+}
+
 /// A moment in seconds, and the octets behind it.
 pub(crate) fn moment_at(octets: &[u8]) -> Result<(u64, &[u8]), LineFault>
     ensures { Gives (λ found. (found.0, found.1.now)) result (said_at moment_of octets.now) }
@@ -52,7 +65,7 @@ pub(crate) fn ttl_at(octets: &[u8]) -> Result<(u32, &[u8]), LineFault>
 }
 
 /// A number of 16 bits.
-fn word_in(digits: &[u8]) -> Result<u16, LineFault>
+pub(crate) fn word_in(digits: &[u8]) -> Result<u16, LineFault>
     ensures { Gives (λ word. word) result (word_of digits.now) }
 {
     match u16::try_from(number_in(digits, u64::from(u16::MAX))?) {
@@ -61,7 +74,7 @@ fn word_in(digits: &[u8]) -> Result<u16, LineFault>
     }
 }
 
-fn first_slash(field: &[u8]) -> Option<usize>
+pub(crate) fn first_slash(field: &[u8]) -> Option<usize>
     ensures place { result ≡ slash_in field.now }
     ensures inside { IfSome result (λ place. place < length field.now) }
 {
@@ -83,6 +96,12 @@ fn kind_in(field: &[u8]) -> Result<Kind, LineFault>
             Ok(Kind { rtype, class: IN })
         }
     }
+}
+
+/// A type and its class, and the octets behind them.
+pub(crate) fn kind_at(octets: &[u8]) -> Result<(Kind, &[u8]), LineFault> {
+    let (field, rest) = field_at(octets)?;
+    Ok((kind_in(field)?, rest))
 }
 
 /// A type whose data are kept in its class.

@@ -37,7 +37,7 @@ pub(crate) enum Ending {
     Endless,
 }
 
-fn first_lf(octets: &[u8]) -> Option<usize>
+pub(crate) fn first_lf(octets: &[u8]) -> Option<usize>
     ensures place { result ≡ position (λ octet. octet == 10) octets.now }
     ensures inside { IfSome result (λ place. place < length octets.now) }
 {

@@ -1,0 +1,9 @@
+-- SPDX-License-Identifier: MIT
+use Rattle.std.proofs.Common.{sym, ◌∙◌}
+use Rattle.rrc_trace.proofs.LfLemmas.{cut_behind}
+use Rattle.rrc_trace.proofs.read.archive.cut_behind_lf.Goals as goal
+
+pub returns : goal.returns
+returns c =
+    rw (c.split_at.ensures.front, c.split_at.ensures.back)
+    (cut_behind c.args.octets.now c.in_ok-end.end (sym c.first_lf.ensures.place ∙ c.in_ok-end.was))

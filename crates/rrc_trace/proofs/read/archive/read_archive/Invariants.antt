@@ -1,0 +1,12 @@
+-- SPDX-License-Identifier: MIT
+-- the lines so far are an archive, and there are so many of them
+use Rattle.std.proofs.Common.{◌≡◌, ◌++◌, length}
+use Rattle.rrc_trace.specs.Archive.{archive_text}
+use Rattle.rrc_trace.specs.ArchiveLines.{line_count}
+use Rattle.rrc_trace.proofs.read.archive.read_archive.Given as goal
+
+abbrev pub invariant-loop-line : goal.invariant-loop-line
+invariant-loop-line l = record { whole : l.octets ≡ archive_text l.chapters ++ l.rest; numbered : line_count (archive_text l.chapters) ≡ l.number }
+
+abbrev pub decreases-loop-line : goal.decreases-loop-line
+decreases-loop-line l = length l.rest

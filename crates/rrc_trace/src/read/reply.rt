@@ -1,0 +1,57 @@
+// SPDX-License-Identifier: MIT
+use crate::read::body::{data_at, soa_at};
+use crate::read::field::{field_at, has_field};
+use crate::read::line_fault::LineFault;
+use crate::read::number::{count_at, ttl_at};
+use crate::read::slot::owner_at;
+use rrc_history::{Reply, RrSet, Soa};
+use std::alloc::Global;
+
+/// How many seconds a set has to live, and the set.
+fn set_in(alloc: Global, octets: &[u8]) -> Result<(u32, RrSet), LineFault> {
+    let (left, rest) = ttl_at(octets)?;
+    let (owner, rest) = owner_at(alloc, rest)?;
+    let (items, _) = data_at(alloc, rest)?;
+    Ok((left, RrSet { owner, items }))
+}
+
+/// How many seconds a negative answer has to live, and its SOA record.
+fn soa_in(alloc: Global, octets: &[u8]) -> Result<(u32, Soa), LineFault> {
+    let (left, rest) = ttl_at(octets)?;
+    let (owner, rest) = owner_at(alloc, rest)?;
+    let (octets, _) = soa_at(alloc, rest)?;
+    Ok((left, Soa { owner, octets }))
+}
+
+/// From when on it may be tried again, if that is told.
+fn miss_in(octets: &[u8]) -> Result<Reply, LineFault> {
+    if !has_field(octets) {
+        return Ok(Reply::Miss { retry_from: None });
+    }
+    let (moment, _) = count_at(octets)?;
+    Ok(Reply::Miss {
+        retry_from: Some(moment),
+    })
+}
+
+/// The reply that the fields to the end of a line say.
+pub(crate) fn reply_in(alloc: Global, octets: &[u8]) -> Result<Reply, LineFault> {
+    let (word, rest) = field_at(octets)?;
+    if word == b"fresh".as_slice() {
+        let (left, set) = set_in(alloc, rest)?;
+        Ok(Reply::Fresh { set, left })
+    } else if word == b"stale".as_slice() {
+        let (left, set) = set_in(alloc, rest)?;
+        Ok(Reply::Stale { set, left })
+    } else if word == b"nodata".as_slice() {
+        let (left, soa) = soa_in(alloc, rest)?;
+        Ok(Reply::NoData { soa, left })
+    } else if word == b"nxdomain".as_slice() {
+        let (left, soa) = soa_in(alloc, rest)?;
+        Ok(Reply::NxDomain { soa, left })
+    } else if word == b"miss".as_slice() {
+        miss_in(rest)
+    } else {
+        Err(LineFault::NotOne)
+    }
+}

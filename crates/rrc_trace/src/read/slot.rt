@@ -1,0 +1,45 @@
+// SPDX-License-Identifier: MIT
+use crate::kind::IN;
+use crate::read::field::field_at;
+use crate::read::line_fault::LineFault;
+use crate::read::name::name_in;
+use crate::read::number::{first_slash, word_in};
+use rrc_name::{Key, Name, Slot};
+use std::alloc::Global;
+
+/// A type, `nx`, or `failed` and a type.
+fn slot_in(text: &[u8]) -> Result<Slot, LineFault> {
+    if text == b"nx".as_slice() {
+        return Ok(Slot::Nx);
+    }
+    match text.strip_prefix(b"failed".as_slice()) {
+        Some(digits) => Ok(Slot::Failed(word_in(digits)?)),
+        None => Ok(Slot::Set(word_in(text)?)),
+    }
+}
+
+/// A slot, and the class behind a slash, or IN, and the octets behind them.
+fn slot_at(octets: &[u8]) -> Result<(Slot, u16, &[u8]), LineFault> {
+    let (field, rest) = field_at(octets)?;
+    match first_slash(field) {
+        Some(place) => {
+            let slot = slot_in(&field[..place])?;
+            let class = word_in(&field[place + 1..])?;
+            Ok((slot, class, rest))
+        }
+        None => Ok((slot_in(field)?, IN, rest)),
+    }
+}
+
+/// A name in its spelling, and the octets behind it.
+pub(crate) fn owner_at(alloc: Global, octets: &[u8]) -> Result<(Name, &[u8]), LineFault> {
+    let (field, rest) = field_at(octets)?;
+    Ok((name_in(alloc, field)?, rest))
+}
+
+/// A key, and the octets behind it. Its name is folded, however it is spelled.
+pub(crate) fn key_at(alloc: Global, octets: &[u8]) -> Result<(Key, &[u8]), LineFault> {
+    let (name, rest) = owner_at(alloc, octets)?;
+    let (slot, class, rest) = slot_at(rest)?;
+    Ok((Key::of(&name, class, slot)?, rest))
+}
