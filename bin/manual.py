@@ -28,6 +28,9 @@ GROUPS = {
         "rrcache_sweep", "rrcache_next_expiry", "rrcache_sweep_some", "rrcache_sizes"],
     "record the history of a shelf, or not": [
         "rrcache_record", "rrcache_release", "rrcache_drop_chapters"],
+    "take the chapters of a shelf's history out and write them": [
+        "rrcache_take_chapters", "rrcache_stop_recording", "rrcache_write_chapter",
+        "rrcache_write_line", "rrcache_chapter_line", "rrcache_free_chapters"],
     "tell a name's part, a message's fault and the library's version": [
         "rrcache_part_of", "rrcache_fault", "rrcache_version"],
 }

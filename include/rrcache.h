@@ -15,7 +15,9 @@
    - A handle begins as zeros, `struct rrcache_shelf shelf = {0};`, which holds no shelf. Nothing
      but the library writes into it after that. It may be moved in memory while no call runs; there
      must be no copy of it that is used as well. All this is so of `struct rrcache_offers` too,
-     which holds the offers of a message and is freed by `rrcache_free_offers`.
+     which holds the offers of a message and is freed by `rrcache_free_offers`, and of
+     `struct rrcache_chapters`, which holds chapters of a history that left their shelf and is freed
+     by `rrcache_free_chapters`.
 
    Which lock to hold
    - That of the shelf, for the whole of every call that takes a handle, `rrcache_peek` and
@@ -25,9 +27,14 @@
    - `rrcache_read_message`, `rrcache_read_response` and `rrcache_free_offers` take no shelf, and so
      need no lock of one. Of a handle of offers the same is true as of a shelf's: one call at a
      time, and `rrcache_offer_read` writes into both of its handles for a while.
+   - `rrcache_take_chapters` and `rrcache_stop_recording` want the shelf's lock. What is done with
+     the chapters then, by `rrcache_chapter_line`, `rrcache_write_line`, `rrcache_write_chapter` and
+     `rrcache_free_chapters`, takes no shelf, and needs none: the shelf may be called or freed
+     meanwhile. Of a handle of chapters the same is true: one call at a time.
    - `rrcache_fault` and `rrcache_part_of` take no handle and need no lock.
-   - No call waits, sleeps, takes a lock or calls back. None may be made in a signal handler, nor in
-     the child of a process with threads that forked.
+   - No call waits, sleeps or takes a lock, and none calls back but `rrcache_write_line` and
+     `rrcache_write_chapter`, which call the sink that they are handed. None may be made in a signal
+     handler, nor in the child of a process with threads that forked.
 
    Memory
    - The library calls malloc, realloc and free and nothing else. Where malloc refuses, the call
@@ -42,7 +49,9 @@
      `rrcache_offer_part`, `rrcache_offer_read` and `rrcache_sweep_some` alone may leave a part of
      their work: the offers of one message, and the sweeps of one call, are made one after another,
      and where one is refused, those before it stay. `counts`, and of the last `removed`, tells how
-     many they are.
+     many they are. Of what `rrcache_write_chapter` and `rrcache_write_line` write, a beginning may
+     have been written.
+   - Chapters that were to be taken stay in their shelf, and a record that was to end goes on.
    - What a call was to write for the caller is as it was after a refusal, but for `counts`, for
      `removed` and `is_done` of `rrcache_sweep_some`, and for `told` and `is_alias` after
      RRCACHE_SMALL. RRCACHE_NULL, RRCACHE_NO_SHELF and RRCACHE_NO_OFFERS leave all of it.
@@ -101,9 +110,9 @@
      its offers that was made.
    - A shelf is made to record none of it. Then an event takes a number and no memory, no chapter is
      ever full or closed, and there is nothing to drop. `rrcache_record` keeps the events from that
-     call on in memory, where they stay: no call hands them out. `rrcache_release` ends that, and
-     drops what was recorded. No reply depends on it. What is told below of events that are kept and
-     of chapters is so while the history is recorded.
+     call on in memory. `rrcache_stop_recording` ends that and hands out what was recorded,
+     `rrcache_release` ends it and drops what was recorded. No reply depends on it. What is told
+     below of events that are kept and of chapters is so while the history is recorded.
    - An event takes 96 octets, beside the names and the data that it tells of.
    - A call that is to write an event and finds the open chapter full closes it and opens the next,
      and then does what it is to do: all within the call, and so under the lock. With a message that
@@ -114,10 +123,15 @@
      chapter and of one with more touches and removals than keys at its beginning. No name and no
      data are copied, and no event. A chapter should have about as many events as the shelf has
      keys.
-   - Whoever records drops the closed chapters from time to time. That frees each of their events,
-     one by one, and each of the copied entries that nothing else holds. So its time goes with the
-     events that were written since the last time, and it is spent under the lock as well: it is
-     short where chapters are dropped often.
+   - Whoever records takes the closed chapters out from time to time, by `rrcache_take_chapters`, or
+     drops them, by `rrcache_drop_chapters`. To take them is one step, however many they are. To
+     drop them frees each of their events, one by one, and each of the copied entries that nothing
+     else holds. So its time goes with the events that were written since the last time, and it is
+     spent under the lock as well: it is short where chapters are dropped often.
+     `rrcache_free_chapters` frees the same under no lock.
+   - `rrcache_write_chapter` writes a chapter that was taken as text: a line for what it begins
+     with, for each key that was held then, and for each event. All chapters of one record, written
+     one behind another as they were taken, are an archive, which `rrcache --audit-history` judges.
    - Numbers are spent where the next event would have the number 2^62, whether it is recorded or
      not, or where the open chapter is full and has that number. From then on each call that is to
      write an event is refused with RRCACHE_HISTORY_FULL, whatever is dropped; `rrcache_peek` still
@@ -127,6 +141,7 @@
    Which refusal is told
    - Where more than one is due, the first of these, of which each call has some: RRCACHE_NULL;
      RRCACHE_NO_SHELF or RRCACHE_HAS_SHELF; RRCACHE_NO_OFFERS or RRCACHE_HAS_OFFERS;
+     RRCACHE_NO_CHAPTERS or RRCACHE_HAS_CHAPTERS; RRCACHE_NO_LINE; RRCACHE_SINK;
      RRCACHE_BAD_RULES; RRCACHE_BAD_SEED; RRCACHE_BAD_LIMITS; RRCACHE_BAD_CHOICE; RRCACHE_BAD_TYPE;
      RRCACHE_BAD_NAME; RRCACHE_BAD_MESSAGE or RRCACHE_BAD_DATA; RRCACHE_OTHER_QUERY;
      RRCACHE_WRONG_BODY; RRCACHE_WIDE; RRCACHE_SMALL; RRCACHE_HISTORY_FULL;
@@ -160,7 +175,7 @@ extern "C" {
 
 /* The version of this header. `rrcache_version` tells that of the library. */
 #define RRCACHE_VERSION_MAJOR 1
-#define RRCACHE_VERSION_MINOR 0
+#define RRCACHE_VERSION_MINOR 1
 #define RRCACHE_VERSION_PATCH 0
 #define RRCACHE_VERSION                                                                            \
     (RRCACHE_VERSION_MAJOR * 65536 + RRCACHE_VERSION_MINOR * 256 + RRCACHE_VERSION_PATCH)
@@ -194,8 +209,13 @@ enum rrcache_status {
                                      inline functions alone) */
     RRCACHE_NO_OFFERS = 18,       /* the handle holds no offers */
     RRCACHE_HAS_OFFERS = 19,      /* the handle holds offers already */
-    RRCACHE_OTHER_QUERY = 20      /* the response has another identifier or question than the query
+    RRCACHE_OTHER_QUERY = 20,     /* the response has another identifier or question than the query
                                      that was sent */
+    RRCACHE_NO_CHAPTERS = 21,     /* the handle holds no chapters */
+    RRCACHE_HAS_CHAPTERS = 22,    /* the handle holds chapters already */
+    RRCACHE_NO_LINE = 23,         /* there is no such chapter, or it has no such line */
+    RRCACHE_SINK = 24             /* the sink returned other than 0 (told by the inline functions
+                                     alone) */
 };
 
 /* What a reply is. */
@@ -250,6 +270,18 @@ struct rrcache_shelf {
 struct rrcache_offers {
     void *at;
     bool is_live;
+};
+
+/* A handle of chapters that left a shelf: zeros, or what `rrcache_take_chapters` made of it. */
+struct rrcache_chapters {
+    void *at;
+    bool is_live;
+};
+
+/* How many octets a line of a chapter has, with its LF, and how many of them were written. */
+struct rrcache_line {
+    uint64_t size;
+    uint64_t written;
 };
 
 /* A reply. Its buffer begins with `owner_size` octets, the owner's wire form as it was received,
@@ -376,9 +408,16 @@ struct rrcache_failure {
     uint64_t moment;
 };
 
+/* What a chapter is written with: it takes all of these octets, and returns 0 where more are to
+   come. `state` is what the caller handed in beside it. */
+typedef int (*rrcache_sink)(void *state, const void *octets, size_t size);
+
 /* What each record of a set counts beside the octets of its data: the room that it takes of its
    own. */
 enum { RRCACHE_RECORD_OCTETS = 48 };
+
+/* How many octets a sink is handed at most. */
+enum { RRCACHE_PIECE_OCTETS = 4096 };
 
 /* The functions of the library proper. A size stands behind its pointer. */
 uint32_t rrc_make(struct rrcache_shelf *shelf, uint64_t capacity, uint64_t chapter, uint64_t stale,
@@ -430,6 +469,14 @@ uint32_t rrc_stored(struct rrcache_shelf *shelf, const uint8_t *name, size_t nam
                     uint16_t rtype, uint16_t rclass, struct rrcache_stored *stored);
 uint32_t rrc_next_expiry(struct rrcache_shelf *shelf, uint64_t *moment);
 uint32_t rrc_drop_chapters(struct rrcache_shelf *shelf, uint64_t *dropped);
+uint32_t rrc_take_chapters(struct rrcache_shelf *shelf, struct rrcache_chapters *chapters,
+                           uint64_t *count);
+uint32_t rrc_stop_recording(struct rrcache_shelf *shelf, struct rrcache_chapters *chapters,
+                            uint64_t *count);
+uint32_t rrc_chapter_line(struct rrcache_chapters *chapters, uint64_t chapter, uint64_t line,
+                          uint64_t from, uint8_t *buffer, size_t buffer_size,
+                          struct rrcache_line *told);
+uint32_t rrc_free_chapters(struct rrcache_chapters *chapters);
 uint32_t rrc_sizes(struct rrcache_shelf *shelf, uint64_t *keys, uint64_t *events,
                    uint64_t *chapters, uint64_t *octets);
 uint32_t rrc_fault(const uint8_t *octets, size_t size, uint32_t *fault);
@@ -918,6 +965,114 @@ static inline enum rrcache_status rrcache_drop_chapters(struct rrcache_shelf *sh
     if (shelf == NULL || dropped == NULL || rrcache_holds(shelf, dropped, sizeof *dropped))
         return RRCACHE_NULL;
     return (enum rrcache_status)rrc_drop_chapters(shelf, dropped);
+}
+
+/* Whether the chapters of a shelf may be taken into a handle: what is needed is there, and nothing
+   that is written overlaps anything else. */
+static inline bool rrcache_can_take(const struct rrcache_shelf *shelf,
+                                    const struct rrcache_chapters *chapters, const uint64_t *count)
+{
+    return shelf != NULL && chapters != NULL && count != NULL
+           && !rrcache_holds(shelf, chapters, sizeof *chapters)
+           && !rrcache_touch(shelf, sizeof *shelf, chapters, sizeof *chapters, count,
+                             sizeof *count);
+}
+
+/* Takes the closed chapters out of the shelf, the oldest first, into a handle that holds none, and
+   tells how many they are, which is 0 while nothing is recorded. No reply changes. It takes one
+   small block of memory, and no time that goes with the events. What becomes of the chapters then
+   needs no lock of the shelf. The handle is to be freed by `rrcache_free_chapters`, also where they
+   are 0. */
+static inline enum rrcache_status rrcache_take_chapters(struct rrcache_shelf *shelf,
+                                                        struct rrcache_chapters *chapters,
+                                                        uint64_t *count)
+{
+    if (!rrcache_can_take(shelf, chapters, count))
+        return RRCACHE_NULL;
+    return (enum rrcache_status)rrc_take_chapters(shelf, chapters, count);
+}
+
+/* Records nothing from here on, and takes what was recorded into a handle that holds no chapters:
+   those that were closed and not taken before, and behind them the one that was open, which it
+   closes. It tells how many they are, which is 0 where nothing was recorded. No reply changes, and
+   no key is lost. RRCACHE_HISTORY_FULL is returned where the chapter has the number 2^62; after it
+   and RRCACHE_MEMORY the history is recorded as before, and `rrcache_release` can end that. */
+static inline enum rrcache_status rrcache_stop_recording(struct rrcache_shelf *shelf,
+                                                         struct rrcache_chapters *chapters,
+                                                         uint64_t *count)
+{
+    if (!rrcache_can_take(shelf, chapters, count))
+        return RRCACHE_NULL;
+    return (enum rrcache_status)rrc_stop_recording(shelf, chapters, count);
+}
+
+/* Writes of a line of a chapter, both counted from 0, the octets from a place on to the front of
+   the buffer, as many as it has room for. It tells how many the line has, with its LF, and how many
+   were written: none where the place is at its end or behind it. A chapter has a line for what it
+   begins with, one for each key that was held then, and one for each event, which are those of an
+   archive. Behind the last one, and of a chapter that is not there, RRCACHE_NO_LINE is returned. It
+   takes memory for the whole line, and gives it back. */
+static inline enum rrcache_status
+rrcache_chapter_line(struct rrcache_chapters *chapters, uint64_t chapter, uint64_t line,
+                     uint64_t from, uint8_t *buffer, size_t buffer_size, struct rrcache_line *told)
+{
+    uint8_t none;
+    if (chapters == NULL || told == NULL || !rrcache_is_there(buffer, buffer_size)
+        || rrcache_overlap(chapters, sizeof *chapters, told, sizeof *told)
+        || rrcache_touch(chapters, sizeof *chapters, told, sizeof *told, buffer, buffer_size))
+        return RRCACHE_NULL;
+    return (enum rrcache_status)rrc_chapter_line(
+        chapters, chapter, line, from, buffer_size == 0 ? &none : buffer, buffer_size, told);
+}
+
+/* Writes a line of a chapter, both counted from 0, with its LF: each RRCACHE_PIECE_OCTETS of it,
+   and what is left, by one call of the sink. Where that returns other than 0 RRCACHE_SINK is
+   returned, and nothing more is written. */
+static inline enum rrcache_status rrcache_write_line(struct rrcache_chapters *chapters,
+                                                     uint64_t chapter, uint64_t line,
+                                                     rrcache_sink sink, void *state)
+{
+    uint8_t buffer[RRCACHE_PIECE_OCTETS];
+    struct rrcache_line told;
+    uint64_t from = 0;
+    enum rrcache_status status;
+    if (chapters == NULL || sink == NULL)
+        return RRCACHE_NULL;
+    do {
+        status = rrcache_chapter_line(chapters, chapter, line, from, buffer, sizeof buffer, &told);
+        if (status != RRCACHE_DONE)
+            return status;
+        if (sink(state, buffer, (size_t)told.written) != 0)
+            return RRCACHE_SINK;
+        from += told.written;
+    } while (from < told.size);
+    return RRCACHE_DONE;
+}
+
+/* Writes a chapter, counted from 0, as text: each of its lines by `rrcache_write_line`. All
+   chapters of one record, written one behind another in the order in which they were taken, are an
+   archive of the shelf's history. RRCACHE_NO_LINE is returned where there is no such chapter. The
+   sink may make no call with the handle of these chapters. */
+static inline enum rrcache_status rrcache_write_chapter(struct rrcache_chapters *chapters,
+                                                        uint64_t chapter, rrcache_sink sink,
+                                                        void *state)
+{
+    uint64_t line = 0;
+    enum rrcache_status status = rrcache_write_line(chapters, chapter, line, sink, state);
+    if (status != RRCACHE_DONE)
+        return status;
+    while (status == RRCACHE_DONE)
+        status = rrcache_write_line(chapters, chapter, ++line, sink, state);
+    return status == RRCACHE_NO_LINE ? RRCACHE_DONE : status; /* it was behind the last line */
+}
+
+/* Frees the chapters of a handle, which then holds none: each of their events, one by one, and what
+   nothing else holds. Where it held none RRCACHE_NO_CHAPTERS is returned and nothing done. */
+static inline enum rrcache_status rrcache_free_chapters(struct rrcache_chapters *chapters)
+{
+    if (chapters == NULL)
+        return RRCACHE_NULL;
+    return (enum rrcache_status)rrc_free_chapters(chapters);
 }
 
 /* Tells how many keys the shelf holds, those that are dead and not yet swept with them, how many

@@ -1,6 +1,7 @@
 -- SPDX-License-Identifier: MIT
 pub mod AsBox
 pub mod ReadingAsBox
+pub mod ChaptersAsBox
 pub mod Filling
 pub mod Answering
 pub mod Taking

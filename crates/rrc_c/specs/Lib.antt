@@ -16,3 +16,5 @@ pub mod Kept
 pub mod Stored
 pub mod Responses
 pub mod Bounds
+pub mod SealedChapters
+pub mod Chapters

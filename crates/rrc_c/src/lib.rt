@@ -4,6 +4,10 @@
 
 mod asking;
 mod calls;
+mod chapter_calls;
+mod chapter_lines;
+mod chapter_seal;
+mod chapters;
 mod counts;
 mod division;
 mod handle;
@@ -19,5 +23,6 @@ mod response;
 mod seal;
 mod status;
 mod stored;
+mod taken;
 mod text;
 mod told;

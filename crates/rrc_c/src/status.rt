@@ -54,6 +54,16 @@ pub(crate) const HAS_OFFERS: u32 = 19;
 /// A response answers another query than the one that was sent.
 pub(crate) const OTHER_QUERY: u32 = 20;
 
+/// What C is told where the handle holds no chapters.
+pub(crate) const NO_CHAPTERS: u32 = 21;
+
+/// What C is told where the handle that chapters are to be put into holds some already.
+pub(crate) const HAS_CHAPTERS: u32 = 22;
+
+/// What C is told where there is no such chapter, or it has no such line; 24 is told by the header's
+/// inline functions alone.
+pub(crate) const NO_LINE: u32 = 23;
+
 impl Status {
     /// The number that C is told, from 3 to 15.
     pub(crate) fn number(self) -> u32

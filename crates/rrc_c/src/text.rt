@@ -8,7 +8,7 @@ use rrc_name::Octets;
 const MOST: usize = 65_535;
 
 /// Copies octets to a place of a buffer.
-fn put(buffer: &mut [u8], at: usize, octets: &[u8])
+pub(crate) fn put(buffer: &mut [u8], at: usize, octets: &[u8])
     requires { at + length octets.now ≤ length buffer.old }
     ensures { buffer.new ≡ take at buffer.old ++ octets.now ++ drop (at + length octets.now) buffer.old }
 {

@@ -1,0 +1,141 @@
+// SPDX-License-Identifier: MIT
+ghost use Rattle.std.specs.Prelude.{◌≡◌, None, Some, IfOk, IfErr, OnErr, length};
+ghost use Rattle.rrc_c.specs.Chapters.{HoldsChapters, IfTaken, LineDue, StoppingDue, StopsRecord, TakesClosed, TakingDue, TellsLine, TellsNoChapters};
+ghost use Rattle.rrc_c.specs.Handles.{BothHold, TellsNone};
+ghost use Rattle.rrc_c.specs.Refusals.{IfHeld};
+ghost use Rattle.rrc_c.specs.Statuses.{number_of_call, OnDone, OnRefused};
+
+use crate::chapter_lines::{Line, tell_line};
+use crate::chapters::Chapters;
+use crate::handle::Handle;
+use crate::status::{HAS_CHAPTERS, NO_CHAPTERS, NO_SHELF, Status};
+use crate::taken::{Taken, stop_recording, take_chapters};
+use std::alloc::Global;
+
+/// Puts chapters that were taken into a handle, in the place of none, and tells how many they are.
+fn hold(taken: Result<Box<Taken>, Status>, chapters: &mut Chapters, count: &mut u64) -> u32
+    ensures value { result ≡ number_of_call taken }
+    ensures shelf { result ≡ 1 → ⊥ }
+    ensures held { IfOk taken (λ taken. chapters.new.seal.chapters ≡ Some taken.value) }
+    ensures count { IfOk taken (λ taken. count.new ≡ length taken.value) }
+    ensures kept { OnErr taken (chapters.new.seal.chapters ≡ chapters.old.seal.chapters) }
+    ensures untold { OnErr taken (count.new ≡ count.old) }
+{
+    match taken {
+        Err(status) => status.number(),
+        Ok(taken) => {
+            *count = taken.chapters.len() as u64;
+            chapters.put(taken);
+            0
+        }
+    }
+}
+
+/// Takes the closed chapters of a shelf into a handle that holds none, and tells how many they are.
+#[unsafe(no_mangle)]
+pub extern "C" fn rrc_take_chapters(
+    alloc: Global,
+    handle: &mut Handle,
+    chapters: &mut Chapters,
+    count: &mut u64,
+) -> u32
+    ensures none { TellsNone handle.old.seal.shelf result }
+    ensures due { IfHeld handle.old.seal.shelf (λ shelf. TakingDue chapters.old.seal.chapters result) }
+    ensures done { OnDone result (HoldsChapters chapters.new.seal.chapters (λ held. BothHold handle.old.seal.shelf handle.new.seal.shelf (TakesClosed held))) }
+    ensures count { OnDone result (HoldsChapters chapters.new.seal.chapters (λ held. count.new ≡ length held)) }
+    ensures refused { OnRefused result (handle.new.seal.shelf ≡ handle.old.seal.shelf) }
+    ensures kept { OnRefused result (chapters.new.seal.chapters ≡ chapters.old.seal.chapters) }
+    ensures untold { OnRefused result (count.new ≡ count.old) }
+{
+    let Some(mut shelf) = handle.take(alloc) else {
+        return NO_SHELF;
+    };
+    if chapters.is_live() {
+        handle.put(shelf);
+        return HAS_CHAPTERS;
+    }
+    let taken = take_chapters(alloc, &mut shelf);
+    handle.put(shelf);
+    hold(taken, chapters, count)
+}
+
+/// Records nothing from here on, and takes all chapters that were recorded, the open one last, into
+/// a handle that holds none. It tells how many they are.
+#[unsafe(no_mangle)]
+pub extern "C" fn rrc_stop_recording(
+    alloc: Global,
+    handle: &mut Handle,
+    chapters: &mut Chapters,
+    count: &mut u64,
+) -> u32
+    ensures none { TellsNone handle.old.seal.shelf result }
+    ensures due { IfHeld handle.old.seal.shelf (λ shelf. StoppingDue chapters.old.seal.chapters shelf result) }
+    ensures done { OnDone result (HoldsChapters chapters.new.seal.chapters (λ held. BothHold handle.old.seal.shelf handle.new.seal.shelf (StopsRecord held))) }
+    ensures count { OnDone result (HoldsChapters chapters.new.seal.chapters (λ held. count.new ≡ length held)) }
+    ensures refused { OnRefused result (handle.new.seal.shelf ≡ handle.old.seal.shelf) }
+    ensures kept { OnRefused result (chapters.new.seal.chapters ≡ chapters.old.seal.chapters) }
+    ensures untold { OnRefused result (count.new ≡ count.old) }
+{
+    let Some(mut shelf) = handle.take(alloc) else {
+        return NO_SHELF;
+    };
+    let holds_chapters = chapters.is_live();
+    if holds_chapters {
+        handle.put(shelf);
+        return HAS_CHAPTERS;
+    }
+    let taken = stop_recording(alloc, &mut shelf);
+    handle.put(shelf);
+    hold(taken, chapters, count)
+}
+
+/// Tells of a line of a chapter in the text of an archive, with its LF, the octets from a place on,
+/// as many as fit the buffer, and how many they are. Chapters and lines are counted from 0.
+#[unsafe(no_mangle)]
+pub extern "C" fn rrc_chapter_line(
+    alloc: Global,
+    chapters: &mut Chapters,
+    chapter: u64,
+    line: u64,
+    from: u64,
+    buffer: &mut [u8],
+    told: &mut Line,
+) -> u32
+    ensures none { TellsNoChapters chapters.old.seal.chapters result }
+    ensures due { IfTaken chapters.old.seal.chapters (λ held. LineDue held chapter line result) }
+    ensures done { OnDone result (HoldsChapters chapters.old.seal.chapters (λ held. TellsLine held chapter line from told.new buffer.old buffer.new)) }
+    ensures told { OnRefused result (told.new ≡ told.old) }
+    ensures buffer { OnRefused result (buffer.new ≡ buffer.old) }
+    ensures kept { chapters.new.seal.chapters ≡ chapters.old.seal.chapters }
+{
+    let Some(taken) = chapters.take(alloc) else {
+        return NO_CHAPTERS;
+    };
+    let status = tell_line(
+        alloc,
+        taken.chapters.as_slice(),
+        chapter,
+        line,
+        from,
+        buffer,
+        told,
+    );
+    chapters.put(taken);
+    status
+}
+
+/// Frees the chapters of a handle, which then holds none.
+#[unsafe(no_mangle)]
+pub extern "C" fn rrc_free_chapters(alloc: Global, chapters: &mut Chapters) -> u32
+    ensures left { chapters.new.seal.chapters ≡ None }
+    ensures none { TellsNoChapters chapters.old.seal.chapters result }
+    ensures status { OnRefused result (chapters.old.seal.chapters ≡ None) }
+{
+    match chapters.take(alloc) {
+        None => NO_CHAPTERS,
+        Some(taken) => {
+            drop(taken);
+            0
+        }
+    }
+}
