@@ -196,6 +196,8 @@ static void test_layout(void)
 {
     EXPECT(sizeof(struct rrcache_shelf) == 16 && offsetof(struct rrcache_shelf, is_live) == 8);
     EXPECT(sizeof(struct rrcache_offers) == 16 && offsetof(struct rrcache_offers, is_live) == 8);
+    EXPECT(sizeof(struct rrcache_chapters) == 16 && offsetof(struct rrcache_chapters, is_live) == 8
+           && sizeof(struct rrcache_line) == 16 && offsetof(struct rrcache_line, written) == 8);
     EXPECT(sizeof(struct rrcache_told) == 32 && sizeof(struct rrcache_counts) == 24
            && sizeof(struct rrcache_limits) == 12 && sizeof(struct rrcache_stored) == 16);
 }
@@ -549,6 +551,316 @@ static void test_records(void)
     EXPECT(rrcache_record(&shelf) == RRCACHE_DONE && are_alike(&shelf, &other, FIRST + 1200)
            && events(&shelf) == 1002);
     EXPECT(rrcache_free(&shelf) == RRCACHE_DONE && rrcache_free(&other) == RRCACHE_DONE);
+}
+
+/* What a sink was handed, and which call of it is to end the writing, if any. */
+struct text {
+    char octets[16384];
+    size_t size;
+    unsigned calls, last;
+};
+
+static int write_text(void *state, const void *octets, size_t size)
+{
+    struct text *text = state;
+    EXPECT(size != 0 && size <= RRCACHE_PIECE_OCTETS);
+    if (++text->calls == text->last || size > sizeof text->octets - text->size)
+        return -1;
+    memcpy(text->octets + text->size, octets, size);
+    text->size += size;
+    return 0;
+}
+
+static bool is_text(const struct text *text, const char *wanted)
+{
+    bool same = text->size == strlen(wanted) && memcmp(text->octets, wanted, text->size) == 0;
+    if (!same)
+        printf("%.*s\n", (int)text->size, text->octets);
+    return same;
+}
+
+/* Two chapters of four events and the beginning of a third, of a shelf for three keys, by
+   docs/FORMATS.md. The second one begins with what the first one led to; the offer of class CH
+   evicts the key that was touched least recently, and the sweep removes all three. */
+static const char FIRST_CHAPTER[] =
+    "chapter 2 0 3 4 3600\n"
+    "offer 1 0 1000 www.example. 1 set 4 60 WWW.Example. c0000209 kept\n"
+    "offer 2 0 1000 www.example. 1 set 1 60 www.example. c0000209 less\n"
+    "offer 3 0 1000 other.example. nx negative 3 60 example. "
+    "0000000000010000000200000003000000040000003c kept\n"
+    "offer 4 0 1000 www.example. failed16 failure 30 kept\n";
+static const char SECOND_CHAPTER[] =
+    "chapter 3 4 3 4 3600\n"
+    "entry 3 1000 www.example. failed16 failure 30\n"
+    "entry 2 1000 other.example. nx negative 3 60 example. "
+    "0000000000010000000200000003000000040000003c\n"
+    "entry 0 1000 www.example. 1 set 4 60 WWW.Example. c0000209\n"
+    "ask 2 0 1010 www.example. 1 answer none fresh 50 WWW.Example. c0000209\n"
+    "offer 5 0 1020 other.example. 16/3 set 4 5 other.example. 0141 kept other.example. nx\n"
+    "ask 6 0 1021 other.example. 16/3 any now fresh 4 other.example. 0141\n"
+    "sweep 7 0 11000 other.example. 16/3 www.example. 1 www.example. failed16\n";
+static const char THIRD_CHAPTER[] = "chapter 4 8 3 4 3600\n"
+                                    "ask 2 0 1010 www.example. 1 answer none miss\n";
+
+/* A shelf with the events of these chapters, of which two are closed. */
+static void make_chapters(struct rrcache_shelf *shelf)
+{
+    static const uint8_t txt[] = {0, 2, 1, 'A'};
+    struct rrcache_told told = {0};
+    uint32_t outcome = 0;
+    uint64_t removed = 0;
+    uint8_t buffer[64];
+    EXPECT(make_by(shelf, 3, 4, 3600) == RRCACHE_DONE);
+    EXPECT(offer_address(shelf, UPPER, sizeof UPPER, RRCACHE_AUTHORITATIVE_ANSWER, 60)
+           == RRCACHE_KEPT);
+    EXPECT(rrcache_offer_set(shelf,
+                             SET(NAME, sizeof NAME, A, RRCACHE_IN, RRCACHE_ADDITIONAL, 60, ADDRESS,
+                                 sizeof ADDRESS, FIRST),
+                             2, &outcome)
+               == RRCACHE_DONE
+           && outcome == RRCACHE_LESS_TRUSTED);
+    EXPECT(rrcache_offer_negative(shelf,
+                                  NEGATIVE(OTHER, sizeof OTHER, A, RRCACHE_IN, RRCACHE_DENIES_NAME,
+                                           RRCACHE_AUTHORITY, 60, ZONE, sizeof ZONE, SOA_DATA,
+                                           sizeof SOA_DATA, FIRST),
+                                  3, &outcome)
+           == RRCACHE_DONE);
+    EXPECT(rrcache_offer_failure(shelf, FAILURE(NAME, sizeof NAME, TXT, RRCACHE_IN, 30, FIRST), 4,
+                                 &outcome)
+           == RRCACHE_DONE);
+    EXPECT(ask(shelf, FIRST + 10, &told, buffer, sizeof buffer) == RRCACHE_DONE);
+    EXPECT(rrcache_offer_set(shelf,
+                             SET(OTHER, sizeof OTHER, TXT, RRCACHE_CH, RRCACHE_AUTHORITATIVE_ANSWER,
+                                 5, txt, sizeof txt, FIRST + 20),
+                             5, &outcome)
+           == RRCACHE_DONE);
+    EXPECT(rrcache_ask(shelf,
+                       QUERY(OTHER, sizeof OTHER, TXT, RRCACHE_CH, FIRST + 21, RRCACHE_ANYTHING,
+                             RRCACHE_STALE_NOW),
+                       6, &told, buffer, sizeof buffer)
+           == RRCACHE_DONE);
+    EXPECT(rrcache_sweep(shelf, FIRST + 10000, 7, &removed) == RRCACHE_DONE && removed == 3);
+    EXPECT(ask(shelf, FIRST + 10, &told, buffer, sizeof buffer) == RRCACHE_DONE
+           && events(shelf) == 2001);
+}
+
+/* Chapters are taken out of a shelf, which goes on, and written as they were recorded. */
+static void test_taken_chapters(void)
+{
+    struct rrcache_shelf shelf = {0};
+    struct rrcache_chapters chapters = {0}, rest = {0};
+    struct text text = {0};
+    uint64_t count = 9;
+    make_chapters(&shelf);
+    EXPECT(rrcache_take_chapters(&shelf, &chapters, &count) == RRCACHE_DONE && count == 2
+           && events(&shelf) == 1);
+    EXPECT(rrcache_write_chapter(&chapters, 0, write_text, &text) == RRCACHE_DONE
+           && is_text(&text, FIRST_CHAPTER) && text.calls == 5);
+    text.size = 0;
+    EXPECT(rrcache_write_chapter(&chapters, 1, write_text, &text) == RRCACHE_DONE
+           && is_text(&text, SECOND_CHAPTER));
+    text.size = 0;
+    EXPECT(rrcache_write_line(&chapters, 1, 2, write_text, &text) == RRCACHE_DONE
+           && is_text(&text, "entry 2 1000 other.example. nx negative 3 60 example. "
+                             "0000000000010000000200000003000000040000003c\n"));
+
+    /* The record ends, and its open chapter is the last one. The shelf may go before them. */
+    EXPECT(rrcache_stop_recording(&shelf, &rest, &count) == RRCACHE_DONE && count == 1
+           && events(&shelf) == 0);
+    EXPECT(rrcache_free(&shelf) == RRCACHE_DONE);
+    text.size = 0;
+    EXPECT(rrcache_write_chapter(&rest, 0, write_text, &text) == RRCACHE_DONE
+           && is_text(&text, THIRD_CHAPTER));
+    EXPECT(rrcache_free_chapters(&chapters) == RRCACHE_DONE && chapters.at == NULL
+           && !chapters.is_live && rrcache_free_chapters(&rest) == RRCACHE_DONE);
+}
+
+/* A record that ends is handed out whole, and the shelf answers as before. */
+static void test_stopped_record(void)
+{
+    struct rrcache_shelf shelf = {0};
+    struct rrcache_chapters chapters = {0};
+    struct rrcache_counts counts;
+    struct rrcache_told told = {0};
+    struct text text = {0};
+    uint64_t count = 9;
+    uint8_t buffer[64];
+    EXPECT(make(&shelf) == RRCACHE_DONE && offer_answer(&shelf, FIRST, &counts) == RRCACHE_DONE);
+    for (int n = 0; n < 4; n++)
+        EXPECT(ask(&shelf, FIRST, &told, buffer, sizeof buffer) == RRCACHE_DONE);
+    EXPECT(events(&shelf) == 1001);
+    EXPECT(rrcache_stop_recording(&shelf, &chapters, &count) == RRCACHE_DONE && count == 2
+           && events(&shelf) == 0);
+    EXPECT(rrcache_write_chapter(&chapters, 1, write_text, &text) == RRCACHE_DONE
+           && is_text(&text,
+                      "chapter 3 4 100 4 3600\n"
+                      "entry 0 1000 www.example. 1 set 4 300 www.example. c0000201,c0000202\n"
+                      "ask 2 0 1000 www.example. 1 answer none fresh 300 www.example. "
+                      "c0000201,c0000202\n"));
+    EXPECT(peek(&shelf, FIRST + 1, &told, buffer, sizeof buffer) == RRCACHE_DONE
+           && told.kind == RRCACHE_FRESH && told.left == 299);
+    EXPECT(rrcache_free_chapters(&chapters) == RRCACHE_DONE);
+
+    /* Where nothing is recorded there are no chapters, and the handle is live all the same. */
+    EXPECT(rrcache_stop_recording(&shelf, &chapters, &count) == RRCACHE_DONE && count == 0);
+    EXPECT(rrcache_chapter_line(&chapters, 0, 0, 0, NULL, 0, &(struct rrcache_line){0})
+           == RRCACHE_NO_LINE);
+    EXPECT(rrcache_free_chapters(&chapters) == RRCACHE_DONE);
+    EXPECT(rrcache_take_chapters(&shelf, &chapters, &count) == RRCACHE_DONE && count == 0
+           && rrcache_free_chapters(&chapters) == RRCACHE_DONE);
+    EXPECT(rrcache_free(&shelf) == RRCACHE_DONE);
+}
+
+/* Each piece of a line, of any size and from any place, and what is left of the buffer. */
+static void test_pieces(void)
+{
+    static const char head[] = "chapter 2 0 3 4 3600\n";
+    enum { SIZE = sizeof head - 1 };
+    struct rrcache_shelf shelf = {0};
+    struct rrcache_chapters chapters = {0};
+    struct rrcache_line told;
+    uint64_t count = 0;
+    uint8_t buffer[SIZE + 4];
+    make_chapters(&shelf);
+    EXPECT(rrcache_take_chapters(&shelf, &chapters, &count) == RRCACHE_DONE && count == 2);
+    for (size_t from = 0; from <= SIZE + 1; from++)
+        for (size_t room = 0; room <= sizeof buffer; room++) {
+            size_t left = from < SIZE ? SIZE - from : 0;
+            size_t wanted = left < room ? left : room;
+            memset(buffer, 0xee, sizeof buffer);
+            told.size = told.written = 99;
+            bool right =
+                rrcache_chapter_line(&chapters, 0, 0, from, buffer, room, &told) == RRCACHE_DONE
+                && told.size == SIZE && told.written == wanted
+                && memcmp(buffer, head + (from < SIZE ? from : 0), wanted) == 0;
+            for (size_t n = wanted; n < sizeof buffer; n++)
+                right = right && buffer[n] == 0xee;
+            EXPECT(right);
+        }
+    EXPECT(rrcache_chapter_line(&chapters, 0, 0, UINT64_MAX, buffer, sizeof buffer, &told)
+               == RRCACHE_DONE
+           && told.size == SIZE && told.written == 0);
+    EXPECT(rrcache_free_chapters(&chapters) == RRCACHE_DONE
+           && rrcache_free(&shelf) == RRCACHE_DONE);
+}
+
+/* A line of more octets than a sink is handed at once: a TXT record of twelve strings of 255. */
+static void test_long_line(void)
+{
+    enum { STRINGS = 12, OCTETS = STRINGS * 256 };
+    static uint8_t data[2 + OCTETS];
+    static char wanted[256 + 2 * OCTETS];
+    struct rrcache_shelf shelf = {0};
+    struct rrcache_chapters chapters = {0};
+    static struct text text;
+    uint32_t outcome = 0;
+    uint64_t count = 0;
+    size_t size = (size_t)sprintf(wanted, "chapter 2 0 100 4 3600\n"
+                                          "offer 1 0 1000 www.example. 16 set 4 60 www.example. ");
+    data[0] = OCTETS / 256;
+    data[1] = OCTETS % 256;
+    for (int n = 0; n < OCTETS; n++) {
+        data[2 + n] = n % 256 == 0 ? 255 : (uint8_t)(n % 251);
+        size += (size_t)sprintf(wanted + size, "%02x", data[2 + n]);
+    }
+    sprintf(wanted + size, " kept\n");
+    EXPECT(make(&shelf) == RRCACHE_DONE);
+    EXPECT(rrcache_offer_set(
+               &shelf, SET(NAME, sizeof NAME, TXT, RRCACHE_IN, 4, 60, data, sizeof data, FIRST), 1,
+               &outcome)
+           == RRCACHE_DONE);
+    EXPECT(rrcache_stop_recording(&shelf, &chapters, &count) == RRCACHE_DONE && count == 1);
+    EXPECT(rrcache_write_chapter(&chapters, 0, write_text, &text) == RRCACHE_DONE
+           && is_text(&text, wanted) && text.calls == 3);
+    EXPECT(rrcache_free_chapters(&chapters) == RRCACHE_DONE
+           && rrcache_free(&shelf) == RRCACHE_DONE);
+}
+
+/* Each refusal of the calls of chapters but those of memory, and what it leaves. */
+static void test_refused_chapters(void)
+{
+    struct rrcache_shelf shelf = {0};
+    struct rrcache_chapters chapters = {0}, none = {0};
+    struct rrcache_line told = {7, 7};
+    struct text text = {0};
+    uint64_t count = 7;
+    uint8_t buffer[64] = {7};
+    EXPECT(rrcache_take_chapters(&shelf, &chapters, &count) == RRCACHE_NO_SHELF
+           && rrcache_stop_recording(&shelf, &chapters, &count) == RRCACHE_NO_SHELF);
+    make_chapters(&shelf);
+    EXPECT(rrcache_chapter_line(&none, 0, 0, 0, buffer, sizeof buffer, &told) == RRCACHE_NO_CHAPTERS
+           && rrcache_write_chapter(&none, 0, write_text, &text) == RRCACHE_NO_CHAPTERS
+           && rrcache_write_line(&none, 0, 0, write_text, &text) == RRCACHE_NO_CHAPTERS
+           && rrcache_free_chapters(&none) == RRCACHE_NO_CHAPTERS && count == 7);
+    EXPECT(rrcache_take_chapters(&shelf, &chapters, &count) == RRCACHE_DONE && count == 2);
+
+    count = 7;
+    EXPECT(rrcache_take_chapters(&shelf, &chapters, &count) == RRCACHE_HAS_CHAPTERS
+           && rrcache_stop_recording(&shelf, &chapters, &count) == RRCACHE_HAS_CHAPTERS
+           && rrcache_take_chapters(&(struct rrcache_shelf){0}, &chapters, &count)
+                  == RRCACHE_NO_SHELF
+           && count == 7 && events(&shelf) == 1);
+    EXPECT(
+        rrcache_chapter_line(&chapters, 2, 0, 0, buffer, sizeof buffer, &told) == RRCACHE_NO_LINE
+        && rrcache_chapter_line(&chapters, 0, 5, 0, buffer, sizeof buffer, &told) == RRCACHE_NO_LINE
+        && rrcache_chapter_line(&chapters, 1, 8, 0, buffer, sizeof buffer, &told) == RRCACHE_NO_LINE
+        && rrcache_chapter_line(&chapters, UINT64_MAX, UINT64_MAX, 0, buffer, sizeof buffer, &told)
+               == RRCACHE_NO_LINE);
+    EXPECT(rrcache_write_chapter(&chapters, 2, write_text, &text) == RRCACHE_NO_LINE
+           && text.calls == 0 && told.size == 7 && told.written == 7 && buffer[0] == 7);
+
+    /* A sink that ends the writing with its second line. */
+    text.last = 2;
+    EXPECT(rrcache_write_chapter(&chapters, 0, write_text, &text) == RRCACHE_SINK
+           && is_text(&text, "chapter 2 0 3 4 3600\n") && text.calls == 2);
+    text.last = 3;
+    EXPECT(rrcache_write_line(&chapters, 0, 0, write_text, &text) == RRCACHE_SINK);
+    EXPECT(rrcache_free_chapters(&chapters) == RRCACHE_DONE
+           && rrcache_free(&shelf) == RRCACHE_DONE);
+}
+
+/* What may not be null or overlap of the calls of chapters. */
+static void test_null_chapters(void)
+{
+    struct rrcache_shelf shelf = {0};
+    union {
+        struct rrcache_chapters chapters;
+        struct rrcache_line told;
+        uint64_t count;
+        uint8_t octets[64];
+    } memory;
+    struct rrcache_chapters *chapters = &memory.chapters;
+    struct rrcache_line told, *near = (struct rrcache_line *)(void *)(memory.octets + 8);
+    uint64_t count;
+    uint8_t buffer[32];
+    memset(&memory, 0, sizeof memory);
+    EXPECT(make(&shelf) == RRCACHE_DONE);
+#define IS_NULL(call) EXPECT((call) == RRCACHE_NULL)
+    IS_NULL(rrcache_take_chapters(NULL, chapters, &count));
+    IS_NULL(rrcache_take_chapters(&shelf, NULL, &count));
+    IS_NULL(rrcache_take_chapters(&shelf, chapters, NULL));
+    IS_NULL(rrcache_take_chapters(&shelf, (struct rrcache_chapters *)(void *)&shelf, &count));
+    IS_NULL(rrcache_take_chapters(&shelf, chapters, &memory.count));
+    IS_NULL(rrcache_take_chapters(&shelf, chapters, (uint64_t *)(void *)&shelf));
+    IS_NULL(rrcache_stop_recording(NULL, chapters, &count));
+    IS_NULL(rrcache_stop_recording(&shelf, NULL, &count));
+    IS_NULL(rrcache_stop_recording(&shelf, chapters, NULL));
+    IS_NULL(rrcache_stop_recording(&shelf, (struct rrcache_chapters *)(void *)&shelf, &count));
+    IS_NULL(rrcache_stop_recording(&shelf, chapters, &memory.count));
+    IS_NULL(rrcache_stop_recording(&shelf, chapters, (uint64_t *)(void *)&shelf));
+    IS_NULL(rrcache_chapter_line(NULL, 0, 0, 0, buffer, sizeof buffer, &told));
+    IS_NULL(rrcache_chapter_line(chapters, 0, 0, 0, NULL, 1, &told));
+    IS_NULL(rrcache_chapter_line(chapters, 0, 0, 0, buffer, sizeof buffer, NULL));
+    IS_NULL(rrcache_chapter_line(chapters, 0, 0, 0, buffer, sizeof buffer, near));
+    IS_NULL(rrcache_chapter_line(chapters, 0, 0, 0, memory.octets + 15, 1, &told));
+    IS_NULL(rrcache_chapter_line(chapters, 0, 0, 0, (uint8_t *)&told + 15, 1, &told));
+    IS_NULL(rrcache_write_line(NULL, 0, 0, write_text, NULL));
+    IS_NULL(rrcache_write_line(chapters, 0, 0, NULL, NULL));
+    IS_NULL(rrcache_write_chapter(NULL, 0, write_text, NULL));
+    IS_NULL(rrcache_write_chapter(chapters, 0, NULL, NULL));
+    IS_NULL(rrcache_free_chapters(NULL));
+#undef IS_NULL
+    EXPECT(events(&shelf) == 0 && !chapters->is_live && rrcache_free(&shelf) == RRCACHE_DONE);
 }
 
 /* What is renewed often is removed by its last time, whether that is the latest or the earliest. */
@@ -1979,7 +2291,7 @@ static struct state state_of(struct rrcache_shelf *shelf)
     return state;
 }
 
-enum { CALLS = 13 };
+enum { CALLS = 18 };
 
 static const uint8_t LONG[] = "\46a-label-that-is-longer-than-most-names\7example";
 /* The part of OTHER. */
@@ -1989,11 +2301,14 @@ static uint64_t target;
 static bool met_refusal[CALLS + 2];
 /* What one call reads, the next one offers and the one after that frees. */
 static struct rrcache_offers offers;
+/* The same of the chapters that calls take. */
+static struct rrcache_chapters chapters;
 
 static uint32_t call(int number, struct rrcache_shelf *shelf)
 {
     struct rrcache_counts counts;
     struct rrcache_told told;
+    struct rrcache_line line;
     uint32_t outcome;
     uint64_t removed;
     uint8_t buffer[64];
@@ -2030,6 +2345,17 @@ static uint32_t call(int number, struct rrcache_shelf *shelf)
         return rrcache_offer_read(shelf, &offers, target, 7, &counts);
     case 11:
         return rrcache_free_offers(&offers);
+    case 12:
+        return rrcache_take_chapters(shelf, &chapters, &removed);
+    case 13:
+        /* While nothing is recorded there is no line. */
+        outcome = rrcache_chapter_line(&chapters, 0, 1, 0, buffer, sizeof buffer, &line);
+        return outcome == RRCACHE_NO_LINE ? RRCACHE_DONE : outcome;
+    case 14:
+    case 16:
+        return rrcache_free_chapters(&chapters);
+    case 15:
+        return rrcache_stop_recording(shelf, &chapters, &removed);
     default:
         return rrcache_part_of(LONG, sizeof LONG, PARTED(PARTS), &removed);
     }
@@ -2107,7 +2433,8 @@ static void test_refused_memory(void)
         refused++;
     EXPECT(refused > 20 && refused < 1000);
     for (int number = 0; number <= CALLS + 1; number++)
-        EXPECT(met_refusal[number] == (number != 11)); /* to free takes no memory */
+        /* To free takes no memory. */
+        EXPECT(met_refusal[number] == (number != 11 && number != 14 && number != 16));
     printf("refused each of %ld allocations in turn\n", refused);
     blocks = out;
 }
@@ -2127,6 +2454,12 @@ int main(void)
     test_chapters();
     test_full_chapter();
     test_records();
+    test_taken_chapters();
+    test_stopped_record();
+    test_pieces();
+    test_long_line();
+    test_refused_chapters();
+    test_null_chapters();
     test_renewed();
     test_failed_names();
     test_keys();
