@@ -8,7 +8,7 @@
 
 #include "counters.h"
 
-enum { SHELVES = 16, SHELF_KEYS = 4096, SHELF_EVENTS = 4096, STALE_LIMIT = 86400 };
+enum { SHELVES = PARTS, SHELF_KEYS = 4096, SHELF_EVENTS = 4096, STALE_LIMIT = 86400 };
 /* What a look at a name of one thread may take where memory is refused, for a while. */
 enum { RESERVE = 65536 };
 /* What `ask` answers beside `enum rrcache_kind`. */
@@ -357,6 +357,7 @@ void sweep(void)
         rrcache_sizes(&shelf->cache, &keys, &events, &chapters, &octets);
         pthread_mutex_unlock(&shelf->lock);
         count(SWEPT, removed);
+        set_part((uint64_t)(shelf - shelves), keys);
         all_keys += keys;
         all_octets += octets;
     }

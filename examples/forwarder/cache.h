@@ -53,8 +53,8 @@ bool keep(const struct question *question, const uint8_t *message, size_t size,
 /* Remembers for FAILURE_SECONDS that nothing came of asking (RFC 2308 section 7). */
 void remember_failure(const struct question *question);
 
-/* Removes dead keys, and counts the others. The shelves record no history, which nobody audits
-   here. */
+/* Removes dead keys, and counts the others, of each shelf and of all. The shelves record no
+   history, which nobody audits here. */
 void sweep(void);
 
 #endif

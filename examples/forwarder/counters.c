@@ -18,7 +18,7 @@ static const char *const NAMES[COUNTERS] = {
     [HELD] = "held",
 };
 
-static _Atomic uint64_t counters[COUNTERS];
+static _Atomic uint64_t counters[COUNTERS], keys_of_parts[PARTS];
 
 void count(enum counter which, uint64_t by)
 {
@@ -35,10 +35,19 @@ uint64_t counted(enum counter which)
     return atomic_load_explicit(&counters[which], memory_order_relaxed);
 }
 
+void set_part(uint64_t part, uint64_t keys)
+{
+    atomic_store_explicit(&keys_of_parts[part], keys, memory_order_relaxed);
+}
+
 void print_counters(void)
 {
     for (int i = 0; i < COUNTERS; i++)
-        printf("%s %" PRIu64 "%c", NAMES[i], counted(i), i + 1 < COUNTERS ? ' ' : '\n');
+        printf("%s %" PRIu64 " ", NAMES[i], counted(i));
+    for (int i = 0; i < PARTS; i++)
+        printf("part-%d %" PRIu64 "%c", i,
+               atomic_load_explicit(&keys_of_parts[i], memory_order_relaxed),
+               i + 1 < PARTS ? ' ' : '\n');
     fflush(stdout);
 }
 

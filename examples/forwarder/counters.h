@@ -30,11 +30,17 @@ enum counter {
     COUNTERS
 };
 
+/* The parts of the cache, each a shelf. */
+enum { PARTS = 16 };
+
 void count(enum counter which, uint64_t by);
 void set_counter(enum counter which, uint64_t value);
 uint64_t counted(enum counter which);
 
-/* Prints all counters in one line on standard output. */
+/* How many keys a part of the cache holds, below `PARTS`. */
+void set_part(uint64_t part, uint64_t keys);
+
+/* Prints all counters in one line on standard output, and at its end the keys of each part. */
 void print_counters(void);
 
 /* Prints on standard error what was done since the last call, in so many seconds. */

@@ -4,8 +4,9 @@
    A DNS forwarder over UDP and TCP and IPv4, as an example of the library for C. Clients ask it at
    an address and a port (0: one is picked), and what its cache does not have it asks the upstreams,
    at most 8, which are resolvers. It prints the port on standard output, and there on SIGUSR1 and
-   at its end all its counters in one line; SIGTERM and SIGINT end it. On standard error stands one
-   line a minute of what it did; with -l SECONDS more or less often, with -q none.
+   at its end all its counters in one line, behind which stands how many keys each part of its cache
+   holds; SIGTERM and SIGINT end it. On standard error stands one line a minute of what it did; with
+   -l SECONDS more or less often, with -q none.
 
    dns.c       messages: queries are read, replies are built, responses are judged
    cache.c     shelves of the library under locks: what is kept, and what is answered from them

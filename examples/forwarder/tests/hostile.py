@@ -1,6 +1,7 @@
 # SPDX-License-Identifier: MIT
 """What an attacker sends in an upstream's place, and an upstream that answers wrongly."""
 import concurrent.futures
+import itertools
 import random
 import re
 import socket
@@ -10,9 +11,12 @@ import struct
 from harness import (A, NOERROR, NXDOMAIN, SERVFAIL, TOP, Forwarder, Reply, Server, address,
                      exchange, message, plain, query, record, same, took, wanted, wire)
 from dns import OPT, name_at
+from model import part_of
 from mutation import changed_octets
 
 META = 128
+# The parts of the forwarder's cache, and how many names are asked for that are to be spread.
+PARTS, SPREAD = 16, 2048
 FORGED = address(6 * 256 + 66)
 
 
@@ -143,3 +147,39 @@ def test_upstream_of_changed_messages():
         kinds = [rcodes.count(it) for it in (NOERROR, NXDOMAIN, SERVFAIL)]
         wanted(min(kinds) > 20, f"answers of each kind, and not {kinds}")
         wanted(it.counters()["upgraded"] > 100, "queries over TCP")
+
+
+# ---- Names that are picked to lie in one part.
+
+def keys_of_parts(texts, rtypes=(A,)):
+    """How many keys each part of a forwarder holds that was asked for each name by each type."""
+    asked = list(itertools.product(texts, rtypes))
+    with (Forwarder(Server(plain())) as it,
+          concurrent.futures.ThreadPoolExecutor(16) as pool):
+        rcodes = {reply.rcode for reply in pool.map(lambda asked: it.ask(*asked), asked)}
+        same(rcodes, {NOERROR}, "an answer to each question")
+        counters = it.counters()
+    keys = [counters[f"part-{n}"] for n in range(PARTS)]
+    same(sum(keys), counters["keys"], "the keys of all parts")
+    return keys
+
+
+def test_keys_of_one_name_lie_in_one_part():
+    """An address and 19 types that the name has no data of; and the zone's SOA record, which came
+    with the latter, in that part or another."""
+    keys = keys_of_parts(["a1.example"], [A, *range(100, 119)])
+    wanted(sorted(keys)[-2:] in ([1, 20], [0, 21]), f"20 keys in one part, and not {keys}")
+
+
+def test_names_of_one_part_are_spread_by_the_seed():
+    """2,048 names that are harmless, and as many that lie in one part by the hash that has no key:
+    both lie in all parts of a forwarder, and in others at each start. A part has 128 of them, with
+    a deviation of 11."""
+    texts = [f"a{n}.example" for n in range(2 * PARTS * SPREAD)]
+    picked = [it for it in texts if part_of(wire(it), PARTS) == 0][:SPREAD]
+    same(len(picked), SPREAD, "names of one part")
+    found = [keys_of_parts(it) for it in (texts[:SPREAD], picked, picked)]
+    for keys in found:
+        same(sum(keys), SPREAD, "a key for each name")
+        wanted(min(keys) > 0 and max(keys) <= SPREAD // 4, f"names in all parts, and not {keys}")
+    wanted(found[1] != found[2], "another seed at each start")
