@@ -8,7 +8,7 @@ form.
 """
 from typing import NamedTuple
 
-from names import fold, to_text
+from names import fold, parts_of_wire, to_text
 
 STALE, RECHECK, CAP, NEGATIVE_CAP = 86_400, 30, 604_800, 10_800
 STALE_SECONDS = 30
@@ -25,9 +25,21 @@ class Key(NamedTuple):
     rclass: int = IN
 
     def __str__(self):
+        return f"{to_text(self.name)}/{self.slot_text}"
+
+    @property
+    def slot_text(self):
+        """The slot, and the class where that is not IN."""
         slot = {"set": str(self.rtype), "nx": "nx", "failed": f"failed{self.rtype}"}[self.slot]
-        text = f"{to_text(self.name)}/{slot}"
-        return text if self.rclass == IN else f"{text}/{self.rclass}"
+        return slot if self.rclass == IN else f"{slot}/{self.rclass}"
+
+    @property
+    def place(self):
+        """By which keys are ordered: the labels from the rightmost (RFC 4034 section 6.1), the
+        class, and the slot, RRsets by type, NXDOMAIN, failures by type."""
+        slots = ("set", "nx", "failed")
+        labels = parts_of_wire(self.name)[::-1]
+        return labels, self.rclass, slots.index(self.slot), self.rtype
 
 
 class Body(NamedTuple):
