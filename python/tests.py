@@ -1,8 +1,8 @@
 # SPDX-License-Identifier: MIT
 """Tests of the library through Python (the package rrcache), which bin/test-forwarder runs: what it
 refuses, how names in data are read, what of a response is relevant, the examples of its docstrings,
-many threads, the package once it is installed, and the rows that it can be told, each of whose
-lines is compared with the row's report.
+many threads, the package once it is installed, archives, and the rows that it can be told, each of
+whose lines is compared with the row's report.
 """
 import importlib
 import importlib.util
@@ -23,6 +23,8 @@ from dns import (A, CNAME, NS, OPT, SOA, TXT, message, name_at, pointer, questio
                  soa_data, wire)
 from harness import DNAME, NXDOMAIN, SERVFAIL, Skipped, Wrong, address, same, soa, wanted
 from model import part_of
+from tested_model import ARCHIVE
+from tested_model import SOA as SOA_DATA
 
 VERSION = (TOP / "VERSION").read_text().strip()
 SEED = bytes(range(16))
@@ -141,7 +143,7 @@ def test_docstrings_of_python():
     # doctest reads standard output, which other tests write to.
     told = subprocess.run([sys.executable, "-c", DOCSTRINGS], cwd=TOP / "python",
                           capture_output=True, text=True)
-    same(told.stdout, "0 of 12\n", told.stderr or "examples that are wrong")
+    same(told.stdout, "0 of 25\n", told.stderr or "examples that are wrong")
 
 
 def test_names_by_python():
@@ -463,6 +465,79 @@ def test_refusals_by_python():
         shelf.sizes()
     except rrcache.Refused as refused:
         same(refused.status, 1, "status of a shelf that was closed")
+
+
+# ---- Archives.
+
+
+def test_archives_are_read_by_python():
+    """The archive by hand of bin/tested_model.py."""
+    chapters = rrcache.read_archive(ARCHIVE)
+    same("".join(it.text for it in chapters), ARCHIVE, "the text of chapters")
+    numbers = [(it.number, it.first, it.capacity, it.chapter, it.stale) for it in chapters]
+    same(numbers, [(1, 0, 2, 4, 100), (2, 4, 2, 4, 100), (3, 8, 2, 4, 100), (4, 12, 2, 4, 100)],
+         "the numbers of chapters")
+    # Each in the order of its fields.
+    key, addresses = rrcache.Key("a.example.", rrcache.Slot.SET, 1), (b"\xc0\0\2\1", b"\xc0\0\2\2")
+    body = rrcache.RRset(rrcache.Rank.AUTHORITATIVE_ANSWER, 60, "a.Example.", addresses)
+    same(chapters[1].entries, (rrcache.Entry(0, 100, key, body),), "an entry")
+    same(chapters[0].events[:2], (
+        rrcache.Offer(0, 0, 100, key, body, rrcache.Outcome.KEPT),
+        rrcache.Ask(1, 0, 150, "a.example.", 1, 1, rrcache.Purpose.QUESTION, rrcache.Mode.NO_STALE,
+                    rrcache.Reply(rrcache.Kind.FRESH, 10, wire("a.Example"), addresses))),
+        "an offer and its answer")
+    cleared = chapters[0].events[3]
+    same((cleared.key, cleared.body.data, cleared.outcome),
+         (rrcache.Key("a\\.b\\000.", rrcache.Slot.SET, 16, rrcache.Class.CH), (b"",),
+          rrcache.Outcome.CLEARED), "an offer that clears")
+    failure = rrcache.Key("b.", rrcache.Slot.FAILED, 28)
+    other = rrcache.Key("c.", rrcache.Slot.SET, 16, rrcache.Class.HS)
+    same(chapters[1].events[0], rrcache.Offer(4, 0, 160, failure, rrcache.Failure(30),
+                                              rrcache.Outcome.KEPT), "a failure")
+    same(chapters[1].events[1].reply, rrcache.Reply(rrcache.Kind.SERVFAIL, retry_from=190), "a miss")
+    same(chapters[1].events[2].evicted, key, "an evicted key")
+    same(chapters[1].events[3].reply, rrcache.Reply(rrcache.Kind.STALE, 30, wire("c"), (b"\0", b"")),
+         "a stale answer")
+    same(chapters[2].events[0], rrcache.Sweep(8, 0, 300, (failure, other)), "a sweep")
+    data = bytes.fromhex(SOA_DATA)
+    same((chapters[2].events[2].key, chapters[2].events[2].body),
+         (rrcache.Key("a.example.", rrcache.Slot.NX), rrcache.Negative(4, 300, "example.", data)),
+         "a negative answer")
+    same(chapters[2].events[3].reply, rrcache.Reply(rrcache.Kind.NXDOMAIN, 200, wire("example"), (data,)),
+         "its reply")
+    same(rrcache.read_archive(""), [], "chapters of no text")
+
+
+HEAD = "chapter 1 0 1024 4096 86400\n"
+OFFER = HEAD + "offer 0 0 100 {} kept\n"
+# Texts that are no archive, and their first line that is none.
+NO_ARCHIVES = [
+    ("chapter 1 0 1024 4096 86400", 0), ("chapter 1 0 1024 4096\n", 0), ("chapter 01 0 1 1 0\n", 0),
+    ("chapter 1 0 0 4096 0\n", 0), ("chapter 1 0 1 1048577 0\n", 0), ("chapter 1 0 1 1 604801\n", 0),
+    (f"chapter {2 ** 64} 0 1 1 0\n", 0), ("chapter 1 0 1 1 0 0\n", 0), ("chapter  1 0 1 1 0\n", 0),
+    ("sweep 0 0 0\n", 0), ("\n", 0), (HEAD + "\n", 1), (HEAD + "sweep 0 0 0 \n", 1),
+    (HEAD + "sweep 0 0 0 a.\n", 1), (HEAD + "sweep 0 0 0 a 1\n", 1), (HEAD + "sweep 0 0 0 A. 1\n", 1),
+    (HEAD + "sweep 0 0 0 a. 1/1\n", 1), (HEAD + "sweep 0 0 0 a. failed\n", 1),
+    (HEAD + "sweep 0 0 0 a. 65536\n", 1), (HEAD + "sweep 0 0 0 \\097. 1\n", 1),
+    (HEAD + "sweep 0 0 0\r\n", 1), (HEAD + "sweep 0 0 0\nentry 0 0 a. 1 failure 1\n", 2),
+    (OFFER.format("a. 1 set 4 60 a. C0"), 1), (OFFER.format("a. 1 set 4 60 a. c"), 1),
+    (OFFER.format("a. 1 set 4 60 a. "), 1), (OFFER.format("a. 1 set 5 60 a. c0"), 1),
+    (OFFER.format("a. 1 set 4 2147483648 a. c0"), 1), (OFFER.format("a. 1 set 4 60 b. c0"), 1),
+    (OFFER.format("a. failed1 set 4 60 a. c0"), 1), (OFFER.format("a. 1 failure 30"), 1),
+    (OFFER.format("a. failed1 negative 4 60 a. c0"), 1), (OFFER.format("a. 1 negative 4 60 a. c0,c0"), 1),
+    (HEAD + "ask 0 0 0 a. nx any none miss\n", 1), (HEAD + "ask 0 0 0 a. 1 all none miss\n", 1),
+    (HEAD + "ask 0 0 0 a. 1 any none hit\n", 1), (HEAD + "ask 0 0 0 a. 1 any none fresh 9 a.\n", 1),
+    (HEAD + "ask 0 0 0 a. 1 any none miss 9 9\n", 1), (HEAD + HEAD + "sweep 0 0 -1\n", 2)]
+
+
+def test_texts_that_are_no_archives_by_python():
+    for text, line in NO_ARCHIVES:
+        try:
+            rrcache.read_archive(text)
+        except rrcache.ArchiveFault as fault:
+            same(fault.line, line, f"the line of {text!r}")
+        else:
+            raise Wrong(f"{text!r} is taken for an archive")
 
 
 # ---- Parts.

@@ -12,6 +12,8 @@ of the repository that this package lies in, else what the system's loader finds
 """
 from .cache import Cache
 from .choices import Class, Denial, Kind, Mode, Outcome, Purpose, Rank
+from .history import (ArchiveFault, Ask, Body, Chapter, Entry, Event, Failure, Key, Negative, Offer,
+                      RRset, Slot, Sweep, read_archive)
 from .library import fault, library_version, part_of
 from .names import NameFault, to_text, to_wire
 from .offers import Offers
@@ -22,10 +24,11 @@ from .replies import RECORD_OCTETS, Counts, Limits, Query, Reply, Sizes, Stored
 from .shelf import Shelf
 
 __all__ = [
-    "BadChoice", "BadData", "BadLimits", "BadMessage", "BadName", "BadRules", "BadSeed",
-    "BadType", "Cache", "Class", "Counts", "Denial", "HasOffers", "HistoryFull", "Kind",
-    "Limits", "Memory", "Mode", "MomentTooLarge", "NameFault", "NoOffers", "NoShelf", "Offers",
-    "OtherQuery", "Outcome", "Purpose", "Query", "RECORD_OCTETS", "Rank", "Refused", "Reply",
-    "Shelf", "Sizes", "Status", "Stored", "Wide", "WrongBody", "fault", "library_version",
-    "part_of", "to_text", "to_wire",
+    "ArchiveFault", "Ask", "BadChoice", "BadData", "BadLimits", "BadMessage", "BadName", "BadRules",
+    "BadSeed", "BadType", "Body", "Cache", "Chapter", "Class", "Counts", "Denial", "Entry", "Event",
+    "Failure", "HasOffers", "HistoryFull", "Key", "Kind", "Limits", "Memory", "Mode",
+    "MomentTooLarge", "NameFault", "Negative", "NoOffers", "NoShelf", "Offer", "Offers",
+    "OtherQuery", "Outcome", "Purpose", "Query", "RECORD_OCTETS", "RRset", "Rank", "Refused",
+    "Reply", "Shelf", "Sizes", "Slot", "Status", "Stored", "Sweep", "Wide", "WrongBody", "fault",
+    "library_version", "part_of", "read_archive", "to_text", "to_wire",
 ]

@@ -1,0 +1,394 @@
+# SPDX-License-Identifier: MIT
+"""The history of a shelf as objects: what archives say, which are its chapters as text
+(docs/FORMATS.md)."""
+from __future__ import annotations
+
+import re
+from collections.abc import Iterable, Iterator
+from dataclasses import dataclass, field
+from enum import IntEnum
+from typing import NoReturn
+
+from .choices import Class, Kind, Mode, Outcome, Purpose, Rank
+from .names import NameFault, to_text, to_wire
+from .replies import Reply
+
+PURPOSES = {"any": Purpose.ANYTHING, "answer": Purpose.QUESTION}
+MODES = {"none": Mode.NO_STALE, "failed": Mode.STALE_IF_FAILED, "now": Mode.STALE_NOW}
+RANKS = {f"{it:d}": it for it in Rank}
+OUTCOMES = {"kept": Outcome.KEPT, "cleared": Outcome.CLEARED, "less": Outcome.LESS_TRUSTED}
+KINDS = {"fresh": Kind.FRESH, "stale": Kind.STALE, "nodata": Kind.NODATA,
+         "nxdomain": Kind.NXDOMAIN, "miss": Kind.MISS}
+SLOT = re.compile("(?:(failed)?(0|[1-9][0-9]*)|nx)(?:/(0|[1-9][0-9]*))?")
+NUMBER = re.compile("0|[1-9][0-9]{0,19}")
+ITEM = re.compile("-|(?:[0-9a-f]{2})+")
+# The least and the most keys, events of a chapter, and seconds of max-stale.
+RANGES = (1, 65_536), (1, 1_048_576), (0, 604_800)
+
+
+class ArchiveFault(ValueError):
+    """A text is no archive: `line` is the number of its first line that is none, from 0.
+
+    >>> try:
+    ...     read_archive("chapter 1 0 1024 4096\\n")
+    ... except ArchiveFault as fault:
+    ...     fault.line
+    0
+    """
+
+    def __init__(self, line: int) -> None:
+        super().__init__(f"line {line} is not a line of an archive")
+        self.line = line
+
+
+class Slot(IntEnum):
+    """What of a name a key is for: an RRset, or that it has none of the type; that the name does
+    not exist; that asking for the type failed."""
+
+    SET = 0
+    NX = 1
+    FAILED = 2
+
+
+@dataclass(frozen=True)
+class Key:
+    """A key of the cache: a name in lower case, a slot, its type, 0 of NX, and the class.
+
+    >>> Key("www.example.", Slot.NX).rtype
+    0
+    """
+
+    name: str
+    slot: Slot
+    rtype: int = 0
+    rclass: Class | int = Class.IN
+
+
+@dataclass(frozen=True)
+class RRset:
+    """All records of one owner and type. The owner is spelled as it was received.
+
+    >>> RRset(Rank.AUTHORITY, 60, "www.Example.", (bytes([192, 0, 2, 1]),)).data[0].hex()
+    'c0000201'
+    """
+
+    rank: Rank
+    ttl: int
+    owner: str
+    data: tuple[bytes, ...]
+
+
+@dataclass(frozen=True)
+class Negative:
+    """A negative answer (RFC 2308), with the owner and the data of its SOA record.
+
+    >>> Negative(Rank.AUTHORITATIVE_ANSWER, 300, "example.", b"").owner
+    'example.'
+    """
+
+    rank: Rank
+    ttl: int
+    owner: str
+    soa: bytes
+
+
+@dataclass(frozen=True)
+class Failure:
+    """That asking failed (RFC 9520).
+
+    >>> Failure(30).ttl
+    30
+    """
+
+    ttl: int
+
+
+Body = RRset | Negative | Failure
+
+
+@dataclass(frozen=True)
+class Entry:
+    """What a key held when a chapter began, and the event that stored it: its number and moment.
+
+    >>> Entry(3, 1000, Key("a.", Slot.FAILED, 1), Failure(30)).body.ttl
+    30
+    """
+
+    number: int
+    moment: int
+    key: Key
+    body: Body
+
+
+@dataclass(frozen=True)
+class Offer:
+    """An offer, what became of it, and the key that it evicted, if it evicted one. `line` and
+    `place` are the caller's own words for the call.
+
+    >>> Offer(7, 0, 1000, Key("a.", Slot.FAILED, 1), Failure(30), Outcome.KEPT).evicted is None
+    True
+    """
+
+    line: int
+    place: int
+    moment: int
+    key: Key
+    body: Body
+    outcome: Outcome
+    evicted: Key | None = None
+
+
+@dataclass(frozen=True)
+class Ask:
+    """An ask of a name in lower case, and its reply.
+
+    >>> Ask(7, 1, 1000, "a.", 1, Class.IN, Purpose.QUESTION, Mode.NO_STALE,
+    ...     Reply(Kind.MISS)).reply.is_miss
+    True
+    """
+
+    line: int
+    place: int
+    moment: int
+    name: str
+    rtype: int
+    rclass: Class | int
+    purpose: Purpose
+    mode: Mode
+    reply: Reply
+
+
+@dataclass(frozen=True)
+class Sweep:
+    """A sweep, and the keys that it removed, in the order of keys.
+
+    >>> Sweep(7, 2, 1000, (Key("a.", Slot.FAILED, 1),)).removed[0].name
+    'a.'
+    """
+
+    line: int
+    place: int
+    moment: int
+    removed: tuple[Key, ...] = ()
+
+
+Event = Offer | Ask | Sweep
+
+
+@dataclass(frozen=True)
+class Chapter:
+    """A chapter of a history: its number, that of its first event, the rules of the shelf, what the
+    keys held when it began, the key touched last first, the events, the oldest first, and all of
+    this as text.
+
+    >>> [chapter] = read_archive("chapter 1 0 1024 4096 86400\\nsweep 7 0 1000\\n")
+    >>> chapter.capacity, len(chapter.entries), chapter.events[0].moment
+    (1024, 0, 1000)
+    """
+
+    number: int
+    first: int
+    capacity: int
+    chapter: int
+    stale: int
+    entries: tuple[Entry, ...]
+    events: tuple[Event, ...]
+    text: str = field(repr=False)
+
+
+# ---- the fields of a line
+
+
+class _NoLine(ValueError):
+    """A text is no line of an archive."""
+
+
+def _none() -> NoReturn:
+    raise _NoLine
+
+
+class _Fields:
+    """The fields of a line, which are taken one after another."""
+
+    def __init__(self, text: str) -> None:
+        self._left = text.split(" ")[::-1]
+
+    def __bool__(self) -> bool:
+        return bool(self._left)
+
+    def word(self) -> str:
+        return self._left.pop() if self._left else _none()
+
+    def number(self, end: int = 2 ** 64) -> int:
+        return _number(self.word(), end)
+
+    def name(self) -> str:
+        """A name, spelled as names are printed."""
+        text = self.word()
+        try:
+            return text if text and to_text(to_wire(text)) == text else _none()
+        except NameFault as fault:
+            raise _NoLine from fault
+
+    def folded(self) -> str:
+        """A name in lower case."""
+        name = self.name()
+        # an escape has digits, or what is no letter
+        return name if name == name.lower() else _none()
+
+    def slot(self) -> tuple[Slot, int, Class | int]:
+        """A slot, its type and the class, which is not written where it is IN."""
+        found = SLOT.fullmatch(self.word()) or _none()
+        rclass = _class(found[3]) if found[3] else Class.IN
+        if found[2] is None:
+            return Slot.NX, 0, rclass
+        return Slot.FAILED if found[1] else Slot.SET, _number(found[2], 2 ** 16), rclass
+
+    def key(self) -> Key:
+        return Key(self.folded(), *self.slot())
+
+    def rank(self) -> Rank:
+        return RANKS.get(self.word()) or _none()
+
+    def data(self) -> tuple[bytes, ...]:
+        return tuple(map(_item, self.word().split(",")))
+
+    def body(self) -> Body:
+        word = self.word()
+        if word == "set":
+            return RRset(self.rank(), self.number(2 ** 32), self.name(), self.data())
+        if word == "negative":
+            return Negative(self.rank(), self.number(2 ** 32), self.name(), _item(self.word()))
+        return Failure(self.number(2 ** 32)) if word == "failure" else _none()
+
+    def reply(self) -> Reply:
+        kind = KINDS.get(self.word()) or _none()
+        if kind == Kind.MISS:
+            return Reply(Kind.MISS_FAILED, retry_from=self.number()) if self else Reply(kind)
+        left, owner = self.number(2 ** 32), to_wire(self.name())
+        is_set = kind in (Kind.FRESH, Kind.STALE)
+        return Reply(kind, left, owner, self.data() if is_set else (_item(self.word()),))
+
+
+def _number(text: str, end: int) -> int:
+    """A number below an end."""
+    return int(text) if NUMBER.fullmatch(text) and int(text) < end else _none()
+
+
+def _class(text: str) -> Class | int:
+    """A class that is not IN."""
+    number = _number(text, 2 ** 16)
+    if number == Class.IN:
+        _none()
+    return Class(number) if number in (Class.CH, Class.HS) else number
+
+
+def _item(text: str) -> bytes:
+    if not ITEM.fullmatch(text):
+        _none()
+    return b"" if text == "-" else bytes.fromhex(text)
+
+
+def _fits(key: Key, body: Body) -> bool:
+    """Whether a body may be offered under a key."""
+    if isinstance(body, RRset):
+        owner = to_text(to_wire(body.owner).lower())
+        return key.slot == Slot.SET and owner == key.name and body.ttl < 2 ** 31
+    is_failure = isinstance(body, Failure)
+    return is_failure == (key.slot == Slot.FAILED) and body.ttl < 2 ** 31
+
+
+# ---- lines
+
+
+def _entry(fields: _Fields) -> Entry:
+    return Entry(fields.number(), fields.number(), fields.key(), fields.body())
+
+
+def _offer(fields: _Fields) -> Offer:
+    offer = Offer(fields.number(), fields.number(), fields.number(), fields.key(), fields.body(),
+                  OUTCOMES.get(fields.word()) or _none(), fields.key() if fields else None)
+    return offer if _fits(offer.key, offer.body) else _none()
+
+
+def _ask(fields: _Fields) -> Ask:
+    line, place, moment = fields.number(), fields.number(), fields.number()
+    name, (slot, rtype, rclass) = fields.folded(), fields.slot()
+    purpose, mode = PURPOSES.get(fields.word()), MODES.get(fields.word())
+    if slot != Slot.SET or purpose is None or mode is None:
+        _none()
+    return Ask(line, place, moment, name, rtype, rclass, purpose, mode, fields.reply())
+
+
+def _sweep(fields: _Fields) -> Sweep:
+    def keys() -> Iterator[Key]:
+        while fields:
+            yield fields.key()
+    return Sweep(fields.number(), fields.number(), fields.number(), tuple(keys()))
+
+
+class _Draft:
+    """A chapter of which the first lines were read."""
+
+    def __init__(self, fields: _Fields) -> None:
+        self._numbers = fields.number(), fields.number()
+        self._rules = fields.number(), fields.number(), fields.number()
+        if any(not least <= it <= most for it, (least, most) in zip(self._rules, RANGES)):
+            _none()
+        self._entries: list[Entry] = []
+        self._events: list[Event] = []
+        self.texts: list[str] = []
+
+    def add(self, word: str, fields: _Fields) -> None:
+        """Takes a line behind those before it, the entries before the events."""
+        if word == "entry" and not self._events:
+            self._entries.append(_entry(fields))
+        elif word == "offer":
+            self._events.append(_offer(fields))
+        elif word == "ask":
+            self._events.append(_ask(fields))
+        elif word == "sweep":
+            self._events.append(_sweep(fields))
+        else:
+            _none()
+
+    def chapter(self) -> Chapter:
+        text = "".join(f"{it}\n" for it in self.texts)
+        return Chapter(*self._numbers, *self._rules, tuple(self._entries), tuple(self._events),
+                       text)
+
+
+def _drafts(lines: Iterable[str]) -> list[_Draft]:
+    """What lines tell of chapters."""
+    drafts: list[_Draft] = []
+    for number, text in enumerate(lines):
+        fields = _Fields(text)
+        try:
+            word = fields.word()
+            if word == "chapter":
+                drafts.append(_Draft(fields))
+            elif drafts:
+                drafts[-1].add(word, fields)
+            if fields or not drafts:
+                _none()
+        except _NoLine as fault:
+            raise ArchiveFault(number) from fault
+        drafts[-1].texts.append(text)
+    return drafts
+
+
+def read_archive(text: str) -> list[Chapter]:
+    """The chapters that an archive tells (docs/FORMATS.md). Whether they are those of a legal
+    history is not looked at: `rrcache --audit-history` does that. `ArchiveFault` tells the first
+    line at which a text is none.
+
+    >>> [chapter] = read_archive("chapter 1 0 1024 4096 86400\\n"
+    ...                          "ask 7 0 1000 www.example. 1 answer none miss\\n")
+    >>> chapter.events[0].name, chapter.events[0].reply.kind.name
+    ('www.example.', 'MISS')
+    """
+    *lines, last = text.split("\n")
+    drafts = _drafts(lines)
+    if last:
+        raise ArchiveFault(len(lines))
+    return [it.chapter() for it in drafts]
