@@ -217,7 +217,8 @@ def read_archive(octets):
 
 class Unlawful(NamedTuple):
     """The first event that is not right: the place of its chapter in the archive and its own there,
-    the line, the event, what it is to be, if its call may be made, and what its keys held."""
+    and the line, all from 0, the event, what it is to be, if its call may be made, and what its
+    keys held."""
 
     chapter: int
     event: int
@@ -236,7 +237,7 @@ class Unlawful(NamedTuple):
 
 
 class Fault(NamedTuple):
-    """What else is wrong first: the kind, and the place of the chapter in the archive."""
+    """What else is wrong first: the kind, and the place of the chapter in the archive, from 0."""
 
     kind: str
     chapter: int
@@ -316,6 +317,8 @@ def link_fault(before, closing, chapter):
 def first_fault(chapters):
     """What is wrong with chapters: the first that is none, else the first that does not go on from
     the one before it, else None."""
+    if not chapters:
+        return Fault("Empty", 0)
     closings, line = [], 0
     for place, chapter in enumerate(chapters):
         fault, closing = fault_in(chapter, place, line)
@@ -323,8 +326,6 @@ def first_fault(chapters):
             return fault
         closings.append(closing)
         line += 1 + len(chapter.entries) + len(chapter.events)
-    if not chapters:
-        return Fault("NumberGap", 0)
     for place, (before, closing, chapter) in enumerate(zip(chapters, closings, chapters[1:]), 1):
         if kind := link_fault(before, closing, chapter):
             return Fault(kind, place)

@@ -128,13 +128,18 @@ def test_an_archive_of_the_model_is_that_by_hand():
         yield f"it is not legal: {first_fault(chapters)}"
 
 
-def test_archives_of_the_model_are_legal_on_each_row():
-    """Chapters of seven events are read as they were written, and audited."""
+def histories_of_rows():
+    """The rows with the chapters that the model makes of their traces, of seven events at most."""
     for row, options, texts in rows():
         if content(row, "stderr") or len(texts) > 1 or texts[0].count(b"\n") > EXPLAINED_MOST:
             continue
         rules = Rules(options.get("capacity", 1024), 7, options.get("stale", 86_400))
-        chapters = chapters_of(lines_in(io.BytesIO(texts[0])), rules)
+        yield row, chapters_of(lines_in(io.BytesIO(texts[0])), rules)
+
+
+def test_archives_of_the_model_are_legal_on_each_row():
+    """They are read as they were written, and audited."""
+    for row, chapters in histories_of_rows():
         if read_archive(text_of(chapters).encode()) != chapters or first_fault(chapters):
             yield f"row {row.name}: {first_fault(chapters)}"
 

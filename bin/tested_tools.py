@@ -1,7 +1,8 @@
 # SPDX-License-Identifier: MIT
 """Tests of bin/why and bin/what-if: what they say of small traces follows from docs/RULES.md. Of
-bin/fuzz, bin/schedules and bin/refusals: that they find what is wrong with a wrong program. And of
-the program's options: that they are those of docs/FORMATS.md."""
+bin/fuzz, bin/schedules and bin/refusals: that they find what is wrong with a wrong program. Of
+bin/archive.py: what it refuses. And of the program's options: that they are those of
+docs/FORMATS.md."""
 import csv
 import importlib.machinery
 import importlib.util
@@ -400,4 +401,18 @@ def test_refusals_say_that_nothing_was_tried():
     for words in (["--compiler=no-compiler"], ["no-row"], ["--seconds=0"]):
         run = ran("refusals", *words)
         if run.returncode != 1 or run.stdout.splitlines()[-1] != "0 passed, 1 failed":
+            yield f"{words}: status {run.returncode}: {run.stdout}{run.stderr}"
+
+
+# ---- bin/archive.py
+
+
+def test_archive_refuses_what_it_cannot_replay():
+    for words, text, status, told in (
+            ([], "sweep 0\nask\n", 1, r"archive\.py: line 1 is not a line of a trace\n"),
+            (["--capacity=0"], "", 2, r"(?s).*--capacity is out of its range: 0\n"),
+            (["--chapter=1048577"], "", 2, r"(?s).*--chapter is out of its range: 1048577\n")):
+        run = subprocess.run([sys.executable, TOP / "bin" / "archive.py", *words], input=text,
+                             capture_output=True, text=True, timeout=LIMIT)
+        if (run.returncode, run.stdout) != (status, "") or not re.fullmatch(told, run.stderr):
             yield f"{words}: status {run.returncode}: {run.stdout}{run.stderr}"
