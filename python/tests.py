@@ -2,12 +2,14 @@
 """Tests of the library through Python (the package rrcache), which bin/test-forwarder runs: what it
 refuses, how names in data are read, what of a response is relevant, the examples of its docstrings,
 many threads, the package once it is installed, archives, and the rows that it can be told, each of
-whose lines is compared with the row's report.
+whose lines is compared with the row's report, and whose history with that of the Python model.
 """
 import importlib
 import importlib.util
+import io
 import itertools
 import os
+import random
 import re
 import subprocess
 import sys
@@ -19,12 +21,16 @@ TOP = Path(__file__).resolve().parent.parent
 sys.path[:0] = [str(TOP / "examples" / "forwarder" / "tests"), str(TOP / "bin")]
 
 import rrcache
+from archive import Rules, chapters_of, text_of as text_of_chapters
+from audits import BadLine, read_archive
+from changed_archives import bad_texts, lines_drawn, octets_changed, rules_drawn
 from dns import (A, CNAME, NS, OPT, SOA, TXT, message, name_at, pointer, question, record, response,
                  soa_data, wire)
 from harness import DNAME, NXDOMAIN, SERVFAIL, Skipped, Wrong, address, same, soa, wanted
 from model import part_of
 from tested_model import ARCHIVE
 from tested_model import SOA as SOA_DATA
+from traces import lines_in
 
 VERSION = (TOP / "VERSION").read_text().strip()
 SEED = bytes(range(16))
@@ -61,18 +67,18 @@ def kind_of(field):
     return int(rtype), int(rclass or rrcache.Class.IN)
 
 
-def answer_line(shelf, words):
-    """What a line of a trace answers, as a report tells it."""
+def answer_line(shelf, words, line):
+    """What a line of a trace answers, as a report tells it. Its calls have the line's number."""
     if words[0] == "put":
         moment, name, kind, trust, ttl, items = words[1:]
         rtype, rclass = kind_of(kind)
         offered = items_of(rtype, items)
-        return OUTCOMES[shelf.offer_set(wire(name), rtype, int(trust), life(ttl), offered, int(moment), rclass=rclass)]
+        return OUTCOMES[shelf.offer_set(wire(name), rtype, int(trust), life(ttl), offered, int(moment), line, rclass)]
     if words[0] == "fail":
         rtype, rclass = kind_of(words[3])
-        return OUTCOMES[shelf.offer_failure(wire(words[2]), rtype, 30, int(words[1]), rclass=rclass)]
+        return OUTCOMES[shelf.offer_failure(wire(words[2]), rtype, 30, int(words[1]), line, rclass)]
     if words[0] == "sweep":
-        return str(shelf.sweep(int(words[1])))
+        return str(shelf.sweep(int(words[1]), line))
     if words[0] == "checkpoint":
         return ""  # no call of the library closes a chapter, and where chapters end changes no answer
     if words[0] == "response":
@@ -80,12 +86,12 @@ def answer_line(shelf, words):
         number = rrcache.fault(octets)
         if number:
             return f"refused {number}"
-        counts = shelf.offer_message(octets, wire(words[2]), int(words[1]))
+        counts = shelf.offer_message(octets, wire(words[2]), int(words[1]), line=line)
         return counted_text(counts.kept, counts.cleared, counts.refused)
     rtype, rclass = kind_of(words[3])
     question = (wire(words[2]), rtype, int(words[1]), int(words[4] == "answer"), MODES[words[5]])
     reply = shelf.peek(*question, rclass=rclass)
-    same(shelf.ask(*question, rclass=rclass), reply, "an ask after a peek")
+    same(shelf.ask(*question, line, rclass), reply, "an ask after a peek")
     if reply.is_miss:
         return "miss" if reply.kind == rrcache.Kind.MISS else f"miss {reply.retry_from}"
     kind = {1: "fresh", 2: "stale", 3: "nodata", 4: "nxdomain"}[reply.kind]
@@ -124,11 +130,24 @@ def replay_row(row):
     for record in (False, True):
         with rrcache.Shelf(record=record, **arguments) as shelf:
             for number, (words, line) in enumerate(zip(lines, report)):
-                same(answer_line(shelf, words), wanted_text(line), f"line {number}, {record=}")
+                same(answer_line(shelf, words, number), wanted_text(line), f"line {number}, {record=}")
             if not record:
                 same(shelf.sizes()[1:3], (0, 0), "events and chapters that are not recorded")
-            shelf.drop_chapters()
+            chapters = shelf.take_chapters()
             same(shelf.sizes().chapters, 0, "closed chapters that are left")
+            chapters += shelf.stop_recording()
+            texts = [it.text for it in chapters]
+            # No call of the library closes a chapter that has room.
+            if not record or ["checkpoint"] not in lines:
+                same(texts, history_of(row, arguments) if record else [], "chapters")
+
+
+def history_of(row, rules):
+    """The texts of the chapters that the Python model makes of a row's trace."""
+    octets = (row / "trace").read_bytes() * int((row / "repeat").read_text() if (row / "repeat").exists() else 1)
+    chapters = chapters_of(lines_in(io.BytesIO(octets)), Rules(**rules))
+    # The first chapter of a shelf is what came before its record, and holds nothing here.
+    return [text_of_chapters([it._replace(number=it.number + 1)]) for it in chapters]
 
 
 DOCSTRINGS = """
@@ -143,7 +162,7 @@ def test_docstrings_of_python():
     # doctest reads standard output, which other tests write to.
     told = subprocess.run([sys.executable, "-c", DOCSTRINGS], cwd=TOP / "python",
                           capture_output=True, text=True)
-    same(told.stdout, "0 of 25\n", told.stderr or "examples that are wrong")
+    same(told.stdout, "0 of 29\n", told.stderr or "examples that are wrong")
 
 
 def test_names_by_python():
@@ -538,6 +557,65 @@ def test_texts_that_are_no_archives_by_python():
             same(fault.line, line, f"the line of {text!r}")
         else:
             raise Wrong(f"{text!r} is taken for an archive")
+
+
+def bad_line(read, text):
+    """The line for which a reader refuses an archive, or None."""
+    try:
+        read(text)
+    except rrcache.ArchiveFault as fault:
+        return fault.line
+    except BadLine as fault:
+        return fault.args[0]
+    return None
+
+
+def test_archives_are_read_as_by_the_model():
+    """Drawn archives, and such of which a line or an octet is changed: both readers of the
+    repository take the same ones, and tell the same line of the others."""
+    lines = []
+    for run in range(6):
+        rng = random.Random(f"archives {run}")
+        text = text_of_chapters(chapters_of(lines_drawn(rng), rules_drawn(rng)))
+        changed = [it.octets for it in bad_texts(rng, text.splitlines())]
+        changed += [octets_changed(rng, text.encode()) for _ in range(40)]
+        for octets in [text.encode(), *changed]:
+            lines.append(bad_line(read_archive, octets))
+            same(bad_line(rrcache.read_archive, octets.decode("latin-1")), lines[-1], f"{octets}")
+    wanted(10 < lines.count(None) < len(lines) - 200, f"{lines.count(None)} of {len(lines)} taken")
+
+
+def test_chapters_leave_a_shelf():
+    """By hand: two chapters of two events are closed, and the last one is open. The chapter before
+    them is the one that was not recorded."""
+    long = bytes(range(256)) * 16
+    with rrcache.Shelf(capacity=1, chapter=2, stale=0, record=True) as shelf:
+        shelf.offer_set("WWW.example.", TXT, 4, 60, [long], 100, line=7)
+        shelf.ask("www.Example.", TXT, 110, line=8)
+        shelf.offer_failure("a.", A, 30, 120, line=9)
+        shelf.sweep(150)
+        shelf.sweep(150, line=2 ** 64 - 1)
+        stored = f"set 4 60 WWW.example. {long.hex()}"
+        texts = [
+            "chapter 2 0 1 2 0\n"
+            f"offer 7 0 100 www.example. 16 {stored} kept\n"
+            f"ask 8 0 110 www.example. 16 answer none fresh 50 WWW.example. {long.hex()}\n",
+            "chapter 3 2 1 2 0\n"
+            f"entry 0 100 www.example. 16 {stored}\n"
+            "offer 9 0 120 a. failed1 failure 30 kept www.example. 16\n"
+            "sweep 0 0 150 a. failed1\n",
+            f"chapter 4 4 1 2 0\nsweep {2 ** 64 - 1} 0 150\n"]
+        same([it.text for it in shelf.take_chapters()], texts[:2], "the closed chapters")
+        same(shelf.take_chapters(), [], "chapters that were taken already")
+        same([it.text for it in shelf.stop_recording()], texts[2:], "the open chapter")
+        same((shelf.stop_recording(), shelf.take_chapters()), ([], []), "chapters of no record")
+        same(shelf.sizes()[1:3], (0, 0), "events and chapters")
+    for call in (shelf.take_chapters, shelf.stop_recording):
+        try:
+            call()
+        except rrcache.NoShelf:
+            continue
+        raise Wrong("a shelf that was closed hands out chapters")
 
 
 # ---- Parts.

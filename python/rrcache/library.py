@@ -25,7 +25,8 @@ CALLS = {
     "rrc_offer_set": "pottnnommp",
     "rrc_offer_negative": "pottnnnoommp", "rrc_offer_failure": "pottnmmp", "rrc_ask": "pottmnnmpo",
     "rrc_peek": "pottmnnpo", "rrc_sweep": "pmmp", "rrc_next_expiry": "pp", "rrc_stored": "pottp",
-    "rrc_drop_chapters": "pp", "rrc_sizes": "ppppp",
+    "rrc_drop_chapters": "pp", "rrc_sizes": "ppppp", "rrc_take_chapters": "ppp",
+    "rrc_stop_recording": "ppp", "rrc_chapter_line": "pmmmop", "rrc_free_chapters": "p",
     "rrc_fault": "op", "rrc_part_of": "omop", "rrc_version": "",
 }
 
@@ -41,6 +42,12 @@ class StoredNumbers(Structure):
     """`struct rrcache_stored`."""
 
     _fields_ = [("rank", c_uint32), ("ttl", c_uint32), ("moment", c_uint64)]
+
+
+class Line(Structure):
+    """`struct rrcache_line`: how many octets a line has, and how many of them were written."""
+
+    _fields_ = [("size", c_uint64), ("written", c_uint64)]
 
 
 def path() -> str:

@@ -31,6 +31,9 @@ class Status(IntEnum):
     NO_OFFERS = 18
     HAS_OFFERS = 19
     OTHER_QUERY = 20
+    NO_CHAPTERS = 21
+    HAS_CHAPTERS = 22
+    NO_LINE = 23
 
 
 class Refused(Exception):
@@ -153,9 +156,28 @@ class OtherQuery(Refused):
     status, reason = Status.OTHER_QUERY, "the response is to another query"
 
 
+class NoChapters(Refused):
+    """The chapters were freed."""
+
+    status, reason = Status.NO_CHAPTERS, "the chapters are freed"
+
+
+class HasChapters(Refused):
+    """The handle holds chapters already."""
+
+    status, reason = Status.HAS_CHAPTERS, "the handle holds chapters"
+
+
+class NoLine(Refused):
+    """There is no such chapter, or it has no such line."""
+
+    status, reason = Status.NO_LINE, "there is no such line of a chapter"
+
+
 BY_STATUS: dict[int, type[Refused]] = {it.status: it for it in (
     NoShelf, HasShelf, Memory, HistoryFull, MomentTooLarge, BadRules, BadSeed, BadLimits, BadName,
-    BadMessage, BadChoice, BadType, BadData, WrongBody, Wide, NoOffers, HasOffers, OtherQuery)}
+    BadMessage, BadChoice, BadType, BadData, WrongBody, Wide, NoOffers, HasOffers, OtherQuery,
+    NoChapters, HasChapters, NoLine)}
 
 
 def refusal(status: int, counts: Counts | None = None) -> Refused:

@@ -2,6 +2,7 @@
 """One part of the cache."""
 from __future__ import annotations
 
+import itertools
 import os
 from collections.abc import Iterable
 from ctypes import byref, c_uint32, c_uint64, c_void_p, create_string_buffer
@@ -9,13 +10,16 @@ from types import TracebackType
 from typing import Any
 
 from .choices import Class, Denial, Kind, Mode, Outcome, Purpose, Rank
-from .library import LIBRARY, StoredNumbers, Told, call, sized, told
+from .history import Chapter, read_archive
+from .library import LIBRARY, Line, StoredNumbers, Told, call, sized, told
 from .names import to_wire
 from .offers import Offers
-from .refusals import refusal
+from .refusals import Status, refusal
 from .replies import Counts, Limits, Reply, Sizes, Stored
 
 Name = str | bytes
+# The octets that most lines of a chapter have at most.
+LINE_ROOM = 4096
 
 
 def data_of(octets: bytes) -> tuple[bytes, ...]:
@@ -26,6 +30,23 @@ def data_of(octets: bytes) -> tuple[bytes, ...]:
         data.append(octets[at + 2:behind])
         at = behind
     return tuple(data)
+
+
+def line_at(chapters: Any, chapter: int, line: int, room: int = LINE_ROOM) -> bytes:
+    """A line of a chapter with its LF, of a handle that holds chapters; nothing behind the last."""
+    buffer, told_line = create_string_buffer(room), Line()
+    status = LIBRARY.rrc_chapter_line(chapters, chapter, line, 0, buffer, room, byref(told_line))
+    if status not in (Status.DONE, Status.NO_LINE):
+        raise refusal(status)
+    if told_line.size > room:
+        return line_at(chapters, chapter, line, told_line.size)
+    return buffer.raw[:told_line.written]
+
+
+def text_of(chapters: Any, chapter: int) -> bytes:
+    """The text of a chapter, of a handle that holds chapters."""
+    lines = (line_at(chapters, chapter, it) for it in itertools.count())
+    return b"".join(itertools.takewhile(bool, lines))
 
 
 class Shelf:
@@ -195,6 +216,44 @@ class Shelf:
         """Drops the closed chapters of the history, and tells how many: none where nothing is
         recorded."""
         return told("rrc_drop_chapters", c_uint64, self._handle)
+
+    def _chapters(self, name: str) -> list[Chapter]:
+        """The chapters that a call hands out."""
+        # A handle that begins with a null pointer holds no chapters.
+        handle = (c_void_p * 2)()
+        count = told(name, c_uint64, self._handle, handle)
+        try:
+            text = b"".join(text_of(handle, it) for it in range(count))
+            return read_archive(text.decode("ascii"))
+        finally:
+            call("rrc_free_chapters", handle)
+
+    def take_chapters(self) -> list[Chapter]:
+        """Takes the closed chapters of the history out of the shelf: none where nothing is
+        recorded. The texts of all chapters of one record, one behind another, are an archive. What
+        came before the record is a chapter of its own, which is not there. Where `Memory` is raised
+        chapters may be lost.
+
+        >>> with Shelf(chapter=1, record=True) as shelf:
+        ...     for moment in 1000, 1001:
+        ...         _ = shelf.ask("www.example.", 1, moment)
+        ...     [chapter] = shelf.take_chapters()
+        >>> print(chapter.text, end="")
+        chapter 2 0 1024 1 86400
+        ask 0 0 1000 www.example. 1 answer none miss
+        """
+        return self._chapters("rrc_take_chapters")
+
+    def stop_recording(self) -> list[Chapter]:
+        """Records nothing from here on, and takes all chapters, the open one last.
+
+        >>> with Shelf(record=True) as shelf:
+        ...     _ = shelf.ask("WWW.example.", 1, moment=1000, line=7)
+        ...     [chapter] = shelf.stop_recording()
+        >>> [(event.line, event.name, event.reply.kind.name) for event in chapter.events]
+        [(7, 'www.example.', 'MISS')]
+        """
+        return self._chapters("rrc_stop_recording")
 
     def sizes(self) -> Sizes:
         """How large the shelf is."""
