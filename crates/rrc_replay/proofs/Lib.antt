@@ -3,3 +3,4 @@ pub mod OfferMoments
 pub mod AuditLemmas
 pub mod QuestionNumbers
 pub mod StopLemmas
+pub mod ArchiveLemmas

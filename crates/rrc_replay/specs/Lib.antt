@@ -3,3 +3,5 @@ pub mod Limits
 pub mod Faults
 pub mod Stops
 pub mod Run
+pub mod Archives
+pub mod Audited

@@ -1,9 +1,12 @@
 // SPDX-License-Identifier: MIT
-//! Replays traces by many workers on one cache that they share, and a whole run from its trace to its report.
+//! Replays traces by many workers on one cache that they share, and a whole run from its trace to its
+//! report; and audits archives of histories.
 #![tactic(auto)]
 
 mod answers;
+mod archive;
 mod audit;
+mod audited;
 mod calls;
 mod gate;
 mod limits;
@@ -11,7 +14,9 @@ mod whole_run;
 mod worker;
 mod workers;
 
+pub use archive::{HistoryFault, history_in};
 pub use audit::Audit;
+pub use audited::{Audited, Finding, audit_archive};
 pub use gate::{Gate, OpenGate};
 pub use limits::usual_limits;
 pub use rrc_report as report;

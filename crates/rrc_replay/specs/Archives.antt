@@ -1,0 +1,98 @@
+-- SPDX-License-Identifier: MIT
+-- What an archive tells: a history, or why it tells none.
+use Rattle.std.specs.Prelude.{◌≡◌, ◌⊎◌, ◌≤◌, ◌^◌, ℕ, List, [], length, map, Option, Some, None, slice_get}
+use Rattle.rrc_cache.specs.declared.classless.ChapterFault.{ChapterFault}
+use Rattle.rrc_cache.specs.declared.classless.ChapterFault.TheVariants as refused
+use Rattle.rrc_history.specs.declared.rules.Rules.{Rules}
+use Rattle.rrc_history.specs.declared.snapshot.Entry.{Entry}
+use Rattle.rrc_history.specs.declared.chains.ChainFault.{ChainFault}
+use Rattle.rrc_history.specs.declared.snapshot.Snapshot.{Snapshot}
+use Rattle.rrc_history.specs.declared.snapshot.SnapshotFault.{SnapshotFault}
+use Rattle.rrc_history.specs.Audits.{IsFirstBad}
+use Rattle.rrc_history.specs.Chains.{WholeOf, IsWhole, chain_fault}
+use Rattle.rrc_history.specs.Chapters.{ChapterOf}
+use Rattle.rrc_history.specs.Snapshots.{snapshot_fault}
+use Rattle.rrc_trace.specs.Archive.{WrittenOf, written_of, archive_text}
+use Rattle.rrc_replay.specs.declared.archive.Counted.{Counted}
+use Rattle.rrc_replay.specs.declared.archive.HistoryFault.{HistoryFault}
+use Rattle.rrc_replay.specs.declared.archive.HistoryFault.TheVariants.{Empty, BadLine, BadEntry, BadNumber, NotLegal, Broken, Memory}
+
+-- the octets are what is written of these chapters, which go on from one another, and are this history
+pub record AreHistory (octets : List ℕ) (chapters : List ChapterOf) (whole : WholeOf) : Type 0 where
+  pub written : octets ≡ archive_text (map written_of chapters)
+  pub chained : chain_fault chapters ≡ None
+  pub joined : IsWhole chapters whole
+
+-- the octets tell a history, in some chapters
+abbrev pub TellsHistory : List ℕ → WholeOf → Type 0
+TellsHistory octets whole = (chapters : List ChapterOf) × AreHistory octets chapters whole
+
+-- the octets tell a history, in so many chapters
+abbrev pub TellsCounted : List ℕ → Counted → Type 0
+TellsCounted octets counted = (chapters : List ChapterOf) × (length chapters ≡ counted.chapters) × AreHistory octets chapters counted.whole
+
+-- the octets are what is written of chapters, and this holds of the one at a place
+pub record TellsChapter (octets : List ℕ) (place : ℕ) (Holds : WrittenOf → Type 0) : Type 0 where
+  pub chapters : List WrittenOf
+  pub text : octets ≡ archive_text chapters
+  pub chapter : WrittenOf
+  pub at : slice_get chapters place ≡ Some chapter
+  pub so : Holds chapter
+
+-- the octets are what is written of chapters, each legal in itself, which are no history
+pub record TellsBroken (octets : List ℕ) (fault : ChainFault) : Type 0 where
+  pub chapters : List ChapterOf
+  pub written : octets ≡ archive_text (map written_of chapters)
+  pub broken : chain_fault chapters ≡ Some fault
+
+-- what a chapter is told to begin with
+abbrev pub opening_of : WrittenOf → Snapshot
+opening_of chapter = record { rules = chapter.rules; first = chapter.first; entries = chapter.entries }
+
+-- the entries of a chapter are no snapshot
+abbrev pub HasBadEntry : SnapshotFault → WrittenOf → Type 0
+HasBadEntry fault chapter = snapshot_fault chapter.rules chapter.first chapter.entries ≡ Some fault
+
+-- no chapter that is closed has the number
+abbrev pub HasBadNumber : WrittenOf → Type 0
+HasBadNumber chapter = (chapter.number ≡ 0) ⊎ (2 ^ 62 ≤ chapter.number)
+
+-- the event at a place is the first of the chapter that is not right
+abbrev pub HasBadEvent : ℕ → WrittenOf → Type 0
+HasBadEvent event chapter = IsFirstBad (opening_of chapter) chapter.events event
+
+-- why octets tell no history
+abbrev pub IsWhyNoHistory : List ℕ → HistoryFault → Type 0
+IsWhyNoHistory octets Empty = octets ≡ []
+IsWhyNoHistory octets (BadLine line) = Unit {0}
+IsWhyNoHistory octets (BadEntry chapter fault) = TellsChapter octets chapter (HasBadEntry fault)
+IsWhyNoHistory octets (BadNumber chapter) = TellsChapter octets chapter HasBadNumber
+IsWhyNoHistory octets (NotLegal chapter event) = TellsChapter octets chapter (HasBadEvent event)
+IsWhyNoHistory octets (Broken fault) = TellsBroken octets fault
+IsWhyNoHistory octets Memory = Unit {0}
+
+-- why the chapter that is told at a place is none: its entries, its number, an event, or that memory was refused
+abbrev pub IsFaultAt : ℕ → WrittenOf → HistoryFault → Type 0
+IsFaultAt place chapter Empty = ⊥
+IsFaultAt place chapter (BadLine line) = ⊥
+IsFaultAt place chapter (BadEntry at fault) = (at ≡ place) × HasBadEntry fault chapter
+IsFaultAt place chapter (BadNumber at) = (at ≡ place) × HasBadNumber chapter
+IsFaultAt place chapter (NotLegal at event) = (at ≡ place) × HasBadEvent event chapter
+IsFaultAt place chapter (Broken fault) = ⊥
+IsFaultAt place chapter Memory = Unit {0}
+
+-- the entries of the chapter at a place are no snapshot, or memory was refused
+abbrev pub IsNoOpening : ℕ → Rules → ℕ → List Entry → HistoryFault → Type 0
+IsNoOpening place rules first entries Empty = ⊥
+IsNoOpening place rules first entries (BadLine line) = ⊥
+IsNoOpening place rules first entries (BadEntry at fault) = (at ≡ place) × (snapshot_fault rules first entries ≡ Some fault)
+IsNoOpening place rules first entries (BadNumber at) = ⊥
+IsNoOpening place rules first entries (NotLegal at event) = ⊥
+IsNoOpening place rules first entries (Broken fault) = ⊥
+IsNoOpening place rules first entries Memory = Unit {0}
+
+-- why there is no chapter, told with its place
+abbrev pub told_at : ℕ → ChapterFault → HistoryFault
+told_at place refused.BadNumber = BadNumber place
+told_at place (refused.NotLegal event) = NotLegal place event
+told_at place refused.Memory = Memory

@@ -1,0 +1,209 @@
+// SPDX-License-Identifier: MIT
+//! The history that an archive tells.
+ghost use Rattle.std.specs.Prelude.{◌≡◌, map, reverse, None, IfOk, IfErr, OnOk};
+ghost use Rattle.rrc_history.specs.Chains.{IsWhole, chain_fault};
+ghost use Rattle.rrc_history.specs.Chapters.{LeadTo};
+ghost use Rattle.rrc_history.specs.WholeLaws.{AllKeepLaws};
+ghost use Rattle.rrc_trace.specs.Archive.{archive_text, written_of};
+ghost use Rattle.rrc_replay.specs.Archives.{TellsHistory, TellsCounted, IsWhyNoHistory, IsFaultAt, IsNoOpening, told_at};
+
+use rrc_cache::{ChapterFault, NotRestored, restored_chapter};
+use rrc_history::{ChainFault, Chapter, Entry, Rules, Snapshot, SnapshotFault, Whole, chain};
+use rrc_name::Shared;
+use rrc_trace::{ArchiveFault, WrittenChapter, read_archive};
+use std::alloc::{AllocError, AllocFailed, Global};
+use thiserror::Error;
+
+/// Why octets are no archive of a history. Chapters of an archive, events of a chapter and lines
+/// are counted from 0.
+#[derive(Debug, Drop, Error)]
+pub enum HistoryFault {
+    #[error("the archive has no chapters")]
+    Empty,
+    #[error("line {0} is not a line of an archive")]
+    BadLine(u64),
+    #[error("chapter {chapter} begins with entries that no part holds: {fault}")]
+    BadEntry {
+        chapter: usize,
+        fault: SnapshotFault,
+    },
+    #[error("chapter {0} has a number that no closed chapter has")]
+    BadNumber(usize),
+    #[error("event {event} of chapter {chapter} is not right after those before it")]
+    NotLegal {
+        chapter: usize,
+        event: usize,
+    },
+    /// Of this chapter or one before it each event is right, and it does not go on from the last.
+    #[error("{0}")]
+    Broken(ChainFault),
+    #[error("memory was refused")]
+    Memory,
+}
+
+impl From<AllocError> for HistoryFault {
+    ghost use Rattle.std.specs.Prelude.{◌≡◌};
+    ghost use Rattle.rrc_replay.specs.declared.archive.HistoryFault.TheVariants.{Memory};
+
+    ghost from_gives = { λ _ fault. fault ≡ Memory };
+
+    fn from(_refused: AllocError) -> HistoryFault {
+        HistoryFault::Memory
+    }
+}
+
+impl<T: Drop> From<AllocFailed<T>> for HistoryFault {
+    ghost use Rattle.std.specs.Prelude.{◌≡◌};
+    ghost use Rattle.rrc_replay.specs.declared.archive.HistoryFault.TheVariants.{Memory};
+
+    ghost from_gives = { λ _ fault. fault ≡ Memory };
+
+    fn from(_refused: AllocFailed<T>) -> HistoryFault {
+        HistoryFault::Memory
+    }
+}
+
+/// The history that an archive tells, where it is one: its chapters go on from one another, and all
+/// of its events are legal. It makes each call again.
+///
+/// The first fault is told: of the text, then of a chapter (its entries, its number, its events),
+/// one chapter after another, then of how they go on from one another. Keys are hashed behind the
+/// seed; no answer depends on it.
+pub fn history_in(alloc: Global, octets: &[u8], seed: [u8; 16]) -> Result<Whole, HistoryFault>
+    ensures ok { IfOk result (TellsHistory octets.now) }
+    ensures leads { IfOk result (λ whole. LeadTo whole.snapshot whole.events whole.closing) }
+    ensures laws { IfOk result (λ whole. AllKeepLaws whole.snapshot (reverse whole.events)) }
+    ensures err { IfErr result (IsWhyNoHistory octets.now) }
+{
+    Ok(counted_in(alloc, octets, seed)?.whole)
+}
+
+/// A history, and of how many chapters it was joined.
+#[derive(Debug, Drop)]
+pub(crate) struct Counted {
+    pub(crate) chapters: usize,
+    pub(crate) whole: Whole,
+}
+
+/// The history that an archive tells, and how many chapters tell it.
+pub(crate) fn counted_in(
+    alloc: Global,
+    octets: &[u8],
+    seed: [u8; 16],
+) -> Result<Counted, HistoryFault>
+    ensures ok { IfOk result (TellsCounted octets.now) }
+    ensures leads { IfOk result (λ counted. LeadTo counted.whole.snapshot counted.whole.events counted.whole.closing) }
+    ensures laws { IfOk result (λ counted. AllKeepLaws counted.whole.snapshot (reverse counted.whole.events)) }
+    ensures err { IfErr result (IsWhyNoHistory octets.now) }
+{
+    let chapters = chapters_in(alloc, octets, seed)?;
+    Ok(Counted {
+        chapters: chapters.as_slice().len(),
+        whole: whole_of(chapters)?,
+    })
+}
+
+/// The chapters that an archive tells, each of them legal from what it begins with.
+fn chapters_in(alloc: Global, octets: &[u8], seed: [u8; 16]) -> Result<Vec<Chapter>, HistoryFault>
+    ensures ok { IfOk result (λ chapters. octets.now ≡ archive_text (map written_of chapters.items)) }
+    ensures err { IfErr result (IsWhyNoHistory octets.now) }
+{
+    if octets.is_empty() {
+        return Err(HistoryFault::Empty);
+    }
+    match read_archive(alloc, octets) {
+        Ok(written) => restored(alloc, written, seed),
+        Err(ArchiveFault::BadLine(line)) => Err(HistoryFault::BadLine(line)),
+        Err(ArchiveFault::Memory) => Err(HistoryFault::Memory),
+    }
+}
+
+/// The chapters that are told.
+fn restored(
+    alloc: Global,
+    written: Vec<WrittenChapter>,
+    seed: [u8; 16],
+) -> Result<Vec<Chapter>, HistoryFault>
+    ensures ok { IfOk result (λ chapters. map written_of chapters.items ≡ written.items) }
+    ensures err { IfErr result (IsWhyNoHistory (archive_text written.items)) }
+{
+    let mut chapters = Vec::with_capacity(alloc, written.len())?;
+    for one in written {
+        let place = chapters.as_slice().len();
+        chapters.push(restored_one(alloc, place, one, seed)?)?;
+    }
+    Ok(chapters)
+}
+
+/// The chapter that is told at a place.
+fn restored_one(
+    alloc: Global,
+    place: usize,
+    written: WrittenChapter,
+    seed: [u8; 16],
+) -> Result<Chapter, HistoryFault>
+    ensures ok { IfOk result (λ chapter. written_of chapter ≡ written) }
+    ensures err { IfErr result (IsFaultAt place written) }
+{
+    let WrittenChapter {
+        number,
+        first,
+        rules,
+        entries,
+        events,
+    } = written;
+    let snapshot = opening(alloc, place, rules, first, entries)?;
+    match restored_chapter(alloc, number, snapshot, events, seed) {
+        Ok(chapter) => Ok(chapter),
+        Err(refused) => Err(told_at(place, &refused)),
+    }
+}
+
+/// What a chapter at a place begins with.
+fn opening(
+    alloc: Global,
+    place: usize,
+    rules: Rules,
+    first: u64,
+    entries: Vec<Entry>,
+) -> Result<Shared<Snapshot>, HistoryFault>
+    ensures ok { IfOk result (λ snapshot. snapshot ≡ record { rules = rules; first = first; entries = entries.items }) }
+    ensures err { IfErr result (IsNoOpening place rules first entries.items) }
+{
+    match Snapshot::new(rules, first, entries) {
+        Ok(snapshot) => Ok(Shared::new(alloc, snapshot)?),
+        Err(fault) => Err(HistoryFault::BadEntry {
+            chapter: place,
+            fault,
+        }),
+    }
+}
+
+/// Why there is no chapter at a place.
+fn told_at(place: usize, refused: &NotRestored) -> HistoryFault
+    ensures { result ≡ told_at place refused.now.fault }
+{
+    match refused.fault {
+        ChapterFault::BadNumber => HistoryFault::BadNumber(place),
+        ChapterFault::NotLegal(event) => HistoryFault::NotLegal {
+            chapter: place,
+            event,
+        },
+        ChapterFault::Memory => HistoryFault::Memory,
+    }
+}
+
+/// The history that chapters are, where each goes on from the one before it.
+fn whole_of(chapters: Vec<Chapter>) -> Result<Whole, HistoryFault>
+    ensures whole { IfOk result (λ whole. IsWhole chapters.items whole) }
+    ensures chained { OnOk result (chain_fault chapters.items ≡ None) }
+    ensures leads { IfOk result (λ whole. LeadTo whole.snapshot whole.events whole.closing) }
+    ensures laws { IfOk result (λ whole. AllKeepLaws whole.snapshot (reverse whole.events)) }
+    ensures err { IfErr result (IsWhyNoHistory (archive_text (map written_of chapters.items))) }
+{
+    match chain(chapters) {
+        Ok(whole) => Ok(whole),
+        Err(ChainFault::Memory) => Err(HistoryFault::Memory),
+        Err(fault) => Err(HistoryFault::Broken(fault)),
+    }
+}
