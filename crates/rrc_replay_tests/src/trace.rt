@@ -1,4 +1,5 @@
 // SPDX-License-Identifier: MIT
+mod archive_reader;
 mod fakes;
 mod faults;
 mod names;
