@@ -1,7 +1,7 @@
 -- SPDX-License-Identifier: MIT
 -- Why octets bring nothing that is relevant to a query.
 use Rattle.std.proofs.Common.{◌≡◌, ◌⊎◌, List, ℕ, Option, Some, None, Result, Ok, Err, inl, inr, refl, sym, ap, ◌∙◌}
-use Rattle.std.specs.Prelude.{IfErr}
+use Rattle.std.specs.Prelude.{IfOk, IfErr}
 use Rattle.std.specs.Option.{unwrap_or}
 use Rattle.rrc_wire.specs.declared.fault.WireFault.{WireFault}
 use Rattle.rrc_wire.specs.declared.fault.WireFault.TheVariants as wire
@@ -37,6 +37,11 @@ unmade query octets message fault begins is = by (mismatch query message) refl i
         → (fault ≡ Memory) ⊎ (IsNoResponse octets fault ⊎ IsOfOtherQuery query octets fault)
     by None says told = inl told
     by (Some why) says told = inr (inr (record { message = message; begins = begins; told = says ∙ ap Some (sym told) }))
+
+-- what follows from an answer follows from each that comes
+pub map_ok : {A B : Type 0} (result : Result A B) (X Y : A → Type 0) → ((value : A) → X value → Y value) → IfOk result X → IfOk result Y
+map_ok (Ok value) X Y step is = step value is
+map_ok (Err error) X Y step none = tt
 
 -- what follows from a fault follows from each that comes
 pub map_err : {A B : Type 0} (result : Result A B) (X Y : B → Type 0) → ((error : B) → X error → Y error) → IfErr result X → IfErr result Y

@@ -17,3 +17,5 @@ pub mod Relevance
 pub mod Queries
 pub mod Relevant
 pub mod RelevantMessage
+pub mod Octets
+pub mod lemmas

@@ -1,9 +1,10 @@
 // SPDX-License-Identifier: MIT
-ghost use Rattle.std.specs.Prelude.{◌≡◌, ◌⊎◌, IfOk, IfErr};
+ghost use Rattle.std.specs.Prelude.{◌≡◌, ◌⊎◌, IfOk, IfErr, length};
 ghost use Rattle.std.specs.List.{All};
 ghost use Rattle.rrc_wire.specs.Message.{FirstFault};
 ghost use Rattle.rrc_sets.specs.Kept.{IsOfRecords};
 ghost use Rattle.rrc_sets.specs.Message.{Brings};
+ghost use Rattle.rrc_sets.specs.Octets.{most_octets, HasWithin, MakesAtMost};
 ghost use Rattle.rrc_sets.specs.RelevantMessage.{BringsRelevant, IsNoResponse, IsOfOtherQuery};
 
 use crate::limits::Limits;
@@ -39,6 +40,10 @@ pub fn offers_in(
 
 /// Reads a response (RFC 1035 section 4.1), and tells what of it is relevant to a query for a zone, at a moment in seconds, as
 /// `relevant_offers` does. The first fault of octets that are no message, why the message does not answer the query, or `Memory`.
+///
+/// No RRset has more octets of rdata than the limit, and no entry that an offer makes has more octets
+/// than the limit, two names, and 48 for each record that the octets have room for (`few`): 302,830
+/// by default, where the octets are as many as they may be.
 pub fn relevant_offers_in(
     alloc: Global,
     octets: &[u8],
@@ -51,6 +56,8 @@ pub fn relevant_offers_in(
     ensures ok { IfOk result (λ offers. BringsRelevant query.now limits.now relevance.now octets.now zone.now moment offers.items) }
     ensures moments { IfOk result (λ offers. All (λ offer. offer.moment ≡ moment) offers.items) }
     ensures kept { IfOk result (λ offers. All IsOfRecords offers.items) }
+    ensures within { IfOk result (λ offers. All (HasWithin relevance.now.octets) offers.items) }
+    ensures few { IfOk result (λ offers. All (MakesAtMost (most_octets relevance.now.octets (length octets.now))) offers.items) }
     ensures err { IfErr result (λ fault. (fault ≡ QueryFault.Memory) ⊎ (IsNoResponse octets.now fault ⊎ IsOfOtherQuery query.now octets.now fault)) }
 {
     let message = read_message(alloc, octets)?;

@@ -6,6 +6,7 @@ ghost use Rattle.rrc_sets.specs.Uniques.{uniques, AreSomeOf};
 ghost use Rattle.rrc_sets.specs.Gathering.{with_value};
 ghost use Rattle.rrc_sets.specs.Classes.{in_own_class};
 ghost use Rattle.rrc_sets.specs.Kept.{IsOfRecords};
+ghost use Rattle.rrc_sets.specs.Octets.{HasWithin};
 ghost use Rattle.rrc_sets.specs.Offers.{section_offers, offers_of};
 ghost use Rattle.rrc_sets.specs.Queries.{mismatch};
 ghost use Rattle.rrc_sets.specs.Relevant.{is_owned_by, is_above, is_asked_for, is_on_chain, has_below, is_of_final_zone, same_type, is_address_of, relevant_answer, relevant_authority, relevant_additional, relevant_offers, relevant_of};
@@ -308,6 +309,7 @@ pub fn relevant_offers(
     ensures some { IfOk result (λ offers. AreSomeOf offers.items (offers_of message.now zone.now moment limits.now)) }
     ensures moments { IfOk result (λ offers. All (λ offer. offer.moment ≡ moment) offers.items) }
     ensures kept { IfOk result (λ offers. All IsOfRecords offers.items) }
+    ensures within { IfOk result (λ offers. All (HasWithin relevance.now.octets) offers.items) }
     ensures err { IfErr result (λ fault. fault ≡ unwrap_or (mismatch query.now message.now) QueryFault.Memory) }
 {
     if let Some(fault) = mismatch(query, message) {
