@@ -1084,7 +1084,12 @@ static inline enum rrcache_status rrcache_free_chapters(struct rrcache_chapters 
    RRCACHE_RECORD_OCTETS for each record, of a negative answer those of the SOA record's owner and
    data. They are counted as keys come and go, so to tell them takes no longer where there are more.
    Each key takes room of its own beside. What events and chapters keep of keys that were evicted,
-   replaced or swept is not counted. */
+   replaced or swept is not counted.
+
+   Of a shelf that is offered nothing but failures and what `rrcache_read_response` reads, they are
+   at most 302,830 for each of its keys: 510 for two names, 16,384 for data, and 48 for each 11
+   octets of a response, which has room for no more records. Where no response of more than 1,232
+   octets is read, that is 22,270. */
 static inline enum rrcache_status rrcache_sizes(struct rrcache_shelf *shelf, uint64_t *keys,
                                                 uint64_t *events, uint64_t *chapters,
                                                 uint64_t *octets)

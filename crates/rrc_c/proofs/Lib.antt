@@ -8,3 +8,5 @@ pub mod Taking
 pub mod Refusing
 pub mod Sharing
 pub mod Bounding
+pub mod Holding
+pub mod Feeding

@@ -18,3 +18,4 @@ pub mod Responses
 pub mod Bounds
 pub mod SealedChapters
 pub mod Chapters
+pub mod Fed

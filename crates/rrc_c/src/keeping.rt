@@ -2,6 +2,7 @@
 ghost use Rattle.std.specs.Prelude.{◌≡◌, ◌≤◌, ◌<◌, true, false, IfOk, IfErr, OnOk, OnErr};
 ghost use Rattle.rrc_cache.specs.Expiry.{NoneDiesBefore};
 ghost use Rattle.rrc_c.specs.Bounds.{AreBounded};
+ghost use Rattle.rrc_c.specs.Fed.{AreBoundedAtAnySize, FedAreBounded};
 ghost use Rattle.rrc_c.specs.Kept.{DropsChapters, TellsFault};
 ghost use Rattle.rrc_c.specs.Parts.{keyed_part_of};
 ghost use Rattle.rrc_c.specs.Refusals.{OutOfMemory, PartDue, RecordDue, WriteDue};
@@ -128,4 +129,13 @@ pub(crate) fn part_in(alloc: Global, name: &[u8], parts: u64, seed: &[u8]) -> Re
 /// at most that times the keys. The function does nothing; its contract is the law.
 pub fn keys_times_the_most_bound_the_octets()
     ensures { AreBounded }
+{}
+
+/// The law of the octets that `rrc_sizes` tells of a shelf that was offered failures and what is
+/// relevant of responses alone (`rrc_read_response`): they are at most the keys times a number, by
+/// the octets of the largest response, and at most the keys times 302,830. The function does nothing;
+/// its contract is the law.
+pub fn responses_bound_the_octets()
+    ensures bounded { FedAreBounded }
+    ensures at_any_size { AreBoundedAtAnySize }
 {}

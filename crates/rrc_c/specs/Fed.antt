@@ -1,0 +1,91 @@
+-- SPDX-License-Identifier: MIT
+-- Shelves that hold what responses brought, and what their octets come to at most.
+use Rattle.std.specs.Prelude.{ℕ, ◌*◌, ◌≤◌, ◌⊎◌, List, length}
+use Rattle.rrc_history.specs.Asked.{AskOf}
+use Rattle.rrc_history.specs.declared.event.Reply.{Reply}
+use Rattle.rrc_history.specs.declared.event.Tag.{Tag}
+use Rattle.rrc_cache.specs.Sizes.{HoldsKeys, HoldsOctets}
+use Rattle.rrc_share.specs.CacheShelf.{CacheShelfOf}
+use Rattle.rrc_sets.specs.Octets.{most_octets}
+use Rattle.rrc_sets.specs.declared.query.Query.{Query}
+use Rattle.rrc_c.specs.Kept.{DropsChapters}
+use Rattle.rrc_c.specs.Made.{IsNew}
+use Rattle.rrc_c.specs.Offered.{failure_offer, TakesOne}
+use Rattle.rrc_c.specs.Readings.{TakesShare, TakesSomeOfShare}
+use Rattle.rrc_c.specs.Refusals.{IsFailure}
+use Rattle.rrc_c.specs.Responses.{IsResponseReading}
+use Rattle.rrc_c.specs.Shelves.{DropsRecord, IsLeftAs, MakesAsk, MakesSweep, StartsRecord}
+use Rattle.rrc_c.specs.declared.counts.Bounds.{Bounds}
+use Rattle.rrc_c.specs.declared.counts.Counts.{Counts}
+use Rattle.rrc_c.specs.declared.reading.Reading.{Reading}
+
+-- what is relevant of a response of at most so many octets was read (rrc_read_response), and what of
+-- it lies in a part was offered (rrc_offer_read), all of it, or the first until one was refused
+pub record OffersResponse (size : ℕ) (old new : CacheShelfOf) : Type 0 where
+  pub octets : List ℕ
+  pub within : length octets ≤ size
+  pub zone : List ℕ
+  pub query : Query
+  pub parts : ℕ
+  pub seed : List ℕ
+  pub at : ℕ
+  pub bounds : Bounds
+  pub reading : Reading
+  pub reads : IsResponseReading octets zone query parts seed at bounds reading
+  pub line : ℕ
+  pub part : ℕ
+  pub counts : Counts
+  pub takes : TakesShare line part counts reading old new
+      ⊎ ((number : ℕ) × TakesSomeOfShare number line part counts reading old new)
+
+-- a failure was offered (rrc_offer_failure)
+pub record OffersFailure (old new : CacheShelfOf) : Type 0 where
+  pub name : List ℕ
+  pub rtype : ℕ
+  pub class : ℕ
+  pub ttl : ℕ
+  pub at : ℕ
+  pub is_failure : IsFailure name rtype class ttl
+  pub line : ℕ
+  pub outcome : ℕ
+  pub takes : TakesOne line (failure_offer name rtype class ttl at) outcome old new
+
+-- a call on a shelf that offers nothing else
+pub data Goes (size : ℕ) (old new : CacheShelfOf) : Type 0 where
+  offers_response : OffersResponse size old new → Goes size old new
+  offers_failure : OffersFailure old new → Goes size old new
+  asks : (tag : Tag) (ask : AskOf) (reply : Reply) → MakesAsk old new tag ask reply
+      → Goes size old new
+  sweeps : (tag : Tag) (moment removed : ℕ) → MakesSweep old new tag moment removed
+      → Goes size old new
+  starts_record : StartsRecord old new → Goes size old new
+  drops_record : DropsRecord old new → Goes size old new
+  drops_chapters : (chapters : ℕ) → DropsChapters chapters old new → Goes size old new
+  is_refused : IsLeftAs old new → Goes size old new
+
+-- a shelf was made (rrc_make), and then there were such calls, and no others
+pub data IsFed (size : ℕ) : CacheShelfOf → Type 0 where
+  made : {shelf : CacheShelfOf} (capacity chapter stale : ℕ) → IsNew capacity chapter stale shelf
+      → IsFed size shelf
+  goes_on : {new : CacheShelfOf} (old : CacheShelfOf) → IsFed size old → Goes size old new
+      → IsFed size new
+
+-- the most octets of the RDATA of an RRset that rrc_read_response takes, by its default
+abbrev pub RDATA_LIMIT : ℕ
+RDATA_LIMIT = 16384
+
+-- the octets that rrc_sizes tells of such a shelf are at most its keys times what an entry of such a
+-- response has at most
+abbrev pub FedAreBounded : Type 0
+FedAreBounded =
+    (size keys octets : ℕ) (shelf : CacheShelfOf) → IsFed size shelf
+    → HoldsKeys shelf.shelf.part keys → HoldsOctets shelf.shelf.part octets
+    → octets ≤ keys * most_octets RDATA_LIMIT size
+
+-- and at most its keys times 302,830, whatever the responses' size, as none has more than 65,535
+-- octets (RFC 1035 4.2.2)
+abbrev pub AreBoundedAtAnySize : Type 0
+AreBoundedAtAnySize =
+    (size keys octets : ℕ) (shelf : CacheShelfOf) → IsFed size shelf
+    → HoldsKeys shelf.shelf.part keys → HoldsOctets shelf.shelf.part octets
+    → octets ≤ keys * 302830
