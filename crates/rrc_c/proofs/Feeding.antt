@@ -8,6 +8,7 @@ use Rattle.std.proofs.lemmas.Nat.{le-div}
 use Rattle.std.specs.Char.{to_ascii_lowercase}
 use Rattle.std.specs.List.{AllByRecursion}
 use Rattle.rrc_history.specs.Asked.{AskOf}
+use Rattle.rrc_history.specs.Chapters.{ChapterOf}
 use Rattle.rrc_history.specs.Fits.{OfferOf}
 use Rattle.rrc_history.specs.declared.event.Event.{Event}
 use Rattle.rrc_history.specs.declared.event.Event.TheVariants.{Offered, Asked, Swept}
@@ -16,15 +17,16 @@ use Rattle.rrc_history.specs.declared.event.Reply.{Reply}
 use Rattle.rrc_history.specs.declared.event.Tag.{Tag}
 use Rattle.rrc_share.specs.CacheShelf.{CacheShelfOf, IsLeftBy, TakesAsk, TakesOffer, TakesSweep}
 use Rattle.rrc_share.specs.Shelf.{ShelfOf, Appends, HasMadeRoom, Shuts}
-use Rattle.rrc_share.specs.Switching.{Starts}
+use Rattle.rrc_share.specs.Switching.{Starts, Stops}
 use Rattle.rrc_sets.specs.Octets.{most_octets, MakesAtMost}
 use Rattle.rrc_sets.specs.lemmas.RelevantSizes.{are_few}
 use Rattle.rrc_sets.specs.declared.query.Query.{Query}
-use Rattle.rrc_c.specs.Fed.{OffersResponse, Goes, offers_response, offers_failure, asks, sweeps, starts_record, drops_record, drops_chapters, is_refused, IsFed, made, goes_on, RDATA_LIMIT, FedAreBounded, AreBoundedAtAnySize}
+use Rattle.rrc_c.specs.Fed.{OffersResponse, Goes, offers_response, offers_failure, asks, sweeps, starts_record, drops_record, drops_chapters, stops_record, takes_chapters, is_refused, IsFed, made, goes_on, RDATA_LIMIT, FedAreBounded, AreBoundedAtAnySize}
 use Rattle.rrc_c.specs.Offered.{failure_offer, AreAt, Takes, TakesAll, TakesFirst}
 use Rattle.rrc_c.specs.Parts.{keyed_part_of}
 use Rattle.rrc_c.specs.Readings.{placed_in, share_of, TakesShare, TakesSomeOfShare}
 use Rattle.rrc_c.specs.Responses.{IsResponseReading}
+use Rattle.rrc_c.specs.Chapters.{StopsRecord}
 use Rattle.rrc_c.specs.Shelves.{IsLeftAs, MakesAsk, MakesOffer, MakesSweep, StartsRecord}
 use Rattle.rrc_c.specs.declared.counts.Bounds.{Bounds}
 use Rattle.rrc_c.specs.declared.counts.Counts.{Counts}
@@ -103,6 +105,14 @@ few_start most old new starts few = by old.records starts.starts
       snapshot = few_ends most old.shelf.part new.shelf.part.snapshot begins.ends few;
       events = subst (AllByRecursion (OffersAtMost most)) (sym begins.events) tt;
     }
+
+few_stop : (most : ℕ) (chapters : List ChapterOf) (old new : CacheShelfOf) → StopsRecord chapters old new
+    → IsFew most old.shelf.part → IsFew most new.shelf.part
+few_stop most chapters old new stops few = by old.records stops.stops
+  where
+    by : (records : Bool) → Stops records old.shelf new.shelf chapters → IsFew most new.shelf.part
+    by true hands = few_shuts most old.shelf (record { closed = chapters; part = new.shelf.part }) hands.shuts few
+    by false (same, none) = subst (λ (shelf : ShelfOf). IsFew most shelf.part) (sym same) few
 
 -- ---- offers one after another
 
@@ -258,6 +268,11 @@ few_goes size old new (drops_record drops) few =
 few_goes size old new (drops_chapters chapters drops) few =
     subst (λ (shelf : CacheShelfOf). IsFew (most_octets RDATA_LIMIT size) shelf.shelf.part)
     (sym drops.left) few
+few_goes size old new (stops_record chapters stops) few =
+    few_stop (most_octets RDATA_LIMIT size) chapters old new stops few
+few_goes size old new (takes_chapters chapters takes) few =
+    subst (λ (shelf : CacheShelfOf). IsFew (most_octets RDATA_LIMIT size) shelf.shelf.part)
+    (sym takes.left) few
 few_goes size old new (is_refused left) few =
     few_left (most_octets RDATA_LIMIT size) old new left few
 
@@ -302,6 +317,8 @@ goes_sized size old new (sweeps tag moment removed makes) = sweeps tag moment re
 goes_sized size old new (starts_record starts) = starts_record starts
 goes_sized size old new (drops_record drops) = drops_record drops
 goes_sized size old new (drops_chapters chapters drops) = drops_chapters chapters drops
+goes_sized size old new (stops_record chapters stops) = stops_record chapters stops
+goes_sized size old new (takes_chapters chapters takes) = takes_chapters chapters takes
 goes_sized size old new (is_refused left) = is_refused left
 
 fed_sized : (size : ℕ) (shelf : CacheShelfOf) → IsFed size shelf → IsFed 65535 shelf

@@ -2,12 +2,14 @@
 -- Shelves that hold what responses brought, and what their octets come to at most.
 use Rattle.std.specs.Prelude.{ℕ, ◌*◌, ◌≤◌, ◌⊎◌, List, length}
 use Rattle.rrc_history.specs.Asked.{AskOf}
+use Rattle.rrc_history.specs.Chapters.{ChapterOf}
 use Rattle.rrc_history.specs.declared.event.Reply.{Reply}
 use Rattle.rrc_history.specs.declared.event.Tag.{Tag}
 use Rattle.rrc_cache.specs.Sizes.{HoldsKeys, HoldsOctets}
 use Rattle.rrc_share.specs.CacheShelf.{CacheShelfOf}
 use Rattle.rrc_sets.specs.Octets.{most_octets}
 use Rattle.rrc_sets.specs.declared.query.Query.{Query}
+use Rattle.rrc_c.specs.Chapters.{StopsRecord, TakesClosed}
 use Rattle.rrc_c.specs.Kept.{DropsChapters}
 use Rattle.rrc_c.specs.Made.{IsNew}
 use Rattle.rrc_c.specs.Offered.{failure_offer, TakesOne}
@@ -61,6 +63,8 @@ pub data Goes (size : ℕ) (old new : CacheShelfOf) : Type 0 where
   starts_record : StartsRecord old new → Goes size old new
   drops_record : DropsRecord old new → Goes size old new
   drops_chapters : (chapters : ℕ) → DropsChapters chapters old new → Goes size old new
+  stops_record : (chapters : List ChapterOf) → StopsRecord chapters old new → Goes size old new
+  takes_chapters : (chapters : List ChapterOf) → TakesClosed chapters old new → Goes size old new
   is_refused : IsLeftAs old new → Goes size old new
 
 -- a shelf was made (rrc_make), and then there were such calls, and no others
