@@ -1,5 +1,5 @@
 // SPDX-License-Identifier: MIT
-ghost use Rattle.std.specs.Prelude.{◌≡◌, None, Some, IfOk, IfErr, OnErr, length};
+ghost use Rattle.std.specs.Prelude.{◌≡◌, None, Some, IfOk, OnErr, length};
 ghost use Rattle.rrc_c.specs.Chapters.{HoldsChapters, IfTaken, LineDue, StoppingDue, StopsRecord, TakesClosed, TakingDue, TellsLine, TellsNoChapters};
 ghost use Rattle.rrc_c.specs.Handles.{BothHold, TellsNone};
 ghost use Rattle.rrc_c.specs.Refusals.{IfHeld};
@@ -108,19 +108,19 @@ pub extern "C" fn rrc_chapter_line(
     ensures buffer { OnRefused result (buffer.new ≡ buffer.old) }
     ensures kept { chapters.new.seal.chapters ≡ chapters.old.seal.chapters }
 {
-    let Some(taken) = chapters.take(alloc) else {
+    let Some(held) = chapters.take(alloc) else {
         return NO_CHAPTERS;
     };
     let status = tell_line(
         alloc,
-        taken.chapters.as_slice(),
+        held.chapters.as_slice(),
         chapter,
         line,
         from,
         buffer,
         told,
     );
-    chapters.put(taken);
+    chapters.put(held);
     status
 }
 
