@@ -22,4 +22,8 @@ pub mod LawfulItems
 pub mod LawfulLemmas
 pub mod PieceLemmas
 pub mod LfLemmas
+pub mod CancelLemmas
+pub mod CancelFields
+pub mod CancelEvents
+pub mod CancelChapters
 pub mod ArchiveLemmas

@@ -15,6 +15,7 @@ pub mod Lawful
 pub mod Report
 pub mod Archive
 pub mod ArchiveLines
+pub mod ArchiveLaw
 pub mod Writer
 pub mod Output
 pub mod Faults

@@ -18,7 +18,7 @@ pub use archive::{ArchiveFault, ArchiveLine, WrittenChapter, archive_line};
 pub use fault::ReplayFault;
 pub use line::{Failed, Fetch, Line, Put, Response};
 pub use questions::Questions;
-pub use read::archive::read_archive;
+pub use read::archive::{one_archive, read_archive};
 pub use read::name::names_are_spelled;
 pub use read::trace::{one_trace_or_fault, read_trace};
 pub use trace::Trace;

@@ -1,6 +1,7 @@
 // SPDX-License-Identifier: MIT
 ghost use Rattle.std.specs.Prelude.{◌≡◌, ◌++◌, ◌==◌, ◌<◌, length, position, IfOk, IfErr, IfSome, OnOk};
 ghost use Rattle.rrc_trace.specs.Archive.{archive_text};
+ghost use Rattle.rrc_trace.specs.ArchiveLaw.{OneArchive};
 ghost use Rattle.rrc_trace.specs.ArchiveLines.{IsFaultOfArchive, IsCutBehindLf};
 
 use crate::archive::{ArchiveFault, WrittenChapter};
@@ -117,3 +118,9 @@ pub fn read_archive(alloc: Global, octets: &[u8]) -> Result<Vec<WrittenChapter>,
     }
     Ok(chapters.into_vec()?)
 }
+
+/// Octets are the archive of one list of chapters at most, so what is read of them is what was
+/// written. The function does nothing; its contract is the law.
+pub fn one_archive()
+    ensures { OneArchive }
+{}
