@@ -1,10 +1,20 @@
 -- SPDX-License-Identifier: MIT
 -- What is wrong with a chapter at its place is wrong with the archive.
-use Rattle.std.proofs.Common.{◌≡◌, ℕ, List, [], ◌∷◌, ◌++◌, length, map, Some, refl, sym, ap, subst, ◌∙◌, Result, Ok, Err, IfErr}
+use Rattle.std.proofs.Common.{◌≡◌, ℕ, suc, ◌<◌, List, [], ◌∷◌, ◌++◌, length, drop, get_or, map, Bool, true, false, not, ◌&&◌, ◌==◌, Some, refl, sym, ap, subst, ◌∙◌, arith, Result, Ok, Err, IfErr}
+use Rattle.std.proofs.Math.Seq.{drop-cons}
+use Rattle.std.proofs.lemmas.Bool.{and_from}
+use Rattle.std.proofs.lemmas.Bool.Decides.{Decides-eqb}
+use Rattle.std.proofs.lemmas.Slice.Eq.{slice_eq-Decides}
+use Rattle.std.specs.Cmp.Lexicographic.{pointwise}
 use Rattle.std.specs.Prelude.{slice_get}
 use Rattle.std.specs.Result.{IsErrAnd}
 use Rattle.std.proofs.lemmas.List.{length-map}
+use Rattle.rrc_history.specs.declared.rules.Rules.{Rules}
+use Rattle.rrc_history.specs.declared.snapshot.Entry.{Entry}
 use Rattle.rrc_history.specs.Chapters.{ChapterOf}
+use Rattle.rrc_history.specs.Same.{entry_eq, rules_eq, snapshot_eq}
+use Rattle.rrc_history.specs.Snapshots.{SnapshotOf}
+use Rattle.rrc_history.specs.lemmas.SameLaws.{entry_eq-Decides, snapshot_eq-Decides}
 use Rattle.rrc_trace.specs.Archive.{WrittenOf, written_of, archive_text}
 use Rattle.rrc_replay.specs.declared.archive.HistoryFault.{HistoryFault}
 use Rattle.rrc_replay.specs.declared.archive.HistoryFault.TheVariants.{Empty, BadLine, BadEntry, BadNumber, NotLegal, Broken, Memory}
@@ -47,3 +57,31 @@ handed_on (Ok x) before chapter behind all made fault on are is why = absurd on
 handed_on (Err e) before chapter behind all made fault on are is why =
     let number : length made ≡ length before = sym (length-map made written_of) ∙ ap length is in
     subst (IsWhyNoHistory (archive_text all)) (sym on) (told_among before chapter behind all (length made) fault are number why)
+
+-- lists that are alike behind a place are alike where they have the same there
+pub alike_from : (xs ys : List Entry) (i next : ℕ) (x y d e : Entry) → next ≡ suc i → i < length xs → length xs ≡ length ys → x ≡ get_or xs i d
+    → y ≡ get_or ys i e → x ≡ y → (drop i xs ≡ drop i ys → xs ≡ ys) → drop next xs ≡ drop next ys → xs ≡ ys
+alike_from xs ys i next x y d e follows less long is_x is_y same before rest =
+    let behind : drop (suc i) xs ≡ drop (suc i) ys = subst (λ (n : ℕ). drop n xs ≡ drop n ys) follows rest in
+    let of_xs : drop i xs ≡ x ∷ drop (suc i) xs = drop-cons xs i d less ∙ ap (λ z. z ∷ drop (suc i) xs) (sym is_x) in
+    let of_ys : drop i ys ≡ y ∷ drop (suc i) ys = drop-cons ys i e (omega (arith, less, long)) ∙ ap (λ z. z ∷ drop (suc i) ys) (sym is_y) in
+    before (of_xs ∙ (ap (λ z. z ∷ drop (suc i) xs) same ∙ (ap (λ zs. y ∷ zs) behind ∙ sym of_ys)))
+
+-- a snapshot of the same rules, first number and entries is the same
+pub same_snapshot : (snapshot : SnapshotOf) (rules : Rules) (first : ℕ) (entries : List Entry) → rules_eq snapshot.rules rules ≡ true
+    → snapshot.first ≡ first → snapshot.entries ≡ entries → snapshot ≡ record { rules = rules; first = first; entries = entries }
+same_snapshot snapshot rules first entries ruled numbered same =
+    let other : SnapshotOf = record { rules = rules; first = first; entries = entries } in
+    let is : snapshot_eq snapshot other ≡ true =
+    and_from (rules_eq snapshot.rules rules) (snapshot.first == first && pointwise entry_eq snapshot.entries entries) ruled
+    (and_from (snapshot.first == first) (pointwise entry_eq snapshot.entries entries) ((Decides-eqb snapshot.first first).1 numbered)
+    ((slice_eq-Decides entry_eq-Decides snapshot.entries entries (pointwise entry_eq snapshot.entries entries) refl).1 same)) in
+    (snapshot_eq-Decides snapshot other).0 is
+
+-- entries that a test of unlikeness does not tell apart are the same
+pub not_unlike : (entry other : Entry) (unlike : Bool) → unlike ≡ not (entry_eq entry other) → unlike ≡ false → entry ≡ other
+not_unlike entry other unlike is denied = (entry_eq-Decides entry other).0 (by (entry_eq entry other) (sym is ∙ denied))
+  where
+    by : (same : Bool) → not same ≡ false → same ≡ true
+    by true h = refl
+    by false h = absurd cc

@@ -1,14 +1,17 @@
 // SPDX-License-Identifier: MIT
 //! The history that an archive tells.
-ghost use Rattle.std.specs.Prelude.{◌≡◌, map, reverse, None, IfOk, IfErr, OnOk};
+ghost use Rattle.std.specs.Prelude.{◌≡◌, length, map, reverse, None, IfOk, IfErr, IfSome, IsTrue, OnOk};
 ghost use Rattle.rrc_history.specs.Chains.{IsWhole, chain_fault};
 ghost use Rattle.rrc_history.specs.Chapters.{LeadTo};
+ghost use Rattle.rrc_history.specs.Same.{rules_eq};
 ghost use Rattle.rrc_history.specs.WholeLaws.{AllKeepLaws};
 ghost use Rattle.rrc_trace.specs.Archive.{archive_text, written_of};
 ghost use Rattle.rrc_replay.specs.Archives.{TellsHistory, TellsCounted, IsWhyNoHistory, IsFaultAt, IsNoOpening, told_at};
 
 use rrc_cache::{ChapterFault, NotRestored, restored_chapter};
-use rrc_history::{ChainFault, Chapter, Entry, Rules, Snapshot, SnapshotFault, Whole, chain};
+use rrc_history::{
+    ChainFault, Chapter, Entry, EntryList, Rules, Snapshot, SnapshotFault, Whole, chain,
+};
 use rrc_name::Shared;
 use rrc_trace::{ArchiveFault, WrittenChapter, read_archive};
 use std::alloc::{AllocError, AllocFailed, Global};
@@ -129,21 +132,21 @@ fn restored(
 {
     let mut chapters = Vec::with_capacity(alloc, written.len())?;
     for one in written {
-        let place = chapters.as_slice().len();
-        chapters.push(restored_one(alloc, place, one, seed)?)?;
+        let chapter = restored_one(alloc, chapters.as_slice(), one, seed)?;
+        chapters.push(chapter)?;
     }
     Ok(chapters)
 }
 
-/// The chapter that is told at a place.
+/// The chapter that is told behind others.
 fn restored_one(
     alloc: Global,
-    place: usize,
+    before: &[Chapter],
     written: WrittenChapter,
     seed: [u8; 16],
 ) -> Result<Chapter, HistoryFault>
     ensures ok { IfOk result (λ chapter. written_of chapter ≡ written) }
-    ensures err { IfErr result (IsFaultAt place written) }
+    ensures err { IfErr result (IsFaultAt (length before.now) written) }
 {
     let WrittenChapter {
         number,
@@ -152,15 +155,87 @@ fn restored_one(
         entries,
         events,
     } = written;
-    let snapshot = opening(alloc, place, rules, first, entries)?;
+    let snapshot = opening(alloc, before, rules, first, entries)?;
     match restored_chapter(alloc, number, snapshot, events, seed) {
         Ok(chapter) => Ok(chapter),
-        Err(refused) => Err(told_at(place, &refused)),
+        Err(refused) => Err(told_at(before.len(), &refused)),
     }
 }
 
-/// What a chapter at a place begins with.
+/// What a chapter behind others begins with. It shares the closing of the one before it where that
+/// is the same, so that the entries of the first chapter alone are tested as a snapshot's, whose
+/// time goes with the square of their number.
 fn opening(
+    alloc: Global,
+    before: &[Chapter],
+    rules: Rules,
+    first: u64,
+    entries: Vec<Entry>,
+) -> Result<Shared<Snapshot>, HistoryFault>
+    ensures ok { IfOk result (λ snapshot. snapshot ≡ record { rules = rules; first = first; entries = entries.items }) }
+    ensures err { IfErr result (IsNoOpening (length before.now) rules first entries.items) }
+{
+    match closing_before(before, rules, first, entries.as_slice())? {
+        Some(closing) => Ok(closing),
+        None => new_opening(alloc, before.len(), rules, first, entries),
+    }
+}
+
+/// The closing of the last of some chapters, where it has these rules, this first number and these
+/// entries.
+fn closing_before(
+    before: &[Chapter],
+    rules: Rules,
+    first: u64,
+    entries: &[Entry],
+) -> Result<Option<Shared<Snapshot>>, AllocError>
+    ensures { IfOk result (λ closing. IfSome closing (λ s. s ≡ record { rules = rules; first = first; entries = entries.now })) }
+{
+    let Some(chapter) = before.last() else {
+        return Ok(None);
+    };
+    if !is_snapshot(&chapter.closing, rules, first, entries) {
+        return Ok(None);
+    }
+    Ok(Some(chapter.closing.clone()?))
+}
+
+/// Whether a snapshot has these rules, this first number and these entries.
+fn is_snapshot(snapshot: &Snapshot, rules: Rules, first: u64, entries: &[Entry]) -> bool
+    ensures { IsTrue result → snapshot.now ≡ record { rules = rules; first = first; entries = entries.now } }
+{
+    if !has_same_numbers(snapshot.rules, rules) {
+        return false;
+    }
+    if snapshot.first != first {
+        return false;
+    }
+    has_entries(&snapshot.entries, entries)
+}
+
+fn has_same_numbers(rules: Rules, other: Rules) -> bool
+    ensures { result ≡ rules_eq rules other }
+{
+    rules.capacity == other.capacity && rules.chapter == other.chapter && rules.stale == other.stale
+}
+
+/// Whether a list has these entries in this order.
+fn has_entries(list: &EntryList, entries: &[Entry]) -> bool
+    ensures { IsTrue result → list.now ≡ entries.now }
+{
+    if list.len() != entries.len() {
+        return false;
+    }
+    for place in 0..entries.len() {
+        if *list.entry(place) != entries[place] {
+            return false;
+        }
+    }
+    true
+}
+
+/// What a chapter at a place begins with, which is tested anew.
+fn new_opening(
     alloc: Global,
     place: usize,
     rules: Rules,
