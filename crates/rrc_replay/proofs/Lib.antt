@@ -4,3 +4,4 @@ pub mod AuditLemmas
 pub mod QuestionNumbers
 pub mod StopLemmas
 pub mod ArchiveLemmas
+pub mod UnlawfulLemmas

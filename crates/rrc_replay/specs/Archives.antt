@@ -2,7 +2,8 @@
 -- What an archive tells: a history, or why it tells none.
 use Rattle.std.specs.Prelude.{◌≡◌, ◌⊎◌, ◌≤◌, ◌^◌, ℕ, List, [], length, map, Option, Some, None, slice_get}
 use Rattle.rrc_cache.specs.declared.classless.ChapterFault.{ChapterFault}
-use Rattle.rrc_cache.specs.declared.classless.ChapterFault.TheVariants as refused
+use Rattle.rrc_cache.specs.declared.classless.ChapterFault.TheVariants as refusal
+use Rattle.rrc_cache.specs.declared.restored.NotRestored.{NotRestored}
 use Rattle.rrc_history.specs.declared.rules.Rules.{Rules}
 use Rattle.rrc_history.specs.declared.snapshot.Entry.{Entry}
 use Rattle.rrc_history.specs.declared.chains.ChainFault.{ChainFault}
@@ -13,6 +14,8 @@ use Rattle.rrc_history.specs.Chains.{WholeOf, IsWhole, chain_fault}
 use Rattle.rrc_history.specs.Chapters.{ChapterOf}
 use Rattle.rrc_history.specs.Snapshots.{snapshot_fault}
 use Rattle.rrc_trace.specs.Archive.{WrittenOf, written_of, archive_text}
+use Rattle.rrc_replay.specs.declared.unlawful.Reason.{Reason}
+use Rattle.rrc_replay.specs.Unlawful.{IsWhyUnlawful}
 use Rattle.rrc_replay.specs.declared.archive.Counted.{Counted}
 use Rattle.rrc_replay.specs.declared.archive.HistoryFault.{HistoryFault}
 use Rattle.rrc_replay.specs.declared.archive.HistoryFault.TheVariants.{Empty, BadLine, BadEntry, BadNumber, NotLegal, Broken, Memory}
@@ -57,9 +60,9 @@ HasBadEntry fault chapter = snapshot_fault chapter.rules chapter.first chapter.e
 abbrev pub HasBadNumber : WrittenOf → Type 0
 HasBadNumber chapter = (chapter.number ≡ 0) ⊎ (2 ^ 62 ≤ chapter.number)
 
--- the event at a place is the first of the chapter that is not right
-abbrev pub HasBadEvent : ℕ → WrittenOf → Type 0
-HasBadEvent event chapter = IsFirstBad (opening_of chapter) chapter.events event
+-- the event at a place is the first of the chapter that is not right, for this reason
+abbrev pub HasBadEvent : ℕ → Reason → WrittenOf → Type 0
+HasBadEvent event reason chapter = IsWhyUnlawful (opening_of chapter) chapter.events event reason
 
 -- why octets tell no history
 abbrev pub IsWhyNoHistory : List ℕ → HistoryFault → Type 0
@@ -67,7 +70,7 @@ IsWhyNoHistory octets Empty = octets ≡ []
 IsWhyNoHistory octets (BadLine line) = Unit {0}
 IsWhyNoHistory octets (BadEntry chapter fault) = TellsChapter octets chapter (HasBadEntry fault)
 IsWhyNoHistory octets (BadNumber chapter) = TellsChapter octets chapter HasBadNumber
-IsWhyNoHistory octets (NotLegal chapter event) = TellsChapter octets chapter (HasBadEvent event)
+IsWhyNoHistory octets (NotLegal chapter event reason) = TellsChapter octets chapter (HasBadEvent event reason)
 IsWhyNoHistory octets (Broken fault) = TellsBroken octets fault
 IsWhyNoHistory octets Memory = Unit {0}
 
@@ -77,7 +80,7 @@ IsFaultAt place chapter Empty = ⊥
 IsFaultAt place chapter (BadLine line) = ⊥
 IsFaultAt place chapter (BadEntry at fault) = (at ≡ place) × HasBadEntry fault chapter
 IsFaultAt place chapter (BadNumber at) = (at ≡ place) × HasBadNumber chapter
-IsFaultAt place chapter (NotLegal at event) = (at ≡ place) × HasBadEvent event chapter
+IsFaultAt place chapter (NotLegal at event reason) = (at ≡ place) × HasBadEvent event reason chapter
 IsFaultAt place chapter (Broken fault) = ⊥
 IsFaultAt place chapter Memory = Unit {0}
 
@@ -87,12 +90,25 @@ IsNoOpening place rules first entries Empty = ⊥
 IsNoOpening place rules first entries (BadLine line) = ⊥
 IsNoOpening place rules first entries (BadEntry at fault) = (at ≡ place) × (snapshot_fault rules first entries ≡ Some fault)
 IsNoOpening place rules first entries (BadNumber at) = ⊥
-IsNoOpening place rules first entries (NotLegal at event) = ⊥
+IsNoOpening place rules first entries (NotLegal at event reason) = ⊥
 IsNoOpening place rules first entries (Broken fault) = ⊥
 IsNoOpening place rules first entries Memory = Unit {0}
 
+-- an event that is told is the first that is not right
+abbrev pub IsSoOf : NotRestored → ChapterFault → Type 0
+IsSoOf refused refusal.BadNumber = Unit {0}
+IsSoOf refused (refusal.NotLegal event) = IsFirstBad refused.snapshot refused.events.items event
+IsSoOf refused refusal.Memory = Unit {0}
+
+abbrev pub HasWhy : NotRestored → Type 0
+HasWhy refused = IsSoOf refused refused.fault
+
 -- why there is no chapter, told with its place
-abbrev pub told_at : ℕ → ChapterFault → HistoryFault
-told_at place refused.BadNumber = BadNumber place
-told_at place (refused.NotLegal event) = NotLegal place event
-told_at place refused.Memory = Memory
+abbrev pub IsToldAt : ℕ → NotRestored → HistoryFault → Type 0
+IsToldAt place refused Empty = ⊥
+IsToldAt place refused (BadLine line) = ⊥
+IsToldAt place refused (BadEntry at fault) = ⊥
+IsToldAt place refused (BadNumber at) = (at ≡ place) × (refused.fault ≡ refusal.BadNumber)
+IsToldAt place refused (NotLegal at event reason) = (at ≡ place) × IsWhyUnlawful refused.snapshot refused.events.items event reason
+IsToldAt place refused (Broken fault) = ⊥
+IsToldAt place refused Memory = Unit {0}

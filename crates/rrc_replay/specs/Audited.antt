@@ -1,7 +1,13 @@
 -- SPDX-License-Identifier: MIT
 -- What an audit of an archive tells, in text.
-use Rattle.std.specs.Prelude.{◌≡◌, ℕ, List, [], ◌∷◌, ◌++◌, length, reverse, codes}
+use Rattle.std.specs.Prelude.{◌≡◌, ℕ, List, [], ◌∷◌, ◌++◌, length, reverse, codes, Option, Some, None}
 use Rattle.std.specs.Fmt.{decimal}
+use Rattle.std.specs.List.{flat_map}
+use Rattle.rrc_history.specs.declared.event.Event.{Event}
+use Rattle.rrc_history.specs.declared.snapshot.Entry.{Entry}
+use Rattle.rrc_trace.specs.Archive.{event_text, entry_text}
+use Rattle.rrc_replay.specs.declared.unlawful.Due.{Due}
+use Rattle.rrc_replay.specs.declared.unlawful.Reason.{Reason}
 use Rattle.rrc_history.specs.Chains.{WholeOf}
 use Rattle.rrc_history.specs.Chapters.{ChapterOf}
 use Rattle.rrc_history.specs.Right.{IsLegal}
@@ -24,15 +30,46 @@ pub record IsToldLegal (octets text : List ℕ) : Type 0 where
   pub legal : IsLegal whole.snapshot (reverse whole.events)
   pub told : text ≡ legal_text (length chapters) (length whole.events) whole.snapshot.first
 
--- a line that says that a history is not legal, and why in some words
-abbrev pub IsRefusal : List ℕ → Type 0
-IsRefusal text = (words : List ℕ) × (text ≡ codes "not legal: " ++ (words ++ 10 ∷ []))
+-- not legal: and why in some words
+abbrev pub IsOneLine : List ℕ → Type 0
+IsOneLine text = (words : List ℕ) × (text ≡ codes "not legal: " ++ (words ++ 10 ∷ []))
+
+-- not legal: chapter N of the archive, event K
+abbrev pub place_text : ℕ → ℕ → List ℕ
+place_text chapter event = codes "not legal: chapter " ++ (decimal chapter ++ (codes " of the archive, event " ++ (decimal event ++ codes "\n")))
+
+-- a word, an event as an archive has it, and an LF
+abbrev pub event_line : List ℕ → Event → List ℕ
+event_line word event = word ++ (event_text event ++ 10 ∷ [])
+
+-- held: and what a key held, as an archive has it
+abbrev pub held_line : Entry → List ℕ
+held_line entry = codes "held: " ++ (entry_text entry ++ 10 ∷ [])
+
+-- due: and the event that is due, and what its keys held; or that none is
+abbrev pub due_text : Option Due → List ℕ
+due_text None = codes "due: none, since the numbers are spent or the moment is above 2^40\n"
+due_text (Some due) = event_line (codes "due: ") due.event ++ flat_map held_line due.held.items
+
+-- written: and the event that is not right, and what is due in its place
+abbrev pub reason_text : Reason → List ℕ
+reason_text reason = event_line (codes "written: ") reason.written ++ due_text reason.due
+
+-- the text says why a history is not legal
+abbrev pub IsRefusal : HistoryFault → List ℕ → Type 0
+IsRefusal Empty text = IsOneLine text
+IsRefusal (BadLine line) text = IsOneLine text
+IsRefusal (BadEntry chapter fault) text = IsOneLine text
+IsRefusal (BadNumber chapter) text = IsOneLine text
+IsRefusal (NotLegal chapter event reason) text = text ≡ place_text chapter event ++ reason_text reason
+IsRefusal (Broken fault) text = IsOneLine text
+IsRefusal Memory text = IsOneLine text
 
 -- the octets tell no legal history, and the text says so
 pub record IsToldNot (octets text : List ℕ) : Type 0 where
   pub fault : HistoryFault
   pub why : IsWhyNoHistory octets fault
-  pub told : IsRefusal text
+  pub told : IsRefusal fault text
 
 -- what was found is so, and the text tells it
 abbrev pub IsAudit : List ℕ → Finding → List ℕ → Type 0

@@ -5,3 +5,4 @@ pub mod Stops
 pub mod Run
 pub mod Archives
 pub mod Audited
+pub mod Unlawful

@@ -6,8 +6,9 @@ ghost use Rattle.rrc_history.specs.Chapters.{LeadTo};
 ghost use Rattle.rrc_history.specs.Same.{rules_eq};
 ghost use Rattle.rrc_history.specs.WholeLaws.{AllKeepLaws};
 ghost use Rattle.rrc_trace.specs.Archive.{archive_text, written_of};
-ghost use Rattle.rrc_replay.specs.Archives.{TellsHistory, TellsCounted, IsWhyNoHistory, IsFaultAt, IsNoOpening, told_at};
+ghost use Rattle.rrc_replay.specs.Archives.{TellsHistory, TellsCounted, IsWhyNoHistory, IsFaultAt, IsNoOpening, IsToldAt, HasWhy};
 
+use crate::unlawful::{Reason, why_unlawful};
 use rrc_cache::{ChapterFault, NotRestored, restored_chapter};
 use rrc_history::{
     ChainFault, Chapter, Entry, EntryList, Rules, Snapshot, SnapshotFault, Whole, chain,
@@ -36,6 +37,7 @@ pub enum HistoryFault {
     NotLegal {
         chapter: usize,
         event: usize,
+        reason: Reason,
     },
     /// Of this chapter or one before it each event is right, and it does not go on from the last.
     #[error("{0}")]
@@ -158,7 +160,7 @@ fn restored_one(
     let snapshot = opening(alloc, before, rules, first, entries)?;
     match restored_chapter(alloc, number, snapshot, events, seed) {
         Ok(chapter) => Ok(chapter),
-        Err(refused) => Err(told_at(before.len(), &refused)),
+        Err(refused) => Err(told_at(alloc, before.len(), refused, seed)),
     }
 }
 
@@ -255,15 +257,27 @@ fn new_opening(
 }
 
 /// Why there is no chapter at a place.
-fn told_at(place: usize, refused: &NotRestored) -> HistoryFault
-    ensures { result ≡ told_at place refused.now.fault }
+fn told_at(alloc: Global, place: usize, refused: NotRestored, seed: [u8; 16]) -> HistoryFault
+    requires { HasWhy refused }
+    ensures { IsToldAt place refused result }
 {
-    match refused.fault {
+    let NotRestored {
+        snapshot,
+        events,
+        fault,
+    } = refused;
+    match fault {
         ChapterFault::BadNumber => HistoryFault::BadNumber(place),
-        ChapterFault::NotLegal(event) => HistoryFault::NotLegal {
-            chapter: place,
-            event,
-        },
+        ChapterFault::NotLegal(event) => {
+            match why_unlawful(alloc, snapshot, events, event, seed) {
+                Ok(reason) => HistoryFault::NotLegal {
+                    chapter: place,
+                    event,
+                    reason,
+                },
+                Err(_) => HistoryFault::Memory,
+            }
+        }
         ChapterFault::Memory => HistoryFault::Memory,
     }
 }

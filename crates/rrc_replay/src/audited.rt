@@ -1,9 +1,14 @@
 // SPDX-License-Identifier: MIT
 //! What an audit of an archive tells.
-ghost use Rattle.std.specs.Prelude.{◌≡◌, length, IfOk};
-ghost use Rattle.rrc_replay.specs.Audited.{IsAudit, IsRefusal, IsToldLegal, legal_text};
+ghost use Rattle.std.specs.Prelude.{◌≡◌, ◌++◌, ◌∷◌, [], length, IfOk, OnOk};
+ghost use Rattle.std.specs.List.{flat_map};
+ghost use Rattle.rrc_trace.specs.Archive.{line_text};
+ghost use Rattle.rrc_replay.specs.Audited.{IsAudit, IsOneLine, IsRefusal, IsToldLegal, due_text, held_line, legal_text, place_text, reason_text};
 
 use crate::archive::{Counted, HistoryFault, counted_in};
+use crate::unlawful::{Due, Reason};
+use rrc_history::Entry;
+use rrc_trace::{ArchiveLine, write_archive_line};
 use std::alloc::{AllocError, Global};
 
 /// What an audit found of an archive.
@@ -23,7 +28,8 @@ pub struct Audited {
 }
 
 /// Audits the history that an archive tells, and tells what was found: `legal: N chapters, M events
-/// from number F on`, or else `not legal: ` and why. An error is that memory was refused.
+/// from number F on`, or else `not legal: ` and why; of an event that is not right what was written,
+/// what is due in its place, and what its keys held. An error is that memory was refused.
 ///
 /// Keys are hashed behind the seed; nothing that is told depends on it.
 pub fn audit_archive(alloc: Global, octets: &[u8], seed: [u8; 16]) -> Result<Audited, AllocError>
@@ -67,9 +73,95 @@ fn legal_text(
 
 /// That a history is not legal, and why.
 fn refusal(alloc: Global, fault: &HistoryFault) -> Result<Vec<u8>, AllocError>
-    ensures { IfOk result (λ text. IsRefusal text.items) }
+    ensures { IfOk result (λ text. IsRefusal fault.now text.items) }
+{
+    match fault {
+        HistoryFault::NotLegal {
+            chapter,
+            event,
+            reason,
+        } => unlawful_text(alloc, *chapter, *event, reason),
+        HistoryFault::Empty => one_line(alloc, fault),
+        HistoryFault::BadLine(_) => one_line(alloc, fault),
+        HistoryFault::BadEntry { .. } => one_line(alloc, fault),
+        HistoryFault::BadNumber(_) => one_line(alloc, fault),
+        HistoryFault::Broken(_) => one_line(alloc, fault),
+        HistoryFault::Memory => one_line(alloc, fault),
+    }
+}
+
+fn one_line(alloc: Global, fault: &HistoryFault) -> Result<Vec<u8>, AllocError>
+    ensures { IfOk result (λ text. IsOneLine text.items) }
 {
     let why = format!(in alloc; "{fault}")?;
     let text = format!(in alloc; "not legal: {why}\n")?;
     Ok(text.into_bytes())
+}
+
+/// Which event is not right, and what is due in its place.
+fn unlawful_text(
+    alloc: Global,
+    chapter: usize,
+    event: usize,
+    reason: &Reason,
+) -> Result<Vec<u8>, AllocError>
+    ensures { IfOk result (λ text. text.items ≡ place_text chapter event ++ reason_text reason.now) }
+{
+    let mut text = place_text(alloc, chapter, event)?;
+    put_line(
+        alloc,
+        &mut text,
+        "written: ",
+        ArchiveLine::Event(&reason.written),
+    )?;
+    put_due(alloc, &mut text, &reason.due)?;
+    Ok(text)
+}
+
+fn place_text(alloc: Global, chapter: usize, event: usize) -> Result<Vec<u8>, AllocError>
+    ensures { IfOk result (λ text. text.items ≡ place_text chapter event) }
+{
+    let text = format!(in alloc; "not legal: chapter {chapter} of the archive, event {event}\n")?;
+    Ok(text.into_bytes())
+}
+
+/// Puts a word and a line as an archive has it behind a text.
+fn put_line(
+    alloc: Global,
+    text: &mut Vec<u8>,
+    word: &str,
+    line: ArchiveLine<'_>,
+) -> Result<(), AllocError>
+    ensures { OnOk result (text.new.items ≡ text.old.items ++ (word.entry.now ++ (line_text line.entry ++ 10 ∷ []))) }
+{
+    text.extend_from_slice(word.as_bytes())?;
+    match write_archive_line(alloc, text, line) {
+        Ok(()) => Ok(()),
+        Err(_) => Err(AllocError),
+    }
+}
+
+/// Puts what is due behind a text.
+fn put_due(alloc: Global, text: &mut Vec<u8>, due: &Option<Due>) -> Result<(), AllocError>
+    ensures { OnOk result (text.new.items ≡ text.old.items ++ due_text due.now) }
+{
+    match due {
+        None => text.extend_from_slice(
+            "due: none, since the numbers are spent or the moment is above 2^40\n".as_bytes(),
+        ),
+        Some(due) => {
+            put_line(alloc, text, "due: ", ArchiveLine::Event(&due.event))?;
+            put_held(alloc, text, due.held.as_slice())
+        }
+    }
+}
+
+/// Puts what keys held behind a text.
+fn put_held(alloc: Global, text: &mut Vec<u8>, entries: &[Entry]) -> Result<(), AllocError>
+    ensures { OnOk result (text.new.items ≡ text.old.items ++ flat_map held_line entries.now) }
+{
+    for entry in entries {
+        put_line(alloc, text, "held: ", ArchiveLine::Entry(entry))?;
+    }
+    Ok(())
 }
