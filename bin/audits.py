@@ -227,6 +227,10 @@ class Unlawful(NamedTuple):
     due: str | None
     held: tuple
 
+    def where(self):
+        """Where the event is, in a sentence."""
+        return f"event {self.event} of chapter {self.chapter} is not right after those before it"
+
     def lines(self):
         yield f"not legal: chapter {self.chapter} of the archive, event {self.event}" \
               f" (line {self.line})"
