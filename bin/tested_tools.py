@@ -1,14 +1,15 @@
 # SPDX-License-Identifier: MIT
 """Tests of bin/why and bin/what-if: what they say of small traces follows from docs/RULES.md. Of
-bin/fuzz, bin/schedules and bin/refusals: that they find what is wrong with a wrong program. Of
-bin/archive.py: what it refuses. And of the program's options: that they are those of
-docs/FORMATS.md."""
+bin/fuzz, bin/test-archives, bin/schedules and bin/refusals: that they find what is wrong with a
+wrong program. Of bin/archive.py: what it refuses. And of the program's options: that they are those
+of docs/FORMATS.md."""
 import csv
 import importlib.machinery
 import importlib.util
 import io
 import itertools
 import json
+import os
 import re
 import resource
 import subprocess
@@ -18,7 +19,7 @@ import time
 import xml.etree.ElementTree as xml
 from pathlib import Path
 
-from tested_model import PROGRAM
+from tested_model import ARCHIVE, PROGRAM
 from traces import Replay
 
 TOP = Path(__file__).resolve().parent.parent
@@ -75,6 +76,30 @@ def test_options_have_the_ranges_and_defaults_of_the_document():
             run = run_program(f"--{name}={number}")
             if run.returncode != wanted:
                 yield f"--{name}={number}: status {run.returncode}: {run.stderr}"
+
+
+def test_an_audit_of_an_archive_takes_no_other_option():
+    for word in ("--workers=1", "--parts=1", "--capacity=1024", "--chapter=4096", "--stale=0",
+                 "--audit", "--progress"):
+        for words in ((word, "--audit-history"), ("--audit-history", word)):
+            run = run_program(*words)
+            if run.returncode != WRONG_ARGUMENTS or run.stdout or not run.stderr:
+                yield f"{words}: status {run.returncode}: {run.stdout}{run.stderr}"
+
+
+def test_an_audit_says_that_it_could_not_read_or_write():
+    with open("/dev/full", "wb") as full, tempfile.TemporaryFile() as archive:
+        archive.write(ARCHIVE.encode())
+        archive.seek(0)
+        folder = os.open(TOP, os.O_RDONLY)
+        for source, sink, wanted in (
+                (folder, subprocess.PIPE, b"rrcache: the archive could not be read\n"),
+                (archive, full, b"rrcache: what was found could not be written\n")):
+            run = subprocess.run([PROGRAM, "--audit-history"], stdin=source, stdout=sink,
+                                 stderr=subprocess.PIPE, timeout=LIMIT)
+            if (run.returncode, run.stdout or b"", run.stderr) != (1, b"", wanted):
+                yield f"{wanted}: status {run.returncode}: {run.stdout}{run.stderr}"
+        os.close(folder)
 
 
 def told_of_a_slow_trace(*words):
@@ -404,7 +429,7 @@ def test_refusals_say_that_nothing_was_tried():
             yield f"{words}: status {run.returncode}: {run.stdout}{run.stderr}"
 
 
-# ---- bin/archive.py
+# ---- bin/archive.py and bin/test-archives
 
 
 def test_archive_refuses_what_it_cannot_replay():
@@ -416,3 +441,20 @@ def test_archive_refuses_what_it_cannot_replay():
                              capture_output=True, text=True, timeout=LIMIT)
         if (run.returncode, run.stdout) != (status, "") or not re.fullmatch(told, run.stderr):
             yield f"{words}: status {run.returncode}: {run.stdout}{run.stderr}"
+
+
+# What makes a wrong program of the right one: it tells an event's place, its chapter or how many
+# chapters there are otherwise, or which archives are legal, or takes letters in either case.
+WRONG_AUDITS = [
+    REPORT.format("s/event 1 /event 2 /"), REPORT.format("s/chapter 1 /chapter 2 /"),
+    REPORT.format("s/^legal: 1 chapters/legal: 2 chapters/"), '"$real" "$@"; exit 0',
+    'tr A-Z a-z | "$real" "$@"']
+
+
+def test_archives_find_each_wrong_audit():
+    with tempfile.TemporaryDirectory() as folder:
+        for body in WRONG_AUDITS:
+            run = ran("test-archives", "--runs=4", "--most=1", program_of(folder, body))
+            if run.returncode != 1 or not re.search(r"^FAIL run", run.stdout, re.M) \
+                    or not re.fullmatch(r"\d passed, 1 failed", run.stdout.splitlines()[-1]):
+                yield f"{body}: {run.stdout}{run.stderr}"
