@@ -1,10 +1,13 @@
 // SPDX-License-Identifier: MIT
-//! Replays a trace of cache operations from standard input by many workers, and writes its report to standard output.
+//! Replays a trace of cache operations from standard input by many workers, and writes its report to
+//! standard output; or audits the history that an archive on standard input tells.
 #![tactic(auto)]
 
+mod history;
 mod options;
 mod progress;
 
+use crate::history::audited;
 use crate::options::Asked;
 use crate::progress::Progress;
 use clap::ArgMatches;
@@ -19,7 +22,7 @@ use std::thread::Threads;
 use std::{env, io};
 
 /// How the program ends: the status of a fault, which is told, or of the arguments, which are.
-const FAULT: u8 = 1;
+pub(crate) const FAULT: u8 = 1;
 
 const WRONG_ARGUMENTS: u8 = 2;
 
@@ -45,17 +48,28 @@ fn random_seed(rt: &HostRuntime) -> io::Result<[u8; 16]> {
     Ok(seed)
 }
 
+/// What is done with standard input.
+#[derive(Drop)]
+enum Work {
+    Replay(Asked),
+    /// An audit of the archive that it is.
+    AuditHistory,
+}
+
 /// What the arguments ask for.
 enum Wanted {
-    Replay(Asked),
+    Work(Work),
     /// Nothing more is done: the help was told, or what is wrong with them.
     End(ExitCode),
 }
 
 /// What arguments that fit the command line ask for.
 fn wanted_by(matches: &ArgMatches<'_>) -> Wanted {
+    if options::wants_history(matches) {
+        return Wanted::Work(Work::AuditHistory);
+    }
     match options::asked_in(matches) {
-        Some(asked) => Wanted::Replay(asked),
+        Some(asked) => Wanted::Work(Work::Replay(asked)),
         None => Wanted::End(ExitCode::from(WRONG_ARGUMENTS)),
     }
 }
@@ -103,25 +117,38 @@ fn replayed<T: Threads + Wait + Sync, G: Gate + Sync>(
     )
 }
 
+/// Replays the trace on standard input, and tells its progress where that is wanted.
+fn replayed_as<T: Threads + Wait + Sync>(
+    rt: &HostRuntime,
+    threads: &T,
+    asked: &Asked,
+    seed: [u8; 16],
+) -> Result<ExitCode, ReplayFault> {
+    match Progress::new(rt) {
+        Ok(progress) if asked.progress => replayed(rt, threads, asked, seed, &progress)?,
+        _ => replayed(rt, threads, asked, seed, &OpenGate)?,
+    }
+    Ok(ExitCode::SUCCESS)
+}
+
 /// Does what the arguments ask for.
 fn ended<T: Threads + Wait + Sync>(
     rt: &HostRuntime,
     threads: &T,
     words: &[String],
 ) -> Result<ExitCode, ReplayFault> {
-    let asked = match read_arguments(rt, words)? {
-        Wanted::Replay(asked) => asked,
+    let work = match read_arguments(rt, words)? {
+        Wanted::Work(work) => work,
         Wanted::End(code) => return Ok(code),
     };
     let Ok(seed) = random_seed(rt) else {
         let _ = eprintln!(rt; "rrcache: the system gave no random octets");
         return Ok(ExitCode::from(FAULT));
     };
-    match Progress::new(rt) {
-        Ok(progress) if asked.progress => replayed(rt, threads, &asked, seed, &progress)?,
-        _ => replayed(rt, threads, &asked, seed, &OpenGate)?,
+    match work {
+        Work::Replay(asked) => replayed_as(rt, threads, &asked, seed),
+        Work::AuditHistory => Ok(audited(rt, seed)),
     }
-    Ok(ExitCode::SUCCESS)
 }
 
 fn main(rt: HostRuntime) -> ExitCode {

@@ -62,6 +62,24 @@ fn progress<'a>(alloc: Global) -> Arg<'a> {
         .action(ArgAction::SetTrue)
 }
 
+/// The option that asks for an audit of an archive, in the place of a replay.
+fn audit_history<'a>(alloc: Global) -> Result<Arg<'a>, AllocError> {
+    Arg::new(alloc, "audit-history")
+        .long("audit-history")
+        .help(
+            "Audits the history that the archive on standard input tells, and replays nothing; \
+             takes no other option",
+        )
+        .action(ArgAction::SetTrue)
+        .conflicts_with("workers")?
+        .conflicts_with("parts")?
+        .conflicts_with("capacity")?
+        .conflicts_with("chapter")?
+        .conflicts_with("stale")?
+        .conflicts_with("audit")?
+        .conflicts_with("progress")
+}
+
 fn program<'a>(alloc: Global) -> Command<'a> {
     Command::new(alloc, "rrcache").about(
         "Replays a trace of cache operations from standard input, and writes its report to standard output",
@@ -77,7 +95,13 @@ pub(crate) fn command<'a>(alloc: Global) -> Result<Command<'a>, AllocError> {
         .arg(chapter(alloc))?
         .arg(stale(alloc))?
         .arg(audit(alloc))?
-        .arg(progress(alloc))
+        .arg(progress(alloc))?
+        .arg(audit_history(alloc)?)
+}
+
+/// Whether the arguments ask for an audit of an archive.
+pub(crate) fn wants_history(matches: &ArgMatches<'_>) -> bool {
+    matches.get_flag("audit-history")
 }
 
 /// What the arguments ask for.
