@@ -44,7 +44,7 @@ told_among before chapter behind all place (BadEntry at fault) are is why =
     told all at chapter _ (stands_at before chapter behind all at are (why.0 ∙ is)) why.1
 told_among before chapter behind all place (BadNumber at) are is why =
     told all at chapter _ (stands_at before chapter behind all at are (why.0 ∙ is)) why.1
-told_among before chapter behind all place (NotLegal at event reason) are is why =
+told_among before chapter behind all place (NotLegal at event line reason) are is why =
     told all at chapter _ (stands_at before chapter behind all at are (why.0 ∙ is)) why.1
 told_among before chapter behind all place (Broken fault) are is why = absurd why
 told_among before chapter behind all place Memory are is why = tt

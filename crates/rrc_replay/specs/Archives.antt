@@ -70,7 +70,7 @@ IsWhyNoHistory octets Empty = octets ≡ []
 IsWhyNoHistory octets (BadLine line) = Unit {0}
 IsWhyNoHistory octets (BadEntry chapter fault) = TellsChapter octets chapter (HasBadEntry fault)
 IsWhyNoHistory octets (BadNumber chapter) = TellsChapter octets chapter HasBadNumber
-IsWhyNoHistory octets (NotLegal chapter event reason) = TellsChapter octets chapter (HasBadEvent event reason)
+IsWhyNoHistory octets (NotLegal chapter event line reason) = TellsChapter octets chapter (HasBadEvent event reason)
 IsWhyNoHistory octets (Broken fault) = TellsBroken octets fault
 IsWhyNoHistory octets Memory = Unit {0}
 
@@ -80,7 +80,7 @@ IsFaultAt place chapter Empty = ⊥
 IsFaultAt place chapter (BadLine line) = ⊥
 IsFaultAt place chapter (BadEntry at fault) = (at ≡ place) × HasBadEntry fault chapter
 IsFaultAt place chapter (BadNumber at) = (at ≡ place) × HasBadNumber chapter
-IsFaultAt place chapter (NotLegal at event reason) = (at ≡ place) × HasBadEvent event reason chapter
+IsFaultAt place chapter (NotLegal at event line reason) = (at ≡ place) × HasBadEvent event reason chapter
 IsFaultAt place chapter (Broken fault) = ⊥
 IsFaultAt place chapter Memory = Unit {0}
 
@@ -90,7 +90,7 @@ IsNoOpening place rules first entries Empty = ⊥
 IsNoOpening place rules first entries (BadLine line) = ⊥
 IsNoOpening place rules first entries (BadEntry at fault) = (at ≡ place) × (snapshot_fault rules first entries ≡ Some fault)
 IsNoOpening place rules first entries (BadNumber at) = ⊥
-IsNoOpening place rules first entries (NotLegal at event reason) = ⊥
+IsNoOpening place rules first entries (NotLegal at event line reason) = ⊥
 IsNoOpening place rules first entries (Broken fault) = ⊥
 IsNoOpening place rules first entries Memory = Unit {0}
 
@@ -109,6 +109,6 @@ IsToldAt place refused Empty = ⊥
 IsToldAt place refused (BadLine line) = ⊥
 IsToldAt place refused (BadEntry at fault) = ⊥
 IsToldAt place refused (BadNumber at) = (at ≡ place) × (refused.fault ≡ refusal.BadNumber)
-IsToldAt place refused (NotLegal at event reason) = (at ≡ place) × IsWhyUnlawful refused.snapshot refused.events.items event reason
+IsToldAt place refused (NotLegal at event line reason) = (at ≡ place) × IsWhyUnlawful refused.snapshot refused.events.items event reason
 IsToldAt place refused (Broken fault) = ⊥
 IsToldAt place refused Memory = Unit {0}

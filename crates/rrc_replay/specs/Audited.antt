@@ -34,9 +34,10 @@ pub record IsToldLegal (octets text : List ℕ) : Type 0 where
 abbrev pub IsOneLine : List ℕ → Type 0
 IsOneLine text = (words : List ℕ) × (text ≡ codes "not legal: " ++ (words ++ 10 ∷ []))
 
--- not legal: chapter N of the archive, event K
-abbrev pub place_text : ℕ → ℕ → List ℕ
-place_text chapter event = codes "not legal: chapter " ++ (decimal chapter ++ (codes " of the archive, event " ++ (decimal event ++ codes "\n")))
+-- not legal: chapter N of the archive, event K (line L)
+abbrev pub place_text : ℕ → ℕ → ℕ → List ℕ
+place_text chapter event line =
+    codes "not legal: chapter " ++ (decimal chapter ++ (codes " of the archive, event " ++ (decimal event ++ (codes " (line " ++ (decimal line ++ codes ")\n")))))
 
 -- a word, an event as an archive has it, and an LF
 abbrev pub event_line : List ℕ → Event → List ℕ
@@ -61,7 +62,7 @@ IsRefusal Empty text = IsOneLine text
 IsRefusal (BadLine line) text = IsOneLine text
 IsRefusal (BadEntry chapter fault) text = IsOneLine text
 IsRefusal (BadNumber chapter) text = IsOneLine text
-IsRefusal (NotLegal chapter event reason) text = text ≡ place_text chapter event ++ reason_text reason
+IsRefusal (NotLegal chapter event line reason) text = text ≡ place_text chapter event line ++ reason_text reason
 IsRefusal (Broken fault) text = IsOneLine text
 IsRefusal Memory text = IsOneLine text
 

@@ -37,6 +37,8 @@ pub enum HistoryFault {
     NotLegal {
         chapter: usize,
         event: usize,
+        /// Of the archive.
+        line: u64,
         reason: Reason,
     },
     /// Of this chapter or one before it each event is right, and it does not go on from the last.
@@ -160,7 +162,7 @@ fn restored_one(
     let snapshot = opening(alloc, before, rules, first, entries)?;
     match restored_chapter(alloc, number, snapshot, events, seed) {
         Ok(chapter) => Ok(chapter),
-        Err(refused) => Err(told_at(alloc, before.len(), refused, seed)),
+        Err(refused) => Err(told_at(alloc, before, refused, seed)),
     }
 }
 
@@ -256,23 +258,26 @@ fn new_opening(
     }
 }
 
-/// Why there is no chapter at a place.
-fn told_at(alloc: Global, place: usize, refused: NotRestored, seed: [u8; 16]) -> HistoryFault
+/// Why there is no chapter behind others.
+fn told_at(alloc: Global, before: &[Chapter], refused: NotRestored, seed: [u8; 16]) -> HistoryFault
     requires { HasWhy refused }
-    ensures { IsToldAt place refused result }
+    ensures { IsToldAt (length before.now) refused result }
 {
     let NotRestored {
         snapshot,
         events,
         fault,
     } = refused;
+    let chapter = before.len();
     match fault {
-        ChapterFault::BadNumber => HistoryFault::BadNumber(place),
+        ChapterFault::BadNumber => HistoryFault::BadNumber(chapter),
         ChapterFault::NotLegal(event) => {
+            let line = line_of(before, &snapshot, event);
             match why_unlawful(alloc, snapshot, events, event, seed) {
                 Ok(reason) => HistoryFault::NotLegal {
-                    chapter: place,
+                    chapter,
                     event,
+                    line,
                     reason,
                 },
                 Err(_) => HistoryFault::Memory,
@@ -280,6 +285,21 @@ fn told_at(alloc: Global, place: usize, refused: NotRestored, seed: [u8; 16]) ->
         }
         ChapterFault::Memory => HistoryFault::Memory,
     }
+}
+
+/// The line of an event in a chapter behind others: each of these has one, one for each entry, and
+/// one for each event. No sum of lines that were read comes near 2^64.
+fn line_of(before: &[Chapter], snapshot: &Snapshot, event: usize) -> u64 {
+    let mut line = 1_u64
+        .saturating_add(snapshot.entries.len() as u64)
+        .saturating_add(event as u64);
+    for chapter in before {
+        line = line
+            .saturating_add(1)
+            .saturating_add(chapter.snapshot().entries.len() as u64)
+            .saturating_add(chapter.events().len() as u64);
+    }
+    line
 }
 
 /// The history that chapters are, where each goes on from the one before it.

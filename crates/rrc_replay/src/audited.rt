@@ -79,8 +79,9 @@ fn refusal(alloc: Global, fault: &HistoryFault) -> Result<Vec<u8>, AllocError>
         HistoryFault::NotLegal {
             chapter,
             event,
+            line,
             reason,
-        } => unlawful_text(alloc, *chapter, *event, reason),
+        } => unlawful_text(alloc, *chapter, *event, *line, reason),
         HistoryFault::Empty => one_line(alloc, fault),
         HistoryFault::BadLine(_) => one_line(alloc, fault),
         HistoryFault::BadEntry { .. } => one_line(alloc, fault),
@@ -103,11 +104,12 @@ fn unlawful_text(
     alloc: Global,
     chapter: usize,
     event: usize,
+    line: u64,
     reason: &Reason,
 ) -> Result<Vec<u8>, AllocError>
-    ensures { IfOk result (λ text. text.items ≡ place_text chapter event ++ reason_text reason.now) }
+    ensures { IfOk result (λ text. text.items ≡ place_text chapter event line ++ reason_text reason.now) }
 {
-    let mut text = place_text(alloc, chapter, event)?;
+    let mut text = place_text(alloc, chapter, event, line)?;
     put_line(
         alloc,
         &mut text,
@@ -118,10 +120,12 @@ fn unlawful_text(
     Ok(text)
 }
 
-fn place_text(alloc: Global, chapter: usize, event: usize) -> Result<Vec<u8>, AllocError>
-    ensures { IfOk result (λ text. text.items ≡ place_text chapter event) }
+fn place_text(alloc: Global, chapter: usize, event: usize, line: u64) -> Result<Vec<u8>, AllocError>
+    ensures { IfOk result (λ text. text.items ≡ place_text chapter event line) }
 {
-    let text = format!(in alloc; "not legal: chapter {chapter} of the archive, event {event}\n")?;
+    let text = format!(in alloc;
+        "not legal: chapter {chapter} of the archive, event {event} (line {line})\n"
+    )?;
     Ok(text.into_bytes())
 }
 
