@@ -443,10 +443,12 @@ def test_archive_refuses_what_it_cannot_replay():
             yield f"{words}: status {run.returncode}: {run.stdout}{run.stderr}"
 
 
-# What makes a wrong program of the right one: it tells an event's place, its chapter or how many
-# chapters there are otherwise, or which archives are legal, or takes letters in either case.
+# What makes a wrong program of the right one: it tells an event's place, its chapter, what is due,
+# what was held or how many chapters there are otherwise, or which archives are legal, or takes
+# letters in either case.
 WRONG_AUDITS = [
-    REPORT.format("s/event 1 /event 2 /"), REPORT.format("s/chapter 1 /chapter 2 /"),
+    REPORT.format("s/, event 1\\b/, event 2/"), REPORT.format("s/chapter 1 /chapter 2 /"),
+    REPORT.format("/^due: /s/ answer / any /"), REPORT.format("/^held: /d"),
     REPORT.format("s/^legal: 1 chapters/legal: 2 chapters/"), '"$real" "$@"; exit 0',
     'tr A-Z a-z | "$real" "$@"']
 
