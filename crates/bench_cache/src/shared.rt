@@ -7,7 +7,7 @@ use crate::numbers::Numbers;
 use crate::task::{Kind, NAMES, Task};
 use rrc_cache::Part;
 use rrc_history::{Offer, Outcome, Rules};
-use rrc_share::SharedCache;
+use rrc_share::{Recording, SharedCache};
 use std::alloc::Global;
 use std::sync::Wait;
 use std::thread::{Threads, map_vec};
@@ -178,7 +178,7 @@ fn shared<R: Threads + Wait + Sync + Clock>(
         return None;
     }
     let rules = Rules::new(u64::from(NAMES), CHAPTER, 0)?;
-    let cache = SharedCache::new(alloc, task.parts as usize, rules).ok()?;
+    let cache = SharedCache::new(alloc, task.parts as usize, rules, Recording::On).ok()?;
     on_cache(rt, alloc, task, asks, &cache)
 }
 

@@ -6,7 +6,7 @@
 use rrc_history::{Ask, Mode, Purpose, Reply, Rules, Tag};
 use rrc_name::Name;
 use rrc_sets::{Limits, Query, RelevanceLimits, relevant_offers_in};
-use rrc_share::SharedCache;
+use rrc_share::{Recording, SharedCache};
 use rrc_wire::Question;
 use std::alloc::{AllocError, Global};
 use std::random::RandomSource;
@@ -24,13 +24,13 @@ static RESPONSE: [u8; 45] = [
     0x2c, 0, 4, 192, 0, 2, 1,
 ];
 
-/// A cache of 16 parts, with a seed that nobody can foresee.
+/// A cache of 16 parts, with a seed that nobody can foresee. No part records its history.
 fn new_cache<R: RandomSource>(rt: &R, alloc: Global) -> Option<SharedCache> {
     let mut seed = [0; 16];
     rt.fill_bytes(&mut seed).ok()?;
     // 65,536 keys in each part, chapters of 4,096 events, no data a day past their TTL.
     let rules = Rules::new(65_536, 4_096, 86_400)?;
-    SharedCache::seeded(alloc, 16, rules, seed).ok()
+    SharedCache::seeded(alloc, 16, rules, seed, Recording::Off).ok()
 }
 
 /// Offers what is relevant of the response, which came at a moment, and tells how many RRsets.

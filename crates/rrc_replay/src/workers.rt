@@ -12,7 +12,7 @@ use crate::worker::{Common, Stop, Worked, Worker, work};
 use rrc_marks::{Marks, MarksFault, Pass};
 use rrc_report::{Done, Report, collate};
 use rrc_script::Config;
-use rrc_share::SharedCache;
+use rrc_share::{CacheShelf, Recording, SharedCache, Shelf};
 use rrc_trace::{ReplayFault, Trace};
 use std::alloc::{AllocError, Global};
 use std::sync::Wait;
@@ -151,6 +151,18 @@ fn all_done<R: Threads + Wait + Sync, G: Gate + Sync>(
     done_by(alloc, trace.lines.len(), all_worked(rt, alloc, workers)?)
 }
 
+/// The shelves of parts that record, as those of a replay do, or `None` where one records nothing.
+fn recorded(alloc: Global, parts: Vec<CacheShelf>) -> Result<Option<Vec<Shelf>>, AllocError> {
+    let mut shelves = Vec::with_capacity(alloc, parts.len())?;
+    for part in parts {
+        let Ok(shelf) = part.into_shelf() else {
+            return Ok(None);
+        };
+        shelves.push(shelf)?;
+    }
+    Ok(Some(shelves))
+}
+
 /// Replays a trace by many workers, each in a thread of its own, on a cache that they share, and tells what each line got. A worker draws one
 /// line after another, so a line that takes long holds up no other one, and makes the line's calls, each under the lock of one part. What
 /// the workers did is then held against the histories of the parts (`rrc_report::collate`). Keys are hashed behind the seed: under
@@ -169,9 +181,13 @@ pub fn replay<R: Threads + Wait + Sync, G: Gate + Sync>(
     ensures collated { IfOk result (IsCollated config.now trace.now) }
     ensures err { IfErr result (IsOfReplay (length trace.now)) }
 {
-    let Ok(cache) = SharedCache::seeded(alloc, config.parts, config.rules, seed) else {
+    let Ok(cache) = SharedCache::seeded(alloc, config.parts, config.rules, seed, Recording::On)
+    else {
         return Err(ReplayFault::Memory);
     };
     let done = all_done(rt, alloc, trace, config, &cache, gate)?;
-    collate(alloc, trace, config, cache.into_parts(), done)
+    let Some(shelves) = recorded(alloc, cache.into_parts())? else {
+        return Err(ReplayFault::Strayed);
+    };
+    collate(alloc, trace, config, shelves, done)
 }

@@ -1,13 +1,14 @@
 // SPDX-License-Identifier: MIT
 // That what workers did has a report, each row and each run of several workers shows.
 
+use rrc_cache::Part;
 use rrc_collate::each_line_stands;
 use rrc_history::{Rules, Tag};
 use rrc_name::Sequence;
 use rrc_report::{Answered, Config, Done, collate, one_completion, one_report_by_one_worker};
 use rrc_script::one_script;
 use rrc_sets::Limits;
-use rrc_share::{SharedCache, Shelf, on_shelf_sweep};
+use rrc_share::{Shelf, on_shelf_sweep};
 use rrc_trace::{Answer, ReplayFault, Trace, read_trace};
 use std::alloc::Global;
 use std::process::Abort;
@@ -91,12 +92,11 @@ fn sweep(rt: &impl Abort, shelf: &mut Shelf, sweeps: &[(u64, u64)]) {
 
 /// The shelf of a new part on which these sweeps were made.
 fn shelves(rt: &impl Abort, alloc: Global, rules: Rules, sweeps: &[(u64, u64)]) -> Vec<Shelf> {
-    let mut shelves = SharedCache::new(alloc, 1, rules)
-        .expect(rt, "a cache")
-        .into_parts();
-    if let Some(shelf) = shelves.first_mut() {
-        sweep(rt, shelf, sweeps);
-    }
+    let part = Part::new(alloc, rules).expect(rt, "a part");
+    let mut shelf = Shelf::new(alloc, part);
+    sweep(rt, &mut shelf, sweeps);
+    let mut shelves = Vec::new(alloc);
+    shelves.push(shelf).expect(rt, "a shelf");
     shelves
 }
 

@@ -9,10 +9,10 @@ use Rattle.rrc_history.specs.declared.event.Outcome.{Outcome}
 use Rattle.rrc_history.specs.declared.event.Reply.{Reply}
 use Rattle.rrc_history.specs.declared.event.Tag.{Tag}
 use Rattle.rrc_history.specs.declared.snapshot.Entry.{Entry}
-use Rattle.rrc_cache.specs.Lean.{IsLeanDue}
+use Rattle.rrc_cache.specs.Lean.{IsLeanDue, IsLeanSound}
 use Rattle.rrc_cache.specs.Part.{PartOf, past_of, WritesOffer, WritesAsk, WritesSweep}
 use Rattle.rrc_cache.specs.declared.refusal.Refusal.{Refusal}
-use Rattle.rrc_share.specs.Shelf.{ShelfOf, AppendsOffer, AppendsAsk, AppendsSweep, IsDue, IsLeft}
+use Rattle.rrc_share.specs.Shelf.{ShelfOf, AppendsOffer, AppendsAsk, AppendsSweep, IsDue, IsLeft, IsShelf, Shuts}
 use Rattle.rrc_share.specs.declared.kept.Kept.{Kept}
 use Rattle.rrc_share.specs.declared.kept.Kept.TheVariants.{Lean, Recording}
 
@@ -28,6 +28,12 @@ lean_shelf part = record { closed = []; part = part }
 abbrev pub kept_in : Kept → CacheShelfOf
 kept_in (Lean part) = record { records = false; shelf = lean_shelf part }
 kept_in (Recording shelf) = record { records = true; shelf = shelf }
+
+-- what holds of every part: of one that records, what holds of a shelf; of one that does not, that
+-- its history is legal, and that it has no closed chapters
+abbrev pub IsSoundBy : Bool → ShelfOf → Type 0
+IsSoundBy true shelf = IsShelf shelf
+IsSoundBy false shelf = (shelf.closed ≡ []) × IsLeanSound shelf.part
 
 -- what a key of the part holds
 abbrev pub held_by : ShelfOf → KeyOf → Option Entry
@@ -58,6 +64,11 @@ TakesAsk false old new tag ask reply = WritesAsk old.part new.part tag ask reply
 abbrev pub TakesSweep : Bool → ShelfOf → ShelfOf → Tag → ℕ → ℕ → Type 0
 TakesSweep true old new tag moment removed = AppendsSweep old new tag moment removed
 TakesSweep false old new tag moment removed = WritesSweep old.part new.part tag moment removed
+
+-- the chapter that was open is closed; while nothing is recorded nothing is done
+abbrev pub ShutsBy : Bool → ShelfOf → ShelfOf → Type 0
+ShutsBy true old new = Shuts old new
+ShutsBy false old new = new ≡ old
 
 -- nothing was done; while the history is recorded, a chapter that was full may have been closed
 abbrev pub IsLeftBy : Bool → ShelfOf → ShelfOf → Type 0

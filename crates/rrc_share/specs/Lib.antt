@@ -3,3 +3,4 @@ pub mod Shelf
 pub mod Shared
 pub mod CacheShelf
 pub mod Switching
+pub mod Empty

@@ -7,11 +7,11 @@ use Rattle.rrc_history.specs.Lives.{LAST_MOMENT}
 use Rattle.rrc_cache.specs.declared.refusal.Refusal.{Refusal}
 use Rattle.rrc_cache.specs.declared.refusal.Refusal.TheVariants.{HistoryFull, MomentTooLarge, Memory}
 
--- so many parts: 1 to 64 of them, and beside their locks a list with room for their shelves, in which none is yet
-pub record HasParts (parts shelves room : ℕ) : Type 0 where
+-- so many parts: 1 to 64 of them, and beside their locks a list with room for them, in which none is yet
+pub record HasParts (parts kept room : ℕ) : Type 0 where
   pub some : 1 ≤ parts
   pub few : parts ≤ 64
-  pub none : shelves ≡ 0
+  pub none : kept ≡ 0
   pub reserved : parts ≤ room
 
 -- what the moment of a call says of its answer: it is MomentTooLarge only where the moment is above the last one, and is then that or HistoryFull

@@ -29,8 +29,8 @@ abbrev pub refused_by : {A : Type 0} → Result A NotSwitched → Result A Refus
 refused_by (Ok answer) = Ok answer
 refused_by (Err refused) = Err refused.refusal
 
--- when a shelf is switched whose chapter has to be closed for it, and when that is refused with
--- what; where nothing is to be done nothing is refused
+-- when a chapter is closed, or a shelf switched whose chapter has to be closed for it, and when that
+-- is refused with what; where nothing is to be done nothing is refused
 abbrev pub IsSwitchDue : {A : Type 0} → Bool → PartOf → Result A Refusal → Type 0
 IsSwitchDue true part result = IsCloseDue part result
 IsSwitchDue false part result = OnErr result ⊥

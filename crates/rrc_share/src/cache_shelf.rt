@@ -1,5 +1,5 @@
 // SPDX-License-Identifier: MIT
-ghost use Rattle.std.specs.Prelude.{◌≡◌, ◌≤◌, [], true, false, not, Err, IfErr, IfNone, IfOk, IfSome, OnErr};
+ghost use Rattle.std.specs.Prelude.{◌≡◌, ◌≤◌, [], true, false, not, Err, IfErr, IfNone, IfOk, IfSome, OnErr, OnOk};
 ghost use Rattle.rrc_cache.specs.Part.{IsCloseDue, IsOfMoments};
 ghost use Rattle.rrc_share.specs.CacheShelf.{lean_shelf};
 ghost use Rattle.rrc_share.specs.Switching.{HandsOut, IsSwitchDue, Starts, Stops, refused_by};
@@ -47,7 +47,7 @@ impl CacheShelf {
     ghost use Rattle.rrc_cache.specs.Sizes.{HoldsKeys, HoldsOctets};
     ghost use Rattle.rrc_history.specs.Views.{held_in, reply_in};
     ghost use Rattle.rrc_name.specs.KeyRef.{key_of};
-    ghost use Rattle.rrc_share.specs.CacheShelf.{held_by, reply_of, IsDueBy, IsLeftBy, NotesAsk, TakesAsk, TakesOffer, TakesSweep};
+    ghost use Rattle.rrc_share.specs.CacheShelf.{held_by, reply_of, IsDueBy, IsLeftBy, IsSoundBy, NotesAsk, ShutsBy, TakesAsk, TakesOffer, TakesSweep};
     ghost use Rattle.rrc_share.specs.Shelf.{AreBefore};
     ghost use Rattle.std.specs.Option.{option_map};
 
@@ -85,10 +85,19 @@ impl CacheShelf {
         ensures some { IfSome result (λ shelf. shelf.now ≡ self.now.shelf) }
         ensures records { IfSome result (λ shelf. self.now.records ≡ true) }
         ensures lean { IfNone result (self.now.shelf.closed ≡ []) }
+        ensures sound { IsSoundBy self.now.records self.now.shelf }
     {
         match &self.kept {
-            Kept::Lean(_) => None,
-            Kept::Recording(shelf) => Some(shelf),
+            Kept::Lean(part) => {
+                // The number is read for what it tells: the history is legal.
+                let _ = part.number();
+                None
+            }
+            Kept::Recording(shelf) => {
+                // The part is read for what it tells: the shelf is sound.
+                let _ = shelf.part();
+                Some(shelf)
+            }
         }
     }
 
@@ -220,6 +229,20 @@ impl CacheShelf {
         }
     }
 
+    /// Closes the chapter that is open, while it records (`on_shelf_checkpoint`). Where nothing is
+    /// recorded nothing is done, and nothing refused.
+    pub fn checkpoint(&mut self) -> Result<(), Refusal>
+        ensures records { self.new.records ≡ self.old.records }
+        ensures ok { OnOk result (ShutsBy self.old.records self.old.shelf self.new.shelf) }
+        ensures err { OnErr result (self.new ≡ self.old) }
+        ensures due { IsSwitchDue self.old.records self.old.shelf.part result }
+    {
+        match &mut self.kept {
+            Kept::Lean(_) => Ok(()),
+            Kept::Recording(shelf) => on_shelf_checkpoint(shelf),
+        }
+    }
+
     /// Hands out the closed chapters, the oldest first, and leaves none (`Shelf::take_chapters`).
     /// While nothing is recorded there are none. It takes no memory.
     pub fn take_chapters(&mut self) -> Vec<Chapter>
@@ -282,6 +305,17 @@ impl CacheShelf {
                 let Shelf { part, .. } = shelf;
                 CacheShelf::new(alloc, part.into_lean())
             }
+        }
+    }
+
+    /// The shelf with what is recorded, while it is, else the part. It takes no memory.
+    pub fn into_shelf(self) -> Result<Shelf, LeanPart>
+        ensures recorded { IfOk result (λ shelf. self ≡ record { records = true; shelf = shelf }) }
+        ensures lean { IfErr result (λ part. self ≡ record { records = false; shelf = lean_shelf part }) }
+    {
+        match self.kept {
+            Kept::Lean(part) => Err(part),
+            Kept::Recording(shelf) => Ok(shelf),
         }
     }
 }

@@ -1,35 +1,39 @@
 // SPDX-License-Identifier: MIT
 ghost use Rattle.std.specs.Prelude.{◌≡◌, ◌<◌, ◌≤◌, Err, All, length, IfErr, IfOk, OnErr};
-ghost use Rattle.rrc_share.specs.Shelf.{IsShelf};
+ghost use Rattle.rrc_share.specs.CacheShelf.{IsSoundBy};
 
-use crate::calls::{on_shelf_ask, on_shelf_checkpoint, on_shelf_offer, on_shelf_sweep};
-use crate::shelf::Shelf;
+use crate::cache_shelf::CacheShelf;
+use crate::recording::{Recording, empty_part};
+use crate::switches::{drop_record, record, release};
 use crossbeam_utils::CachePadded;
-use rrc_cache::{Part, Refusal};
+use rrc_cache::Refusal;
 use rrc_history::{Ask, Chapter, Offer, Outcome, Reply, Rules, Tag};
 use rrc_name::{Name, part_of};
 use std::alloc::Global;
 use std::marker::Model;
 use std::sync::{Mutex, MutexGuard, Wait};
 
-/// A shelf under its lock, with nothing else on their cache lines.
-type Locked = CachePadded<Mutex<Shelf>>;
+/// A part under its lock, with nothing else on their cache lines.
+type Locked = CachePadded<Mutex<CacheShelf>>;
 
-/// The cache that all threads share: 1 to 64 parts, each of them on a shelf under a lock of its own. Contracts see how many parts
-/// there are.
+/// The cache that all threads share: 1 to 64 parts, each under a lock of its own. A part records
+/// its history on a shelf, or records nothing; it is switched between two calls, while other
+/// threads call the other parts. Contracts see how many parts there are.
 ///
 /// - A call takes one lock, that of one part, and never a second one beside it. In which part a name lies is worked out before.
-/// - The lock is held for one call on the shelf, the one that the method names, and for nothing else: as long as that call on a part
-///   takes, and where it closes a chapter as long as there are keys. It makes its room and drops what goes under the lock.
+/// - The lock is held for one call on the part, the one that the method names, and for nothing
+///   else: as long as that call on a part takes, and where it closes a chapter as long as there are
+///   keys. It makes its room and drops what goes under the lock.
 /// - An offer is made before, by the caller. An answer shares its data with what is kept, so that under a lock no name and no data
 ///   are copied, and it is read after the lock is let go.
-/// - What a call does under its lock the contract of the call on the shelf says. Here only that is said which holds of every
-///   shelf, since no clause can name what another thread left there. Nor is it proved that a call which waits for a lock gets it.
+/// - What a call does under its lock the contract of the call on the part says. Here only that is
+///   said which holds of every part, since no clause can name what another thread left there. Nor
+///   is it proved that a call which waits for a lock gets it.
 #[derive(Drop)]
 pub struct SharedCache {
     locks: Vec<Locked>,
-    /// Room for the shelves when all is over, so that `into_parts` takes no memory.
-    shelves: Vec<Shelf>,
+    /// Room for the parts when all is over, so that `into_parts` takes no memory.
+    kept: Vec<CacheShelf>,
 }
 
 impl Model for SharedCache {
@@ -40,65 +44,76 @@ impl Model for SharedCache {
 
     ghost view = { λ s. vec_len s.locks };
 
-    ghost invariant = { λ s. HasParts (vec_len s.locks) (vec_len s.shelves) (vec_capacity s.shelves) };
+    ghost invariant = { λ s. HasParts (vec_len s.locks) (vec_len s.kept) (vec_capacity s.kept) };
 }
 
-/// An empty part under its lock, its keys hashed behind a seed where there is one.
-fn locked(alloc: Global, rules: Rules, seed: Option<[u8; 16]>) -> Result<Locked, Refusal>
+/// An empty part under its lock (`empty_part`).
+fn locked(
+    alloc: Global,
+    rules: Rules,
+    seed: Option<[u8; 16]>,
+    recording: Recording,
+) -> Result<Locked, Refusal>
     ensures memory { OnErr result (result ≡ Err Refusal.Memory) }
 {
-    let part = match seed {
-        Some(seed) => Part::seeded(alloc, rules, seed)?,
-        None => Part::new(alloc, rules)?,
-    };
-    Ok(CachePadded::new(Mutex::new(Shelf::new(alloc, part))))
+    let part = empty_part(alloc, rules, seed, recording)?;
+    Ok(CachePadded::new(Mutex::new(part)))
 }
 
-/// The shelf that lay under a lock.
-fn unlocked(lock: Locked) -> Shelf
-    ensures { IsShelf result }
+/// The part that lay under a lock.
+fn unlocked(lock: Locked) -> CacheShelf
+    ensures { IsSoundBy result.records result.shelf }
 {
-    let shelf = lock.into_inner().into_inner();
-    // The part is read for what it tells: the shelf is sound.
-    let _ = shelf.part();
-    shelf
+    let kept = lock.into_inner().into_inner();
+    // The record is read for what it tells: the part is sound.
+    let _ = kept.recorded();
+    kept
 }
 
 impl SharedCache {
     ghost use Rattle.rrc_name.specs.Parts.{part_of};
     ghost use Rattle.rrc_share.specs.Shared.{AreChained, IsTimely, IsWithoutMoment};
 
-    /// As many empty parts, by the same rules. Their seed is that of `Part::new`, which anyone may know.
-    pub fn new(alloc: Global, parts: usize, rules: Rules) -> Result<SharedCache, Refusal>
-        requires some { 1 ≤ parts }
-        requires few { parts ≤ 64 }
-        ensures parts { IfOk result (λ cache. cache ≡ parts) }
-        ensures memory { OnErr result (result ≡ Err Refusal.Memory) }
-    {
-        SharedCache::made(alloc, parts, rules, None)
-    }
-
-    /// As many empty parts, by the same rules, whose keys are hashed behind a seed (`Part::seeded`).
-    pub fn seeded(
+    /// As many empty parts, by the same rules, which record their histories or not. Their seed is
+    /// that of `Part::new`, which anyone may know.
+    pub fn new(
         alloc: Global,
         parts: usize,
         rules: Rules,
-        seed: [u8; 16],
+        recording: Recording,
     ) -> Result<SharedCache, Refusal>
         requires some { 1 ≤ parts }
         requires few { parts ≤ 64 }
         ensures parts { IfOk result (λ cache. cache ≡ parts) }
         ensures memory { OnErr result (result ≡ Err Refusal.Memory) }
     {
-        SharedCache::made(alloc, parts, rules, Some(seed))
+        SharedCache::made(alloc, parts, rules, None, recording)
     }
 
-    /// As many empty parts under their locks, and room for their shelves.
+    /// As many empty parts, by the same rules, which record their histories or not, and whose keys
+    /// are hashed behind a seed (`Part::seeded`).
+    pub fn seeded(
+        alloc: Global,
+        parts: usize,
+        rules: Rules,
+        seed: [u8; 16],
+        recording: Recording,
+    ) -> Result<SharedCache, Refusal>
+        requires some { 1 ≤ parts }
+        requires few { parts ≤ 64 }
+        ensures parts { IfOk result (λ cache. cache ≡ parts) }
+        ensures memory { OnErr result (result ≡ Err Refusal.Memory) }
+    {
+        SharedCache::made(alloc, parts, rules, Some(seed), recording)
+    }
+
+    /// As many empty parts under their locks, and room for them when all is over.
     fn made(
         alloc: Global,
         parts: usize,
         rules: Rules,
         seed: Option<[u8; 16]>,
+        recording: Recording,
     ) -> Result<SharedCache, Refusal>
         requires some { 1 ≤ parts }
         requires few { parts ≤ 64 }
@@ -107,10 +122,10 @@ impl SharedCache {
     {
         let mut locks = Vec::with_capacity(alloc, parts)?;
         for _ in 0..parts {
-            locks.push(locked(alloc, rules, seed)?)?;
+            locks.push(locked(alloc, rules, seed, recording)?)?;
         }
-        let shelves = Vec::with_capacity(alloc, parts)?;
-        Ok(SharedCache { locks, shelves })
+        let kept = Vec::with_capacity(alloc, parts)?;
+        Ok(SharedCache { locks, kept })
     }
 
     /// How many parts there are, 1 to 64. It takes no lock.
@@ -130,44 +145,48 @@ impl SharedCache {
         part_of(name, self.parts())
     }
 
-    /// The shelf of a part, once its lock is got, and until the guard goes.
-    fn shelf<R: Wait>(&self, rt: &R, part: usize) -> MutexGuard<'_, Shelf>
+    /// A part, once its lock is got, and until the guard goes.
+    fn part<R: Wait>(&self, rt: &R, part: usize) -> MutexGuard<'_, CacheShelf>
         requires { part < self.now }
     {
         self.locks[part].lock(rt)
     }
 
-    /// Makes the offer to the part that its name lies in (`on_shelf_offer`), under that part's lock.
+    /// Makes the offer to the part that its name lies in (`CacheShelf::offer`), under that part's
+    /// lock.
     ///
-    /// `HistoryFull` comes first, then `MomentTooLarge` (above 2^40 seconds), then `Memory`. What a refusal leaves `on_shelf_offer` says.
+    /// `HistoryFull` comes first, then `MomentTooLarge` (above 2^40 seconds), then `Memory`. What a
+    /// refusal leaves `CacheShelf::offer` says.
     pub fn offer<R: Wait>(&self, rt: &R, tag: Tag, offer: Offer) -> Result<Outcome, Refusal>
         ensures timely { IsTimely offer.moment result }
     {
         let home = self.home(offer.key.name());
-        let mut shelf = self.shelf(rt, home);
-        on_shelf_offer(&mut shelf, tag, offer)
+        let mut part = self.part(rt, home);
+        part.offer(tag, offer)
     }
 
-    /// Asks the part that the name lies in (`on_shelf_ask`), under that part's lock. The refusals are those of `offer`.
+    /// Asks the part that the name lies in (`CacheShelf::ask`), under that part's lock. The
+    /// refusals are those of `offer`.
     pub fn ask<R: Wait>(&self, rt: &R, tag: Tag, ask: &Ask) -> Result<Reply, Refusal>
         ensures timely { IsTimely ask.now.moment result }
     {
         let home = self.home(&ask.name);
-        let mut shelf = self.shelf(rt, home);
-        on_shelf_ask(&mut shelf, tag, ask)
+        let mut part = self.part(rt, home);
+        part.ask(tag, ask)
     }
 
-    /// The reply that `ask` would give (`Shelf::would_answer`), under the lock of the part that the name lies in. No event is
-    /// written and nothing touched. `Memory` comes only where data have as many owners as can be counted.
+    /// The reply that `ask` would give (`CacheShelf::would_answer`), as an owner of its data, under
+    /// the lock of the part that the name lies in. No event is written and nothing touched.
+    /// `Memory` comes only where data have as many owners as can be counted.
     pub fn would_answer<R: Wait>(&self, rt: &R, ask: &Ask) -> Result<Reply, Refusal>
         ensures memory { OnErr result (result ≡ Err Refusal.Memory) }
     {
         let home = self.home(&ask.name);
-        let shelf = self.shelf(rt, home);
-        shelf.would_answer(ask)
+        let part = self.part(rt, home);
+        Ok(part.would_answer(ask).to_owned()?)
     }
 
-    /// Sweeps a part (`on_shelf_sweep`), under its lock. The refusals are those of `offer`.
+    /// Sweeps a part (`CacheShelf::sweep`), under its lock. The refusals are those of `offer`.
     pub fn sweep_part<R: Wait>(
         &self,
         rt: &R,
@@ -178,38 +197,76 @@ impl SharedCache {
         requires { part < self.now }
         ensures timely { IsTimely moment result }
     {
-        let mut shelf = self.shelf(rt, part);
-        on_shelf_sweep(&mut shelf, tag, moment)
+        let mut part = self.part(rt, part);
+        part.sweep(tag, moment)
     }
 
-    /// Closes the chapter of a part that is open (`on_shelf_checkpoint`), under its lock: `HistoryFull` or `Memory`.
+    /// Closes the chapter of a part that is open (`CacheShelf::checkpoint`), under its lock:
+    /// `HistoryFull` or `Memory`. Of a part that records nothing there is none, and nothing is
+    /// done.
     pub fn checkpoint_part<R: Wait>(&self, rt: &R, part: usize) -> Result<(), Refusal>
         requires { part < self.now }
         ensures refusals { IfErr result IsWithoutMoment }
     {
-        let mut shelf = self.shelf(rt, part);
-        on_shelf_checkpoint(&mut shelf)
+        let mut part = self.part(rt, part);
+        part.checkpoint()
     }
 
-    /// Hands out the chapters that a part closed, the oldest first, and leaves it none (`Shelf::take_chapters`), under its lock. It
-    /// takes no memory, and what is to be done with the chapters is done after the lock is let go.
+    /// Hands out the chapters that a part closed, the oldest first, and leaves it none
+    /// (`CacheShelf::take_chapters`), under its lock. It takes no memory, and what is to be done
+    /// with the chapters is done after the lock is let go.
     pub fn take_chapters<R: Wait>(&self, rt: &R, part: usize) -> Vec<Chapter>
         requires { part < self.now }
         ensures chained { AreChained result.items }
     {
-        let mut shelf = self.shelf(rt, part);
-        shelf.take_chapters()
+        let mut part = self.part(rt, part);
+        part.take_chapters()
     }
 
-    /// The shelves of all parts, the first part's first. No thread shares them any more, so no lock is taken, and no memory.
-    pub fn into_parts(self) -> Vec<Shelf>
-        ensures parts { length result.items ≡ self }
-        ensures sound { All IsShelf result.items }
+    /// Has a part record its history from here on (`CacheShelf::start_recording`), under its lock:
+    /// a history of its own, which begins with what the part holds. Where it records already
+    /// nothing is done. `HistoryFull` or `Memory`, and the part is as it was.
+    pub fn record_part<R: Wait>(&self, rt: &R, part: usize) -> Result<(), Refusal>
+        requires { part < self.now }
+        ensures refusals { IfErr result IsWithoutMoment }
     {
-        let SharedCache { locks, mut shelves } = self;
+        let mut part = self.part(rt, part);
+        record(&mut part)
+    }
+
+    /// Has a part record nothing from here on (`CacheShelf::stop_recording`), under its lock, and
+    /// hands out the chapters that were not taken, the oldest first, of which the last is that
+    /// which was open. Where nothing is recorded there are none. `HistoryFull` or `Memory`, and the
+    /// part is as it was.
+    pub fn release_part<R: Wait>(&self, rt: &R, part: usize) -> Result<Vec<Chapter>, Refusal>
+        requires { part < self.now }
+        ensures chained { IfOk result (λ chapters. AreChained chapters.items) }
+        ensures refusals { IfErr result IsWithoutMoment }
+    {
+        let mut part = self.part(rt, part);
+        release(&mut part)
+    }
+
+    /// Has a part record nothing from here on, and drops what it recorded
+    /// (`CacheShelf::drop_record`), under its lock, for where `release_part` is refused. It takes
+    /// no memory and refuses nothing.
+    pub fn drop_record<R: Wait>(&self, rt: &R, part: usize)
+        requires { part < self.now }
+    {
+        let mut part = self.part(rt, part);
+        drop_record(&mut part);
+    }
+
+    /// All parts, the first one first. No thread shares them any more, so no lock is taken, and no
+    /// memory.
+    pub fn into_parts(self) -> Vec<CacheShelf>
+        ensures parts { length result.items ≡ self }
+        ensures sound { All (λ kept. IsSoundBy kept.records kept.shelf) result.items }
+    {
+        let SharedCache { locks, mut kept } = self;
         for lock in locks {
-            shelves.push_reserved(unlocked(lock));
+            kept.push_reserved(unlocked(lock));
         }
-        shelves
+        kept
     }
 }

@@ -1,12 +1,13 @@
 // SPDX-License-Identifier: MIT
 ghost use Rattle.std.specs.Prelude.{◌≡◌, ◌<◌};
 
+mod parts;
 mod switched;
 
 use crate::cache::{TAG, failure, question, rules};
 use rrc_cache::Refusal;
 use rrc_history::Reply;
-use rrc_share::{SharedCache, Shelf};
+use rrc_share::{CacheShelf, Recording, SharedCache};
 use std::alloc::Global;
 use std::process::Abort;
 use std::sync::Wait;
@@ -48,31 +49,38 @@ fn close<R: Abort + Wait>(rt: &R, cache: &SharedCache) -> (usize, usize)
     (removed, cache.take_chapters(rt, 1).len())
 }
 
-/// How many chapters are closed, the number of the one that is open, and how many events that has.
-fn stand(shelf: &Shelf) -> (usize, u64, usize) {
-    let part = shelf.part();
-    (shelf.closed().len(), part.number(), part.events().len())
+/// Of a part that records: how many chapters are closed, the number of the one that is open, and how
+/// many events that has.
+fn stand(part: &CacheShelf) -> Option<(usize, u64, usize)> {
+    match part.recorded() {
+        Some(shelf) => {
+            let part = shelf.part();
+            Some((shelf.closed().len(), part.number(), part.events().len()))
+        }
+        None => None,
+    }
 }
 
-/// Whether the parts stand so, in order.
-fn stand_so(shelves: &[Shelf], wanted: &[(usize, u64, usize)]) -> bool {
-    for (shelf, wanted) in shelves.iter().zip(wanted) {
-        if stand(shelf) != *wanted {
+/// Whether the parts record and stand so, in order.
+fn stand_so(parts: &[CacheShelf], wanted: &[(usize, u64, usize)]) -> bool {
+    for (part, wanted) in parts.iter().zip(wanted) {
+        if stand(part) != Some(*wanted) {
             return false;
         }
     }
-    shelves.len() == wanted.len()
+    parts.len() == wanted.len()
 }
 
 /// The name that was offered is in part 1, in whatever case it is asked for, and the other one in
 /// part 0. Both parts closed a chapter, and that of part 1 was taken.
 static STANDS: [(usize, u64, usize); 4] = [(1, 2, 0), (0, 2, 0), (0, 1, 0), (0, 1, 0)];
 
-/// A cache of four parts that kept a failure.
-fn kept<R: Abort + Wait>(rt: &R, alloc: Global) -> SharedCache
+/// A cache of four parts, in chapters for so many events where they record, that kept a failure.
+fn kept<R: Abort + Wait>(rt: &R, alloc: Global, chapter: u64, recording: Recording) -> SharedCache
     ensures { result ≡ 4 }
 {
-    let cache = SharedCache::new(alloc, 4, rules(rt, 8)).expect(rt, "no cache");
+    let rules = rules(rt, chapter);
+    let cache = SharedCache::new(alloc, 4, rules, recording).expect(rt, "no cache");
     let failure = failure(rt, alloc, "a.example.");
     cache.offer(rt, TAG, failure).expect(rt, "no outcome");
     cache
@@ -81,7 +89,7 @@ fn kept<R: Abort + Wait>(rt: &R, alloc: Global) -> SharedCache
 #[test]
 fn calls_are_made_on_the_part_of_the_name(rt: HostRuntime) {
     let alloc = rt.alloc();
-    let cache = kept(&rt, alloc);
+    let cache = kept(&rt, alloc, 8, Recording::On);
     let own = told(&rt, alloc, &cache, "A.eXample.");
     let other = told(&rt, alloc, &cache, "b.example.");
     let closed = close(&rt, &cache);

@@ -46,7 +46,7 @@ fn recorded(rt: &impl Abort, ask: &Ask, shelf: CacheShelf) -> Vec<Chapter> {
 }
 
 /// How many entries a history begins with, how many events it has, and whether each is right.
-fn audited(rt: &impl Abort, chapters: Vec<Chapter>) -> (usize, usize, bool) {
+pub(crate) fn audited(rt: &impl Abort, chapters: Vec<Chapter>) -> (usize, usize, bool) {
     let whole = chain(chapters).expect(rt, "no chain");
     let events = whole.events.as_slice();
     let is_right = audit(&whole.snapshot, events).is_ok();
