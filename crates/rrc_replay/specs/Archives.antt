@@ -14,6 +14,7 @@ use Rattle.rrc_history.specs.Chains.{WholeOf, IsWhole, chain_fault}
 use Rattle.rrc_history.specs.Chapters.{ChapterOf}
 use Rattle.rrc_history.specs.Snapshots.{snapshot_fault}
 use Rattle.rrc_trace.specs.Archive.{WrittenOf, written_of, archive_text}
+use Rattle.rrc_trace.specs.ArchiveLines.{HasLinesBefore}
 use Rattle.rrc_replay.specs.declared.unlawful.Reason.{Reason}
 use Rattle.rrc_replay.specs.Unlawful.{IsWhyUnlawful}
 use Rattle.rrc_replay.specs.declared.archive.Counted.{Counted}
@@ -64,10 +65,10 @@ HasBadNumber chapter = (chapter.number ≡ 0) ⊎ (2 ^ 62 ≤ chapter.number)
 abbrev pub HasBadEvent : ℕ → Reason → WrittenOf → Type 0
 HasBadEvent event reason chapter = IsWhyUnlawful (opening_of chapter) chapter.events event reason
 
--- why octets tell no history
+-- why octets tell no history; of a bad line that the lines before it are an archive
 abbrev pub IsWhyNoHistory : List ℕ → HistoryFault → Type 0
 IsWhyNoHistory octets Empty = octets ≡ []
-IsWhyNoHistory octets (BadLine line) = Unit {0}
+IsWhyNoHistory octets (BadLine line) = HasLinesBefore octets line
 IsWhyNoHistory octets (BadEntry chapter fault) = TellsChapter octets chapter (HasBadEntry fault)
 IsWhyNoHistory octets (BadNumber chapter) = TellsChapter octets chapter HasBadNumber
 IsWhyNoHistory octets (NotLegal chapter event line reason) = TellsChapter octets chapter (HasBadEvent event reason)
