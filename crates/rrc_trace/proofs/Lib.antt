@@ -26,4 +26,5 @@ pub mod CancelLemmas
 pub mod CancelFields
 pub mod CancelEvents
 pub mod CancelChapters
+pub mod HeldLemmas
 pub mod ArchiveLemmas

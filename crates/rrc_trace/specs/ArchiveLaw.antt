@@ -79,3 +79,7 @@ pub record HoldsChapter (chapter : WrittenOf) : Type 0 where
 abbrev pub OneArchive : Type 0
 OneArchive = (chapters others : List WrittenOf) → AllByRecursion HoldsChapter chapters → AllByRecursion HoldsChapter others
     → archive_text chapters ≡ archive_text others → chapters ≡ others
+
+-- no other chapters that Rust holds have these octets as their text
+abbrev pub IsOnlyArchive : List ℕ → List WrittenOf → Type 0
+IsOnlyArchive octets chapters = (others : List WrittenOf) → AllByRecursion HoldsChapter others → octets ≡ archive_text others → others ≡ chapters

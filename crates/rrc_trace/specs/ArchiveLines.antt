@@ -4,6 +4,7 @@
 use Rattle.std.specs.Prelude.{◌≡◌, ◌==◌, ◌≤◌, ℕ, Bool, List, ◌++◌, length}
 use Rattle.std.specs.List.{count_by}
 use Rattle.rrc_trace.specs.Archive.{WrittenOf, archive_text, head_text, entry_text, event_text}
+use Rattle.rrc_trace.specs.ArchiveLaw.{IsNumber, HoldsEntry, HoldsEvent}
 use Rattle.rrc_trace.specs.declared.archive.ArchiveFault.{ArchiveFault}
 use Rattle.rrc_trace.specs.declared.archive.ArchiveFault.TheVariants.{BadLine, Memory}
 use Rattle.rrc_trace.specs.declared.read.said.Said.{Said}
@@ -34,6 +35,12 @@ abbrev pub said_text : Said → List ℕ
 said_text (said.Chapter number first rules) = head_text number first rules
 said_text (said.Entry entry) = entry_text entry
 said_text (said.Event event) = event_text event
+
+-- what Rust holds of a line
+abbrev pub HoldsSaid : Said → Type 0
+HoldsSaid (said.Chapter number first rules) = IsNumber number × IsNumber first
+HoldsSaid (said.Entry entry) = HoldsEntry entry
+HoldsSaid (said.Event event) = HoldsEvent event
 
 -- the first line of octets, with its LF, and the octets behind it
 pub record IsCutBehindLf (octets line behind : List ℕ) : Type 0 where

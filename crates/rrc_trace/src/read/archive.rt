@@ -1,8 +1,9 @@
 // SPDX-License-Identifier: MIT
 ghost use Rattle.std.specs.Prelude.{◌≡◌, ◌++◌, ◌==◌, ◌<◌, length, position, IfOk, IfErr, IfSome, OnOk};
 ghost use Rattle.rrc_trace.specs.Archive.{archive_text};
-ghost use Rattle.rrc_trace.specs.ArchiveLaw.{OneArchive};
-ghost use Rattle.rrc_trace.specs.ArchiveLines.{IsFaultOfArchive, IsCutBehindLf};
+ghost use Rattle.rrc_trace.specs.ArchiveLaw.{OneArchive, IsOnlyArchive, HoldsEntry, HoldsChapter};
+ghost use Rattle.std.specs.List.{AllByRecursion};
+ghost use Rattle.rrc_trace.specs.ArchiveLines.{HoldsSaid, IsFaultOfArchive, IsCutBehindLf};
 
 use crate::archive::{ArchiveFault, WrittenChapter};
 use crate::read::body::body_at;
@@ -18,7 +19,9 @@ use rrc_history::{Entry, Rules};
 use std::alloc::Global;
 
 /// What a line says whose first word was `chapter`.
-fn head_in(octets: &[u8]) -> Result<Said, LineFault> {
+fn head_in(octets: &[u8]) -> Result<Said, LineFault>
+    ensures held { IfOk result HoldsSaid }
+{
     let (number, rest) = count_at(octets)?;
     let (first, rest) = count_at(rest)?;
     let (capacity, rest) = count_at(rest)?;
@@ -35,7 +38,9 @@ fn head_in(octets: &[u8]) -> Result<Said, LineFault> {
 }
 
 /// The entry of a line whose first word was `entry`.
-fn entry_in(alloc: Global, octets: &[u8]) -> Result<Entry, LineFault> {
+fn entry_in(alloc: Global, octets: &[u8]) -> Result<Entry, LineFault>
+    ensures held { IfOk result HoldsEntry }
+{
     let (number, rest) = count_at(octets)?;
     let (moment, rest) = count_at(rest)?;
     let (key, rest) = key_at(alloc, rest)?;
@@ -49,7 +54,9 @@ fn entry_in(alloc: Global, octets: &[u8]) -> Result<Entry, LineFault> {
 }
 
 /// What the fields of a line without its LF say. Whether there are more of them is not looked at.
-fn said_in(alloc: Global, octets: &[u8]) -> Result<Said, LineFault> {
+fn said_in(alloc: Global, octets: &[u8]) -> Result<Said, LineFault>
+    ensures held { IfOk result HoldsSaid }
+{
     let (word, rest) = field_at(octets)?;
     if word == b"chapter".as_slice() {
         head_in(rest)
@@ -74,7 +81,9 @@ fn add_line(
     buffer: &mut Vec<u8>,
     line: &[u8],
 ) -> Result<(), LineFault>
-    ensures { OnOk result (archive_text chapters.new ≡ archive_text chapters.old ++ line.now) }
+    requires { AllByRecursion HoldsChapter chapters.old }
+    ensures held { OnOk result (AllByRecursion HoldsChapter chapters.new) }
+    ensures text { OnOk result (archive_text chapters.new ≡ archive_text chapters.old ++ line.now) }
 {
     let said = said_in(alloc, &line[..line.len().saturating_sub(1)])?;
     if !said.is_written_as(alloc, buffer, line)? {
@@ -98,6 +107,7 @@ fn cut_behind_lf(octets: &[u8]) -> Option<(&[u8], &[u8])>
 /// `Memory` comes at will. The time goes with the octets, and so does the memory.
 pub fn read_archive(alloc: Global, octets: &[u8]) -> Result<Vec<WrittenChapter>, ArchiveFault>
     ensures ok { IfOk result (λ chapters. octets.now ≡ archive_text chapters.items) }
+    ensures only { IfOk result (λ chapters. IsOnlyArchive octets.now chapters.items) }
     ensures line { IfErr result (IsFaultOfArchive octets.now) }
 {
     let mut chapters = Chapters::new(alloc);

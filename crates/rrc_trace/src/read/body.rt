@@ -1,28 +1,60 @@
 // SPDX-License-Identifier: MIT
+ghost use Rattle.std.specs.Prelude.{IfOk, OnOk};
+ghost use Rattle.hex.specs.Hex.{IsBytes};
+ghost use Rattle.rrc_name.specs.Wire.{IsWireForm};
+ghost use Rattle.rrc_trace.specs.ArchiveLaw.{IsNumber, HoldsItems, HoldsBody};
+
 use crate::read::field::field_at;
 use crate::read::item::cut_at_comma;
 use crate::read::line_fault::LineFault;
 use crate::read::number::{trust_at, ttl_at};
-use crate::read::octets::{message_at, octets_in};
+use crate::read::octets::octets_in;
 use crate::read::slot::owner_at;
 use rrc_history::{Body, Trust};
 use rrc_name::{Name, Octets, Sequence, Shared};
 use std::alloc::Global;
 
 /// Items in hexadecimal with a comma between two, one at least. Repeats are kept.
-fn items_in(alloc: Global, field: &[u8]) -> Result<Sequence<Octets>, LineFault> {
+/// Octets are below 256. The function does nothing.
+fn tell_octets(octets: &[u8])
+    ensures { IsBytes octets.now }
+{
+    let _ = octets;
+}
+
+/// Octets in hexadecimal, or a dash for none.
+fn item_in(alloc: Global, piece: &[u8]) -> Result<Octets, LineFault>
+    ensures held { IfOk result IsBytes }
+{
+    let item = octets_in(alloc, piece)?;
+    tell_octets(item.as_slice());
+    Ok(item)
+}
+
+fn add_item(alloc: Global, items: &mut Sequence<Octets>, piece: &[u8]) -> Result<(), LineFault>
+    requires { HoldsItems items.old }
+    ensures held { OnOk result (HoldsItems items.new) }
+{
+    let item = item_in(alloc, piece)?;
+    items.push(item)?;
+    Ok(())
+}
+
+fn items_in(alloc: Global, field: &[u8]) -> Result<Sequence<Octets>, LineFault>
+    ensures held { IfOk result HoldsItems }
+{
     let mut items = Sequence::new(alloc);
     let mut rest = field;
     for _seen in 0..field.len() {
         match cut_at_comma(rest) {
             Some((piece, more)) => {
-                items.push(octets_in(alloc, piece)?)?;
+                add_item(alloc, &mut items, piece)?;
                 rest = more;
             }
             None => break,
         }
     }
-    items.push(octets_in(alloc, rest)?)?;
+    add_item(alloc, &mut items, rest)?;
     Ok(items)
 }
 
@@ -30,27 +62,35 @@ fn items_in(alloc: Global, field: &[u8]) -> Result<Sequence<Octets>, LineFault> 
 pub(crate) fn data_at(
     alloc: Global,
     octets: &[u8],
-) -> Result<(Shared<Sequence<Octets>>, &[u8]), LineFault> {
+) -> Result<(Shared<Sequence<Octets>>, &[u8]), LineFault>
+    ensures held { IfOk result (λ found. HoldsItems found.0) }
+{
     let (field, rest) = field_at(octets)?;
     Ok((Shared::new(alloc, items_in(alloc, field)?)?, rest))
 }
 
 /// The data of an SOA record, and the octets behind them.
-pub(crate) fn soa_at(alloc: Global, octets: &[u8]) -> Result<(Shared<Octets>, &[u8]), LineFault> {
-    let (soa, rest) = message_at(alloc, octets)?;
-    Ok((Shared::new(alloc, soa)?, rest))
+pub(crate) fn soa_at(alloc: Global, octets: &[u8]) -> Result<(Shared<Octets>, &[u8]), LineFault>
+    ensures held { IfOk result (λ found. IsBytes found.0) }
+{
+    let (field, rest) = field_at(octets)?;
+    Ok((Shared::new(alloc, item_in(alloc, field)?)?, rest))
 }
 
 /// How far data are trusted, for how many seconds they live and whose they are, and the octets
 /// behind these.
-fn source_at(alloc: Global, octets: &[u8]) -> Result<(Trust, u32, Name, &[u8]), LineFault> {
+fn source_at(alloc: Global, octets: &[u8]) -> Result<(Trust, u32, Name, &[u8]), LineFault>
+    ensures held { IfOk result (λ found. IsNumber found.1 × IsWireForm found.2) }
+{
     let (trust, rest) = trust_at(octets)?;
     let (ttl, rest) = ttl_at(rest)?;
     let (owner, rest) = owner_at(alloc, rest)?;
     Ok((trust, ttl, owner, rest))
 }
 
-fn positive_at(alloc: Global, octets: &[u8]) -> Result<(Body, &[u8]), LineFault> {
+fn positive_at(alloc: Global, octets: &[u8]) -> Result<(Body, &[u8]), LineFault>
+    ensures held { IfOk result (λ found. HoldsBody found.0) }
+{
     let (trust, ttl, owner, rest) = source_at(alloc, octets)?;
     let (items, rest) = data_at(alloc, rest)?;
     let body = Body::Positive {
@@ -62,7 +102,9 @@ fn positive_at(alloc: Global, octets: &[u8]) -> Result<(Body, &[u8]), LineFault>
     Ok((body, rest))
 }
 
-fn negative_at(alloc: Global, octets: &[u8]) -> Result<(Body, &[u8]), LineFault> {
+fn negative_at(alloc: Global, octets: &[u8]) -> Result<(Body, &[u8]), LineFault>
+    ensures held { IfOk result (λ found. HoldsBody found.0) }
+{
     let (trust, ttl, soa_owner, rest) = source_at(alloc, octets)?;
     let (soa, rest) = soa_at(alloc, rest)?;
     let body = Body::Negative {
@@ -74,13 +116,17 @@ fn negative_at(alloc: Global, octets: &[u8]) -> Result<(Body, &[u8]), LineFault>
     Ok((body, rest))
 }
 
-fn failure_at(octets: &[u8]) -> Result<(Body, &[u8]), LineFault> {
+fn failure_at(octets: &[u8]) -> Result<(Body, &[u8]), LineFault>
+    ensures held { IfOk result (λ found. HoldsBody found.0) }
+{
     let (ttl, rest) = ttl_at(octets)?;
     Ok((Body::Failure { ttl }, rest))
 }
 
 /// What a key holds, or is to hold, and the octets behind it.
-pub(crate) fn body_at(alloc: Global, octets: &[u8]) -> Result<(Body, &[u8]), LineFault> {
+pub(crate) fn body_at(alloc: Global, octets: &[u8]) -> Result<(Body, &[u8]), LineFault>
+    ensures held { IfOk result (λ found. HoldsBody found.0) }
+{
     let (word, rest) = field_at(octets)?;
     if word == b"set".as_slice() {
         positive_at(alloc, rest)

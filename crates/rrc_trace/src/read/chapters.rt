@@ -1,7 +1,9 @@
 // SPDX-License-Identifier: MIT
 ghost use Rattle.std.specs.Prelude.{◌≡◌, ◌∷◌, ◌++◌, [], List, IfOk, OnOk};
 ghost use Rattle.rrc_trace.specs.Archive.{WrittenOf, chapter_text, archive_text, entry_text, event_text};
-ghost use Rattle.rrc_trace.specs.ArchiveLines.{said_text};
+ghost use Rattle.rrc_trace.specs.ArchiveLaw.{HoldsEntry, HoldsEvent, HoldsChapter};
+ghost use Rattle.rrc_trace.specs.ArchiveLines.{said_text, HoldsSaid};
+ghost use Rattle.std.specs.List.{AllByRecursion};
 ghost use Rattle.std.specs.Option.{option_to_list};
 
 use crate::archive::WrittenChapter;
@@ -31,7 +33,10 @@ impl Model for Chapters {
 
 /// Puts an entry behind the others. None comes behind an event.
 fn add_entry(chapter: &mut WrittenChapter, entry: Entry) -> Result<(), LineFault>
-    ensures { OnOk result (chapter_text chapter.new ≡ chapter_text chapter.old ++ (entry_text entry ++ 10 ∷ [])) }
+    requires chapter { HoldsChapter chapter.old }
+    requires entry { HoldsEntry entry }
+    ensures held { OnOk result (HoldsChapter chapter.new) }
+    ensures text { OnOk result (chapter_text chapter.new ≡ chapter_text chapter.old ++ (entry_text entry ++ 10 ∷ [])) }
 {
     if !chapter.events.is_empty() {
         return Err(LineFault::NotOne);
@@ -42,7 +47,10 @@ fn add_entry(chapter: &mut WrittenChapter, entry: Entry) -> Result<(), LineFault
 
 /// Puts an event behind the others.
 fn add_event(chapter: &mut WrittenChapter, event: Event) -> Result<(), LineFault>
-    ensures { OnOk result (chapter_text chapter.new ≡ chapter_text chapter.old ++ (event_text event ++ 10 ∷ [])) }
+    requires chapter { HoldsChapter chapter.old }
+    requires event { HoldsEvent event }
+    ensures held { OnOk result (HoldsChapter chapter.new) }
+    ensures text { OnOk result (chapter_text chapter.new ≡ chapter_text chapter.old ++ (event_text event ++ 10 ∷ [])) }
 {
     chapter.events.push(event)?;
     Ok(())
@@ -72,7 +80,10 @@ impl Chapters {
     /// Puts what a line says behind what those before it said. `NotOne` where no chapter has begun,
     /// and for an entry behind an event.
     pub(crate) fn add(&mut self, alloc: Global, said: Said) -> Result<(), LineFault>
-        ensures { OnOk result (archive_text self.new ≡ archive_text self.old ++ (said_text said ++ 10 ∷ [])) }
+        requires chapters { AllByRecursion HoldsChapter self.old }
+        requires said { HoldsSaid said }
+        ensures held { OnOk result (AllByRecursion HoldsChapter self.new) }
+        ensures text { OnOk result (archive_text self.new ≡ archive_text self.old ++ (said_text said ++ 10 ∷ [])) }
     {
         match said {
             Said::Chapter {

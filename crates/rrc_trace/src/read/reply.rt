@@ -1,4 +1,9 @@
 // SPDX-License-Identifier: MIT
+ghost use Rattle.std.specs.Prelude.{IfOk};
+ghost use Rattle.hex.specs.Hex.{IsBytes};
+ghost use Rattle.rrc_name.specs.Wire.{IsWireForm};
+ghost use Rattle.rrc_trace.specs.ArchiveLaw.{IsNumber, HoldsItems, HoldsReply};
+
 use crate::read::body::{data_at, soa_at};
 use crate::read::field::{field_at, has_field};
 use crate::read::line_fault::LineFault;
@@ -8,7 +13,9 @@ use rrc_history::{Reply, RrSet, Soa};
 use std::alloc::Global;
 
 /// How many seconds a set has to live, and the set.
-fn set_in(alloc: Global, octets: &[u8]) -> Result<(u32, RrSet), LineFault> {
+fn set_in(alloc: Global, octets: &[u8]) -> Result<(u32, RrSet), LineFault>
+    ensures held { IfOk result (λ found. IsNumber found.0 × (IsWireForm found.1.owner × HoldsItems found.1.items)) }
+{
     let (left, rest) = ttl_at(octets)?;
     let (owner, rest) = owner_at(alloc, rest)?;
     let (items, _) = data_at(alloc, rest)?;
@@ -16,7 +23,9 @@ fn set_in(alloc: Global, octets: &[u8]) -> Result<(u32, RrSet), LineFault> {
 }
 
 /// How many seconds a negative answer has to live, and its SOA record.
-fn soa_in(alloc: Global, octets: &[u8]) -> Result<(u32, Soa), LineFault> {
+fn soa_in(alloc: Global, octets: &[u8]) -> Result<(u32, Soa), LineFault>
+    ensures held { IfOk result (λ found. IsNumber found.0 × (IsWireForm found.1.owner × IsBytes found.1.octets)) }
+{
     let (left, rest) = ttl_at(octets)?;
     let (owner, rest) = owner_at(alloc, rest)?;
     let (octets, _) = soa_at(alloc, rest)?;
@@ -24,7 +33,9 @@ fn soa_in(alloc: Global, octets: &[u8]) -> Result<(u32, Soa), LineFault> {
 }
 
 /// From when on it may be tried again, if that is told.
-fn miss_in(octets: &[u8]) -> Result<Reply, LineFault> {
+fn miss_in(octets: &[u8]) -> Result<Reply, LineFault>
+    ensures held { IfOk result HoldsReply }
+{
     if !has_field(octets) {
         return Ok(Reply::Miss { retry_from: None });
     }
@@ -35,7 +46,9 @@ fn miss_in(octets: &[u8]) -> Result<Reply, LineFault> {
 }
 
 /// The reply that the fields to the end of a line say.
-pub(crate) fn reply_in(alloc: Global, octets: &[u8]) -> Result<Reply, LineFault> {
+pub(crate) fn reply_in(alloc: Global, octets: &[u8]) -> Result<Reply, LineFault>
+    ensures held { IfOk result HoldsReply }
+{
     let (word, rest) = field_at(octets)?;
     if word == b"fresh".as_slice() {
         let (left, set) = set_in(alloc, rest)?;

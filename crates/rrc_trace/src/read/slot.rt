@@ -1,4 +1,8 @@
 // SPDX-License-Identifier: MIT
+ghost use Rattle.std.specs.Prelude.{IfOk};
+ghost use Rattle.rrc_name.specs.Wire.{IsWireForm};
+ghost use Rattle.rrc_trace.specs.ArchiveLaw.{IsNumber, HoldsSlot, HoldsKey};
+
 use crate::kind::IN;
 use crate::read::field::field_at;
 use crate::read::line_fault::LineFault;
@@ -8,7 +12,9 @@ use rrc_name::{Key, Name, Slot};
 use std::alloc::Global;
 
 /// A type, `nx`, or `failed` and a type.
-fn slot_in(text: &[u8]) -> Result<Slot, LineFault> {
+fn slot_in(text: &[u8]) -> Result<Slot, LineFault>
+    ensures held { IfOk result HoldsSlot }
+{
     if text == b"nx".as_slice() {
         return Ok(Slot::Nx);
     }
@@ -19,7 +25,9 @@ fn slot_in(text: &[u8]) -> Result<Slot, LineFault> {
 }
 
 /// A slot, and the class behind a slash, or IN, and the octets behind them.
-fn slot_at(octets: &[u8]) -> Result<(Slot, u16, &[u8]), LineFault> {
+fn slot_at(octets: &[u8]) -> Result<(Slot, u16, &[u8]), LineFault>
+    ensures held { IfOk result (λ found. HoldsSlot found.0 × IsNumber found.1) }
+{
     let (field, rest) = field_at(octets)?;
     match first_slash(field) {
         Some(place) => {
@@ -32,14 +40,23 @@ fn slot_at(octets: &[u8]) -> Result<(Slot, u16, &[u8]), LineFault> {
 }
 
 /// A name in its spelling, and the octets behind it.
-pub(crate) fn owner_at(alloc: Global, octets: &[u8]) -> Result<(Name, &[u8]), LineFault> {
+pub(crate) fn owner_at(alloc: Global, octets: &[u8]) -> Result<(Name, &[u8]), LineFault>
+    ensures held { IfOk result (λ found. IsWireForm found.0) }
+{
     let (field, rest) = field_at(octets)?;
-    Ok((name_in(alloc, field)?, rest))
+    let name = name_in(alloc, field)?;
+    // The length is read for what it tells: the name is a wire form.
+    let _ = name.len();
+    Ok((name, rest))
 }
 
 /// A key, and the octets behind it. Its name is folded, however it is spelled.
-pub(crate) fn key_at(alloc: Global, octets: &[u8]) -> Result<(Key, &[u8]), LineFault> {
+pub(crate) fn key_at(alloc: Global, octets: &[u8]) -> Result<(Key, &[u8]), LineFault>
+    ensures held { IfOk result (λ found. HoldsKey found.0) }
+{
     let (name, rest) = owner_at(alloc, octets)?;
     let (slot, class, rest) = slot_at(rest)?;
-    Ok((Key::of(&name, class, slot)?, rest))
+    let key = Key::of(&name, class, slot)?;
+    let _ = key.name();
+    Ok((key, rest))
 }
