@@ -1,4 +1,5 @@
 // SPDX-License-Identifier: MIT
+mod archives;
 mod gates;
 
 use gates::{Crowd, Pair};
