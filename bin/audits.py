@@ -15,6 +15,7 @@ from trials import RANGES
 NUMBER, SLOT = re.compile(r"0|[1-9][0-9]*"), re.compile(r"(nx)|(failed)?([0-9]+)")
 ITEM = re.compile(r"-|(?:[0-9a-f]{2})+")
 SPENT = 2**62
+NONE_DUE = "none, since the numbers are spent or the moment is above 2^40"
 # Which body goes with which slots of a key.
 FITTING = {"positive": ("set",), "negative": ("set", "nx"), "failure": ("failed",)}
 
@@ -217,7 +218,7 @@ def read_archive(octets):
 
 class Unlawful(NamedTuple):
     """The first event that is not right: the place of its chapter in the archive and its own there,
-    and the line, all from 0, the event, what it is to be, if its call may be made, and what its
+    and the line, all from 0, the event, and, if its call may be made, what it is to be and what its
     keys held."""
 
     chapter: int
@@ -227,16 +228,11 @@ class Unlawful(NamedTuple):
     due: str | None
     held: tuple
 
-    def where(self):
-        """Where the event is, in a sentence."""
-        return f"event {self.event} of chapter {self.chapter} is not right after those before it"
-
     def lines(self):
         yield f"not legal: chapter {self.chapter} of the archive, event {self.event}" \
               f" (line {self.line})"
         yield f"written: {self.written}"
-        if self.due is not None:
-            yield f"due: {self.due}"
+        yield f"due: {self.due or NONE_DUE}"
         yield from (f"held: {it}" for it in self.held)
 
 
@@ -284,11 +280,11 @@ def begun(chapter):
 
 def wrong_event(part, chapter):
     """Makes the calls of a chapter's events again: the place of the first event that is not what
-    its call writes, that, and what its keys held before it."""
+    its call writes, that, if the call may be made, and what its keys held before it."""
     for place, event in enumerate(chapter.events):
-        held = [part.held[it] for it in keys_of(event.call) if it in part.held]
         if part.number >= SPENT or event.call.at > MOMENT_MOST:
-            return place, None, held
+            return place, None, []
+        held = [part.held[it] for it in keys_of(event.call) if it in part.held]
         due = event._replace(result=result_of(part, event.call))
         if due != event:
             return place, due, held

@@ -159,6 +159,11 @@ AUDITED = [
      "not legal: chapter 2 of the archive, event 0 (line 14)\n"
      "written: sweep 8 0 300 c. 16/4\n"
      "due: sweep 8 0 300 b. failed28 c. 16/4"),
+    (2, " 150 ", " 1099511627777 ",
+     "not legal: chapter 0 of the archive, event 1 (line 2)\n"
+     "written: ask 1 0 1099511627777 a.example. 1 answer none fresh 10 a.Example."
+     " c0000201,c0000202\n"
+     "due: none, since the numbers are spent or the moment is above 2^40"),
     (6, "c0000202", "c0000203", "OtherContents 1"),
     (11, "chapter 3", "chapter 4", "NumberGap 2"),
     (5, "chapter 2 4", "chapter 2 5", "NumberGap 1"),
