@@ -132,6 +132,8 @@
    - `rrcache_write_chapter` writes a chapter that was taken as text: a line for what it begins
      with, for each key that was held then, and for each event. All chapters of one record, written
      one behind another as they were taken, are an archive, which `rrcache --audit-history` judges.
+     Chapters have numbers from 1 on, those that were not recorded too, so the first of a record has
+     the number 2 or a larger one.
    - Numbers are spent where the next event would have the number 2^62, whether it is recorded or
      not, or where the open chapter is full and has that number. From then on each call that is to
      write an event is refused with RRCACHE_HISTORY_FULL, whatever is dropped; `rrcache_peek` still
