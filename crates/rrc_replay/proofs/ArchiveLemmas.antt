@@ -39,7 +39,7 @@ told all place chapter Holds stands so = record { chapters = all; text = refl; c
 pub told_among : (before : List WrittenOf) (chapter : WrittenOf) (behind all : List WrittenOf) (place : ℕ) (fault : HistoryFault)
     → before ++ chapter ∷ behind ≡ all → place ≡ length before → IsFaultAt place chapter fault → IsWhyNoHistory (archive_text all) fault
 told_among before chapter behind all place Empty are is why = absurd why
-told_among before chapter behind all place (BadLine line) are is why = tt
+told_among before chapter behind all place (BadLine line) are is why = absurd why
 told_among before chapter behind all place (BadEntry at fault) are is why =
     told all at chapter _ (stands_at before chapter behind all at are (why.0 ∙ is)) why.1
 told_among before chapter behind all place (BadNumber at) are is why =
