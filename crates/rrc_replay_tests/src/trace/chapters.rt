@@ -1,10 +1,9 @@
 // SPDX-License-Identifier: MIT
 use super::archives::{Held, KeyText, body, folded, key};
+use rrc_cache::Part;
 use rrc_history::{Ask, Chapter, Mode, Offer, Purpose, Rules, Tag, Trust};
 use rrc_name::Slot;
-use rrc_share::{
-    SharedCache, Shelf, on_shelf_ask, on_shelf_checkpoint, on_shelf_offer, on_shelf_sweep,
-};
+use rrc_share::{Shelf, on_shelf_ask, on_shelf_checkpoint, on_shelf_offer, on_shelf_sweep};
 use rrc_trace::{archive_line, write_archive_line, write_chapter};
 use std::alloc::Global;
 use std::process::Abort;
@@ -99,14 +98,12 @@ fn make_all(rt: &impl Abort, alloc: Global, shelf: &mut Shelf) {
 }
 
 /// The shelf of a part of two keys on which the calls were made.
-fn shelves(rt: &impl Abort, alloc: Global) -> Vec<Shelf> {
+fn shelf(rt: &impl Abort, alloc: Global) -> Shelf {
     let rules = Rules::new(2, 64, 86_400).expect(rt, "rules");
-    let cache = SharedCache::new(alloc, 1, rules).expect(rt, "a cache");
-    let mut shelves = cache.into_parts();
-    if let Some(shelf) = shelves.first_mut() {
-        make_all(rt, alloc, shelf);
-    }
-    shelves
+    let part = Part::new(alloc, rules).expect(rt, "a part");
+    let mut shelf = Shelf::new(alloc, part);
+    make_all(rt, alloc, &mut shelf);
+    shelf
 }
 
 /// The text of a chapter, written at once.
@@ -146,9 +143,6 @@ fn are_told(rt: &impl Abort, alloc: Global, shelf: &Shelf) -> bool {
 
 #[test]
 fn chapters_have_a_text(rt: HostRuntime) {
-    let shelves = shelves(&rt, rt.alloc());
-    for shelf in &shelves {
-        assert!(rt; are_told(&rt, rt.alloc(), shelf));
-    }
-    assert!(rt; shelves.len() == 1);
+    let shelf = shelf(&rt, rt.alloc());
+    assert!(rt; are_told(&rt, rt.alloc(), &shelf));
 }
