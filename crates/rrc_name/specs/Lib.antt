@@ -6,6 +6,7 @@ pub mod Text
 pub mod Reading
 pub mod WireFault
 pub mod Key
+pub mod NameRef
 pub mod KeyRef
 pub mod Parts
 pub mod classless

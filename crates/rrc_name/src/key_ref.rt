@@ -1,6 +1,6 @@
 // SPDX-License-Identifier: MIT
 use crate::key::Key;
-use crate::name::Name;
+use crate::name_ref::NameRef;
 use crate::slot::Slot;
 use std::alloc::AllocError;
 use std::collections::hash_map::Equivalent;
@@ -10,7 +10,7 @@ use std::hash::{Hash, Hasher};
 /// key in a map, without a key of its own.
 #[derive(Debug)]
 pub struct KeyRef<'a> {
-    pub name: &'a Name,
+    pub name: NameRef<'a>,
     pub class: u16,
     pub slot: Slot,
 }
@@ -24,7 +24,7 @@ impl<'a> KeyRef<'a> {
         ensures value { key_of result ≡ key.now }
     {
         KeyRef {
-            name: &key.name,
+            name: key.name.as_ref(),
             class: key.class,
             slot: key.slot,
         }
@@ -56,7 +56,7 @@ impl PartialEq for KeyRef<'_> {
     ghost laws = { partial_equiv_from_equiv (on_equiv key_of key_eq-laws) };
 
     fn eq(&self, other: &Self) -> bool {
-        self.slot == other.slot && self.class == other.class && *self.name == *other.name
+        self.slot == other.slot && self.class == other.class && self.name == other.name
     }
 }
 
@@ -95,6 +95,6 @@ impl Equivalent<Key> for KeyRef<'_> {
     ghost respects_eq = { λ wanted a b. key_eq-laws.congr (key_of wanted) a b };
 
     fn equivalent(&self, key: &Key) -> bool {
-        self.slot == key.slot && self.class == key.class && *self.name == key.name
+        self.slot == key.slot && self.class == key.class && self.name == key.name.as_ref()
     }
 }

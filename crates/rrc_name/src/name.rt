@@ -7,6 +7,7 @@ ghost use Rattle.rrc_name.specs.Text.{Spells, IsFirstFaultOf, text_of};
 ghost use Rattle.rrc_name.specs.WireFault.{IsFirstFaultOfWire};
 
 use crate::fault::{NameFault, WireNameFault};
+use crate::name_ref::NameRef;
 use crate::octets::Octets;
 use crate::shared::Shared;
 use crate::{order, printed, text, wire};
@@ -146,6 +147,17 @@ fn is_folded(wire: &[u8]) -> bool
 {
     wire.iter()
         .all(|octet| octet.to_ascii_lowercase() == *octet)
+}
+
+impl Name {
+    ghost use Rattle.rrc_name.specs.NameRef.{name_in};
+
+    /// The name, lent.
+    pub fn as_ref(&self) -> NameRef<'_>
+        ensures { name_in result ≡ self.now }
+    {
+        NameRef::lent(self.as_slice())
+    }
 }
 
 impl Clone for Name {
