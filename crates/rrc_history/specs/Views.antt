@@ -1,6 +1,9 @@
 -- SPDX-License-Identifier: MIT
 -- What is borrowed where it is kept, as the definitions speak of it.
 use Rattle.std.specs.Option.{option_map}
+use Rattle.rrc_name.specs.NameRef.{name_in}
+use Rattle.rrc_history.specs.Asked.{AskOf}
+use Rattle.rrc_history.specs.declared.ask_ref.AskRef.{AskRef}
 use Rattle.rrc_history.specs.declared.event.Reply.{Reply}
 use Rattle.rrc_history.specs.declared.event.Reply.TheVariants.{Fresh, Stale, NoData, NxDomain, Miss}
 use Rattle.rrc_history.specs.declared.snapshot.Entry.{Entry}
@@ -9,6 +12,10 @@ use Rattle.rrc_history.specs.declared.judge.Found.{Found}
 use Rattle.rrc_history.specs.declared.reply.ReplyRef.{ReplyRef}
 use Rattle.rrc_history.specs.declared.reply.ReplyRef.TheVariants.{Fresh as FreshRef, Stale as StaleRef, NoData as NoDataRef, NxDomain as NxDomainRef, Miss as MissRef}
 use Rattle.rrc_history.specs.Judged as judged
+
+-- an ask whose name is lent, as the ask that it is
+abbrev pub ask_in : AskRef → AskOf
+ask_in ask = record { name = name_in ask.name; class = ask.class; rtype = ask.rtype; moment = ask.moment; purpose = ask.purpose; mode = ask.mode }
 
 -- what a key holds, as the entry that it is
 abbrev pub held_in : Held → Entry

@@ -1,5 +1,6 @@
 // SPDX-License-Identifier: MIT
-use rrc_name::{KeyRef, Name, Slot};
+use crate::ask_ref::AskRef;
+use rrc_name::Name;
 use std::alloc::AllocError;
 use std::marker::Model;
 
@@ -49,17 +50,19 @@ impl Model for Ask {
 
 impl Ask {
     ghost use Rattle.std.specs.Prelude.{◌≡◌};
-    ghost use Rattle.rrc_name.specs.KeyRef.{key_of};
-    ghost use Rattle.rrc_history.specs.Past.{key_at};
+    ghost use Rattle.rrc_history.specs.Views.{ask_in};
 
-    /// The key of a slot of the name in the class, to look up with.
-    pub fn key_at(&self, slot: Slot) -> KeyRef<'_>
-        ensures { key_of result ≡ key_at self.now slot }
+    /// The ask, lent.
+    pub fn as_ref(&self) -> AskRef<'_>
+        ensures { ask_in result ≡ self.now }
     {
-        KeyRef {
-            name: &self.name,
+        AskRef {
+            name: self.name.as_ref(),
             class: self.class,
-            slot,
+            rtype: self.rtype,
+            moment: self.moment,
+            purpose: self.purpose,
+            mode: self.mode,
         }
     }
 }

@@ -88,6 +88,7 @@ fn is_right_ask(snapshot: &Snapshot, past: &[Event], ask: &Ask, reply: &Reply) -
         return false;
     }
     let rules = snapshot.rules;
+    let ask = ask.as_ref();
     judge::is_reply(past::found(snapshot, past, ask), ask, rules.stale, reply)
 }
 

@@ -6,9 +6,10 @@ ghost use Rattle.rrc_history.specs.Judged.{outranks, verdict, later_governs, gov
 ghost use Rattle.rrc_history.specs.declared.event.Reply.TheVariants.{Miss};
 ghost use Rattle.rrc_history.specs.Past.{is_evicted};
 ghost use Rattle.rrc_history.specs.Auditing.{moment_eq, reply_eq};
-ghost use Rattle.rrc_history.specs.Views.{held_in, found_in, reply_in};
+ghost use Rattle.rrc_history.specs.Views.{ask_in, held_in, found_in, reply_in};
 
-use crate::ask::{Ask, Mode, Purpose};
+use crate::ask::{Mode, Purpose};
+use crate::ask_ref::AskRef;
 use crate::body::{Body, Trust};
 use crate::event::{Outcome, Reply};
 use crate::offer::Offer;
@@ -246,12 +247,12 @@ fn reply_of_soa<'a>(slot: Slot, soa: SoaRef<'a>, ttl: u32, age: u64) -> Option<R
 /// The answer of an entry, if it has one.
 fn reply_of_entry<'a>(
     entry: Held<'a>,
-    ask: &Ask,
+    ask: AskRef<'_>,
     stale: u64,
     failure: Option<Held<'_>>,
 ) -> Option<ReplyRef<'a>>
     requires { stale ≤ 604800 }
-    ensures { option_map reply_in result ≡ reply_of_entry stale (held_in entry.entry) ask.now (option_map held_in failure.entry) }
+    ensures { option_map reply_in result ≡ reply_of_entry stale (held_in entry.entry) (ask_in ask.entry) (option_map held_in failure.entry) }
 {
     let age = ask.moment.saturating_sub(entry.moment);
     let key = entry.key;
@@ -290,12 +291,12 @@ fn reply_of_entry<'a>(
 /// 5.4.1). A stale answer waits for a recent failure where the ask's mode says so (RFC 8767 section 5). `None` is a miss.
 pub fn reply_of<'a>(
     governing: Option<Held<'a>>,
-    ask: &Ask,
+    ask: AskRef<'_>,
     stale: u64,
     failure: Option<Held<'_>>,
 ) -> Option<ReplyRef<'a>>
     requires { stale ≤ 604800 }
-    ensures { option_map reply_in result ≡ reply_of stale (option_map held_in governing.entry) (option_map held_in failure.entry) ask.now }
+    ensures { option_map reply_in result ≡ reply_of stale (option_map held_in governing.entry) (option_map held_in failure.entry) (ask_in ask.entry) }
 {
     let entry = governing?;
     if may_serve(ask.purpose, entry.body) {
@@ -328,9 +329,9 @@ fn is_miss_of(failure: Option<Held<'_>>, reply: &Reply) -> bool
 }
 
 /// Whether an ask is answered just this reply.
-pub(crate) fn is_reply(found: Found<'_>, ask: &Ask, stale: u64, reply: &Reply) -> bool
+pub(crate) fn is_reply(found: Found<'_>, ask: AskRef<'_>, stale: u64, reply: &Reply) -> bool
     requires { stale ≤ 604800 }
-    ensures { result ≡ reply_eq (reply_by stale (found_in found.entry) ask.now) reply.now }
+    ensures { result ≡ reply_eq (reply_by stale (found_in found.entry) (ask_in ask.entry)) reply.now }
 {
     let failure = recent_failure(found, ask.moment);
     let governing = governing(found.set, found.nx, ask.moment);
@@ -341,8 +342,8 @@ pub(crate) fn is_reply(found: Found<'_>, ask: &Ask, stale: u64, reply: &Reply) -
 }
 
 /// Whether the entry of a key gave a reply.
-pub(crate) fn is_answering(found: Found<'_>, ask: &Ask, reply: &Reply, key: &Key) -> bool
-    ensures { result ≡ is_evicted key.now (key_in (answering (found_in found.entry) ask.now reply.now)) }
+pub(crate) fn is_answering(found: Found<'_>, ask: AskRef<'_>, reply: &Reply, key: &Key) -> bool
+    ensures { result ≡ is_evicted key.now (key_in (answering (found_in found.entry) (ask_in ask.entry) reply.now)) }
 {
     if let Reply::Miss { .. } = reply {
         return false;

@@ -3,6 +3,7 @@
 #![tactic(auto)]
 
 mod ask;
+mod ask_ref;
 mod audits;
 mod body;
 mod chains;
@@ -22,6 +23,7 @@ mod rules;
 mod snapshot;
 
 pub use ask::{Ask, Mode, Purpose};
+pub use ask_ref::AskRef;
 pub use audits::{FirstBad, audit};
 pub use body::{Body, Trust};
 pub use chains::{ChainFault, Whole, chain, join_chained};

@@ -4,9 +4,9 @@ ghost use Rattle.std.specs.Option.{option_map};
 ghost use Rattle.rrc_name.specs.KeyRef.{key_of};
 ghost use Rattle.rrc_history.specs.Past.{held, touch, touched, entry_at, entry_of, place_of, is_among, is_evicted, found};
 ghost use Rattle.rrc_history.specs.Auditing.{held_after_event};
-ghost use Rattle.rrc_history.specs.Views.{held_in, found_in};
+ghost use Rattle.rrc_history.specs.Views.{ask_in, held_in, found_in};
 
-use crate::ask::Ask;
+use crate::ask_ref::AskRef;
 use crate::entry_list::EntryList;
 use crate::event::{Event, Outcome};
 use crate::judge::{self, Found, Held};
@@ -105,9 +105,9 @@ pub(crate) fn held<'a>(
 }
 
 /// What the keys of an ask hold.
-pub(crate) fn found<'a>(snapshot: &'a Snapshot, past: &'a [Event], ask: &Ask) -> Found<'a>
+pub(crate) fn found<'a>(snapshot: &'a Snapshot, past: &'a [Event], ask: AskRef<'_>) -> Found<'a>
     requires { snapshot.now.first + length past.now ≤ 2 ^ 62 }
-    ensures { found_in result ≡ found snapshot.now (reverse past.now) ask.now }
+    ensures { found_in result ≡ found snapshot.now (reverse past.now) (ask_in ask.entry) }
 {
     Found {
         set: held(snapshot, past, ask.key_at(Slot::Set(ask.rtype))),
@@ -129,6 +129,7 @@ fn is_touched(snapshot: &Snapshot, past: &[Event], event: &Event, key: &Key) -> 
         } => *key == offer.key,
         Event::Offered { .. } | Event::Swept { .. } => false,
         Event::Asked { ask, reply, .. } => {
+            let ask = ask.as_ref();
             judge::is_answering(found(snapshot, past, ask), ask, reply, key)
         }
     }
