@@ -9,6 +9,7 @@ pub mod Key
 pub mod NameRef
 pub mod KeyRef
 pub mod Parts
+pub mod RdataList
 pub mod classless
 pub mod Images
 pub mod lemmas
