@@ -7,7 +7,7 @@ use crate::numbers::Numbers;
 use crate::task::Task;
 use rrc_cache::Part;
 use rrc_history::{Ask, Body, Mode, Offer, Purpose, Rules, Trust};
-use rrc_name::{Key, Name, Octets, Sequence, Shared, Slot};
+use rrc_name::{Key, Name, Octets, RdataList, Shared, Slot};
 use std::alloc::Global;
 
 /// How many events the chapter has room for.
@@ -40,10 +40,9 @@ fn name(alloc: Global, number: u64) -> Option<Name> {
 }
 
 /// The data of a set of one address.
-fn address(alloc: Global) -> Option<Shared<Sequence<Octets>>> {
+fn address(alloc: Global) -> Option<Shared<RdataList>> {
     let octets = Octets::from_slice(alloc, &[192, 0, 2, 1]).ok()?;
-    let items = vec![in alloc; octets].ok()?;
-    Shared::new(alloc, Sequence::from_vec(items)).ok()
+    Shared::new(alloc, RdataList::one(octets)).ok()
 }
 
 /// A set of one address.

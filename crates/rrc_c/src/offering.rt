@@ -17,7 +17,7 @@ use crate::counts::{Bounds, Counts};
 use crate::division::{keyed_part_of, seed_of};
 use crate::status::Status;
 use rrc_history::{Body, Offer, Outcome, Tag, Trust};
-use rrc_name::{Key, Name, Octets, Sequence, Shared, Slot};
+use rrc_name::{Key, Name, Octets, RdataList, Sequence, Shared, Slot};
 use rrc_sets::Limits;
 use rrc_share::CacheShelf;
 use rrc_wire::{WireFault, is_kept, is_kept_class, plain_rdata};
@@ -129,9 +129,10 @@ fn set_offer(
     }
     let owner = name_of(alloc, owner)?;
     let key = Key::of(&owner, class, Slot::Set(rtype))?;
+    let items = RdataList::from_vec(items_in(alloc, rtype, octets)?.into_vec());
     let body = Body::Positive {
         owner,
-        items: Shared::new(alloc, items_in(alloc, rtype, octets)?)?,
+        items: Shared::new(alloc, items)?,
         trust: trust_of(trust),
         ttl,
     };

@@ -1,5 +1,5 @@
 // SPDX-License-Identifier: MIT
-use rrc_name::{Name, Octets, Sequence, Shared};
+use rrc_name::{Name, Octets, RdataList, Shared};
 use std::alloc::AllocError;
 
 /// How far the place where a set stood is trusted (RFC 2181 section 5.4.1), from low to high.
@@ -24,7 +24,7 @@ pub enum Body {
         trust: Trust,
         ttl: u32,
         owner: Name,
-        items: Shared<Sequence<Octets>>,
+        items: Shared<RdataList>,
     },
     /// That the name or the type does not exist, with the SOA record that says so, its data expanded (RFC 2308 section 5);
     /// for `ttl` seconds.

@@ -1,7 +1,7 @@
 // SPDX-License-Identifier: MIT
 use crate::ask::Ask;
 use crate::offer::Offer;
-use rrc_name::{Key, Name, Octets, Sequence, Shared};
+use rrc_name::{Key, Name, Octets, RdataList, Sequence, Shared};
 use std::alloc::AllocError;
 
 /// What became of an offer.
@@ -19,7 +19,7 @@ pub enum Outcome {
 #[derive(Debug, Drop, PartialEq, Eq)]
 pub struct RrSet {
     pub owner: Name,
-    pub items: Shared<Sequence<Octets>>,
+    pub items: Shared<RdataList>,
 }
 
 /// The SOA record that tells that a name or a type does not exist, its data expanded.

@@ -4,14 +4,14 @@ ghost use Rattle.rrc_history.specs.Auditing.{set_eq, soa_eq, reply_eq};
 ghost use Rattle.rrc_history.specs.Views.{reply_in};
 
 use crate::event::{Reply, RrSet, Soa};
-use rrc_name::{Name, Octets, Sequence, Shared};
+use rrc_name::{Name, Octets, RdataList, Shared};
 use std::alloc::AllocError;
 
 /// The data of an RRset where they are kept.
 #[derive(Clone, Copy, Debug)]
 pub struct SetRef<'a> {
     pub owner: &'a Name,
-    pub items: &'a Shared<Sequence<Octets>>,
+    pub items: &'a Shared<RdataList>,
 }
 
 /// The SOA record of a negative answer where it is kept.

@@ -15,7 +15,7 @@ use crate::section::sets_of;
 use crate::set::Set;
 use crate::times::set_life;
 use rrc_history::{Body, Offer};
-use rrc_name::{Key, Name, Shared, Slot};
+use rrc_name::{Key, Name, RdataList, Shared, Slot};
 use rrc_wire::{Message, Rr, is_kept, is_kept_class};
 use std::alloc::{AllocError, Global};
 
@@ -50,7 +50,7 @@ fn set_offer(
     let asked = set.owner.same(&message.question.name);
     let body = Body::Positive {
         owner: set.owner,
-        items: Shared::new(alloc, set.items)?,
+        items: Shared::new(alloc, RdataList::from_vec(set.items.into_vec()))?,
         trust: rank_of(section, message.aa, asked),
         ttl,
     };

@@ -11,7 +11,7 @@ mod seeds;
 
 use rrc_cache::Refusal;
 use rrc_history::{Ask, Body, Mode, Offer, Purpose, Reply, Rules, Tag, Trust};
-use rrc_name::{Key, Name, Octets, Sequence, Shared, Slot};
+use rrc_name::{Key, Name, Octets, RdataList, Shared, Slot};
 use std::alloc::Global;
 use std::process::Abort;
 
@@ -31,11 +31,9 @@ fn key(rt: &impl Abort, alloc: Global, text: &str, slot: Slot) -> Key {
 }
 
 /// The address 192.0.2.1.
-fn addresses(rt: &impl Abort, alloc: Global) -> Shared<Sequence<Octets>> {
-    let mut items = Sequence::new(alloc);
+fn addresses(rt: &impl Abort, alloc: Global) -> Shared<RdataList> {
     let address = Octets::from_slice(alloc, &[192, 0, 2, 1]).expect(rt, "no address");
-    items.push(address).expect(rt, "no place");
-    Shared::new(alloc, items).expect(rt, "no data")
+    Shared::new(alloc, RdataList::one(address)).expect(rt, "no data")
 }
 
 /// The address of `A.example.` for 60 seconds, from an authoritative answer.

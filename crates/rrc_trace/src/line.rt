@@ -1,6 +1,6 @@
 // SPDX-License-Identifier: MIT
 use rrc_history::{Ask, Trust};
-use rrc_name::{Name, Octets, Sequence, Shared};
+use rrc_name::{Name, Octets, RdataList, Shared};
 
 /// An RRset that a resolver puts into its cache, at a moment in seconds.
 #[derive(Debug, Drop)]
@@ -15,7 +15,7 @@ pub struct Put {
     /// The time to live as written, in seconds.
     pub ttl: u32,
     /// The data in the order of the line, plain data of the type. Of the same data the first spelling stays.
-    pub items: Shared<Sequence<Octets>>,
+    pub items: Shared<RdataList>,
 }
 
 /// A question that a resolver could not get answered, at a moment in seconds.

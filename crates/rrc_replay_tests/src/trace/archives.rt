@@ -4,7 +4,7 @@ ghost use Rattle.rrc_name.specs.Key.{IsFolded};
 use rrc_history::{
     Ask, Body, Entry, Event, Mode, Offer, Outcome, Purpose, Reply, RrSet, Rules, Soa, Tag, Trust,
 };
-use rrc_name::{Key, Name, Octets, Sequence, Shared, Slot};
+use rrc_name::{Key, Name, Octets, RdataList, Sequence, Shared, Slot};
 use rrc_trace::{ArchiveLine, write_archive_line};
 use std::alloc::Global;
 use std::process::Abort;
@@ -41,13 +41,13 @@ pub(super) fn key(rt: &impl Abort, alloc: Global, key: KeyText) -> Key {
     Key::of(&name(rt, alloc, key.0), key.1, key.2).expect(rt, "a key")
 }
 
-fn items(rt: &impl Abort, alloc: Global, items: &[&[u8]]) -> Shared<Sequence<Octets>> {
-    let mut made = Sequence::new(alloc);
+fn items(rt: &impl Abort, alloc: Global, items: &[&[u8]]) -> Shared<RdataList> {
+    let mut made = Vec::new(alloc);
     for item in items {
         let item = Octets::from_slice(alloc, item).expect(rt, "an item");
         made.push(item).expect(rt, "a place");
     }
-    Shared::new(alloc, made).expect(rt, "data")
+    Shared::new(alloc, RdataList::from_vec(made)).expect(rt, "data")
 }
 
 fn octets(rt: &impl Abort, alloc: Global, octets: &[u8]) -> Shared<Octets> {

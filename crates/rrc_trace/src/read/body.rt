@@ -11,7 +11,7 @@ use crate::read::number::{trust_at, ttl_at};
 use crate::read::octets::octets_in;
 use crate::read::slot::owner_at;
 use rrc_history::{Body, Trust};
-use rrc_name::{Name, Octets, Sequence, Shared};
+use rrc_name::{Name, Octets, RdataList, Sequence, Shared};
 use std::alloc::Global;
 
 /// Items in hexadecimal with a comma between two, one at least. Repeats are kept.
@@ -62,11 +62,12 @@ fn items_in(alloc: Global, field: &[u8]) -> Result<Sequence<Octets>, LineFault>
 pub(crate) fn data_at(
     alloc: Global,
     octets: &[u8],
-) -> Result<(Shared<Sequence<Octets>>, &[u8]), LineFault>
+) -> Result<(Shared<RdataList>, &[u8]), LineFault>
     ensures held { IfOk result (λ found. HoldsItems found.0) }
 {
     let (field, rest) = field_at(octets)?;
-    Ok((Shared::new(alloc, items_in(alloc, field)?)?, rest))
+    let items = RdataList::from_vec(items_in(alloc, field)?.into_vec());
+    Ok((Shared::new(alloc, items)?, rest))
 }
 
 /// The data of an SOA record, and the octets behind them.

@@ -13,7 +13,7 @@ use crate::read::number::{moment_at, rtype_at, trust_at, ttl_at};
 use crate::read::octets::{fetched_at, message_at};
 use crate::read::word::{Form, form_at, mode_at, purpose_at};
 use rrc_history::{Ask, Mode, Purpose, Trust};
-use rrc_name::{Name, Octets, Sequence, Shared};
+use rrc_name::{Name, Octets, RdataList, Shared};
 use std::alloc::Global;
 
 /// The most octets of a line, its LF not counted.
@@ -40,7 +40,7 @@ fn kept_in(
     alloc: Global,
     rtype: u16,
     octets: &[u8],
-) -> Result<(Trust, u32, Shared<Sequence<Octets>>), LineFault>
+) -> Result<(Trust, u32, Shared<RdataList>), LineFault>
     ensures { Gives (λ kept. (kept.0, kept.1, kept.2)) result (kept_of rtype octets.now) }
 {
     let (trust, rest) = trust_at(octets)?;
@@ -49,6 +49,7 @@ fn kept_in(
     if has_field(rest) {
         return Err(LineFault::NotOne);
     }
+    let items = RdataList::from_vec(items.into_vec());
     Ok((trust, ttl, Shared::new(alloc, items)?))
 }
 
