@@ -7,4 +7,5 @@ pub mod Joining
 pub mod Places
 pub mod Removing
 pub mod Renewed
+pub mod Repeating
 pub mod Walking

@@ -5,6 +5,7 @@ pub mod Asked
 pub mod Limits
 pub mod Lives
 pub mod Snapshots
+pub mod Repeats
 pub mod EntryLists
 pub mod Judged
 pub mod Past

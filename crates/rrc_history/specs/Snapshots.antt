@@ -1,11 +1,13 @@
 -- SPDX-License-Identifier: MIT
 -- Snapshots: what a part held when a chapter of its history began, and what holds of its entries.
-use Rattle.std.specs.Prelude.{ℕ, List, [], ◌∷◌, ◌++◌, length, Bool, not, ◌||◌, ◌==◌, nat_le, nat_lt, if◌then◌else◌, Option, Some, None}
+use Rattle.std.specs.Prelude.{◌≡◌, ℕ, List, [], ◌∷◌, ◌++◌, length, Bool, not, ◌||◌, ◌==◌, nat_le, nat_lt, if◌then◌else◌, Option, Some, None}
 use Rattle.std.specs.List.{list_any}
 use Rattle.std.specs.Option.{option_or}
 use Rattle.rrc_name.specs.Key.{KeyOf, key_eq}
 use Rattle.rrc_history.specs.declared.rules.Rules.{Rules}
 use Rattle.rrc_history.specs.declared.snapshot.Entry.{Entry}
+use Rattle.rrc_history.specs.declared.snapshot.NoSnapshot.{NoSnapshot}
+use Rattle.rrc_history.specs.declared.snapshot.NoSnapshot.TheVariants.{Fault, Memory}
 use Rattle.rrc_history.specs.declared.snapshot.SnapshotFault.{SnapshotFault}
 use Rattle.rrc_history.specs.declared.snapshot.SnapshotFault.TheVariants.{TooMany, RepeatedKey, BadNumber, WrongBody, BadMoment}
 use Rattle.rrc_history.specs.Fits.{fits}
@@ -44,3 +46,8 @@ fault_behind capacity first before (entry ∷ behind) =
 -- the first fault of a snapshot's entries, if they have one
 abbrev pub snapshot_fault : Rules → ℕ → List Entry → Option SnapshotFault
 snapshot_fault rules first entries = fault_behind rules.capacity first [] entries
+
+-- why no snapshot was made of entries: the first of them that is wrong has this fault, or memory was refused
+abbrev pub IsWhyNoSnapshot : Rules → ℕ → List Entry → NoSnapshot → Type 0
+IsWhyNoSnapshot rules first entries (Fault fault) = snapshot_fault rules first entries ≡ Some fault
+IsWhyNoSnapshot rules first entries Memory = Unit {0}

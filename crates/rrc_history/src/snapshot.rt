@@ -1,14 +1,16 @@
 // SPDX-License-Identifier: MIT
 ghost use Rattle.std.specs.Prelude.{◌≡◌, Some, None, IfOk, IfErr, OnOk};
-ghost use Rattle.rrc_history.specs.Snapshots.{has_key, has_number, entry_fault, snapshot_fault};
+ghost use Rattle.rrc_history.specs.Snapshots.{entry_fault, snapshot_fault, IsWhyNoSnapshot};
+ghost use Rattle.rrc_history.specs.Repeats.{repeats_of};
 ghost use Rattle.rrc_history.specs.Same.{rules_eq};
 
 use crate::body::Body;
 use crate::entry_list::EntryList;
 use crate::offer;
+use crate::repeats::{Repeats, Trees, repeats_among};
 use crate::rules::{LAST_MOMENT, Rules};
 use rrc_name::Key;
-use std::alloc::AllocError;
+use std::alloc::{AllocError, Global};
 use std::marker::Model;
 use thiserror::Error;
 
@@ -68,13 +70,36 @@ impl SnapshotFault {
     }
 }
 
+/// Why no snapshot was made of entries.
+#[derive(Clone, Copy, Debug, PartialEq, Eq, Hash, Error)]
+pub enum NoSnapshot {
+    #[error(transparent)]
+    Fault(SnapshotFault),
+    #[error("memory was refused")]
+    Memory,
+}
+
+impl From<AllocError> for NoSnapshot {
+    ghost use Rattle.std.specs.Prelude.{◌≡◌};
+    ghost use Rattle.rrc_history.specs.declared.snapshot.NoSnapshot.TheVariants.{Memory};
+
+    ghost from_gives = { λ _ refused. refused ≡ Memory };
+
+    fn from(_refused: AllocError) -> NoSnapshot {
+        NoSnapshot::Memory
+    }
+}
+
 impl Snapshot {
     ghost use Rattle.rrc_history.specs.Sound.{AreSound};
 
-    /// A snapshot of entries, the key touched last first, in front of the event of the number `first`. The first entry that is
-    /// wrong is answered for: `TooMany` where `rules.capacity` entries stand before it, then `RepeatedKey`, `BadNumber` (not below
-    /// `first`, or that of an entry before it), `WrongBody` (as of `Offer::new`), and `BadMoment` (above 2^40 seconds). It takes
-    /// no memory, and so compares each entry with all before it.
+    /// A snapshot of entries, the key touched last first, in front of the event of the number
+    /// `first`. The first entry that is wrong is answered for: `TooMany` where `rules.capacity`
+    /// entries stand before it, then `RepeatedKey`, `BadNumber` (not below `first`, or that of an
+    /// entry before it), `WrongBody` (as of `Offer::new`), and `BadMoment` (above 2^40 seconds).
+    ///
+    /// It takes no memory, and so compares each entry with all before it. For entries from outside,
+    /// which may be many, take `new_by_trees`.
     pub fn new(rules: Rules, first: u64, entries: Vec<Entry>) -> Result<Snapshot, SnapshotFault>
         ensures ok { IfOk result (λ snapshot. snapshot ≡ record { rules = rules; first = first; entries = entries.items }) }
         ensures sound { OnOk result (snapshot_fault rules first entries.items ≡ None) }
@@ -82,6 +107,28 @@ impl Snapshot {
     {
         match first_fault(rules, first, entries.as_slice()) {
             Some(fault) => Err(fault),
+            None => Ok(Snapshot {
+                rules,
+                first,
+                entries: EntryList::from_vec(entries),
+            }),
+        }
+    }
+
+    /// What `new` answers, or `Memory`, in a time that grows little faster than the entries: ordered
+    /// trees of their keys and of their numbers find the repeats.
+    pub fn new_by_trees(
+        alloc: Global,
+        rules: Rules,
+        first: u64,
+        entries: Vec<Entry>,
+    ) -> Result<Snapshot, NoSnapshot>
+        ensures ok { IfOk result (λ snapshot. snapshot ≡ record { rules = rules; first = first; entries = entries.items }) }
+        ensures sound { OnOk result (snapshot_fault rules first entries.items ≡ None) }
+        ensures err { IfErr result (IsWhyNoSnapshot rules first entries.items) }
+    {
+        match first_fault_by_trees(alloc, rules, first, entries.as_slice())? {
+            Some(fault) => Err(NoSnapshot::Fault(fault)),
             None => Ok(Snapshot {
                 rules,
                 first,
@@ -103,7 +150,9 @@ fn first_fault(rules: Rules, first: u64, entries: &[Entry]) -> Option<SnapshotFa
     ensures { result ≡ snapshot_fault rules first entries.now }
 {
     for (place, entry) in entries.iter().enumerate() {
-        let fault = entry_fault(rules.capacity, first, &entries[..place], entry);
+        let before = &entries[..place];
+        let repeats = repeats_among(before, entry);
+        let fault = entry_fault(rules.capacity, first, before, entry, repeats);
         if fault.is_some() {
             return fault;
         }
@@ -111,17 +160,44 @@ fn first_fault(rules: Rules, first: u64, entries: &[Entry]) -> Option<SnapshotFa
     None
 }
 
+fn first_fault_by_trees(
+    alloc: Global,
+    rules: Rules,
+    first: u64,
+    entries: &[Entry],
+) -> Result<Option<SnapshotFault>, AllocError>
+    ensures { IfOk result (λ fault. fault ≡ snapshot_fault rules first entries.now) }
+{
+    let mut trees = Trees::new(alloc);
+    for (place, entry) in entries.iter().enumerate() {
+        let before = &entries[..place];
+        let repeats = trees.add(before, entry)?;
+        let fault = entry_fault(rules.capacity, first, before, entry, repeats);
+        if fault.is_some() {
+            return Ok(fault);
+        }
+    }
+    Ok(None)
+}
+
 /// What is wrong with an entry behind others.
-fn entry_fault(capacity: u64, first: u64, before: &[Entry], entry: &Entry) -> Option<SnapshotFault>
+fn entry_fault(
+    capacity: u64,
+    first: u64,
+    before: &[Entry],
+    entry: &Entry,
+    repeats: Repeats,
+) -> Option<SnapshotFault>
+    requires { repeats ≡ repeats_of before.now entry.now }
     ensures { result ≡ entry_fault capacity first before.now entry.now }
 {
     if before.len() as u64 >= capacity {
         return Some(SnapshotFault::TooMany);
     }
-    if has_key(&entry.key, before) {
+    if repeats.key {
         return Some(SnapshotFault::RepeatedKey);
     }
-    if entry.number >= first || has_number(entry.number, before) {
+    if entry.number >= first || repeats.number {
         return Some(SnapshotFault::BadNumber);
     }
     if !offer::is_fit(&entry.key, &entry.body) {
@@ -131,18 +207,6 @@ fn entry_fault(capacity: u64, first: u64, before: &[Entry], entry: &Entry) -> Op
         return Some(SnapshotFault::BadMoment);
     }
     None
-}
-
-fn has_key(key: &Key, entries: &[Entry]) -> bool
-    ensures { result ≡ has_key key.now entries.now }
-{
-    entries.iter().any(|entry| *key == entry.key)
-}
-
-fn has_number(number: u64, entries: &[Entry]) -> bool
-    ensures { result ≡ has_number number entries.now }
-{
-    entries.iter().any(|entry| entry.number == number)
 }
 
 impl Clone for Entry {
