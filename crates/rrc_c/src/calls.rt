@@ -11,17 +11,17 @@ ghost use Rattle.rrc_c.specs.Parted.{IsPart, TakesPart, TakesSomeOfPart};
 ghost use Rattle.rrc_c.specs.Parts.{keyed_part_of};
 ghost use Rattle.rrc_c.specs.Refusals.{AskDue, DenialDue, FailureDue, IfHeld, IsDenial, IsFailure, IsQuestion, IsSeed, IsSet, OutOfMemory, PartDue, PeekDue, RecordDue, SetDue, StoredDue, WriteDue};
 
-use crate::asking::{ask_shelf, peek_at_shelf};
+use crate::asks::{ask_shelf, peek_at_shelf};
 use crate::counts::{Bounds, Counts};
 use crate::handle::Handle;
-use crate::keeping::{
-    chapters_of, drop_chapters, events_of, expiry_of, fault_in, part_in, record, release, sweep,
-};
+use crate::intake::{offer_message, offer_part, take_failure, take_negative, take_set};
 use crate::lookup::stored_in;
-use crate::offering::{offer_message, offer_part, take_failure, take_negative, take_set};
 use crate::status::{NO_SHELF, SMALL_BUFFER, Status};
 use crate::stored::Stored;
 use crate::told::Told;
+use crate::upkeep::{
+    chapters_of, drop_chapters, events_of, expiry_of, fault_in, part_in, record, release, sweep,
+};
 use std::alloc::Global;
 
 /// What C is told of a call that tells a reply.

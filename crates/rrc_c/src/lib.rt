@@ -2,7 +2,7 @@
 //! The cache for resolvers that are written in C.
 #![tactic(auto)]
 
-mod asking;
+mod asks;
 mod calls;
 mod chapter_calls;
 mod chapter_lines;
@@ -11,18 +11,18 @@ mod chapters;
 mod counts;
 mod division;
 mod handle;
-mod keeping;
+mod intake;
 mod lookup;
-mod making;
-mod offering;
 mod offers;
 mod reading;
 mod reading_calls;
 mod reading_seal;
 mod response;
 mod seal;
+mod shelf_calls;
 mod status;
 mod stored;
 mod taken;
 mod text;
 mod told;
+mod upkeep;

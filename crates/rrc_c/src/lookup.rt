@@ -7,7 +7,7 @@ ghost use Rattle.rrc_c.specs.Stored.{stored_in, stored_of};
 ghost use Rattle.rrc_history.specs.Lives.{rank};
 ghost use Rattle.rrc_history.specs.Views.{held_in};
 
-use crate::asking::name_of;
+use crate::asks::name_of;
 use crate::status::Status;
 use crate::stored::Stored;
 use rrc_history::{Body, Held, Trust};

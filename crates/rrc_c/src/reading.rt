@@ -6,7 +6,7 @@ ghost use Rattle.rrc_c.specs.Statuses.{number_of};
 
 use crate::counts::{Bounds, Counts};
 use crate::division::{check_division, keyed_part_of};
-use crate::offering::{offers_in, take_each};
+use crate::intake::{offers_in, take_each};
 use crate::status::Status;
 use rrc_history::Offer;
 use rrc_share::CacheShelf;

@@ -6,10 +6,10 @@ ghost use Rattle.rrc_c.specs.Responses.{query_of, BringsByDefault, IsOther, IsRe
 ghost use Rattle.rrc_c.specs.Statuses.{number_of};
 ghost use Rattle.rrc_name.specs.Wire.{IsWireForm};
 
-use crate::asking::name_of;
+use crate::asks::name_of;
 use crate::counts::Bounds;
 use crate::division::check_division;
-use crate::offering::limits_of;
+use crate::intake::limits_of;
 use crate::reading::{Reading, placed_in};
 use crate::status::Status;
 use rrc_history::Offer;

@@ -1,6 +1,0 @@
--- SPDX-License-Identifier: MIT
-use Rattle.std.proofs.Common.{rules}
-use Rattle.rrc_c.proofs.asking.ask_of.Goals as goal
-
-pub returns-clause-ask : goal.returns-clause-ask
-returns-clause-ask c = search rules fits 100

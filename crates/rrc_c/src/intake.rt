@@ -1,0 +1,451 @@
+// SPDX-License-Identifier: MIT
+ghost use Rattle.std.specs.Prelude.{◌≡◌, ◌≤◌, ◌<◌, ◌+◌, ◌^◌, ◌++◌, ℕ, [], length, true, false, IfOk, IfErr, OnOk, OnErr};
+ghost use Rattle.std.specs.List.{AllByRecursion};
+ghost use Rattle.rrc_c.specs.Told.{datum, data_text};
+ghost use Rattle.rrc_c.specs.Offered.{trust_of, denied, denial_offer, failure_offer, outcome_number, count_more, counts_of, AreAt, AreOffered, IsSetOffer, TakesOne, TakesAll, TakesFirst, TakesMessage, TakesSet, TakesSome, total};
+ghost use Rattle.rrc_c.specs.Parted.{lying_in, IsPart, TakesPart, TakesSomeOfPart};
+ghost use Rattle.rrc_c.specs.Refusals.{AreLimits, AreData, Because, DataRefused, DatumRefused, DenialDue, DenialRefused, FailureDue, FailureRefused, IsCutOff, IsDenial, IsFailure, IsSeed, IsSet, MessageRefused, OffersRefused, SetDue, SetRefused, WriteDue, denies_kept};
+ghost use Rattle.rrc_c.specs.Shelves.{IsLeftAs};
+ghost use Rattle.rrc_c.specs.Statuses.{number_of, number_of_call};
+ghost use Rattle.rrc_history.specs.Fits.{fits};
+ghost use Rattle.rrc_sets.specs.Limits.{Are};
+ghost use Rattle.rrc_sets.specs.Message.{Brings};
+ghost use Rattle.rrc_wire.specs.Plain.{IsPlain};
+
+use crate::asks::name_of;
+use crate::counts::{Bounds, Counts};
+use crate::division::{keyed_part_of, seed_of};
+use crate::status::Status;
+use rrc_history::{Body, Offer, Outcome, Tag, Trust};
+use rrc_name::{Key, Name, Octets, RdataList, Sequence, Shared, Slot};
+use rrc_sets::Limits;
+use rrc_share::CacheShelf;
+use rrc_wire::{WireFault, is_kept, is_kept_class, plain_rdata};
+use std::alloc::Global;
+
+/// The type of SOA records (RFC 1035 section 3.2.2).
+const SOA: u16 = 6;
+
+fn trust_of(number: u32) -> Trust
+    ensures { result ≡ trust_of number }
+{
+    if number == 1 {
+        Trust::Additional
+    } else if number == 2 {
+        Trust::NonAuthoritativeAnswer
+    } else if number == 3 {
+        Trust::Authority
+    } else {
+        Trust::AuthoritativeAnswer
+    }
+}
+
+fn denied(denial: u32, rtype: u16) -> Slot
+    ensures { result ≡ denied denial rtype }
+{
+    if denial == 0 {
+        Slot::Set(rtype)
+    } else {
+        Slot::Nx
+    }
+}
+
+/// The octets of a type's data.
+fn data_in(alloc: Global, rtype: u16, octets: &[u8]) -> Result<Octets, Status>
+    ensures rdata { IfOk result (λ rdata. rdata ≡ octets.now) }
+    ensures plain { OnOk result (IsPlain rtype octets.now) }
+    ensures refused { IfErr result (λ status. DatumRefused rtype octets.now (number_of status)) }
+{
+    match plain_rdata(alloc, rtype, octets) {
+        Ok(rdata) => Ok(rdata),
+        Err(WireFault::Memory) => Err(Status::Memory),
+        Err(_) => Err(Status::BadData),
+    }
+}
+
+/// The datum that stands first behind its length, and what stands behind it.
+fn first_datum(octets: &[u8]) -> Result<(&[u8], &[u8]), Status>
+    ensures parts { IfOk result (λ both. octets.now ≡ datum both.0.now ++ both.1.now) }
+    ensures cut_off { IfErr result (λ status. Because Status.BadData (IsCutOff octets.now) (number_of status)) }
+{
+    if octets.len() < 2 {
+        return Err(Status::BadData);
+    }
+    let size = usize::from(octets[0]) * 256 + usize::from(octets[1]);
+    match octets[2..].split_at_checked(size) {
+        Some(parts) => Ok(parts),
+        None => Err(Status::BadData),
+    }
+}
+
+/// The data that stand in some octets, each behind its length.
+fn items_in(alloc: Global, rtype: u16, octets: &[u8]) -> Result<Sequence<Octets>, Status>
+    ensures stand { IfOk result (λ items. data_text items ≡ octets.now) }
+    ensures plain { IfOk result (AllByRecursion (IsPlain rtype)) }
+    ensures refused { IfErr result (λ status. DataRefused rtype octets.now (number_of status)) }
+{
+    let mut items = Sequence::new(alloc);
+    let mut rest = octets;
+    while !rest.is_empty() {
+        let (datum, behind) = first_datum(rest)?;
+        items.push(data_in(alloc, rtype, datum)?)?;
+        rest = behind;
+    }
+    Ok(items)
+}
+
+/// An offer, where the body fits the key.
+fn offer_of(key: Key, body: Body, moment: u64) -> Result<Offer, Status>
+    ensures offer { IfOk result (λ offer. offer ≡ record { key = key; body = body; moment = moment }) }
+    ensures fit { OnOk result (fits key body ≡ true) }
+    ensures refused { IfErr result (λ status. Because Status.WrongBody (fits key body ≡ false) (number_of status)) }
+{
+    match Offer::new(key, body, moment) {
+        Ok(offer) => Ok(offer),
+        Err(_) => Err(Status::WrongBody),
+    }
+}
+
+/// The offer of a set.
+fn set_offer(
+    alloc: Global,
+    owner: &[u8],
+    rtype: u16,
+    class: u16,
+    trust: u32,
+    ttl: u32,
+    octets: &[u8],
+    moment: u64,
+) -> Result<Offer, Status>
+    ensures offer { IfOk result (IsSetOffer owner.now rtype class trust ttl octets.now moment) }
+    ensures fit { OnOk result (IsSet owner.now rtype class trust ttl octets.now) }
+    ensures refused { IfErr result (λ status. SetRefused owner.now rtype class trust ttl octets.now (number_of status)) }
+{
+    if !(1..=4).contains(&trust) {
+        return Err(Status::BadChoice);
+    }
+    if !is_kept(rtype, class) {
+        return Err(Status::BadType);
+    }
+    let owner = name_of(alloc, owner)?;
+    let key = Key::of(&owner, class, Slot::Set(rtype))?;
+    let items = RdataList::from_vec(items_in(alloc, rtype, octets)?.into_vec());
+    let body = Body::Positive {
+        owner,
+        items: Shared::new(alloc, items)?,
+        trust: trust_of(trust),
+        ttl,
+    };
+    offer_of(key, body, moment)
+}
+
+/// Whether what a denial is of is kept: data of a type in a class, or names of a class.
+#[tactic(auto, unfolding(crate::specs::Refusals::denies_kept))]
+fn denies_kept(rtype: u16, class: u16, denial: u32) -> bool
+    ensures { result ≡ denies_kept rtype class denial }
+{
+    if denial == 0 {
+        is_kept(rtype, class)
+    } else {
+        is_kept_class(class)
+    }
+}
+
+/// The offer of a negative answer.
+fn negative_offer(
+    alloc: Global,
+    name: &[u8],
+    rtype: u16,
+    class: u16,
+    denial: u32,
+    trust: u32,
+    ttl: u32,
+    soa_owner: &[u8],
+    soa: &[u8],
+    moment: u64,
+) -> Result<Offer, Status>
+    ensures offer { IfOk result (λ offer. offer ≡ denial_offer name.now rtype class denial trust ttl soa_owner.now soa.now moment) }
+    ensures fit { OnOk result (IsDenial name.now rtype class denial trust ttl soa_owner.now soa.now) }
+    ensures refused { IfErr result (λ status. DenialRefused name.now rtype class denial trust ttl soa_owner.now soa.now (number_of status)) }
+{
+    if !(1..=4).contains(&trust) || denial > 1 {
+        return Err(Status::BadChoice);
+    }
+    if !denies_kept(rtype, class, denial) {
+        return Err(Status::BadType);
+    }
+    let key = Key::of(&name_of(alloc, name)?, class, denied(denial, rtype))?;
+    let body = Body::Negative {
+        soa_owner: name_of(alloc, soa_owner)?,
+        soa: Shared::new(alloc, data_in(alloc, SOA, soa)?)?,
+        trust: trust_of(trust),
+        ttl,
+    };
+    offer_of(key, body, moment)
+}
+
+/// The offer of a failure.
+fn failure_offer(
+    alloc: Global,
+    name: &[u8],
+    rtype: u16,
+    class: u16,
+    ttl: u32,
+    moment: u64,
+) -> Result<Offer, Status>
+    ensures offer { IfOk result (λ offer. offer ≡ failure_offer name.now rtype class ttl moment) }
+    ensures fit { OnOk result (IsFailure name.now rtype class ttl) }
+    ensures refused { IfErr result (λ status. FailureRefused name.now rtype class ttl (number_of status)) }
+{
+    if !is_kept(rtype, class) {
+        return Err(Status::BadType);
+    }
+    let key = Key::of(&name_of(alloc, name)?, class, Slot::Failed(rtype))?;
+    offer_of(key, Body::Failure { ttl }, moment)
+}
+
+fn outcome_number(outcome: Outcome) -> u32
+    ensures { result ≡ outcome_number outcome }
+{
+    match outcome {
+        Outcome::Kept => 1,
+        Outcome::Cleared => 2,
+        Outcome::LessTrusted => 3,
+    }
+}
+
+/// Makes an offer to a shelf, and tells the number of what became of it.
+fn make_offer(shelf: &mut CacheShelf, line: u64, offer: Offer) -> Result<u32, Status>
+    ensures ok { IfOk result (λ number. TakesOne line offer number shelf.old shelf.new) }
+    ensures left { OnErr result (IsLeftAs shelf.old shelf.new) }
+    ensures due { WriteDue shelf.old offer.moment (number_of_call result) }
+{
+    let outcome = shelf.offer(Tag { line, place: 0 }, offer)?;
+    Ok(outcome_number(outcome))
+}
+
+/// Counts what became of an offer.
+fn count(counts: &mut Counts, outcome: Outcome)
+    requires { total counts.old < 2 ^ 63 }
+    ensures { counts.new ≡ count_more outcome counts.old }
+{
+    match outcome {
+        Outcome::Kept => counts.kept += 1,
+        Outcome::Cleared => counts.cleared += 1,
+        Outcome::LessTrusted => counts.refused += 1,
+    }
+}
+
+/// Makes offers to a shelf, in order, and counts what became of them.
+pub(crate) fn take_each(
+    shelf: &mut CacheShelf,
+    line: u64,
+    offers: Vec<Offer>,
+    counts: &mut Counts,
+) -> Result<(), Status>
+    requires { counts.old ≡ counts_of [] }
+    ensures ok { OnOk result (TakesAll line offers.items counts.new shelf.old shelf.new) }
+    ensures err { IfErr result (λ status. (at : ℕ) → AreAt at offers.items → TakesFirst (number_of status) line at offers.items counts.new shelf.old shelf.new) }
+{
+    for offer in offers {
+        let place = counts.kept + counts.cleared + counts.refused;
+        let outcome = shelf.offer(Tag { line, place }, offer)?;
+        count(counts, outcome);
+    }
+    Ok(())
+}
+
+/// The limits with these numbers.
+pub(crate) fn limits_of(bounds: &Bounds) -> Result<Limits, Status>
+    ensures limits { IfOk result (λ limits. Are limits bounds.now.cap bounds.now.negative_cap bounds.now.recheck) }
+    ensures fit { OnOk result (AreLimits bounds.now) }
+    ensures refused { IfErr result (λ status. Because Status.BadLimits (AreLimits bounds.now → ⊥) (number_of status)) }
+{
+    match Limits::new(bounds.cap, bounds.negative_cap, bounds.recheck) {
+        Some(limits) => Ok(limits),
+        None => Err(Status::BadLimits),
+    }
+}
+
+/// What the message offers that some octets are.
+fn offers_of_message(
+    alloc: Global,
+    octets: &[u8],
+    zone: &Name,
+    moment: u64,
+    limits: &Limits,
+) -> Result<Vec<Offer>, Status>
+    ensures offers { IfOk result (λ made. Brings limits.now octets.now zone.now moment made.items) }
+    ensures moments { IfOk result (λ made. AreAt moment made.items) }
+    ensures refused { IfErr result (λ status. MessageRefused octets.now (number_of status)) }
+{
+    match rrc_sets::offers_in(alloc, octets, zone, moment, limits) {
+        Ok(offers) => Ok(offers),
+        Err(WireFault::Memory) => Err(Status::Memory),
+        Err(_) => Err(Status::BadMessage),
+    }
+}
+
+/// What a message offers that was received from a zone.
+pub(crate) fn offers_in(
+    alloc: Global,
+    octets: &[u8],
+    zone: &[u8],
+    moment: u64,
+    bounds: &Bounds,
+) -> Result<Vec<Offer>, Status>
+    ensures offers { IfOk result (λ made. AreOffered octets.now zone.now moment bounds.now made.items) }
+    ensures moments { IfOk result (λ made. AreAt moment made.items) }
+    ensures limits { OnOk result (AreLimits bounds.now) }
+    ensures refused { IfErr result (λ status. OffersRefused octets.now zone.now bounds.now (number_of status)) }
+{
+    let limits = limits_of(bounds)?;
+    let zone = name_of(alloc, zone)?;
+    let made = offers_of_message(alloc, octets, &zone, moment, &limits)?;
+    Ok(made)
+}
+
+/// Offers a shelf what a message offers.
+pub(crate) fn offer_message(
+    alloc: Global,
+    shelf: &mut CacheShelf,
+    line: u64,
+    octets: &[u8],
+    zone: &[u8],
+    moment: u64,
+    bounds: &Bounds,
+    counts: &mut Counts,
+) -> Result<(), Status>
+    ensures ok { OnOk result (TakesMessage line octets.now zone.now moment bounds.now counts.new shelf.old shelf.new) }
+    ensures err { IfErr result (λ status. TakesSome (number_of status) line octets.now zone.now moment bounds.now counts.new shelf.old shelf.new) }
+{
+    *counts = Counts {
+        kept: 0,
+        cleared: 0,
+        refused: 0,
+    };
+    let offered = offers_in(alloc, octets, zone, moment, bounds)?;
+    take_each(shelf, line, offered, counts)
+}
+
+/// The offers whose names lie by a seed in a part, so many being all.
+fn offers_of_part(offers: Vec<Offer>, parts: usize, seed: &[u8; 16], part: usize) -> Vec<Offer>
+    requires some { 1 ≤ parts }
+    requires few { parts ≤ 64 }
+    ensures { result.items ≡ lying_in parts seed.now part offers.items }
+{
+    let mut offers = offers;
+    offers.retain(|offer| keyed_part_of(offer.key.name(), seed, parts) == part);
+    offers
+}
+
+/// Whether there are so many parts, and this is one of them.
+fn check_part(parts: u64, part: u64) -> Result<(), Status>
+    ensures fit { OnOk result (IsPart parts part) }
+    ensures refused { IfErr result (λ status. Because Status.BadRules (IsPart parts part → ⊥) (number_of status)) }
+{
+    if !(1..=64).contains(&parts) || part >= parts {
+        return Err(Status::BadRules);
+    }
+    Ok(())
+}
+
+/// Offers a shelf what a message offers of the names that lie by a seed in a part, so many being
+/// all.
+pub(crate) fn offer_part(
+    alloc: Global,
+    shelf: &mut CacheShelf,
+    line: u64,
+    octets: &[u8],
+    zone: &[u8],
+    parts: u64,
+    seed: &[u8],
+    part: u64,
+    moment: u64,
+    bounds: &Bounds,
+    counts: &mut Counts,
+) -> Result<(), Status>
+    ensures ok { OnOk result (TakesPart line octets.now zone.now parts seed.now part moment bounds.now counts.new shelf.old shelf.new) }
+    ensures part { OnOk result (IsPart parts part) }
+    ensures seed { OnOk result (IsSeed seed.now) }
+    ensures err { IfErr result (λ status. TakesSomeOfPart (number_of status) line octets.now zone.now parts seed.now part moment bounds.now counts.new shelf.old shelf.new) }
+{
+    *counts = Counts {
+        kept: 0,
+        cleared: 0,
+        refused: 0,
+    };
+    check_part(parts, part)?;
+    let seed = seed_of(seed)?;
+    let offered = offers_in(alloc, octets, zone, moment, bounds)?;
+    let offered = offers_of_part(offered, parts as usize, &seed, part as usize);
+    take_each(shelf, line, offered, counts)
+}
+
+/// Offers a shelf a set.
+pub(crate) fn take_set(
+    alloc: Global,
+    shelf: &mut CacheShelf,
+    owner: &[u8],
+    rtype: u16,
+    class: u16,
+    trust: u32,
+    ttl: u32,
+    octets: &[u8],
+    moment: u64,
+    line: u64,
+) -> Result<u32, Status>
+    ensures ok { IfOk result (λ number. TakesSet line owner.now rtype class trust ttl octets.now moment number shelf.old shelf.new) }
+    ensures left { OnErr result (IsLeftAs shelf.old shelf.new) }
+    ensures fit { OnOk result (IsSet owner.now rtype class trust ttl octets.now) }
+    ensures due { SetDue owner.now rtype class trust ttl octets.now moment shelf.old (number_of_call result) }
+{
+    let offer = set_offer(alloc, owner, rtype, class, trust, ttl, octets, moment)?;
+    make_offer(shelf, line, offer)
+}
+
+/// Offers a shelf a negative answer.
+pub(crate) fn take_negative(
+    alloc: Global,
+    shelf: &mut CacheShelf,
+    name: &[u8],
+    rtype: u16,
+    class: u16,
+    denial: u32,
+    trust: u32,
+    ttl: u32,
+    soa_owner: &[u8],
+    soa: &[u8],
+    moment: u64,
+    line: u64,
+) -> Result<u32, Status>
+    ensures ok { IfOk result (λ number. TakesOne line (denial_offer name.now rtype class denial trust ttl soa_owner.now soa.now moment) number shelf.old shelf.new) }
+    ensures left { OnErr result (IsLeftAs shelf.old shelf.new) }
+    ensures fit { OnOk result (IsDenial name.now rtype class denial trust ttl soa_owner.now soa.now) }
+    ensures due { DenialDue name.now rtype class denial trust ttl soa_owner.now soa.now moment shelf.old (number_of_call result) }
+{
+    let offer = negative_offer(
+        alloc, name, rtype, class, denial, trust, ttl, soa_owner, soa, moment,
+    )?;
+    make_offer(shelf, line, offer)
+}
+
+/// Offers a shelf that asking failed.
+pub(crate) fn take_failure(
+    alloc: Global,
+    shelf: &mut CacheShelf,
+    name: &[u8],
+    rtype: u16,
+    class: u16,
+    ttl: u32,
+    moment: u64,
+    line: u64,
+) -> Result<u32, Status>
+    ensures ok { IfOk result (λ number. TakesOne line (failure_offer name.now rtype class ttl moment) number shelf.old shelf.new) }
+    ensures left { OnErr result (IsLeftAs shelf.old shelf.new) }
+    ensures fit { OnOk result (IsFailure name.now rtype class ttl) }
+    ensures due { FailureDue name.now rtype class ttl moment shelf.old (number_of_call result) }
+{
+    let offer = failure_offer(alloc, name, rtype, class, ttl, moment)?;
+    make_offer(shelf, line, offer)
+}

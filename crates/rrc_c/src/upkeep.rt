@@ -1,0 +1,141 @@
+// SPDX-License-Identifier: MIT
+ghost use Rattle.std.specs.Prelude.{◌≡◌, ◌≤◌, ◌<◌, true, false, IfOk, IfErr, OnOk, OnErr};
+ghost use Rattle.rrc_cache.specs.Expiry.{NoneDiesBefore};
+ghost use Rattle.rrc_c.specs.Bounds.{AreBounded};
+ghost use Rattle.rrc_c.specs.Fed.{AreBoundedAtAnySize, FedAreBounded};
+ghost use Rattle.rrc_c.specs.Kept.{DropsChapters, TellsFault};
+ghost use Rattle.rrc_c.specs.Parts.{keyed_part_of};
+ghost use Rattle.rrc_c.specs.Refusals.{OutOfMemory, PartDue, RecordDue, WriteDue};
+ghost use Rattle.rrc_c.specs.Shelves.{DropsRecord, IsLeftAs, MakesSweep, StartsRecord, recorded_chapters, recorded_events};
+ghost use Rattle.rrc_c.specs.Statuses.{number_of, number_of_call};
+
+use crate::asks::name_of;
+use crate::division::{check_division, keyed_part_of};
+use crate::status::Status;
+use core::mem::replace_with;
+use rrc_history::Tag;
+use rrc_share::{CacheShelf, NotSwitched};
+use rrc_wire::{WireFault, read_message};
+use std::alloc::Global;
+
+/// Sweeps a shelf, and tells how many keys were removed.
+pub(crate) fn sweep(shelf: &mut CacheShelf, line: u64, moment: u64) -> Result<u64, Status>
+    ensures ok { IfOk result (MakesSweep shelf.old shelf.new (record { line = line; place = 0 }) moment) }
+    ensures left { OnErr result (IsLeftAs shelf.old shelf.new) }
+    ensures due { WriteDue shelf.old moment (number_of_call result) }
+{
+    let removed = shelf.sweep(Tag { line, place: 0 }, moment)?;
+    Ok(removed as u64)
+}
+
+/// A shelf that records from here on, or that shelf as it was, and why.
+fn recording(shelf: CacheShelf, _nothing: ()) -> (CacheShelf, Result<(), Status>)
+    ensures ok { OnOk result.1 (StartsRecord shelf result.0) }
+    ensures err { OnErr result.1 (result.0 ≡ shelf) }
+    ensures due { RecordDue shelf (number_of_call result.1) }
+{
+    match shelf.start_recording() {
+        Ok(shelf) => (shelf, Ok(())),
+        Err(NotSwitched { shelf, refusal }) => (shelf, Err(Status::from(refusal))),
+    }
+}
+
+/// Records from here on.
+pub(crate) fn record(shelf: &mut CacheShelf) -> Result<(), Status>
+    ensures ok { OnOk result (StartsRecord shelf.old shelf.new) }
+    ensures err { OnErr result (shelf.new ≡ shelf.old) }
+    ensures due { RecordDue shelf.old (number_of_call result) }
+{
+    replace_with(shelf, (), recording)
+}
+
+/// A shelf that records nothing from here on.
+fn released(shelf: CacheShelf, _nothing: ()) -> (CacheShelf, ())
+    ensures { DropsRecord shelf result.0 }
+{
+    (shelf.drop_record(), ())
+}
+
+/// Records nothing from here on, and drops what was recorded.
+pub(crate) fn release(shelf: &mut CacheShelf)
+    ensures { DropsRecord shelf.old shelf.new }
+{
+    replace_with(shelf, (), released);
+}
+
+/// How many events the open chapter has, if they are recorded.
+pub(crate) fn events_of(shelf: &CacheShelf) -> u64
+    ensures { result ≡ recorded_events shelf.now.records shelf.now.shelf }
+{
+    match shelf.recorded() {
+        Some(shelf) => shelf.part().events().len() as u64,
+        None => 0,
+    }
+}
+
+/// How many chapters are closed, if they are recorded.
+pub(crate) fn chapters_of(shelf: &CacheShelf) -> u64
+    ensures { result ≡ recorded_chapters shelf.now.records shelf.now.shelf }
+{
+    match shelf.recorded() {
+        Some(shelf) => shelf.closed().len() as u64,
+        None => 0,
+    }
+}
+
+/// Drops the closed chapters, and tells how many there were.
+pub(crate) fn drop_chapters(shelf: &mut CacheShelf) -> u64
+    ensures { DropsChapters result shelf.old shelf.new }
+{
+    let dropped = chapters_of(shelf);
+    drop(shelf.take_chapters());
+    dropped
+}
+
+/// A moment before which no key of a shelf is dead.
+pub(crate) fn expiry_of(shelf: &CacheShelf) -> u64
+    ensures { NoneDiesBefore shelf.now.shelf.part result }
+{
+    match shelf.next_expiry() {
+        Some(moment) => moment,
+        None => u64::MAX,
+    }
+}
+
+/// The number of the first fault of some octets, or 0 where they are a message.
+pub(crate) fn fault_in(alloc: Global, octets: &[u8]) -> Result<u32, Status>
+    ensures fault { IfOk result (TellsFault octets.now) }
+    ensures memory { IfErr result (λ status. OutOfMemory (number_of status)) }
+{
+    match read_message(alloc, octets) {
+        Ok(_message) => Ok(0),
+        Err(WireFault::Memory) => Err(Status::Memory),
+        Err(fault) => Ok(u32::from(fault.number())),
+    }
+}
+
+/// The part that a name lies in by a seed, so many being all.
+pub(crate) fn part_in(alloc: Global, name: &[u8], parts: u64, seed: &[u8]) -> Result<u64, Status>
+    ensures value { IfOk result (λ part. part ≡ keyed_part_of seed.now name.now parts) }
+    ensures below { IfOk result (λ part. part < parts) }
+    ensures due { PartDue name.now parts seed.now (number_of_call result) }
+{
+    let seed = check_division(parts, seed)?;
+    let name = name_of(alloc, name)?.folded()?;
+    Ok(keyed_part_of(&name, &seed, parts as usize) as u64)
+}
+
+/// The law of the octets that `rrc_sizes` tells: where no entry has more than some number, they are
+/// at most that times the keys. The function does nothing; its contract is the law.
+pub fn keys_times_the_most_bound_the_octets()
+    ensures { AreBounded }
+{}
+
+/// The law of the octets that `rrc_sizes` tells of a shelf that was offered failures and what is
+/// relevant of responses alone (`rrc_read_response`): they are at most the keys times a number, by
+/// the octets of the largest response, and at most the keys times 302,830. The function does nothing;
+/// its contract is the law.
+pub fn responses_bound_the_octets()
+    ensures bounded { FedAreBounded }
+    ensures at_any_size { AreBoundedAtAnySize }
+{}
