@@ -8,7 +8,7 @@ use Rattle.rrc_history.specs.declared.event.Tag.{Tag}
 use Rattle.rrc_cache.specs.Part.{past_of}
 use Rattle.rrc_share.specs.CacheShelf.{CacheShelfOf, TakesAsk}
 use Rattle.rrc_share.specs.Shelf.{ShelfOf, HasMadeRoom, AppendsAsk}
-use Rattle.rrc_c.specs.Asked.{reply_of}
+use Rattle.rrc_c.specs.Asks.{reply_of}
 use Rattle.rrc_c.specs.Shelves.{MakesAsk}
 
 abbrev reply_in : ShelfOf → AskOf → Reply

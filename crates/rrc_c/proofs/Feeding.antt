@@ -22,7 +22,7 @@ use Rattle.rrc_sets.specs.Octets.{most_octets, MakesAtMost}
 use Rattle.rrc_sets.specs.lemmas.RelevantSizes.{are_few}
 use Rattle.rrc_sets.specs.declared.query.Query.{Query}
 use Rattle.rrc_c.specs.Fed.{OffersResponse, Goes, offers_response, offers_failure, asks, sweeps, starts_record, drops_record, drops_chapters, stops_record, takes_chapters, is_refused, IsFed, made, goes_on, RDATA_LIMIT, FedAreBounded, AreBoundedAtAnySize}
-use Rattle.rrc_c.specs.Offered.{failure_offer, AreAt, Takes, TakesAll, TakesFirst}
+use Rattle.rrc_c.specs.Intake.{failure_offer, AreAt, Takes, TakesAll, TakesFirst}
 use Rattle.rrc_c.specs.Parts.{keyed_part_of}
 use Rattle.rrc_c.specs.Readings.{placed_in, share_of, TakesShare, TakesSomeOfShare}
 use Rattle.rrc_c.specs.Responses.{IsResponseReading}

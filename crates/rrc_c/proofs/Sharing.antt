@@ -5,8 +5,8 @@ use Rattle.std.proofs.Math.Nat.{two-pow-succ}
 use Rattle.std.proofs.Math.Pow.{pow_mono}
 use Rattle.std.proofs.lemmas.List.Elements.{All-filter}
 use Rattle.rrc_history.specs.Fits.{OfferOf}
-use Rattle.rrc_c.specs.Offered.{AreAt, TakesAll, TakesFirst}
-use Rattle.rrc_c.specs.Parted.{lying_in, IsPart}
+use Rattle.rrc_c.specs.Intake.{AreAt, TakesAll, TakesFirst}
+use Rattle.rrc_c.specs.PartIntake.{lying_in, IsPart}
 use Rattle.rrc_c.specs.Parts.{keyed_part_of}
 use Rattle.rrc_c.specs.Readings.{bit_of, has_part, parts_below, placed_in, share_of, IsReading, RefusedShareIsPart, ShareIsPart}
 use Rattle.rrc_c.specs.declared.counts.Bounds.{Bounds}

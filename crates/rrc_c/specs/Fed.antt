@@ -10,9 +10,9 @@ use Rattle.rrc_share.specs.CacheShelf.{CacheShelfOf}
 use Rattle.rrc_sets.specs.Octets.{most_octets}
 use Rattle.rrc_sets.specs.declared.query.Query.{Query}
 use Rattle.rrc_c.specs.Chapters.{StopsRecord, TakesClosed}
-use Rattle.rrc_c.specs.Kept.{DropsChapters}
-use Rattle.rrc_c.specs.Made.{IsNew}
-use Rattle.rrc_c.specs.Offered.{failure_offer, TakesOne}
+use Rattle.rrc_c.specs.Upkeep.{DropsChapters}
+use Rattle.rrc_c.specs.NewShelf.{IsNew}
+use Rattle.rrc_c.specs.Intake.{failure_offer, TakesOne}
 use Rattle.rrc_c.specs.Readings.{TakesShare, TakesSomeOfShare}
 use Rattle.rrc_c.specs.Refusals.{IsFailure}
 use Rattle.rrc_c.specs.Responses.{IsResponseReading}

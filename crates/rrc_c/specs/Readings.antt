@@ -5,8 +5,8 @@ use Rattle.std.specs.List.{list_any}
 use Rattle.rrc_history.specs.Fits.{OfferOf}
 use Rattle.rrc_share.specs.CacheShelf.{CacheShelfOf}
 use Rattle.rrc_c.specs.Handles.{BothHold}
-use Rattle.rrc_c.specs.Offered.{AreAt, AreOffered, TakesAll, TakesFirst, TakesNone}
-use Rattle.rrc_c.specs.Parted.{TakesPart, TakesSomeOfPart}
+use Rattle.rrc_c.specs.Intake.{AreAt, AreOffered, TakesAll, TakesFirst, TakesNone}
+use Rattle.rrc_c.specs.PartIntake.{TakesPart, TakesSomeOfPart}
 use Rattle.rrc_c.specs.Parts.{keyed_part_of}
 use Rattle.rrc_c.specs.Refusals.{AreLimits, Because, DivisionRefused, IsDivision, OffersRefused, OutOfMemory, Then}
 use Rattle.rrc_c.specs.declared.counts.Bounds.{Bounds}

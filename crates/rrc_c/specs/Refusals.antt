@@ -16,7 +16,7 @@ use Rattle.rrc_history.specs.declared.event.Reply.{Reply}
 use Rattle.rrc_sets.specs.Limits.{AreWithin as AreWithinLimits}
 use Rattle.rrc_cache.specs.Part.{PartOf}
 use Rattle.rrc_share.specs.CacheShelf.{CacheShelfOf}
-use Rattle.rrc_c.specs.Asked.{asked, reply_of, AreChoices}
+use Rattle.rrc_c.specs.Asks.{asked, reply_of, AreChoices}
 use Rattle.rrc_c.specs.Shelves.{CanWriteBy, IsSpentBy}
 use Rattle.rrc_c.specs.Statuses.{number_of}
 use Rattle.rrc_c.specs.Told.{data_of, data_text, datum, text_of, AreTellable}

@@ -10,7 +10,7 @@ use Rattle.rrc_sets.specs.declared.limits.Limits.{Limits}
 use Rattle.rrc_sets.specs.declared.query.Query.{Query}
 use Rattle.rrc_sets.specs.declared.query.QueryFault.{QueryFault}
 use Rattle.rrc_sets.specs.declared.relevance.RelevanceLimits.{RelevanceLimits}
-use Rattle.rrc_c.specs.Offered.{AreAt}
+use Rattle.rrc_c.specs.Intake.{AreAt}
 use Rattle.rrc_c.specs.Readings.{placed_in}
 use Rattle.rrc_c.specs.Refusals.{AreLimits, Because, DivisionRefused, IsDivision, MessageRefused, NameRefused, Then}
 use Rattle.rrc_c.specs.declared.counts.Bounds.{Bounds}

@@ -1,6 +1,6 @@
 // SPDX-License-Identifier: MIT
 ghost use Rattle.std.specs.Prelude.{◌≡◌, ◌+◌, ◌≤◌, ◌↔◌, length, false, IsTrue, IfOk, IfErr, IfNone, IfSome, OnOk, OnErr};
-ghost use Rattle.rrc_c.specs.Asked.{asked, purpose_of, mode_of, reply_of, AreKept, AnswersOr, ShowsOr, TellsOr};
+ghost use Rattle.rrc_c.specs.Asks.{asked, purpose_of, mode_of, reply_of, AreKept, AnswersOr, ShowsOr, TellsOr};
 ghost use Rattle.rrc_c.specs.Refusals.{AskDue, IsQuestion, NameRefused, PeekDue, QuestionRefused, TellingThen, WriteDue};
 ghost use Rattle.rrc_c.specs.Shelves.{IsLeftAs, MakesAsk};
 ghost use Rattle.rrc_c.specs.Statuses.{number_of, number_of_call, number_of_reply};

@@ -2,12 +2,12 @@
 ghost use Rattle.std.specs.Prelude.{◌≡◌, ◌<◌, ◌⊎◌, None, IfOk, OnErr, length};
 ghost use Rattle.rrc_c.specs.Statuses.{number_of_call, number_of_reply, OnDone, OnNoShelf, OnRefused, OnSmall, OnUntold};
 ghost use Rattle.rrc_c.specs.Handles.{BothHold, HoldsNone, IsKept, TellsNone};
-ghost use Rattle.rrc_c.specs.Asked.{asked, Answers, Shows, TellsSizeAlone};
-ghost use Rattle.rrc_c.specs.Kept.{TellsExpiry, TellsFault, TellsSizes, DropsChapters};
-ghost use Rattle.rrc_c.specs.Offered.{denial_offer, failure_offer, TakesMessage, TakesOne, TakesSet, TakesSome};
+ghost use Rattle.rrc_c.specs.Asks.{asked, Answers, Shows, TellsSizeAlone};
+ghost use Rattle.rrc_c.specs.Upkeep.{TellsExpiry, TellsFault, TellsSizes, DropsChapters};
+ghost use Rattle.rrc_c.specs.Intake.{denial_offer, failure_offer, TakesMessage, TakesOne, TakesSet, TakesSome};
 ghost use Rattle.rrc_c.specs.Shelves.{DropsRecord, MakesSweep, StartsRecord};
 ghost use Rattle.rrc_c.specs.Stored.{TellsStored};
-ghost use Rattle.rrc_c.specs.Parted.{IsPart, TakesPart, TakesSomeOfPart};
+ghost use Rattle.rrc_c.specs.PartIntake.{IsPart, TakesPart, TakesSomeOfPart};
 ghost use Rattle.rrc_c.specs.Parts.{keyed_part_of};
 ghost use Rattle.rrc_c.specs.Refusals.{AskDue, DenialDue, FailureDue, IfHeld, IsDenial, IsFailure, IsQuestion, IsSeed, IsSet, OutOfMemory, PartDue, PeekDue, RecordDue, SetDue, StoredDue, WriteDue};
 

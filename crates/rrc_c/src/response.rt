@@ -1,6 +1,6 @@
 // SPDX-License-Identifier: MIT
 ghost use Rattle.std.specs.Prelude.{◌≡◌, IfOk, IfErr, IfSome, IfNone, OnOk};
-ghost use Rattle.rrc_c.specs.Offered.{AreAt};
+ghost use Rattle.rrc_c.specs.Intake.{AreAt};
 ghost use Rattle.rrc_c.specs.Refusals.{MessageRefused, NameRefused};
 ghost use Rattle.rrc_c.specs.Responses.{query_of, BringsByDefault, IsOther, IsResponseReading, ResponseRefused};
 ghost use Rattle.rrc_c.specs.Statuses.{number_of};

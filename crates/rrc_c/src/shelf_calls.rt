@@ -3,7 +3,7 @@ ghost use Rattle.std.specs.Prelude.{◌≡◌, ◌↔◌, None, IfOk};
 ghost use Rattle.rrc_c.specs.Refusals.{MakingDue, NewDue};
 ghost use Rattle.rrc_c.specs.Statuses.{number_of_call, OnDone, OnRefused};
 ghost use Rattle.rrc_c.specs.Handles.{TellsNone};
-ghost use Rattle.rrc_c.specs.Made.{IsNew, HoldsNew};
+ghost use Rattle.rrc_c.specs.NewShelf.{IsNew, HoldsNew};
 
 use crate::division::seed_of;
 use crate::handle::Handle;

@@ -3,7 +3,7 @@ ghost use Rattle.std.specs.Prelude.{◌≡◌, ◌≤◌, ◌<◌, true, false, 
 ghost use Rattle.rrc_cache.specs.Expiry.{NoneDiesBefore};
 ghost use Rattle.rrc_c.specs.Bounds.{AreBounded};
 ghost use Rattle.rrc_c.specs.Fed.{AreBoundedAtAnySize, FedAreBounded};
-ghost use Rattle.rrc_c.specs.Kept.{DropsChapters, TellsFault};
+ghost use Rattle.rrc_c.specs.Upkeep.{DropsChapters, TellsFault};
 ghost use Rattle.rrc_c.specs.Parts.{keyed_part_of};
 ghost use Rattle.rrc_c.specs.Refusals.{OutOfMemory, PartDue, RecordDue, WriteDue};
 ghost use Rattle.rrc_c.specs.Shelves.{DropsRecord, IsLeftAs, MakesSweep, StartsRecord, recorded_chapters, recorded_events};

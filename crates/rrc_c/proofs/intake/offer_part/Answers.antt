@@ -2,8 +2,8 @@
 use Rattle.std.proofs.Common.{◌≡◌, ap, subst, ◌∙◌, inr}
 use Rattle.std.proofs.lemmas.List.Elements.{All-filter}
 use Rattle.rrc_history.specs.Fits.{OfferOf}
-use Rattle.rrc_c.specs.Offered.{AreAt, TakesAll, TakesFirst}
-use Rattle.rrc_c.specs.Parted.{lying_in}
+use Rattle.rrc_c.specs.Intake.{AreAt, TakesAll, TakesFirst}
+use Rattle.rrc_c.specs.PartIntake.{lying_in}
 use Rattle.rrc_c.specs.Statuses.{number_of}
 use Rattle.rrc_c.proofs.Taking.{map_ok, map_err}
 use Rattle.rrc_c.proofs.intake.offer_part.Goals as goal

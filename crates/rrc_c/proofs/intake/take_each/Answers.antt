@@ -2,7 +2,7 @@
 use Rattle.std.proofs.Common.{◌≡◌, ℕ, length, take, refl, sym, ◌∙◌, map-id}
 use Rattle.std.proofs.lemmas.Iterator.Consumers.{YieldsList-so_far, YieldsList-turn}
 use Rattle.std.proofs.lemmas.Iterator.Adapters.{YieldsList-from_vec}
-use Rattle.rrc_c.specs.Offered.{AreAt, TakesFirst}
+use Rattle.rrc_c.specs.Intake.{AreAt, TakesFirst}
 use Rattle.rrc_c.specs.Statuses.{number_of, refused_as}
 use Rattle.rrc_c.proofs.Refusing.{on_err, write_refused}
 use Rattle.rrc_c.proofs.Taking.{takes_more, takes_first, parts_at}

@@ -1,6 +1,6 @@
 -- SPDX-License-Identifier: MIT
 use Rattle.std.proofs.Common.{ℕ, subst, inr}
-use Rattle.rrc_c.specs.Offered.{AreAt, TakesAll, TakesFirst}
+use Rattle.rrc_c.specs.Intake.{AreAt, TakesAll, TakesFirst}
 use Rattle.rrc_c.specs.Statuses.{number_of}
 use Rattle.rrc_c.proofs.Taking.{map_ok, map_err}
 use Rattle.rrc_c.proofs.reading.offer_share.Goals as goal

@@ -3,7 +3,7 @@ use Rattle.std.proofs.Common.{rules, ◌≡◌, List, map, subst}
 use Rattle.rrc_history.specs.Fits.{OfferOf}
 use Rattle.rrc_sets.specs.declared.limits.Limits.{Limits}
 use Rattle.rrc_sets.specs.declared.query.Query.{Query}
-use Rattle.rrc_c.specs.Offered.{AreAt}
+use Rattle.rrc_c.specs.Intake.{AreAt}
 use Rattle.rrc_c.specs.Readings.{placed_in}
 use Rattle.rrc_c.specs.Responses.{BringsByDefault}
 use Rattle.rrc_c.proofs.response.read_response.Goals as goal

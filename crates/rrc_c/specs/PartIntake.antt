@@ -3,7 +3,7 @@
 use Rattle.std.specs.Prelude.{ℕ, ◌<◌, ◌≤◌, ◌⊎◌, ◌==◌, List, filter}
 use Rattle.rrc_history.specs.Fits.{OfferOf}
 use Rattle.rrc_share.specs.CacheShelf.{CacheShelfOf}
-use Rattle.rrc_c.specs.Offered.{AreOffered, TakesAll, TakesFirst, TakesNone}
+use Rattle.rrc_c.specs.Intake.{AreOffered, TakesAll, TakesFirst, TakesNone}
 use Rattle.rrc_c.specs.declared.counts.Counts.{Counts}
 use Rattle.rrc_c.specs.Parts.{keyed_part_of}
 use Rattle.rrc_c.specs.Refusals.{Because, IsSeed, OffersRefused, SeedRefused, Then}
