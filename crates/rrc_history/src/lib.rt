@@ -17,7 +17,7 @@ mod laws;
 mod octets;
 mod offer;
 mod past;
-mod renewing;
+mod renewal;
 mod repeats;
 mod reply;
 mod rules;

@@ -3,7 +3,7 @@ use Rattle.std.proofs.Common.{rules, eqb, sym, ◌∙◌}
 use Rattle.std.specs.HashSet as bag
 use Rattle.std.proofs.lemmas.Result.{IfOk-weaker}
 use Rattle.rrc_history.proofs.Renewed.{is_among}
-use Rattle.rrc_history.proofs.renewing.set_of.Goals as goal
+use Rattle.rrc_history.proofs.renewal.set_of.Goals as goal
 
 pub returns : goal.returns
 returns c =

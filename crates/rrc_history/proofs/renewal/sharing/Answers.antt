@@ -3,7 +3,7 @@ use Rattle.std.proofs.Common.{◌≡◌, ◌++◌, List, length, sym, ap, subst,
 use Rattle.rrc_history.specs.declared.snapshot.Entry.{Entry}
 use Rattle.rrc_history.specs.EntryLists.{entries_at, AreFilled}
 use Rattle.rrc_history.proofs.Renewed.{staying_entries, staying_filled}
-use Rattle.rrc_history.proofs.renewing.sharing.Goals as goal
+use Rattle.rrc_history.proofs.renewal.sharing.Goals as goal
 
 pub invariant_of-result : goal.invariant_of-result
 invariant_of-result c =

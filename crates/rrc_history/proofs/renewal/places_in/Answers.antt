@@ -3,7 +3,7 @@ use Rattle.std.proofs.Common.{◌<◌, [], length, slice_index_or, List, refl, a
 use Rattle.rrc_history.specs.declared.snapshot.Entry.{Entry}
 use Rattle.rrc_history.specs.declared.entry_list.Place.{Place}
 use Rattle.rrc_history.proofs.Renewed.{named_more, filled_more}
-use Rattle.rrc_history.proofs.renewing.places_in.Goals as goal
+use Rattle.rrc_history.proofs.renewal.places_in.Goals as goal
 
 pub loop-place-preserved : goal.loop-place-preserved
 loop-place-preserved c =

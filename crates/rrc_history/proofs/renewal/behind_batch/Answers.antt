@@ -3,7 +3,7 @@ use Rattle.std.proofs.Common.{◌≡◌, ◌++◌, ◌∷◌, [], List, length, 
 use Rattle.rrc_history.specs.declared.snapshot.Entry.{Entry}
 use Rattle.rrc_history.specs.EntryLists.{entries_at, AreFilled}
 use Rattle.rrc_history.proofs.Renewed.{behind_entries, behind_filled}
-use Rattle.rrc_history.proofs.renewing.behind_batch.Goals as goal
+use Rattle.rrc_history.proofs.renewal.behind_batch.Goals as goal
 
 pub invariant_of-result : goal.invariant_of-result
 invariant_of-result c =
