@@ -2,7 +2,7 @@
 // The calls whose time is taken. A call that was refused counts as nothing, so what is printed
 // shows it.
 
-use crate::made::{PickedAsk, PickedOffer, put_tenth};
+use crate::inputs::{PickedAsk, PickedOffer, put_tenth};
 use crate::numbers::Numbers;
 use crate::task::Kind;
 use rrc_cache::{Part, Refusal, ReplyRef, recheck};

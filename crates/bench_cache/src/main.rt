@@ -16,13 +16,13 @@
 #![tactic(auto)]
 
 mod calls;
-mod made;
+mod inputs;
 mod numbers;
 mod shared;
 mod task;
 
 use crate::calls::{Counts, Done, ask_all, ask_shelf, audit_all, load_all, offer_all, sweep_all};
-use crate::made::{PickedAsk, add_asks, add_each, add_offers, add_parts, fill, places, write};
+use crate::inputs::{PickedAsk, add_asks, add_each, add_offers, add_parts, fill, places, write};
 use crate::task::{KINDS, Kind, Task, kind_of};
 use rrc_cache::Part;
 use rrc_share::Shelf;

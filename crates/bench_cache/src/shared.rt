@@ -2,7 +2,7 @@
 // Calls a shared cache by several threads at once, or parts that no lock guards by one.
 
 use crate::calls::{Counts, Done, NONE, TAG, answered};
-use crate::made::{CHAPTER, PickedAsk, TTL, add_each, add_parts, fill, numbered, offer};
+use crate::inputs::{CHAPTER, PickedAsk, TTL, add_each, add_parts, fill, numbered, offer};
 use crate::numbers::Numbers;
 use crate::task::{Kind, NAMES, Task};
 use rrc_cache::Part;

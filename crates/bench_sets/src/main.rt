@@ -7,11 +7,11 @@
 //! empty line, and makes the offers of those behind it.
 #![tactic(auto)]
 
-mod offering;
-mod reading;
+mod offers;
+mod reads;
 
-use crate::offering::offer_all;
-use crate::reading::{octets_in, read_all};
+use crate::offers::offer_all;
+use crate::reads::{octets_in, read_all};
 use std::env::Args;
 use std::rt::{Env, Files};
 use std::time::CpuClock;
