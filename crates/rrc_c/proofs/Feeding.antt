@@ -16,7 +16,7 @@ use Rattle.rrc_history.specs.declared.event.Outcome.{Outcome}
 use Rattle.rrc_history.specs.declared.event.Reply.{Reply}
 use Rattle.rrc_history.specs.declared.event.Tag.{Tag}
 use Rattle.rrc_share.specs.CacheShelf.{CacheShelfOf, IsLeftBy, TakesAsk, TakesOffer, TakesSweep}
-use Rattle.rrc_share.specs.Shelf.{ShelfOf, Appends, HasMadeRoom, Shuts}
+use Rattle.rrc_share.specs.Shelf.{ShelfOf, Appends, HasMadeRoom, ShelvesChapter}
 use Rattle.rrc_share.specs.Switching.{Starts, Stops}
 use Rattle.rrc_sets.specs.Octets.{most_octets, MakesAtMost}
 use Rattle.rrc_sets.specs.lemmas.RelevantSizes.{are_few}
@@ -38,7 +38,7 @@ use Rattle.rrc_c.proofs.Holding.{all_reverse, OffersAtMost, IsFew, few_adds, few
 -- ---- calls on a shelf
 
 -- a closed chapter leaves what the part held
-few_shuts : (most : ℕ) (old new : ShelfOf) → Shuts old new → IsFew most old.part
+few_shuts : (most : ℕ) (old new : ShelfOf) → ShelvesChapter old new → IsFew most old.part
     → IsFew most new.part
 few_shuts most old new shuts few = few_closes most old.part new.part shuts.chapter shuts.part few
 

@@ -9,7 +9,7 @@ use Rattle.rrc_history.specs.declared.event.Reply.{Reply}
 use Rattle.rrc_history.specs.declared.event.Tag.{Tag}
 use Rattle.rrc_cache.specs.Part.{PartOf, next_number}
 use Rattle.rrc_share.specs.CacheShelf.{CacheShelfOf, lean_shelf, IsLeftBy, TakesAsk, TakesOffer, TakesSweep}
-use Rattle.rrc_share.specs.Shelf.{ShelfOf, CanWrite, IsSpent}
+use Rattle.rrc_share.specs.Shelf.{ShelfOf, CanWrite, IsShelfSpent}
 use Rattle.rrc_share.specs.Switching.{Starts}
 
 -- ---- events
@@ -43,7 +43,7 @@ CanWriteBy false part = next_number part < 2 ^ 62
 
 -- the numbers of events are spent, or those of chapters where one that is recorded is full
 abbrev pub IsSpentBy : Bool → PartOf → Type 0
-IsSpentBy true part = IsSpent part
+IsSpentBy true part = IsShelfSpent part
 IsSpentBy false part = 2 ^ 62 ≤ next_number part
 
 -- ---- records

@@ -15,7 +15,7 @@ use Rattle.rrc_history.specs.WholeLaws.{AllKeepLaws}
 use Rattle.rrc_history.specs.Same.{snapshot_eq}
 use Rattle.rrc_history.specs.lemmas.SameLaws.{snapshot_eq-Decides}
 use Rattle.rrc_cache.specs.Part.{PartOf}
-use Rattle.rrc_share.specs.Shelf.{ShelfOf, AreBefore, Shuts, first_snapshot}
+use Rattle.rrc_share.specs.Shelf.{ShelfOf, AreBefore, ShelvesChapter, first_snapshot}
 use Rattle.rrc_trace.specs.declared.fault.ReplayFault.{ReplayFault}
 use Rattle.rrc_trace.specs.declared.fault.ReplayFault.TheVariants.{BadLine, TooManyLines, Read, Write, Strayed, Memory, Spent, TooManyQuestions, NotLegal}
 use Rattle.rrc_report.specs.Reports.{IsOfShelf, IsPartOf, empty_under}
@@ -31,7 +31,7 @@ some_chained : (closed : List ChapterOf) (chapter : ChapterOf) (part : PartOf) �
 some_chained [] chapter part before = before.chained
 some_chained (first ∷ closed) chapter part before = before.chained
 
-pub shut_chained : (old new : ShelfOf) (chapters : List ChapterOf) → Shuts old new → chapters ≡ new.closed → AreBefore chapters new.part → chain_fault chapters ≡ None
+pub shut_chained : (old new : ShelfOf) (chapters : List ChapterOf) → ShelvesChapter old new → chapters ≡ new.closed → AreBefore chapters new.part → chain_fault chapters ≡ None
 shut_chained old new chapters shuts are before =
     let all : chapters ≡ old.closed ++ shuts.chapter ∷ [] = are ∙ shuts.closed in
     subst (λ cs. chain_fault cs ≡ None) (sym all) (some_chained old.closed shuts.chapter new.part (subst (λ cs. AreBefore cs new.part) all before))
@@ -46,7 +46,7 @@ closed_whole closed part (chapter ∷ behind) whole are none is = record {
 }
 
 -- the history that the chapters are once the last one was closed is that of the shelf before
-pub shut_kept : (old new : ShelfOf) (chapters : List ChapterOf) (whole : WholeOf) → Shuts old new → chapters ≡ new.closed → IsWhole chapters whole
+pub shut_kept : (old new : ShelfOf) (chapters : List ChapterOf) (whole : WholeOf) → ShelvesChapter old new → chapters ≡ new.closed → IsWhole chapters whole
     → LeadTo whole.snapshot whole.events whole.closing → AllKeepLaws whole.snapshot (reverse whole.events) → IsKeptBy old whole
 shut_kept old new chapters whole shuts are is leads laws =
     let of_new = closed_whole new.closed new.part chapters whole are (ap (λ (p : PartOf). p.events) shuts.part.next) is in

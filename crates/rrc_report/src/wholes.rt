@@ -2,7 +2,7 @@
 ghost use Rattle.std.specs.Prelude.{◌≡◌, List, [], ◌∷◌, IfOk, IfErr, IfSome, IfNone, OnOk};
 ghost use Rattle.rrc_history.specs.Chains.{WholeOf};
 ghost use Rattle.rrc_history.specs.Same.{snapshot_eq};
-ghost use Rattle.rrc_share.specs.Shelf.{Shuts};
+ghost use Rattle.rrc_share.specs.Shelf.{ShelvesChapter};
 ghost use Rattle.rrc_report.specs.Reports.{empty_under};
 ghost use Rattle.rrc_report.specs.Steps.{AreParts, CanNotClose};
 ghost use Rattle.rrc_report.specs.Wholes.{IsKeptBy};
@@ -16,7 +16,7 @@ use std::alloc::Global;
 
 /// Closes the last chapter of a shelf. `Spent` of the number of lines where it can't be closed.
 fn shut(lines: u64, shelf: &mut Shelf) -> Result<(), ReplayFault>
-    ensures ok { OnOk result (Shuts shelf.old shelf.new) }
+    ensures ok { OnOk result (ShelvesChapter shelf.old shelf.new) }
     ensures err { IfErr result (CanNotClose lines (shelf.old ∷ [])) }
 {
     match on_shelf_checkpoint(shelf) {

@@ -22,7 +22,7 @@ use Rattle.rrc_cache.specs.Part as parts
 use Rattle.rrc_cache.specs.Part.{PartOf, past_of, next_number, Adds, Closes, IsSound}
 use Rattle.rrc_cache.specs.declared.refusal.Refusal.{Refusal}
 use Rattle.rrc_cache.specs.declared.refusal.Refusal.TheVariants.{HistoryFull, MomentTooLarge, Memory}
-use Rattle.rrc_share.specs.Shelf.{ShelfOf, first_snapshot, opening_of, history_of, whole_past, AreBefore, IsShelf, IsFull, IsSame, Shuts, HasMadeRoom, Appends, AppendsOffer, AppendsAsk, AppendsSweep, CanWrite, IsOpen, IsDue}
+use Rattle.rrc_share.specs.Shelf.{ShelfOf, first_snapshot, opening_of, history_of, whole_past, AreBefore, IsShelf, IsFull, IsSame, ShelvesChapter, HasMadeRoom, Appends, AppendsOffer, AppendsAsk, AppendsSweep, CanWrite, IsShelfOpen, IsShelfDue}
 use Rattle.rrc_share.proofs.Chaining.{chained_more, last_closing-more, last_number-more, events_of-more}
 
 -- ---- a chapter is closed
@@ -78,7 +78,7 @@ shelf_shut closed part next chapter closes is = record {
 
 -- a chapter was closed, and all holds of the shelf that holds of every one
 pub record IsShut (closed : List ChapterOf) (part : PartOf) (after : List ChapterOf) (next : PartOf) : Type 0 where
-  pub shuts : Shuts (record { closed = closed; part = part }) (record { closed = after; part = next })
+  pub shuts : ShelvesChapter (record { closed = closed; part = part }) (record { closed = after; part = next })
   pub shelf : IsShelf (record { closed = after; part = next })
 
 pub is_shut : (closed : List ChapterOf) (part : PartOf) (after : List ChapterOf) (next : PartOf) (chapter : ChapterOf) → Closes part next chapter
@@ -196,8 +196,8 @@ unspent old middle can (inr none) (inr spent) =
     omega (arith, can.number, spent')
 
 -- what is due of a call on the part is due of the one on the shelf
-pub due_of : {A : Type 0} (old middle : ShelfOf) (moment : ℕ) (result : Result A Refusal) → IsOpen old.part moment → HasMadeRoom old middle
-    → parts.IsDue middle.part moment result → IsDue old.part moment result
+pub due_of : {A : Type 0} (old middle : ShelfOf) (moment : ℕ) (result : Result A Refusal) → IsShelfOpen old.part moment → HasMadeRoom old middle
+    → parts.IsDue middle.part moment result → IsShelfDue old.part moment result
 due_of old middle moment (Ok answer) open' room due = open'
 due_of old middle moment (Err HistoryFull) open' room due = absurd (unspent old middle open'.room room due)
 due_of old middle moment (Err MomentTooLarge) open' room due = absurd (omega (arith, open'.moment, due.1))

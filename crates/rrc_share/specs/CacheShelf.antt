@@ -12,7 +12,7 @@ use Rattle.rrc_history.specs.declared.snapshot.Entry.{Entry}
 use Rattle.rrc_cache.specs.Lean.{IsLeanDue, IsLeanSound}
 use Rattle.rrc_cache.specs.Part.{PartOf, past_of, WritesOffer, WritesAsk, WritesSweep}
 use Rattle.rrc_cache.specs.declared.refusal.Refusal.{Refusal}
-use Rattle.rrc_share.specs.Shelf.{ShelfOf, AppendsOffer, AppendsAsk, AppendsSweep, IsDue, IsLeft, IsShelf, Shuts}
+use Rattle.rrc_share.specs.Shelf.{ShelfOf, AppendsOffer, AppendsAsk, AppendsSweep, IsShelfDue, IsLeft, IsShelf, ShelvesChapter}
 use Rattle.rrc_share.specs.declared.kept.Kept.{Kept}
 use Rattle.rrc_share.specs.declared.kept.Kept.TheVariants.{Lean, Recording}
 
@@ -67,7 +67,7 @@ TakesSweep false old new tag moment removed = WritesSweep old.part new.part tag 
 
 -- the chapter that was open is closed; while nothing is recorded nothing is done
 abbrev pub ShutsBy : Bool → ShelfOf → ShelfOf → Type 0
-ShutsBy true old new = Shuts old new
+ShutsBy true old new = ShelvesChapter old new
 ShutsBy false old new = new ≡ old
 
 -- nothing was done; while the history is recorded, a chapter that was full may have been closed
@@ -78,5 +78,5 @@ IsLeftBy false old new = new ≡ old
 -- when a call at a moment answers, and when it refuses with what: while nothing is recorded no
 -- chapter is ever full
 abbrev pub IsDueBy : {A : Type 0} → Bool → PartOf → ℕ → Result A Refusal → Type 0
-IsDueBy true part moment result = IsDue part moment result
+IsDueBy true part moment result = IsShelfDue part moment result
 IsDueBy false part moment result = IsLeanDue part moment result

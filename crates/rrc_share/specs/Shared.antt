@@ -15,11 +15,11 @@ pub record HasParts (parts kept room : ℕ) : Type 0 where
   pub reserved : parts ≤ room
 
 -- what the moment of a call says of its answer: it is MomentTooLarge only where the moment is above the last one, and is then that or HistoryFull
-abbrev pub IsTimely : {A : Type 0} → ℕ → Result A Refusal → Type 0
-IsTimely moment (Ok answer) = moment ≤ LAST_MOMENT
-IsTimely moment (Err HistoryFull) = Unit {0}
-IsTimely moment (Err MomentTooLarge) = LAST_MOMENT < moment
-IsTimely moment (Err Memory) = moment ≤ LAST_MOMENT
+abbrev pub IsMomentDue : {A : Type 0} → ℕ → Result A Refusal → Type 0
+IsMomentDue moment (Ok answer) = moment ≤ LAST_MOMENT
+IsMomentDue moment (Err HistoryFull) = Unit {0}
+IsMomentDue moment (Err MomentTooLarge) = LAST_MOMENT < moment
+IsMomentDue moment (Err Memory) = moment ≤ LAST_MOMENT
 
 -- a refusal of a call that has no moment
 abbrev pub IsWithoutMoment : Refusal → Type 0

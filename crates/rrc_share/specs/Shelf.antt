@@ -84,7 +84,7 @@ pub record IsSame (old new : ShelfOf) : Type 0 where
   pub replies : (ask : AskOf) → reply_to new.part.snapshot (past_of new.part) ask ≡ reply_to old.part.snapshot (past_of old.part) ask
 
 -- the chapter that was open is the last one closed, and the part is in the next
-pub record Shuts (old new : ShelfOf) : Type 0 where
+pub record ShelvesChapter (old new : ShelfOf) : Type 0 where
   pub chapter : ChapterOf
   pub closed : new.closed ≡ old.closed ++ chapter ∷ []
   pub part : Closes old.part new.part chapter
@@ -92,7 +92,7 @@ pub record Shuts (old new : ShelfOf) : Type 0 where
 
 -- where the chapter was full it was closed, and else nothing was done
 abbrev pub HasMadeRoom : ShelfOf → ShelfOf → Type 0
-HasMadeRoom old new = (IsFull old.part × Shuts old new) ⊎ (IsWide old.part × (new ≡ old))
+HasMadeRoom old new = (IsFull old.part × ShelvesChapter old new) ⊎ (IsWide old.part × (new ≡ old))
 
 -- a chapter that is full was closed, and then just this event was written, which is right after the whole history and keeps the laws
 pub record Appends (old new : ShelfOf) (event : Event) : Type 0 where
@@ -119,7 +119,7 @@ AppendsSweep old new tag moment removed = (gone : List KeyOf) × (length gone �
 
 -- nothing was done, or a chapter that was full was closed
 abbrev pub IsLeft : ShelfOf → ShelfOf → Type 0
-IsLeft old new = (new ≡ old) ⊎ (IsFull old.part × Shuts old new)
+IsLeft old new = (new ≡ old) ⊎ (IsFull old.part × ShelvesChapter old new)
 
 -- ---- when calls refuse
 
@@ -129,17 +129,17 @@ pub record CanWrite (part : PartOf) : Type 0 where
   pub chapter : IsWide part ⊎ (part.number < 2 ^ 62)
 
 -- the numbers of events are spent, or those of chapters where the chapter is full
-abbrev pub IsSpent : PartOf → Type 0
-IsSpent part = (2 ^ 62 ≤ next_number part) ⊎ (IsFull part × (part.number ≡ 2 ^ 62))
+abbrev pub IsShelfSpent : PartOf → Type 0
+IsShelfSpent part = (2 ^ 62 ≤ next_number part) ⊎ (IsFull part × (part.number ≡ 2 ^ 62))
 
 -- the shelf could take a call at this moment
-pub record IsOpen (part : PartOf) (at : ℕ) : Type 0 where
+pub record IsShelfOpen (part : PartOf) (at : ℕ) : Type 0 where
   pub room : CanWrite part
   pub moment : at ≤ LAST_MOMENT
 
 -- when a call at a moment answers, and when it refuses with what
-abbrev pub IsDue : {A : Type 0} → PartOf → ℕ → Result A Refusal → Type 0
-IsDue part moment (Ok answer) = IsOpen part moment
-IsDue part moment (Err HistoryFull) = IsSpent part
-IsDue part moment (Err MomentTooLarge) = CanWrite part × (LAST_MOMENT < moment)
-IsDue part moment (Err Memory) = IsOpen part moment
+abbrev pub IsShelfDue : {A : Type 0} → PartOf → ℕ → Result A Refusal → Type 0
+IsShelfDue part moment (Ok answer) = IsShelfOpen part moment
+IsShelfDue part moment (Err HistoryFull) = IsShelfSpent part
+IsShelfDue part moment (Err MomentTooLarge) = CanWrite part × (LAST_MOMENT < moment)
+IsShelfDue part moment (Err Memory) = IsShelfOpen part moment

@@ -5,7 +5,7 @@ use Rattle.rrc_history.specs.Chapters.{ChapterOf}
 use Rattle.rrc_cache.specs.Part.{PartOf, IsCloseDue}
 use Rattle.rrc_cache.specs.Recording.{BeginsRecorded}
 use Rattle.rrc_cache.specs.declared.refusal.Refusal.{Refusal}
-use Rattle.rrc_share.specs.Shelf.{ShelfOf, AreBefore, Shuts}
+use Rattle.rrc_share.specs.Shelf.{ShelfOf, AreBefore, ShelvesChapter}
 use Rattle.rrc_share.specs.declared.cache_shelf.NotSwitched.{NotSwitched}
 
 -- the part records from here on, with no chapter closed; where it did before, nothing is done
@@ -16,7 +16,7 @@ Starts false old new = (new.closed ≡ []) × BeginsRecorded old.part new.part
 -- the chapters that were closed were handed out, that which was open last; they chain, the part goes
 -- on from them, and every reply stays
 pub record HandsOut (old new : ShelfOf) (chapters : List ChapterOf) : Type 0 where
-  pub shuts : Shuts old (record { closed = chapters; part = new.part })
+  pub shuts : ShelvesChapter old (record { closed = chapters; part = new.part })
   pub before : AreBefore chapters new.part
 
 -- the part records nothing from here on; where it did not before, nothing is done

@@ -1,7 +1,7 @@
 // SPDX-License-Identifier: MIT
 ghost use Rattle.std.specs.Prelude.{◌≡◌, ◌↔◌, IsTrue, IfErr, IfOk, OnOk, OnErr, Err};
 ghost use Rattle.rrc_cache.specs.Part.{IsCloseDue, IsOfMoments, IsSound};
-ghost use Rattle.rrc_share.specs.Shelf.{AppendsAsk, AppendsOffer, AppendsSweep, CanWrite, HasMadeRoom, IsDue, IsLeft, Shuts};
+ghost use Rattle.rrc_share.specs.Shelf.{AppendsAsk, AppendsOffer, AppendsSweep, CanWrite, HasMadeRoom, IsShelfDue, IsLeft, ShelvesChapter};
 
 use crate::shelf::Shelf;
 use rrc_cache::{LAST_MOMENT, Part, Refusal};
@@ -23,7 +23,7 @@ fn can_write(part: &Part) -> bool
 
 /// Whether a shelf could take a call at this moment.
 fn admit(part: &Part, moment: u64) -> Result<(), Refusal>
-    ensures due { IsDue part.now moment result }
+    ensures due { IsShelfDue part.now moment result }
     ensures only { IfErr result IsOfMoments }
     ensures sound { IsSound part.now }
 {
@@ -40,7 +40,7 @@ fn admit(part: &Part, moment: u64) -> Result<(), Refusal>
 ///
 /// `HistoryFull` comes exactly where the chapter's number is 2^62, else `Memory`. A shelf that refuses is as it was.
 pub fn on_shelf_checkpoint(shelf: &mut Shelf) -> Result<(), Refusal>
-    ensures ok { OnOk result (Shuts shelf.old shelf.new) }
+    ensures ok { OnOk result (ShelvesChapter shelf.old shelf.new) }
     ensures err { OnErr result (shelf.new ≡ shelf.old) }
     ensures due { IsCloseDue shelf.old.part result }
 {
@@ -73,7 +73,7 @@ fn make_room(shelf: &mut Shelf) -> Result<(), Refusal>
 pub fn on_shelf_offer(shelf: &mut Shelf, tag: Tag, offer: Offer) -> Result<Outcome, Refusal>
     ensures ok { IfOk result (AppendsOffer shelf.old shelf.new tag offer) }
     ensures err { OnErr result (IsLeft shelf.old shelf.new) }
-    ensures due { IsDue shelf.old.part offer.moment result }
+    ensures due { IsShelfDue shelf.old.part offer.moment result }
 {
     admit(&shelf.part, offer.moment)?;
     make_room(shelf)?;
@@ -84,7 +84,7 @@ pub fn on_shelf_offer(shelf: &mut Shelf, tag: Tag, offer: Offer) -> Result<Outco
 pub fn on_shelf_ask(shelf: &mut Shelf, tag: Tag, ask: &Ask) -> Result<Reply, Refusal>
     ensures ok { IfOk result (AppendsAsk shelf.old shelf.new tag ask.now) }
     ensures err { OnErr result (IsLeft shelf.old shelf.new) }
-    ensures due { IsDue shelf.old.part ask.now.moment result }
+    ensures due { IsShelfDue shelf.old.part ask.now.moment result }
 {
     admit(&shelf.part, ask.moment)?;
     make_room(shelf)?;
@@ -95,7 +95,7 @@ pub fn on_shelf_ask(shelf: &mut Shelf, tag: Tag, ask: &Ask) -> Result<Reply, Ref
 pub fn on_shelf_sweep(shelf: &mut Shelf, tag: Tag, moment: u64) -> Result<usize, Refusal>
     ensures ok { IfOk result (AppendsSweep shelf.old shelf.new tag moment) }
     ensures err { OnErr result (IsLeft shelf.old shelf.new) }
-    ensures due { IsDue shelf.old.part moment result }
+    ensures due { IsShelfDue shelf.old.part moment result }
 {
     admit(&shelf.part, moment)?;
     make_room(shelf)?;

@@ -72,7 +72,7 @@ fn unlocked(lock: Locked) -> CacheShelf
 
 impl SharedCache {
     ghost use Rattle.rrc_name.specs.Parts.{part_of};
-    ghost use Rattle.rrc_share.specs.Shared.{AreChained, IsTimely, IsWithoutMoment};
+    ghost use Rattle.rrc_share.specs.Shared.{AreChained, IsMomentDue, IsWithoutMoment};
 
     /// As many empty parts, by the same rules, which record their histories or not. Their seed is
     /// that of `Part::new`, which anyone may know.
@@ -158,7 +158,7 @@ impl SharedCache {
     /// `HistoryFull` comes first, then `MomentTooLarge` (above 2^40 seconds), then `Memory`. What a
     /// refusal leaves `CacheShelf::offer` says.
     pub fn offer<R: Wait>(&self, rt: &R, tag: Tag, offer: Offer) -> Result<Outcome, Refusal>
-        ensures timely { IsTimely offer.moment result }
+        ensures timely { IsMomentDue offer.moment result }
     {
         let home = self.home(offer.key.name());
         let mut part = self.part(rt, home);
@@ -168,7 +168,7 @@ impl SharedCache {
     /// Asks the part that the name lies in (`CacheShelf::ask`), under that part's lock. The
     /// refusals are those of `offer`.
     pub fn ask<R: Wait>(&self, rt: &R, tag: Tag, ask: &Ask) -> Result<Reply, Refusal>
-        ensures timely { IsTimely ask.now.moment result }
+        ensures timely { IsMomentDue ask.now.moment result }
     {
         let home = self.home(&ask.name);
         let mut part = self.part(rt, home);
@@ -195,7 +195,7 @@ impl SharedCache {
         moment: u64,
     ) -> Result<usize, Refusal>
         requires { part < self.now }
-        ensures timely { IsTimely moment result }
+        ensures timely { IsMomentDue moment result }
     {
         let mut part = self.part(rt, part);
         part.sweep(tag, moment)
