@@ -15,7 +15,7 @@ use Rattle.std.proofs.lemmas.Bool.Decides.{Decides-eqb}
 use Rattle.std.proofs.lemmas.List.Folds.{list_any-append}
 use Rattle.rrc_name.specs.Wire.{folded, same_name}
 use Rattle.rrc_wire.specs.declared.record.Rr.{Rr}
-use Rattle.rrc_wire.specs.Same.{lowered_rdata, same_rdata}
+use Rattle.rrc_wire.specs.SameRdata.{lowered_rdata, same_rdata}
 use Rattle.rrc_sets.specs.Sets.{SetOf}
 use Rattle.rrc_sets.specs.Gathering.{holds, grown, with_record}
 use Rattle.rrc_sets.specs.Trees.{place_at, has_lowered, has_at, pair_order, FindsPlaces, FindsData}

@@ -8,12 +8,12 @@ use Rattle.std.proofs.lemmas.List.{map-append, append-nil}
 use Rattle.std.proofs.lemmas.Bool.{or_parts}
 use Rattle.std.proofs.lemmas.List.Elements.{filter-append}
 use Rattle.rrc_wire.specs.declared.record.Rr.{Rr}
-use Rattle.rrc_wire.specs.Same.{same_rdata}
-use Rattle.rrc_wire.specs.SameLaws.{same_rdata-equiv}
+use Rattle.rrc_wire.specs.SameRdata.{same_rdata}
+use Rattle.rrc_wire.specs.SameRdataLaws.{same_rdata-equiv}
 use Rattle.rrc_sets.specs.Uniques.{uniques}
 use Rattle.rrc_sets.specs.Sets.{SetOf, same_set, set_of, sets_of}
 use Rattle.rrc_sets.specs.Gathering.{alone, with_value, grown, with_record}
-use Rattle.rrc_sets.specs.Same.{same_set-laws}
+use Rattle.rrc_sets.proofs.SameSets.{same_set-laws}
 
 module _ {A : Type 0} (same : A → A → Bool) (laws : IsEquivalence same) where
   -- a value that is not the same as z stays unlike it, whatever is the same as it

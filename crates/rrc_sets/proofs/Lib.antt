@@ -1,4 +1,5 @@
 -- SPDX-License-Identifier: MIT
+pub mod SameSets
 pub mod Growing
 pub mod Places
 pub mod Finding

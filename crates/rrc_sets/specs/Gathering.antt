@@ -4,7 +4,7 @@ use Rattle.std.specs.Prelude.{List, [], ◌∷◌, ◌++◌, Bool, ◌&&◌, ◌
 use Rattle.std.specs.List.{list_any}
 use Rattle.rrc_name.specs.Wire.{same_name}
 use Rattle.rrc_wire.specs.declared.record.Rr.{Rr}
-use Rattle.rrc_wire.specs.Same.{same_rdata}
+use Rattle.rrc_wire.specs.SameRdata.{same_rdata}
 use Rattle.rrc_sets.specs.Sets.{SetOf}
 
 -- whether a record is one of a set

@@ -11,7 +11,6 @@ pub mod Denials
 pub mod Offers
 pub mod Message
 pub mod Gathering
-pub mod Same
 pub mod Trees
 pub mod Relevance
 pub mod Queries

@@ -3,7 +3,7 @@
 use Rattle.std.specs.Prelude.{ℕ, List, Bool, ◌&&◌, ◌==◌, map, filter}
 use Rattle.rrc_name.specs.Wire.{same_name}
 use Rattle.rrc_wire.specs.declared.record.Rr.{Rr}
-use Rattle.rrc_wire.specs.Same.{same_rdata}
+use Rattle.rrc_wire.specs.SameRdata.{same_rdata}
 use Rattle.rrc_sets.specs.Uniques.{uniques}
 
 -- an RRset: its owner as its first record spells it, its class, its type, its data without repeats, and the times to live of all its

@@ -10,7 +10,7 @@ use Rattle.std.specs.Cmp.Lexicographic.{pointwise, slice_cmp}
 use Rattle.std.specs.BTreeMap as map
 use Rattle.std.specs.BTreeSet as set
 use Rattle.rrc_name.specs.Wire.{folded}
-use Rattle.rrc_wire.specs.Same.{lowered_rdata}
+use Rattle.rrc_wire.specs.SameRdata.{lowered_rdata}
 use Rattle.rrc_sets.specs.Sets.{SetOf}
 
 -- whether a set is of a type, and of an owner whose letters are lowered

@@ -1,7 +1,7 @@
 // SPDX-License-Identifier: MIT
 ghost use Rattle.std.specs.Prelude.{◌≡◌, OnOk, IfOk, not, true};
 ghost use Rattle.std.specs.List.{list_any};
-ghost use Rattle.rrc_wire.specs.Same.{same_rdata};
+ghost use Rattle.rrc_wire.specs.SameRdata.{same_rdata};
 ghost use Rattle.rrc_sets.specs.Gathering.{holds, alone, grown};
 
 use rrc_name::{Name, Octets, Sequence};

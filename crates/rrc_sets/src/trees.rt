@@ -2,7 +2,7 @@
 ghost use Rattle.std.specs.Prelude.{◌≡◌, [], IfOk, OnOk, not, length};
 ghost use Rattle.std.specs.Option.{unwrap_or};
 ghost use Rattle.rrc_name.specs.Wire.{folded};
-ghost use Rattle.rrc_wire.specs.Same.{lowered_rdata};
+ghost use Rattle.rrc_wire.specs.SameRdata.{lowered_rdata};
 ghost use Rattle.rrc_sets.specs.Sets.{sets_of};
 ghost use Rattle.rrc_sets.specs.Gathering.{with_record};
 ghost use Rattle.rrc_sets.specs.Trees.{place_at, has_at, FindsPlaces};

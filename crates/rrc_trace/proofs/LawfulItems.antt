@@ -6,8 +6,8 @@ use Rattle.std.proofs.lemmas.List.Elements.{All-nil, All-push, length_all_zip}
 use Rattle.std.proofs.lemmas.Map.Keys.{IsDistinct-push}
 use Rattle.rrc_history.specs.Fits.{has_items}
 use Rattle.rrc_wire.specs.Plain.{IsPlain}
-use Rattle.rrc_wire.specs.Same.{same_rdata}
-use Rattle.rrc_wire.specs.SameLaws.{same_rdata-equiv}
+use Rattle.rrc_wire.specs.SameRdata.{same_rdata}
+use Rattle.rrc_wire.specs.SameRdataLaws.{same_rdata-equiv}
 use Rattle.rrc_trace.specs.Grammar.{SpellsOctets, AreItems, with_item}
 
 -- plain data of a type, so many at most and no two the same

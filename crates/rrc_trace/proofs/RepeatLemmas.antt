@@ -8,7 +8,7 @@ use Rattle.std.specs.BTreeSet as set
 use Rattle.std.specs.Cmp.{unsigned_ties, nat_eq_equiv}
 use Rattle.std.specs.Cmp.Lexicographic.{pointwise, slice_cmp, bytes_decides, lists_ties, lists_equiv}
 use Rattle.std.proofs.lemmas.List.Folds.{list_any-append}
-use Rattle.rrc_wire.specs.Same.{lowered_rdata, same_rdata}
+use Rattle.rrc_wire.specs.SameRdata.{lowered_rdata, same_rdata}
 use Rattle.rrc_trace.specs.Grammar.{with_item}
 use Rattle.rrc_trace.specs.Repeats.{has_lowered, octets_order, FindsRepeats}
 

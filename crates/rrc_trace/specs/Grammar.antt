@@ -14,7 +14,7 @@ use Rattle.rrc_history.specs.declared.ask.Purpose.TheVariants.{Any, Answer}
 use Rattle.rrc_history.specs.declared.body.Trust.{Trust}
 use Rattle.rrc_wire.specs.Layout.{is_kept}
 use Rattle.rrc_wire.specs.Plain.{IsPlain}
-use Rattle.rrc_wire.specs.Same.{same_rdata}
+use Rattle.rrc_wire.specs.SameRdata.{same_rdata}
 use Rattle.rrc_trace.specs.declared.line.Line.{Line}
 use Rattle.rrc_trace.specs.declared.line.Line.TheVariants as lines
 use Rattle.rrc_trace.specs.declared.line.Put.{Put as PutLine}

@@ -6,7 +6,7 @@ use Rattle.rrc_history.specs.Fits.{has_items}
 use Rattle.rrc_history.specs.Lives.{LAST_MOMENT}
 use Rattle.rrc_wire.specs.Layout.{is_kept}
 use Rattle.rrc_wire.specs.Plain.{IsPlain}
-use Rattle.rrc_wire.specs.Same.{same_rdata}
+use Rattle.rrc_wire.specs.SameRdata.{same_rdata}
 use Rattle.rrc_trace.specs.declared.line.Line.{Line}
 use Rattle.rrc_trace.specs.declared.line.Line.TheVariants.{Put, Ask, Fail, Response, Fetch, Sweep, Checkpoint}
 use Rattle.rrc_trace.specs.declared.line.Put.{Put as PutLine}

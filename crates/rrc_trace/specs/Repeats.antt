@@ -7,7 +7,7 @@ use Rattle.std.specs.List.{list_any}
 use Rattle.std.specs.Ordering.{nat_cmp}
 use Rattle.std.specs.Cmp.Lexicographic.{pointwise, slice_cmp}
 use Rattle.std.specs.BTreeSet as set
-use Rattle.rrc_wire.specs.Same.{lowered_rdata}
+use Rattle.rrc_wire.specs.SameRdata.{lowered_rdata}
 
 -- whether some items of a type have one that is lowered to these octets
 abbrev pub has_lowered : ℕ → List (List ℕ) → List ℕ → Bool

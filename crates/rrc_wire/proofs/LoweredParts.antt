@@ -11,8 +11,8 @@ use Rattle.rrc_name.specs.Wire.{IsWireForm, folded}
 use Rattle.rrc_name.proofs.WireForms.{folded-IsWireForm}
 use Rattle.rrc_wire.specs.Layout.{LayoutOf, layout_of}
 use Rattle.rrc_wire.specs.Plain.{Parts, octets_of, AreParts, Fills, parts_in, is_plain}
-use Rattle.rrc_wire.specs.Same.{lowered_parts, lowered_by, lowered_rdata, LowersNames, IsSameRdata, same_rdata}
-use Rattle.rrc_wire.specs.SameLaws.{same_rdata-Decides}
+use Rattle.rrc_wire.specs.SameRdata.{lowered_parts, lowered_by, lowered_rdata, LowersNames, IsSameRdata, same_rdata}
+use Rattle.rrc_wire.specs.SameRdataLaws.{same_rdata-Decides}
 use Rattle.rrc_wire.proofs.PlainParts.{found_parts, parts_in-octets_of, is_plain-Decides}
 
 -- names lowered one by one are lowered end to end

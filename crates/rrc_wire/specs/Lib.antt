@@ -11,8 +11,8 @@ pub mod Data
 pub mod Record
 pub mod Plain
 pub mod Kept
-pub mod Same
-pub mod SameLaws
+pub mod SameRdata
+pub mod SameRdataLaws
 pub mod Message
 pub mod Grammar
 pub mod Chain

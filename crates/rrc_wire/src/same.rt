@@ -4,7 +4,7 @@ ghost use Rattle.std.specs.Cmp.{IsEquivalence};
 ghost use Rattle.std.specs.List.{concat};
 ghost use Rattle.rrc_wire.specs.Plain.{Fills, parts_in, IsPlain, is_plain};
 ghost use Rattle.rrc_wire.specs.Shown.{as_layout};
-ghost use Rattle.rrc_wire.specs.Same.{lowered_by, lowered_rdata, LowersNames, IsSameRdata, same_rdata};
+ghost use Rattle.rrc_wire.specs.SameRdata.{lowered_by, lowered_rdata, LowersNames, IsSameRdata, same_rdata};
 
 use crate::layout::{Layout, layout_of};
 use crate::plain::is_plain;

@@ -15,7 +15,7 @@ use Rattle.rrc_history.specs.declared.body.Body.TheVariants.{Positive, Negative,
 use Rattle.rrc_wire.specs.declared.record.Rr.{Rr}
 use Rattle.rrc_wire.specs.declared.message.Message.{Message}
 use Rattle.rrc_wire.specs.Layout.{is_kept}
-use Rattle.rrc_wire.specs.Same.{same_rdata}
+use Rattle.rrc_wire.specs.SameRdata.{same_rdata}
 use Rattle.rrc_sets.specs.declared.limits.Limits.{Limits}
 use Rattle.rrc_sets.specs.declared.rank.Section.{Section}
 use Rattle.rrc_sets.specs.declared.rank.Section.TheVariants.{Answer, Authority, Additional}

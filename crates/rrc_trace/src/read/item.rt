@@ -1,7 +1,7 @@
 // SPDX-License-Identifier: MIT
 ghost use Rattle.std.specs.Prelude.{◌≡◌, ◌==◌, ◌<◌, ℕ, [], length, position, option_map, not, IfSome, IfOk, OnOk};
 ghost use Rattle.std.specs.List.{list_any};
-ghost use Rattle.rrc_wire.specs.Same.{same_rdata};
+ghost use Rattle.rrc_wire.specs.SameRdata.{same_rdata};
 ghost use Rattle.rrc_trace.specs.Grammar.{with_item};
 ghost use Rattle.rrc_trace.specs.Repeats.{FindsRepeats};
 ghost use Rattle.rrc_trace.specs.Items.{is_comma, cut_at_comma, item_of, with_piece, items_of};

@@ -1,7 +1,7 @@
 -- SPDX-License-Identifier: MIT
 use Rattle.std.proofs.Common.{◌≡◌, ◌∙◌, ◌++◌, ◌∷◌, [], ℕ, true, sym, ap, subst, not, length, get_or, ◌<◌, ◌≤◌, arith}
 use Rattle.std.specs.List.{position_or_len, slice_set, list_any}
-use Rattle.rrc_wire.specs.Same.{lowered_rdata, same_rdata}
+use Rattle.rrc_wire.specs.SameRdata.{lowered_rdata, same_rdata}
 use Rattle.rrc_sets.specs.Sets.{SetOf}
 use Rattle.std.proofs.lemmas.List.Sums.{passes_at_first}
 use Rattle.rrc_sets.specs.Gathering.{holds, grown}

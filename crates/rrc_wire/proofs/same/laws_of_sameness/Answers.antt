@@ -1,7 +1,7 @@
 -- SPDX-License-Identifier: MIT
 use Rattle.std.proofs.Common.{refl}
 use Rattle.rrc_wire.specs.Plain.{is_plain}
-use Rattle.rrc_wire.specs.SameLaws.{same_rdata-equiv}
+use Rattle.rrc_wire.specs.SameRdataLaws.{same_rdata-equiv}
 use Rattle.rrc_wire.proofs.PlainParts.{is_plain-Decides}
 use Rattle.rrc_wire.proofs.LoweredParts.{lowered_is_plain, lowers_names}
 use Rattle.rrc_wire.proofs.same.laws_of_sameness.Goals as goal

@@ -3,7 +3,7 @@ use Rattle.std.proofs.Common.{◌≡◌, ◌∙◌, sym, ap, subst, drop, length
 use Rattle.std.proofs.lemmas.List.{take_at}
 use Rattle.rrc_wire.specs.Plain.{Fills}
 use Rattle.rrc_wire.specs.Shown.{as_layout}
-use Rattle.rrc_wire.specs.Same.{lowered_by}
+use Rattle.rrc_wire.specs.SameRdata.{lowered_by}
 use Rattle.rrc_wire.proofs.LoweredParts.{length-lowered_by}
 use Rattle.rrc_wire.proofs.same.lowered_by.Goals as goal
 

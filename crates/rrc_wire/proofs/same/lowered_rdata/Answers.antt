@@ -3,7 +3,7 @@ use Rattle.std.proofs.Common.{◌≡◌, ◌∙◌, List, ℕ, IfOk, Some, sym, 
 use Rattle.std.specs.Option.{option_map}
 use Rattle.rrc_wire.specs.Layout.{layout_of}
 use Rattle.rrc_wire.specs.Shown.{as_layout}
-use Rattle.rrc_wire.specs.Same.{lowered_rdata}
+use Rattle.rrc_wire.specs.SameRdata.{lowered_rdata}
 use Rattle.rrc_wire.proofs.LoweredParts.{plain_fills, lowered-plain, lowered-not_plain, lowered-no_layout}
 use Rattle.rrc_wire.proofs.same.lowered_rdata.Goals as goal
 use Rattle.rrc_wire.proofs.same.lowered_rdata.Goals.{in_default-via-in-Some+else-is_plain, in_default-via-in_default}

@@ -2,7 +2,7 @@
 use Rattle.std.proofs.Common.{◌≡◌, ◌∙◌, inl, inr, sym, ap, refl, Decides}
 use Rattle.std.specs.Option.{option_map}
 use Rattle.rrc_wire.specs.Shown.{as_layout}
-use Rattle.rrc_wire.specs.Same.{IsSameRdata}
+use Rattle.rrc_wire.specs.SameRdata.{IsSameRdata}
 use Rattle.rrc_wire.proofs.LoweredParts.{plain_fills, plain-Decides, not_plain-Decides, opaque-Decides, same_rdata-told, slices-Decides}
 use Rattle.rrc_wire.proofs.same.same_rdata.Goals as goal
 use Rattle.rrc_wire.proofs.same.same_rdata.Goals.{in_default-via-in-Some+then-is_plain+else-is_plain-2, in_default-via-in-Some+else-is_plain, in_default-via-in_default}

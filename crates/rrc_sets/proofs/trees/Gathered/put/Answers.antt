@@ -4,7 +4,7 @@ use Rattle.std.specs.List.{position_or_len}
 use Rattle.std.specs.Option.{unwrap_or}
 use Rattle.rrc_name.specs.Wire.{folded}
 use Rattle.rrc_wire.specs.Kept.{RrOf}
-use Rattle.rrc_wire.specs.Same.{lowered_rdata}
+use Rattle.rrc_wire.specs.SameRdata.{lowered_rdata}
 use Rattle.rrc_sets.specs.Sets.{SetOf}
 use Rattle.rrc_sets.specs.Gathering.{with_record}
 use Rattle.rrc_sets.specs.Trees.{place_at, has_at, FindsPlaces, FindsData}

@@ -4,7 +4,7 @@ use Rattle.std.specs.Prelude.{ℕ, List}
 use Rattle.std.specs.Cmp.{IsEquivalence, on_equiv, nat_eq_equiv}
 use Rattle.std.specs.Cmp.Lexicographic.{lists_equiv, bytes_decides}
 use Rattle.std.specs.Bool.{Decides}
-use Rattle.rrc_wire.specs.Same.{lowered_rdata, same_rdata, IsSameRdata}
+use Rattle.rrc_wire.specs.SameRdata.{lowered_rdata, same_rdata, IsSameRdata}
 
 -- the test tells whether data are the same
 pub same_rdata-Decides : (rtype : ℕ) (a b : List ℕ) → Decides (same_rdata rtype a b) (IsSameRdata rtype a b)
