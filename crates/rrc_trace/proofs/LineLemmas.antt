@@ -6,7 +6,7 @@ use Rattle.std.proofs.lemmas.List.{take_more}
 use Rattle.rrc_trace.specs.declared.line.Line.{Line}
 use Rattle.rrc_trace.specs.Gives.{◌>>=◌}
 use Rattle.rrc_trace.specs.Lines.{line_of, before_last, without_cr, bounded, line_ended, line_of_piece}
-use Rattle.rrc_trace.specs.Grammar.{MOST_OCTETS, EndsWith, Ends, lf, cr_lf, text_end, IsLine}
+use Rattle.rrc_trace.specs.Grammar.{MOST_OCTETS, EndsWith, EndsLine, lf, cr_lf, text_end, IsLine}
 use Rattle.rrc_trace.proofs.FormLemmas.{line-says, line-read}
 use Rattle.rrc_trace.proofs.SaidLemmas.{said_first, said_last}
 
@@ -65,7 +65,7 @@ bounded-says octets within is = by (nat_le (length octets) 140000) refl
 bounded-is : (octets : List ℕ) → length octets ≤ MOST_OCTETS → bounded octets ≡ Some octets
 bounded-is octets few = rw (le-leb (length octets) 140000 few) refl
 
-is_line-of : (piece octets : List ℕ) (line : Line) → Ends piece octets → line_of octets ≡ Some line → IsLine piece line
+is_line-of : (piece octets : List ℕ) (line : Line) → EndsLine piece octets → line_of octets ≡ Some line → IsLine piece line
 is_line-of piece octets line ends is =
     let has = line-says octets line is in record { octets = octets; fields = has.fields; ends = ends; apart = has.apart; says = has.says }
 
@@ -100,7 +100,7 @@ piece-says piece line is = by (before_last piece 10) refl
         let bound = bounded-says piece within.0 within.1.0 in
         is_line-of piece piece line (text_end (not_last piece 10 none) bound.few) (ap line_of bound.same ∙ within.1.1)
 
-ends-read : (piece octets : List ℕ) (line : Line) → Ends piece octets → line_of octets ≡ Some line → line_of_piece piece ≡ Some line
+ends-read : (piece octets : List ℕ) (line : Line) → EndsLine piece octets → line_of octets ≡ Some line → line_of_piece piece ≡ Some line
 ends-read piece octets line (lf no_cr few) is =
     ap (line_ended piece) (before_last-of octets 10)
     ∙ (ap (λ (o : Option (List ℕ)). o >>= (λ octets. line_of (without_cr octets))) (bounded-is octets few) ∙ rw (none_last octets 13 no_cr) is)

@@ -10,7 +10,7 @@ use Rattle.rrc_trace.specs.declared.fault.ReplayFault.TheVariants.{BadLine, TooM
 use Rattle.rrc_trace.specs.Lines.{line_of_piece}
 use Rattle.rrc_trace.specs.Grammar.{IsLine}
 use Rattle.rrc_trace.specs.Questions.{fetched_by, with_question, questions_of}
-use Rattle.rrc_trace.specs.Trace.{pieces_of, MOST_LINES, MOST_QUESTIONS, HaveFewQuestions, TraceOf, BeginsWith, IsFirstFault, bad_line, too_many_questions, too_many_lines}
+use Rattle.rrc_trace.specs.Trace.{pieces_of, MOST_LINES, MOST_QUESTIONS, HaveFewQuestions, TraceOf, BeginsWithLines, IsFirstFault, bad_line, too_many_questions, too_many_lines}
 use Rattle.rrc_trace.proofs.LineLemmas.{is_line, no_line}
 use Rattle.rrc_trace.proofs.QuestionLemmas.{questions-push, few-in_front}
 
@@ -109,8 +109,8 @@ Tells octets (Err fault) = IsFirstFault octets fault
 
 module _ (octets : List ℕ) where
   -- one more piece is a line
-  begins-more : (lines : List Line) (piece : List ℕ) (pieces : List (List ℕ)) (line : Line) → BeginsWith octets lines (piece ∷ pieces) → IsLine piece line
-      → length (with_question (questions_of lines) (fetched_by line)) ≤ MOST_QUESTIONS → BeginsWith octets (lines ++ line ∷ []) pieces
+  begins-more : (lines : List Line) (piece : List ℕ) (pieces : List (List ℕ)) (line : Line) → BeginsWithLines octets lines (piece ∷ pieces) → IsLine piece line
+      → length (with_question (questions_of lines) (fetched_by line)) ≤ MOST_QUESTIONS → BeginsWithLines octets (lines ++ line ∷ []) pieces
   begins-more lines piece pieces line begins is few = record {
     front = begins.front ++ piece ∷ [];
     cut = begins.cut ∙ sym (append_assoc begins.front (piece ∷ []) pieces);
@@ -125,7 +125,7 @@ module _ (octets : List ℕ) where
       one_piece lines (length lines) piece pieces line below is few
       ∙ ap (λ (n : ℕ). lines_behind (lines ++ line ∷ []) (lines_from n (questions_of (lines ++ line ∷ [])) pieces)) (sym (length-append lines (line ∷ [])))
 
-  tells : (pieces : List (List ℕ)) (lines : List Line) → BeginsWith octets lines pieces → length lines ≤ MOST_LINES
+  tells : (pieces : List (List ℕ)) (lines : List Line) → BeginsWithLines octets lines pieces → length lines ≤ MOST_LINES
       → Tells octets (lines_behind lines (rest_of lines pieces))
   tells [] lines begins few =
       subst (TraceOf octets) (sym (append-nil lines)) (record {
@@ -136,7 +136,7 @@ module _ (octets : List ℕ) where
   tells (piece ∷ pieces) lines begins few = by (nat_le MOST_LINES (length lines)) refl (line_of_piece piece) refl (tells pieces)
     where
       by : (many : Bool) → nat_le MOST_LINES (length lines) ≡ many → (said : Option Line) → line_of_piece piece ≡ said
-          → ((more : List Line) → BeginsWith octets more pieces → length more ≤ MOST_LINES → Tells octets (lines_behind more (rest_of more pieces)))
+          → ((more : List Line) → BeginsWithLines octets more pieces → length more ≤ MOST_LINES → Tells octets (lines_behind more (rest_of more pieces)))
           → Tells octets (lines_behind lines (rest_of lines (piece ∷ pieces)))
       by true more said at later =
           let many : MOST_LINES ≤ length lines = leb-true MOST_LINES (length lines) more in
@@ -151,7 +151,7 @@ module _ (octets : List ℕ) where
         where
           counted : (line : Line) → line_of_piece piece ≡ Some line → length lines < MOST_LINES
               → (within : Bool) → nat_le (length (with_question (questions_of lines) (fetched_by line))) MOST_QUESTIONS ≡ within
-              → (BeginsWith octets (lines ++ line ∷ []) pieces → length (lines ++ line ∷ []) ≤ MOST_LINES → Tells octets (lines_behind (lines ++ line ∷ []) (rest_of (lines ++ line ∷ []) pieces)))
+              → (BeginsWithLines octets (lines ++ line ∷ []) pieces → length (lines ++ line ∷ []) ≤ MOST_LINES → Tells octets (lines_behind (lines ++ line ∷ []) (rest_of (lines ++ line ∷ []) pieces)))
               → Tells octets (lines_behind lines (rest_of lines (piece ∷ pieces)))
           counted line at below true is later =
               let enough : length (with_question (questions_of lines) (fetched_by line)) ≤ MOST_QUESTIONS = leb-true _ MOST_QUESTIONS is in
@@ -194,7 +194,7 @@ lines-read (piece ∷ front) (line ∷ more) lines pieces are few questions =
     ∙ ap (λ (l : List Line). lines_behind (line ∷ more) (rest_of l pieces)) whole))))
 
 module _ (octets : List ℕ) where
-  begun-read : (lines : List Line) (behind : List (List ℕ)) → BeginsWith octets lines behind → length lines ≤ MOST_LINES
+  begun-read : (lines : List Line) (behind : List (List ℕ)) → BeginsWithLines octets lines behind → length lines ≤ MOST_LINES
       → trace_of octets ≡ lines_behind lines (rest_of lines behind)
   begun-read lines behind begins few =
       ap (lines_from 0 []) begins.cut ∙ lines-read begins.front lines [] behind begins.are_lines (omega (arith, few)) begins.questions

@@ -158,17 +158,17 @@ EndsWith octet octets = (front : List ℕ) × (octets ≡ front ++ octet ∷ [])
 
 -- the octets of a line, by where its piece of the text ends: with its LF, before which a CR is
 -- dropped, or with the text
-pub data Ends : List ℕ → List ℕ → Type 0 where
+pub data EndsLine : List ℕ → List ℕ → Type 0 where
   lf : {octets : List ℕ} → ¬ EndsWith 13 octets → length octets ≤ MOST_OCTETS
-      → Ends (octets ++ 10 ∷ []) octets
-  cr_lf : {octets : List ℕ} → length octets + 1 ≤ MOST_OCTETS → Ends (octets ++ 13 ∷ 10 ∷ []) octets
+      → EndsLine (octets ++ 10 ∷ []) octets
+  cr_lf : {octets : List ℕ} → length octets + 1 ≤ MOST_OCTETS → EndsLine (octets ++ 13 ∷ 10 ∷ []) octets
   text_end : {octets : List ℕ} → ¬ EndsWith 10 octets → length octets ≤ MOST_OCTETS
-      → Ends octets octets
+      → EndsLine octets octets
 
 -- a piece of a text is a line: its octets before their end have the fields of that line
 pub record IsLine (piece : List ℕ) (line : Line) : Type 0 where
   pub octets : List ℕ
   pub fields : List (List ℕ)
-  pub ends : Ends piece octets
+  pub ends : EndsLine piece octets
   pub apart : HasFields octets fields
   pub says : FieldsOf fields line

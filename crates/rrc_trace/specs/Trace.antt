@@ -38,7 +38,7 @@ pub record TraceOf (octets : List ℕ) (lines : List Line) : Type 0 where
 
 -- a text begins with these lines, which fetch no more questions than they may, and these pieces
 -- of it follow
-pub record BeginsWith (octets : List ℕ) (lines : List Line) (behind : List (List ℕ)) : Type 0 where
+pub record BeginsWithLines (octets : List ℕ) (lines : List Line) (behind : List (List ℕ)) : Type 0 where
   pub front : List (List ℕ)
   pub cut : pieces_of octets ≡ front ++ behind
   pub are_lines : AllZip IsLine front lines
@@ -48,15 +48,15 @@ pub record BeginsWith (octets : List ℕ) (lines : List Line) (behind : List (Li
 -- that fetches one question too many, or is one piece more than a trace may have
 pub data IsFirstFault (octets : List ℕ) : ReplayFault → Type 0 where
   bad_line : {lines : List Line} {piece : List ℕ} {behind : List (List ℕ)}
-      → BeginsWith octets lines (piece ∷ behind) → length lines < MOST_LINES
+      → BeginsWithLines octets lines (piece ∷ behind) → length lines < MOST_LINES
       → ((line : Line) → IsLine piece line → ⊥)
       → IsFirstFault octets (BadLine (length lines))
   too_many_questions : {lines : List Line} {piece : List ℕ} {behind : List (List ℕ)} {line : Line}
-      → BeginsWith octets lines (piece ∷ behind) → length lines < MOST_LINES
+      → BeginsWithLines octets lines (piece ∷ behind) → length lines < MOST_LINES
       → IsLine piece line → MOST_QUESTIONS < length (questions_of (lines ++ line ∷ []))
       → IsFirstFault octets (TooManyQuestions (length lines))
   too_many_lines : {lines : List Line} {piece : List ℕ} {behind : List (List ℕ)}
-      → BeginsWith octets lines (piece ∷ behind) → length lines ≡ MOST_LINES
+      → BeginsWithLines octets lines (piece ∷ behind) → length lines ≡ MOST_LINES
       → IsFirstFault octets TooManyLines
 
 -- every text is the text of one list of lines, or it has one first fault, and never both
