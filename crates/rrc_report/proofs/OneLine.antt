@@ -32,7 +32,7 @@ use Rattle.rrc_collate.specs.Calls.{AreCalls}
 use Rattle.rrc_script.specs.declared.config.Config.{Config}
 use Rattle.rrc_script.specs.declared.script.Script.{Script}
 use Rattle.rrc_script.specs.Scripts.{offer_of, failure_of, offering, asking, sweeping, plain, first_ask, last_ask, fetching, HasScript}
-use Rattle.rrc_report.specs.Answers.{Tells, Replies, Counts, TellAll, TellFetched, CountAll, RepliesAlone, IsHit, IsTold}
+use Rattle.rrc_report.specs.Answers.{TellsOutcome, Replies, Counts, TellAll, TellFetched, CountAll, RepliesAlone, IsHit, IsTold}
 use Rattle.rrc_script.proofs.Scripted.{OneMessageOrFault, not_both, one_script}
 use Rattle.rrc_report.proofs.OneRun.{GoRight, AreHome, one_first, one_run}
 
@@ -49,7 +49,7 @@ one_fault octets fault other is also = err_is fault other (sym is ∙ also)
 
 -- ---- what events tell
 
-one_told : (told other : Told) (event : Event) → Tells told event → Tells other event → told ≡ other
+one_told : (told other : Told) (event : Event) → TellsOutcome told event → TellsOutcome other event → told ≡ other
 one_told told other (Offered outcome tag offer evicted) one two = one ∙ sym two
 one_told told other (Asked tag ask reply) one two = absurd one
 one_told told other (Swept tag moment gone) one two = absurd one

@@ -23,7 +23,7 @@ use Rattle.rrc_report.specs.declared.report.Report.{Report}
 use Rattle.rrc_script.specs.Scripts.{OneScript}
 use Rattle.rrc_report.specs.Reports.{IsCollated, Holds, IsOfShelf, lines_done, taken_from}
 use Rattle.rrc_report.specs.Collates.{Stray}
-use Rattle.rrc_report.specs.Steps.{given_from, as_taken, AreTasks, AreFitting, AreParts, AreComplete}
+use Rattle.rrc_report.specs.Steps.{given_from, as_taken, AreTasks, AreFitting, ArePartHistories, AreComplete}
 use Rattle.rrc_report.specs.Steps as steps
 use Rattle.rrc_report.proofs.Tasked.{given_taken, tasks_taken, shares_taken}
 use Rattle.rrc_report.proofs.Completed.{each_given, complete_gives, complete_answers, complete_from, told_of_given}
@@ -58,7 +58,7 @@ histories_same (shelf ∷ shelves) (whole ∷ wholes) (other ∷ others) are are
     ap (λ h. h ∷ histories_of wholes) (are.0.events ∙ sym are_others.0.events)
     ∙ ap (λ l. other.events ∷ l) (histories_same shelves wholes others are.1 are_others.1)
 
-pub parts_counted : (rules : Rules) (shelves : List ShelfOf) (wholes : List WholeOf) → AreParts rules shelves wholes → length wholes ≡ length shelves
+pub parts_counted : (rules : Rules) (shelves : List ShelfOf) (wholes : List WholeOf) → ArePartHistories rules shelves wholes → length wholes ≡ length shelves
 parts_counted rules shelves wholes parts = AllZip-long IsOfShelf shelves wholes parts.shelves_are
 
 -- ---- what a report that holds what was handed in has
@@ -79,7 +79,7 @@ report_tasks config lines shelves done report holds is =
     is.scripts (each_given report.lines 0 done holds.given)
 
 -- its events fit the histories that were found
-pub report_fits : (config : Config) (lines : List Line) (shelves : List ShelfOf) (done : List Done) (wholes : List WholeOf) → AreParts config.rules shelves wholes
+pub report_fits : (config : Config) (lines : List Line) (shelves : List ShelfOf) (done : List Done) (wholes : List WholeOf) → ArePartHistories config.rules shelves wholes
     → (report : Report) → Holds shelves done report → (is : IsCollated config lines report) → AreFitting config lines done (histories_of wholes) is.events
 report_fits config lines shelves done wholes parts report holds is = record {
   tasks = is.tasks;
@@ -88,7 +88,7 @@ report_fits config lines shelves done wholes parts report holds is = record {
       subst (λ h. FitsHistories (length lines) config.workers is.tasks h is.events) (histories_same shelves report.wholes wholes holds.wholes parts.shelves_are) is.fits;
 }
 
-pub event_stray : (config : Config) (lines : List Line) (shelves : List ShelfOf) (done : List Done) (wholes : List WholeOf) → AreParts config.rules shelves wholes
+pub event_stray : (config : Config) (lines : List Line) (shelves : List ShelfOf) (done : List Done) (wholes : List WholeOf) → ArePartHistories config.rules shelves wholes
     → ((others : List (List Event)) → AreFitting config lines done (histories_of wholes) others → ⊥) → Stray config lines shelves done
 event_stray config lines shelves done wholes parts none report holds is = none is.events (report_fits config lines shelves done wholes parts report holds is)
 
@@ -100,7 +100,7 @@ report_complete config lines shelves done report holds is =
     (told_of_given config lines (questions_of lines) report.lines (given_from 0 done) is.tasks is.events
     (report_tasks config lines shelves done report holds is) is.told)
 
-pub answer_stray : (config : Config) (lines : List Line) (shelves : List ShelfOf) (done : List Done) (wholes : List WholeOf) (events : List (List Event)) → AreParts config.rules shelves wholes
+pub answer_stray : (config : Config) (lines : List Line) (shelves : List ShelfOf) (done : List Done) (wholes : List WholeOf) (events : List (List Event)) → ArePartHistories config.rules shelves wholes
     → ((others : List (List Event)) → AreFitting config lines done (histories_of wholes) others → others ≡ events)
     → ((answers : List Answer) → AreComplete (length lines) (given_from 0 done) events answers → ⊥) → Stray config lines shelves done
 answer_stray config lines shelves done wholes events parts only none report holds is =
@@ -112,7 +112,7 @@ answer_stray config lines shelves done wholes events parts only none report hold
 -- ---- the report that is made
 
 pub found_collated : (config : Config) (lines : List Line) (shelves : List ShelfOf) (done : List Done) (events : List (List Event)) (report : Report) (count : ℕ)
-    → length done ≡ config.workers → length shelves ≡ config.parts → count ≡ length lines → report.shares ≡ map lines_done done → AreParts config.rules shelves report.wholes
+    → length done ≡ config.workers → length shelves ≡ config.parts → count ≡ length lines → report.shares ≡ map lines_done done → ArePartHistories config.rules shelves report.wholes
     → AreFitting config lines done (histories_of report.wholes) events → AreComplete count (given_from 0 done) events report.lines → IsCollated config lines report
 found_collated config lines shelves done events report count workers size is shares parts fit complete = record {
   tasks = fit.tasks;
@@ -128,7 +128,7 @@ found_collated config lines shelves done events report count workers size is sha
 }
 
 pub found_holds : (rules : Rules) (shelves : List ShelfOf) (done : List Done) (events : List (List Event)) (report : Report) (count : ℕ) → report.shares ≡ map lines_done done
-    → AreParts rules shelves report.wholes → AreComplete count (given_from 0 done) events report.lines → Holds shelves done report
+    → ArePartHistories rules shelves report.wholes → AreComplete count (given_from 0 done) events report.lines → Holds shelves done report
 found_holds rules shelves done events report count shares parts complete = record {
   shares = shares;
   given = complete_gives count done events report.lines complete;
@@ -148,7 +148,7 @@ events_given config lines done histories events fit =
     let lists = map (λ (own : DrawnOf). map (λ event. event.now) own.items) events in
     sym (length-map events (λ (own : DrawnOf). map (λ event. event.now) own.items))
     ∙ (AllZip-long of_tasks.IsTaskOf fit.tasks lists fit.fits.ordered.calls
-    ∙ AllZip-long (steps.IsTaskOf config lines (questions_of lines)) (given_from 0 done) fit.tasks fit.tasks_are)
+    ∙ AllZip-long (steps.IsTaskOfLine config lines (questions_of lines)) (given_from 0 done) fit.tasks fit.tasks_are)
 
 -- ---- the events that fit
 

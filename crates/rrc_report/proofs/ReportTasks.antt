@@ -17,7 +17,7 @@ use Rattle.rrc_script.specs.declared.script.Script.{Script}
 use Rattle.rrc_script.specs.Scripts.{HasScript, OneScript}
 use Rattle.rrc_report.specs.Answers.{without_keys}
 use Rattle.rrc_report.specs.Reports.{IsScripted}
-use Rattle.rrc_report.specs.Steps.{Given, as_taken, IsTaskOf, AreTasks, StandsComplete}
+use Rattle.rrc_report.specs.Steps.{Given, as_taken, IsTaskOfLine, AreTasks, StandsComplete}
 use Rattle.rrc_report.proofs.ScriptKeys.{script_without_keys, script_with_keys}
 use Rattle.rrc_report.proofs.Completed.{IsHeld}
 
@@ -25,7 +25,7 @@ use Rattle.rrc_report.proofs.Completed.{IsHeld}
 
 -- the task of a line that a report has scripted and whose answer was given
 task_given : (config : Config) (lines : List Line) (answers : List Answer) (one : Given) (task : Task) → as_taken one ≡ record { class = task.worker; value = task.line }
-    → IsScripted config lines answers task → IsHeld answers one → IsTaskOf config lines (questions_of lines) one task
+    → IsScripted config lines answers task → IsHeld answers one → IsTaskOfLine config lines (questions_of lines) one task
 task_given config lines answers one task same scripted is_given =
     let worker_is : task.worker ≡ one.worker = sym (ap (λ (v : Valued). v.class) same) in
     let number_is : task.line ≡ one.line = sym (ap (λ (v : Valued). v.value) same) in
@@ -60,8 +60,8 @@ tasks_given config lines answers (one ∷ given) (task ∷ tasks) same scripted 
 
 -- ---- there are no other tasks
 
-task_same : OneScript → (config : Config) (lines : List Line) (questions : List KeyOf) (one : Given) (task other : Task) → IsTaskOf config lines questions one task
-    → IsTaskOf config lines questions one other → task ≡ other
+task_same : OneScript → (config : Config) (lines : List Line) (questions : List KeyOf) (one : Given) (task other : Task) → IsTaskOfLine config lines questions one task
+    → IsTaskOfLine config lines questions one other → task ≡ other
 task_same one_script config lines questions one task other is is_other =
     let there : Some is.line ≡ Some is_other.line = sym is.line_is ∙ is_other.line_is in
     let same_line : is.line ≡ is_other.line = cc in
@@ -88,7 +88,7 @@ tasks_same one_script config lines questions (one ∷ given) (task ∷ tasks) (o
 -- ---- from complete answers to a report's
 
 scripted_one : (config : Config) (lines : List Line) (answers : List Answer) (one : Given) (task : Task) (own : List Event)
-    → IsTaskOf config lines (questions_of lines) one task → StandsComplete answers one own → IsScripted config lines answers task
+    → IsTaskOfLine config lines (questions_of lines) one task → StandsComplete answers one own → IsScripted config lines answers task
 scripted_one config lines answers one task own is stands =
     let script : Script = record { operations = task.operations; fate = task.fate } in
     record {

@@ -9,7 +9,7 @@ use Rattle.rrc_collate.specs.declared.task.Task.{Task}
 use Rattle.rrc_script.specs.declared.config.Config.{Config}
 use Rattle.rrc_report.specs.declared.done.Answered.{Answered}
 use Rattle.rrc_report.specs.declared.done.Done.{Done}
-use Rattle.rrc_report.specs.Steps.{Given, given_by, given_from, IsTaskOf, AreTasks}
+use Rattle.rrc_report.specs.Steps.{Given, given_by, given_from, IsTaskOfLine, AreTasks}
 
 -- ---- relations between lists
 
@@ -42,7 +42,7 @@ cut_at xs i x within is =
 -- one more line of a worker has its task
 pub tasks_more : (config : Config) (lines : List Line) (questions : List KeyOf) (worker i : ℕ) (answers : List Answered) (answered : Answered) (tasks : List Task) (task : Task)
     → i < length answers → answered ≡ get_or answers i answered → AreTasks config lines questions (map (given_by worker) (take i answers)) tasks
-    → IsTaskOf config lines questions (given_by worker answered) task
+    → IsTaskOfLine config lines questions (given_by worker answered) task
     → AreTasks config lines questions (map (given_by worker) (take (i + 1) answers)) (tasks ++ task ∷ [])
 tasks_more config lines questions worker i answers answered tasks task within is are more =
     let given = map (given_by worker) (take i answers) in
@@ -51,11 +51,11 @@ tasks_more config lines questions worker i answers answered tasks task within is
     let longer : map (given_by worker) (take (i + 1) answers) ≡ given ++ given_by worker answered ∷ [] =
     ap (map (given_by worker)) taken ∙ map-append (given_by worker) (take i answers) (answered ∷ []) in
     subst (λ (all : List Given). AreTasks config lines questions all (tasks ++ task ∷ [])) (sym longer)
-    (zip_join (IsTaskOf config lines questions) given (given_by worker answered ∷ []) tasks (task ∷ []) are (more, tt))
+    (zip_join (IsTaskOfLine config lines questions) given (given_by worker answered ∷ []) tasks (task ∷ []) are (more, tt))
 
 -- where one line of a worker has no task, its lines have no tasks
 pub no_tasks : (config : Config) (lines : List Line) (questions : List KeyOf) (worker i : ℕ) (answers : List Answered) (answered : Answered) (tasks : List Task)
-    → i < length answers → answered ≡ get_or answers i answered → ((task : Task) → IsTaskOf config lines questions (given_by worker answered) task → ⊥)
+    → i < length answers → answered ≡ get_or answers i answered → ((task : Task) → IsTaskOfLine config lines questions (given_by worker answered) task → ⊥)
     → AreTasks config lines questions (map (given_by worker) answers) tasks → ⊥
 no_tasks config lines questions worker i answers answered tasks within is none are =
     let front = map (given_by worker) (take i answers) in
@@ -63,11 +63,11 @@ no_tasks config lines questions worker i answers answered tasks within is none a
     let cut : map (given_by worker) answers ≡ front ++ (given_by worker answered ∷ [] ++ behind) =
     ap (map (given_by worker)) (cut_at answers i answered within is) ∙ map-append (given_by worker) (take i answers) (answered ∷ drop (i + 1) answers) in
     let own =
-    zip_within (IsTaskOf config lines questions) front (given_by worker answered ∷ []) behind tasks
+    zip_within (IsTaskOfLine config lines questions) front (given_by worker answered ∷ []) behind tasks
     (subst (λ (all : List Given). AreTasks config lines questions all tasks) cut are) in
     none_alone own.0 own.1
   where
-    none_alone : (own : List Task) → AllZip (IsTaskOf config lines questions) (given_by worker answered ∷ []) own → ⊥
+    none_alone : (own : List Task) → AllZip (IsTaskOfLine config lines questions) (given_by worker answered ∷ []) own → ⊥
     none_alone [] one = absurd one
     none_alone (task ∷ own) one = none task one.0
 
@@ -115,7 +115,7 @@ tasks_of_more config lines questions i done one tasks own within is are more =
     ∙ (ap (λ later. given ++ later) (append-nil (map (given_by (0 + length (take i done))) one.answers))
     ∙ ap (λ worker. given ++ map (given_by worker) one.answers) count)) in
     subst (λ (all : List Given). AreTasks config lines questions all (tasks ++ own)) (sym longer)
-    (zip_join (IsTaskOf config lines questions) given (map (given_by i) one.answers) tasks own are more)
+    (zip_join (IsTaskOfLine config lines questions) given (map (given_by i) one.answers) tasks own are more)
 
 -- where one worker has no tasks, the workers have none
 pub no_tasks_of : (config : Config) (lines : List Line) (questions : List KeyOf) (i : ℕ) (done : List Done) (one : Done) (tasks : List Task)
@@ -123,6 +123,6 @@ pub no_tasks_of : (config : Config) (lines : List Line) (questions : List KeyOf)
     → AreTasks config lines questions (given_from 0 done) tasks → ⊥
 no_tasks_of config lines questions i done one tasks within is none are =
     let own =
-    zip_within (IsTaskOf config lines questions) (given_from 0 (take i done)) (map (given_by i) one.answers) (given_from (i + 1) (drop (i + 1) done)) tasks
+    zip_within (IsTaskOfLine config lines questions) (given_from 0 (take i done)) (map (given_by i) one.answers) (given_from (i + 1) (drop (i + 1) done)) tasks
     (subst (λ (all : List Given). AreTasks config lines questions all tasks) (given_at i done one within is) are) in
     none own.0 own.1

@@ -25,7 +25,7 @@ use Rattle.rrc_report.specs.declared.done.Done.{Done}
 use Rattle.rrc_script.specs.declared.script.Script.{Script}
 use Rattle.rrc_script.specs.Scripts.{offer_of, failure_of, offering, asking, sweeping, first_ask, last_ask, fetching, HasScript}
 use Rattle.rrc_report.specs.Reports.{lines_done, taken_from}
-use Rattle.rrc_report.specs.Steps.{Given, given_by, given_from, as_taken, IsTaskOf, AreTasks}
+use Rattle.rrc_report.specs.Steps.{Given, given_by, given_from, as_taken, IsTaskOfLine, AreTasks}
 
 -- what a relation gives of each element of the other list
 each_of : {A B : Type 0} (R : A → B → Type 0) (P : A → Type 0) (Q : B → Type 0) (xs : List A) (ys : List B) → ((x : A) (y : B) → R x y → P x → Q y)
@@ -58,7 +58,7 @@ given_below worker end (one ∷ done) few =
 pub workers_below : (config : Config) (lines : List Line) (questions : List KeyOf) (done : List Done) (tasks : List Task) → length done ≡ config.workers
     → AreTasks config lines questions (given_from 0 done) tasks → All (λ task. task.worker < config.workers) tasks
 workers_below config lines questions done tasks size are =
-    each_of (IsTaskOf config lines questions) (IsAmong config.workers) (λ task. task.worker < config.workers) (given_from 0 done) tasks
+    each_of (IsTaskOfLine config lines questions) (IsAmong config.workers) (λ task. task.worker < config.workers) (given_from 0 done) tasks
     (λ given task is below. subst (λ worker. worker < config.workers) (sym is.worker_is) below) are
     (given_below 0 config.workers done (omega (arith, size)))
 
@@ -126,7 +126,7 @@ script_below config questions line answer script some is = absurd is
 pub parts_below : (config : Config) (lines : List Line) (questions : List KeyOf) (given : List Given) (tasks : List Task)
     → AreTasks config lines questions given tasks → All (λ task. All (λ operation. operation.part < config.parts) task.operations) tasks
 parts_below config lines questions given tasks are =
-    each_of (IsTaskOf config lines questions) Anything (λ task. All (GoesTo config.parts) task.operations) given tasks
+    each_of (IsTaskOfLine config lines questions) Anything (λ task. All (GoesTo config.parts) task.operations) given tasks
     (λ given task is any.
     script_below config questions is.line given.answer (record { operations = task.operations; fate = task.fate }) config.some_parts is.script)
     are (λ k d within. tt)
@@ -161,7 +161,7 @@ script_numbered config questions line answer script is = absurd is
 pub are_numbered : (config : Config) (lines : List Line) (questions : List KeyOf) (given : List Given) (tasks : List Task)
     → AreTasks config lines questions given tasks → All (λ task. IsNumbered (length questions) task.fate) tasks
 are_numbered config lines questions given tasks are =
-    each_of (IsTaskOf config lines questions) Anything (λ task. IsNumbered (length questions) task.fate) given tasks
+    each_of (IsTaskOfLine config lines questions) Anything (λ task. IsNumbered (length questions) task.fate) given tasks
     (λ given task is any. script_numbered config questions is.line given.answer (record { operations = task.operations; fate = task.fate }) is.script)
     are (λ k d within. tt)
 
@@ -188,7 +188,7 @@ tasks_taken config lines questions [] [] are = refl
 tasks_taken config lines questions [] (task ∷ tasks) are = absurd are
 tasks_taken config lines questions (one ∷ given) [] are = absurd are
 tasks_taken config lines questions (one ∷ given) (task ∷ tasks) are =
-    let is : IsTaskOf config lines questions one task = are.0 in
+    let is : IsTaskOfLine config lines questions one task = are.0 in
     let rest : taken_by tasks ≡ map as_taken given = tasks_taken config lines questions given tasks are.1 in
     λ i. record { class = is.worker_is i; value = is.number_is i } ∷ rest i
 

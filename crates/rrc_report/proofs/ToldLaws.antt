@@ -15,8 +15,8 @@ use Rattle.rrc_history.specs.lemmas.ReplyLaws.{outcome_eq-Decides, reply_eq-Deci
 use Rattle.rrc_trace.specs.declared.answer.Answer.{Answer}
 use Rattle.rrc_trace.specs.declared.answer.Answer.TheVariants as answers
 use Rattle.rrc_trace.specs.declared.answer.Told.{Told}
-use Rattle.rrc_report.specs.Answers.{Tells, Replies, Counts, TellAll, TellFetched, CountAll, RepliesAlone, IsHit, IsTold, without_key, without_keys, Completes, OneCompletion}
-use Rattle.rrc_report.specs.Completions.{is_nobody, told_by, replies, counts, is_hit, joined, all_told_by, all_count, is_empty, replies_alone, one_told_by, told_before, fetched_by, only_where, complete}
+use Rattle.rrc_report.specs.Answers.{TellsOutcome, Replies, Counts, TellAll, TellFetched, CountAll, RepliesAlone, IsHit, IsTold, without_key, without_keys, Completes, OneCompletion}
+use Rattle.rrc_report.specs.Completions.{is_nobody, told_by, replies, counts, is_hit, joined, all_told_by, all_count, is_empty, replies_alone, one_told_by, told_before, fetch_told_by, only_where, complete}
 
 -- ---- answers of tests
 
@@ -39,7 +39,7 @@ nobody None h = refl
 nobody (Some key) h = absurd (false≢true h)
 
 -- what is told by an event is told, and was given without its key
-told_by-tells : (given : Told) (event : Event) (told : Told) → told_by given event ≡ Some told → Tells told event × (given ≡ without_key told)
+told_by-tells : (given : Told) (event : Event) (told : Told) → told_by given event ≡ Some told → TellsOutcome told event × (given ≡ without_key told)
 told_by-tells given (Offered outcome tag offer evicted) told h =
     let parts = where_passed (outcome_eq given.outcome outcome && is_nobody given.evicted) (record { outcome = outcome; evicted = evicted }) told h in
     let both = and_parts (outcome_eq given.outcome outcome) (is_nobody given.evicted) parts.0 in
@@ -50,7 +50,7 @@ told_by-tells given (Offered outcome tag offer evicted) told h =
 told_by-tells given (Asked tag ask reply) told h = absurd cc
 told_by-tells given (Swept tag moment gone) told h = absurd cc
 
-told_by-found : (told : Told) (event : Event) → Tells told event → told_by (without_key told) event ≡ Some told
+told_by-found : (told : Told) (event : Event) → TellsOutcome told event → told_by (without_key told) event ≡ Some told
 told_by-found told (Offered outcome tag offer evicted) tells =
     let outcomes : told.outcome ≡ outcome = ap (λ (t : Told). t.outcome) tells in
     let passes : (outcome_eq told.outcome outcome && true) ≡ true = and_from (outcome_eq told.outcome outcome) true ((outcome_eq-Decides told.outcome outcome).1 outcomes) refl in
@@ -205,10 +205,10 @@ keyed-complete f bare given found answer events is tells h =
     }
 
 -- a fetch tells first that it missed
-fetched_by-tells : (given : List Told) (reply : Reply) (events : List Event) (told : List Told) → fetched_by given reply events ≡ Some told
+fetch_told_by-tells : (given : List Told) (reply : Reply) (events : List Event) (told : List Told) → fetch_told_by given reply events ≡ Some told
     → IsTold (answers.Fetched told reply) events × (given ≡ map without_key told)
-fetched_by-tells given reply [] told h = absurd cc
-fetched_by-tells given reply (event ∷ events) told h = by (replies (Miss None) event) refl
+fetch_told_by-tells given reply [] told h = absurd cc
+fetch_told_by-tells given reply (event ∷ events) told h = by (replies (Miss None) event) refl
   where
     by : (missed : Bool) → replies (Miss None) event ≡ missed → IsTold (answers.Fetched told reply) (event ∷ events) × (given ≡ map without_key told)
     by true is =
@@ -217,9 +217,9 @@ fetched_by-tells given reply (event ∷ events) told h = by (replies (Miss None)
         ((replies-told (Miss None) event is, own.0), own.1)
     by false is = let bad : None ≡ Some told = rw is at h in absurd cc
 
-fetched_by-found : (told : List Told) (reply : Reply) (events : List Event) → IsTold (answers.Fetched told reply) events → fetched_by (map without_key told) reply events ≡ Some told
-fetched_by-found told reply [] tells = absurd tells
-fetched_by-found told reply (event ∷ events) tells =
+fetch_told_by-found : (told : List Told) (reply : Reply) (events : List Event) → IsTold (answers.Fetched told reply) events → fetch_told_by (map without_key told) reply events ≡ Some told
+fetch_told_by-found told reply [] tells = absurd tells
+fetch_told_by-found told reply (event ∷ events) tells =
     cond-true (replies (Miss None) event) (told_before (map without_key told) reply events) None (replies-found (Miss None) event tells.0) ∙ fetched-found told reply events tells.1
 
 -- the answer that events complete is told by them, and without its keys the given one
@@ -231,8 +231,8 @@ complete-told (answers.Fail told) answer events h =
 complete-told (answers.Response told) answer events h =
     keyed-complete answers.Response (map without_key) told (all_told_by told events) answer events (λ x. refl) (λ x is. all-tells told events x is) h
 complete-told (answers.Fetched told reply) answer events h =
-    keyed-complete (λ told. answers.Fetched told reply) (map without_key) told (fetched_by told reply events) answer events (λ x. refl)
-    (λ x is. fetched_by-tells told reply events x is) h
+    keyed-complete (λ told. answers.Fetched told reply) (map without_key) told (fetch_told_by told reply events) answer events (λ x. refl)
+    (λ x is. fetch_told_by-tells told reply events x is) h
 complete-told (answers.Ask reply) answer events h =
     plain-complete (answers.Ask reply) answer events (replies_alone reply events) refl (alone-told reply events) h
 complete-told (answers.Hit reply) answer events h =
@@ -252,7 +252,7 @@ found : (answer : Answer) (events : List Event) → IsTold answer events → com
 found (answers.Put told) events tells = ap (option_map answers.Put) (one-found told events tells)
 found (answers.Fail told) events tells = ap (option_map answers.Fail) (one-found told events tells)
 found (answers.Response told) events tells = ap (option_map answers.Response) (all-found told events tells)
-found (answers.Fetched told reply) events tells = ap (option_map (λ told. answers.Fetched told reply)) (fetched_by-found told reply events tells)
+found (answers.Fetched told reply) events tells = ap (option_map (λ told. answers.Fetched told reply)) (fetch_told_by-found told reply events tells)
 found (answers.Ask reply) events tells = ap (λ told. only_where told (answers.Ask reply)) (alone-found reply events tells)
 found (answers.Hit reply) events tells =
     ap (λ told. only_where told (answers.Hit reply)) (and_from (is_hit reply) (replies_alone reply events) (hit-found reply tells.0) (alone-found reply events tells.1))

@@ -19,7 +19,7 @@ use Rattle.rrc_share.specs.Shelf.{ShelfOf, AreBefore, ShelvesChapter, first_snap
 use Rattle.rrc_trace.specs.declared.fault.ReplayFault.{ReplayFault}
 use Rattle.rrc_trace.specs.declared.fault.ReplayFault.TheVariants.{BadLine, TooManyLines, Read, Write, Strayed, Memory, Spent, TooManyQuestions, NotLegal}
 use Rattle.rrc_report.specs.Reports.{IsOfShelf, IsPartOf, empty_under}
-use Rattle.rrc_report.specs.Steps.{AreParts, CanNotClose}
+use Rattle.rrc_report.specs.Steps.{ArePartHistories, CanNotClose}
 use Rattle.rrc_report.specs.Wholes.{IsKeptBy}
 use Rattle.rrc_report.proofs.Zips.{zip_push, zip_pick, any_within, any_alone}
 
@@ -74,8 +74,8 @@ spent_among lines before shelf behind shelves (TooManyQuestions number) are fail
 spent_among lines before shelf behind shelves NotLegal are fails = absurd fails
 
 -- a history that begins with the empty snapshot is one more
-pub parts_more : (rules : Rules) (shelves : List ShelfOf) (wholes : List WholeOf) (shelf : ShelfOf) (whole : WholeOf) → AreParts rules shelves wholes → IsKeptBy shelf whole
-    → whole.snapshot ≡ empty_under rules → AreParts rules (shelves ++ shelf ∷ []) (wholes ++ whole ∷ [])
+pub parts_more : (rules : Rules) (shelves : List ShelfOf) (wholes : List WholeOf) (shelf : ShelfOf) (whole : WholeOf) → ArePartHistories rules shelves wholes → IsKeptBy shelf whole
+    → whole.snapshot ≡ empty_under rules → ArePartHistories rules (shelves ++ shelf ∷ []) (wholes ++ whole ∷ [])
 parts_more rules shelves wholes shelf whole parts kept opening = record {
   shelves_are = zip_push IsOfShelf shelves wholes shelf whole parts.shelves_are kept.of_shelf;
   parts_are = All-push (IsPartOf rules) wholes whole parts.parts_are (record { opening = opening; leads = kept.leads; laws = kept.laws });
@@ -83,7 +83,7 @@ parts_more rules shelves wholes shelf whole parts kept opening = record {
 
 -- where one begins with another snapshot there are none
 pub no_parts : (rules : Rules) (before : List ShelfOf) (shelf : ShelfOf) (behind shelves : List ShelfOf) (whole : WholeOf) → before ++ shelf ∷ behind ≡ shelves → IsKeptBy shelf whole
-    → (whole.snapshot ≡ empty_under rules → ⊥) → (wholes : List WholeOf) → AreParts rules shelves wholes → ⊥
+    → (whole.snapshot ≡ empty_under rules → ⊥) → (wholes : List WholeOf) → ArePartHistories rules shelves wholes → ⊥
 no_parts rules before shelf behind shelves whole are kept other wholes parts =
     let one = zip_pick IsOfShelf (IsPartOf rules) before shelf behind wholes (subst (λ s. AllZip IsOfShelf s wholes) (sym are) parts.shelves_are) parts.parts_are in
     other (kept.of_shelf.opening ∙ (sym one.1.opening ∙ one.2.opening))

@@ -10,10 +10,10 @@ use Rattle.rrc_trace.specs.declared.answer.Answer.TheVariants as answers
 use Rattle.rrc_trace.specs.declared.answer.Told.{Told}
 
 -- the event tells what became of an offer, and whom it evicted
-abbrev pub Tells : Told → Event → Type 0
-Tells told (Offered outcome tag offer evicted) = told ≡ record { outcome = outcome; evicted = evicted }
-Tells told (Asked tag ask reply) = ⊥
-Tells told (Swept tag moment gone) = ⊥
+abbrev pub TellsOutcome : Told → Event → Type 0
+TellsOutcome told (Offered outcome tag offer evicted) = told ≡ record { outcome = outcome; evicted = evicted }
+TellsOutcome told (Asked tag ask reply) = ⊥
+TellsOutcome told (Swept tag moment gone) = ⊥
 
 -- the event tells a reply
 abbrev pub Replies : Reply → Event → Type 0
@@ -30,13 +30,13 @@ Counts count (Swept tag moment gone) = count ≡ length gone
 -- each event tells what became of an offer, in order
 abbrev pub TellAll : List Told → List Event → Type 0
 TellAll [] [] = Unit {0}
-TellAll (told ∷ later) (event ∷ events) = Tells told event × TellAll later events
+TellAll (told ∷ later) (event ∷ events) = TellsOutcome told event × TellAll later events
 TellAll told events = ⊥
 
 -- each event tells what became of an offer, in order, and the last one a reply
 abbrev pub TellFetched : List Told → Reply → List Event → Type 0
 TellFetched [] reply (event ∷ []) = Replies reply event
-TellFetched (told ∷ later) reply (event ∷ events) = Tells told event × TellFetched later reply events
+TellFetched (told ∷ later) reply (event ∷ events) = TellsOutcome told event × TellFetched later reply events
 TellFetched told reply events = ⊥
 
 -- each event tells how many keys a sweep removed, in order

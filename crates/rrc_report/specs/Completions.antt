@@ -86,9 +86,9 @@ told_before (told ∷ later) reply [] = None
 told_before (told ∷ later) reply (event ∷ events) = joined (told_by told event) (told_before later reply events)
 
 -- what became of the offers of a fetch: it missed first, then offered, and then was told this reply
-abbrev pub fetched_by : List Told → Reply → List Event → Option (List Told)
-fetched_by told reply [] = None
-fetched_by told reply (event ∷ events) = if replies (Miss None) event then told_before told reply events else None
+abbrev pub fetch_told_by : List Told → Reply → List Event → Option (List Told)
+fetch_told_by told reply [] = None
+fetch_told_by told reply (event ∷ events) = if replies (Miss None) event then told_before told reply events else None
 
 -- ---- the answer
 
@@ -105,6 +105,6 @@ complete (answers.Refused fault) events = only_where (is_empty events) (answers.
 complete (answers.Hit reply) events = only_where (is_hit reply && replies_alone reply events) (answers.Hit reply)
 complete (answers.Held moment) events = only_where (replies_alone (Miss (Some moment)) events) (answers.Held moment)
 complete answers.Joined events = only_where (replies_alone (Miss None) events) answers.Joined
-complete (answers.Fetched told reply) events = option_map (λ told. answers.Fetched told reply) (fetched_by told reply events)
+complete (answers.Fetched told reply) events = option_map (λ told. answers.Fetched told reply) (fetch_told_by told reply events)
 complete (answers.Swept counts) events = only_where (all_count counts events) (answers.Swept counts)
 complete answers.Closed events = only_where (is_empty events) answers.Closed

@@ -40,7 +40,7 @@ abbrev pub as_taken : Given → Valued
 as_taken given = record { class = given.worker; value = given.line }
 
 -- the task of a line that a worker says it did
-pub record IsTaskOf (config : Config) (lines : List Line) (questions : List KeyOf) (given : Given) (task : Task) : Type 0 where
+pub record IsTaskOfLine (config : Config) (lines : List Line) (questions : List KeyOf) (given : Given) (task : Task) : Type 0 where
   pub line : Line
   pub line_is : slice_get lines given.line ≡ Some line
   pub worker_is : task.worker ≡ given.worker
@@ -48,7 +48,7 @@ pub record IsTaskOf (config : Config) (lines : List Line) (questions : List KeyO
   pub script : HasScript config questions line given.answer (record { operations = task.operations; fate = task.fate })
 
 abbrev pub AreTasks : Config → List Line → List KeyOf → List Given → List Task → Type 0
-AreTasks config lines questions given tasks = AllZip (IsTaskOf config lines questions) given tasks
+AreTasks config lines questions given tasks = AllZip (IsTaskOfLine config lines questions) given tasks
 
 -- the events of the tasks of what workers say that they did, where these fit the histories of the parts
 pub record AreFitting (config : Config) (lines : List Line) (done : List Done) (histories events : List (List Event)) : Type 0 where
@@ -57,7 +57,7 @@ pub record AreFitting (config : Config) (lines : List Line) (done : List Done) (
   pub fits : FitsHistories (length lines) config.workers tasks histories events
 
 -- the histories of shelves, each of them one of a part
-pub record AreParts (rules : Rules) (shelves : List ShelfOf) (wholes : List WholeOf) : Type 0 where
+pub record ArePartHistories (rules : Rules) (shelves : List ShelfOf) (wholes : List WholeOf) : Type 0 where
   pub shelves_are : AllZip IsOfShelf shelves wholes
   pub parts_are : All (IsPartOf rules) wholes
 

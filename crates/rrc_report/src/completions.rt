@@ -2,7 +2,7 @@
 ghost use Rattle.std.specs.Prelude.{◌≡◌, ◌&&◌, ◌==◌, map, length, Some, None, IfOk, IfSome, IfNone, if◌then◌else◌};
 ghost use Rattle.rrc_trace.specs.declared.answer.Answer.{Answer};
 ghost use Rattle.rrc_report.specs.Answers.{Completes, OneCompletion};
-ghost use Rattle.rrc_report.specs.Completions.{told_by, replies, counts, is_hit, all_told_by, all_count, is_empty, replies_alone, one_told_by, told_before, fetched_by, only_where, complete};
+ghost use Rattle.rrc_report.specs.Completions.{told_by, replies, counts, is_hit, all_told_by, all_count, is_empty, replies_alone, one_told_by, told_before, fetch_told_by, only_where, complete};
 ghost use Rattle.rrc_history.specs.declared.event.Reply.TheVariants.{Miss};
 ghost use Rattle.rrc_trace.specs.declared.answer.Answer.TheVariants as answers;
 
@@ -141,13 +141,13 @@ fn told_before(
 }
 
 /// What became of the offers of a fetch: it missed first, then offered, and then was told a reply.
-fn fetched_by(
+fn fetch_told_by(
     alloc: Global,
     told: &[Told],
     reply: &Reply,
     events: &[&Event],
 ) -> Result<Option<Sequence<Told>>, AllocError>
-    ensures { IfOk result (λ found. found ≡ fetched_by told.now reply.now (map (λ event. event.now) events.now)) }
+    ensures { IfOk result (λ found. found ≡ fetch_told_by told.now reply.now (map (λ event. event.now) events.now)) }
 {
     match events.split_first() {
         None => Ok(None),
@@ -183,7 +183,7 @@ fn complete_fetch(
 ) -> Result<Option<Answer>, AllocError>
     ensures { IfOk result (λ found. found ≡ complete (answers.Fetched told reply) (map (λ event. event.now) events.now)) }
 {
-    match fetched_by(alloc, told.as_slice(), &reply, events)? {
+    match fetch_told_by(alloc, told.as_slice(), &reply, events)? {
         None => Ok(None),
         Some(told) => Ok(Some(Answer::Fetched { told, reply })),
     }

@@ -2,7 +2,7 @@
 ghost use Rattle.std.specs.Prelude.{◌≡◌, List, map, IfOk, IfErr, IfSome, IfNone};
 ghost use Rattle.rrc_trace.specs.declared.fault.ReplayFault.TheVariants as faults;
 ghost use Rattle.rrc_collate.specs.declared.task.Task.{Task};
-ghost use Rattle.rrc_report.specs.Steps.{given_by, given_from, IsTaskOf, AreTasks};
+ghost use Rattle.rrc_report.specs.Steps.{given_by, given_from, IsTaskOfLine, AreTasks};
 
 use crate::done::{Answered, Done};
 use crate::joined::joined;
@@ -20,8 +20,8 @@ fn task_of(
     worker: usize,
     answered: &Answered,
 ) -> Result<Option<Task>, ReplayFault>
-    ensures some { IfOk result (λ found. IfSome found (IsTaskOf config.now trace.now questions.now (given_by worker answered.now))) }
-    ensures none { IfOk result (λ found. IfNone found ((task : Task) → IsTaskOf config.now trace.now questions.now (given_by worker answered.now) task → ⊥)) }
+    ensures some { IfOk result (λ found. IfSome found (IsTaskOfLine config.now trace.now questions.now (given_by worker answered.now))) }
+    ensures none { IfOk result (λ found. IfNone found ((task : Task) → IsTaskOfLine config.now trace.now questions.now (given_by worker answered.now) task → ⊥)) }
     ensures err { IfErr result (λ fault. fault ≡ faults.Memory) }
 {
     let Some(line) = trace.lines.as_slice().get(answered.line) else {

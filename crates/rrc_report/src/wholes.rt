@@ -4,7 +4,7 @@ ghost use Rattle.rrc_history.specs.Chains.{WholeOf};
 ghost use Rattle.rrc_history.specs.Same.{snapshot_eq};
 ghost use Rattle.rrc_share.specs.Shelf.{ShelvesChapter};
 ghost use Rattle.rrc_report.specs.Reports.{empty_under};
-ghost use Rattle.rrc_report.specs.Steps.{AreParts, CanNotClose};
+ghost use Rattle.rrc_report.specs.Steps.{ArePartHistories, CanNotClose};
 ghost use Rattle.rrc_report.specs.Wholes.{IsKeptBy};
 
 use rrc_cache::Refusal;
@@ -62,8 +62,8 @@ pub(crate) fn wholes_of(
     lines: u64,
     shelves: Vec<Shelf>,
 ) -> Result<Option<Sequence<Whole>>, ReplayFault>
-    ensures some { IfOk result (λ found. IfSome found (λ wholes. AreParts rules.now shelves.items wholes)) }
-    ensures none { IfOk result (λ found. IfNone found ((wholes : List WholeOf) → AreParts rules.now shelves.items wholes → ⊥)) }
+    ensures some { IfOk result (λ found. IfSome found (λ wholes. ArePartHistories rules.now shelves.items wholes)) }
+    ensures none { IfOk result (λ found. IfNone found ((wholes : List WholeOf) → ArePartHistories rules.now shelves.items wholes → ⊥)) }
     ensures err { IfErr result (CanNotClose lines shelves.items) }
 {
     let empty = empty_under(alloc, *rules);

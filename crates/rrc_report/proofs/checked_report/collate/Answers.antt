@@ -7,7 +7,7 @@ use Rattle.rrc_collate.specs.Drawn.{DrawnOf}
 use Rattle.rrc_collate.specs.Collated.{histories_of}
 use Rattle.rrc_report.specs.declared.report.Report.{Report}
 use Rattle.rrc_report.specs.Reports.{lines_done}
-use Rattle.rrc_report.specs.Steps.{given_from, AreFitting, AreParts, AreComplete}
+use Rattle.rrc_report.specs.Steps.{given_from, AreFitting, ArePartHistories, AreComplete}
 use Rattle.rrc_report.proofs.ReportLaws.{some_of, none_of, parts_counted, count_stray, event_stray, answer_stray, found_collated, found_holds}
 use Rattle.rrc_report.proofs.checked_report.collate.Goals.{then-len-config-via-then-len-config, then-len-config-via-else-len-config+then-len-config-2}
 use Rattle.rrc_report.proofs.checked_report.collate.Goals as goal
@@ -32,7 +32,7 @@ pub events_of-requires-clause-parts : goal.events_of-requires-clause-parts
 events_of-requires-clause-parts c =
     let config = c.args.config.now in
     let shelves = c.args.shelves.items in
-    let parts : AreParts config.rules shelves c.in-Some.wholes = search arith in
+    let parts : ArePartHistories config.rules shelves c.in-Some.wholes = search arith in
     let size : length shelves ≡ config.parts = omega arith in
     ap length c.as_slice.ensures ∙ (parts_counted config.rules shelves c.in-Some.wholes parts ∙ size)
 
@@ -43,7 +43,7 @@ returns-in_default-2-clause-err c =
     let shelves = c.args.shelves.items in
     let done = c.args.done.items in
     let wholes = c.in-Some.wholes in
-    let parts : AreParts config.rules shelves wholes = search arith in
+    let parts : ArePartHistories config.rules shelves wholes = search arith in
     let same : c.as_slice-2.result.now ≡ done = c.as_slice-2.ensures.value in
     let whole : c.as_slice.result.now ≡ wholes = c.as_slice.ensures in
     let none = none_of ((others : List (List Event)) → AreFitting config lines c.as_slice-2.result.now (histories_of c.as_slice.result.now) others → ⊥) c.in_ok-events.field-0 c.in_default-2.is c.in_ok-events.ensures.none in
@@ -57,7 +57,7 @@ returns-in_default-3-clause-err c =
     let done = c.args.done.items in
     let wholes = c.in-Some.wholes in
     let events = shown c.in-Some-2.events.items in
-    let parts : AreParts config.rules shelves wholes = search arith in
+    let parts : ArePartHistories config.rules shelves wholes = search arith in
     let same : c.as_slice-2.result.now ≡ done = c.as_slice-2.ensures.value in
     let whole : c.as_slice.result.now ≡ wholes = c.as_slice.ensures in
     let count : c.len-count.result ≡ length lines = cc in
@@ -78,7 +78,7 @@ returns-clause-collated c =
     let size : length shelves ≡ config.parts = omega arith in
     let count : c.len-count.result ≡ length lines = cc in
     let shares : report.shares ≡ map lines_done done = search arith in
-    let parts : AreParts config.rules shelves report.wholes = search arith in
+    let parts : ArePartHistories config.rules shelves report.wholes = search arith in
     let fit : AreFitting config lines done (histories_of report.wholes) events = search arith in
     let complete : AreComplete c.len-count.result (given_from 0 done) events report.lines = search arith in
     found_collated config lines shelves done events report c.len-count.result workers size count shares parts fit complete
@@ -91,6 +91,6 @@ returns-clause-holds c =
     let events = shown c.in-Some-2.events.items in
     let report : Report = record { lines = c.in-Some-3.lines; shares = c.in_ok-shares.shares; wholes = c.in-Some.wholes } in
     let shares : report.shares ≡ map lines_done done = search arith in
-    let parts : AreParts rules shelves report.wholes = search arith in
+    let parts : ArePartHistories rules shelves report.wholes = search arith in
     let complete : AreComplete c.len-count.result (given_from 0 done) events report.lines = search arith in
     found_holds rules shelves done events report c.len-count.result shares parts complete

@@ -1,7 +1,7 @@
 -- SPDX-License-Identifier: MIT
 use Rattle.std.proofs.Common.{◌≡◌, ◌++◌, ◌∷◌, [], sym, ap, subst, ◌∙◌, append_assoc}
 use Rattle.std.specs.Vec.Iter.{into_iter_items}
-use Rattle.rrc_report.specs.Steps.{AreParts, CanNotClose}
+use Rattle.rrc_report.specs.Steps.{ArePartHistories, CanNotClose}
 use Rattle.rrc_report.proofs.WholeParts.{spent_among, no_parts, parts_more, begins, begins_not, handed_on}
 use Rattle.rrc_report.proofs.wholes.wholes_of.Goals as goal
 
@@ -22,7 +22,7 @@ returns-then-not-begins_with-clause-none c =
 pub loop-shelf-preserved : goal.loop-shelf-preserved
 loop-shelf-preserved c = record {
   parts =
-      subst (AreParts c.args.rules.now (c.loop-shelf.yielded ++ c.in-Some.shelf ∷ [])) (sym c.in_ok-push.ensures.items)
+      subst (ArePartHistories c.args.rules.now (c.loop-shelf.yielded ++ c.in-Some.shelf ∷ [])) (sym c.in_ok-push.ensures.items)
       (parts_more c.args.rules.now c.loop-shelf.yielded c.loop-shelf.wholes.items c.in-Some.shelf c.in_ok-whole.whole c.loop-shelf.invariant.parts c.in_ok-whole.ensures.whole
       (begins c.in_ok-whole.whole.snapshot c.empty_under-empty.result c.begins_with.result c.begins_with.ensures c.if-not-begins_with.false ∙ c.empty_under-empty.ensures));
   rest =
