@@ -23,19 +23,19 @@ timely message zone moment limits offers are within =
 -- ---- what lines offer
 
 -- it is of a moment that a part takes
-abbrev pub IsTimely : OfferOf → Type 0
-IsTimely offer = offer.moment ≤ LAST_MOMENT
+abbrev pub IsTimelyOffer : OfferOf → Type 0
+IsTimelyOffer offer = offer.moment ≤ LAST_MOMENT
 
 -- what octets offer at a moment that a part takes is of such a moment
 pub brought : (limits : Limits) (octets zone : List ℕ) (moment : ℕ) (offers : List OfferOf) → Brings limits octets zone moment offers → moment ≤ LAST_MOMENT
     → All (λ offer. offer.moment ≤ LAST_MOMENT) offers
 brought limits octets zone moment offers brings within = timely brings.message zone moment limits offers brings.offered within
 
-failed_alone : (limits : Limits) (fetch : Fetch) (offers : List OfferOf) → offers ≡ failure_by limits fetch ∷ [] → fetch.moment ≤ LAST_MOMENT → All IsTimely offers
-failed_alone limits fetch offers is within = subst (All IsTimely) (sym is) (All-cons IsTimely (failure_by limits fetch) [] within (All-nil IsTimely))
+failed_alone : (limits : Limits) (fetch : Fetch) (offers : List OfferOf) → offers ≡ failure_by limits fetch ∷ [] → fetch.moment ≤ LAST_MOMENT → All IsTimelyOffer offers
+failed_alone limits fetch offers is within = subst (All IsTimelyOffer) (sym is) (All-cons IsTimelyOffer (failure_by limits fetch) [] within (All-nil IsTimelyOffer))
 
 of_octets : (limits : Limits) (fetch : Fetch) (octets : Option (List ℕ)) (offers : List OfferOf) → BringsOctets limits fetch octets offers → fetch.moment ≤ LAST_MOMENT
-    → All IsTimely offers
+    → All IsTimelyOffer offers
 of_octets limits fetch None offers is within = failed_alone limits fetch offers is within
 of_octets limits fetch (Some octets) offers (inl brings) within = brought limits octets fetch.zone fetch.moment offers brings within
 of_octets limits fetch (Some octets) offers (inr failed) within = failed_alone limits fetch offers failed.1.1 within

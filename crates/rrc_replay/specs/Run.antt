@@ -43,16 +43,16 @@ pub record IsWithin (read : Option (List ℕ)) (number : ℕ) : Type 0 where
   pub within : number ≤ length lines
 
 -- a fault of the text is its first one; each other one is of a read, of a write, of memory or threads, of workers, or of numbers that are spent
-abbrev pub IsFirstFaultOf : Option (List ℕ) → ReplayFault → Type 0
-IsFirstFaultOf read (BadLine number) = IsFaultOfTrace read (BadLine number)
-IsFirstFaultOf read TooManyLines = IsFaultOfTrace read TooManyLines
-IsFirstFaultOf read Read = Unit {0}
-IsFirstFaultOf read Write = Unit {0}
-IsFirstFaultOf read Strayed = Unit {0}
-IsFirstFaultOf read Memory = Unit {0}
-IsFirstFaultOf read (Spent number) = IsWithin read number
-IsFirstFaultOf read (TooManyQuestions number) = IsFaultOfTrace read (TooManyQuestions number)
-IsFirstFaultOf read NotLegal = ⊥
+abbrev pub IsFaultOfRun : Option (List ℕ) → ReplayFault → Type 0
+IsFaultOfRun read (BadLine number) = IsFaultOfTrace read (BadLine number)
+IsFaultOfRun read TooManyLines = IsFaultOfTrace read TooManyLines
+IsFaultOfRun read Read = Unit {0}
+IsFaultOfRun read Write = Unit {0}
+IsFaultOfRun read Strayed = Unit {0}
+IsFaultOfRun read Memory = Unit {0}
+IsFaultOfRun read (Spent number) = IsWithin read number
+IsFaultOfRun read (TooManyQuestions number) = IsFaultOfTrace read (TooManyQuestions number)
+IsFaultOfRun read NotLegal = ⊥
 
 -- before the fault of a write a beginning of a report went out, before any other nothing
 abbrev pub LeavesWriter : Config → Option (List ℕ) → Option (List ℕ) → Option (List ℕ) → ReplayFault → Type 0

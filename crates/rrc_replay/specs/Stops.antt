@@ -32,5 +32,5 @@ abbrev pub first_fault : ℕ → List Worked → Option ReplayFault
 first_fault lines worked = option_map (fault_of lines) (lowest worked)
 
 -- that is told of them, or memory was refused behind them
-abbrev pub Tells : ℕ → List Worked → ReplayFault → Type 0
-Tells lines worked fault = (fault ≡ Memory) ⊎ (first_fault lines worked ≡ Some fault)
+abbrev pub TellsFirstFault : ℕ → List Worked → ReplayFault → Type 0
+TellsFirstFault lines worked fault = (fault ≡ Memory) ⊎ (first_fault lines worked ≡ Some fault)

@@ -3,7 +3,7 @@ ghost use Rattle.std.specs.Prelude.{◌≢◌, length, IfOk, IfErr, OnOk};
 ghost use Rattle.std.specs.Io.KnownBytes.{IsAtEnd};
 ghost use Rattle.rrc_report.specs.Reports.{IsCollated};
 ghost use Rattle.rrc_replay.specs.Faults.{IsOfReplay};
-ghost use Rattle.rrc_replay.specs.Run.{Reports, IsReportOf, IsFirstFaultOf, LeavesWriter};
+ghost use Rattle.rrc_replay.specs.Run.{Reports, IsReportOf, IsFaultOfRun, LeavesWriter};
 
 use crate::audit::{Audit, audit_all};
 use crate::gate::Gate;
@@ -33,7 +33,7 @@ pub fn run<T: Threads + Wait + Sync, R: Read, W: Write, G: Gate + Sync>(
 ) -> Result<(), ReplayFault>
     ensures ok { OnOk result (Reports config.now (R.remaining reader.old) (W.contents writer.old) (W.contents writer.new)) }
     ensures whole { OnOk result (IsAtEnd (R.remaining reader.new)) }
-    ensures fault { IfErr result (IsFirstFaultOf (R.remaining reader.old)) }
+    ensures fault { IfErr result (IsFaultOfRun (R.remaining reader.old)) }
     ensures writer { IfErr result (LeavesWriter config.now (R.remaining reader.old) (W.contents writer.old) (W.contents writer.new)) }
 {
     let report = reported(rt, alloc, reader, config, seed, audit, gate)?;
@@ -52,7 +52,7 @@ fn reported<T: Threads + Wait + Sync, R: Read, G: Gate + Sync>(
 ) -> Result<Report, ReplayFault>
     ensures ok { IfOk result (IsReportOf config.now (R.remaining reader.old)) }
     ensures whole { OnOk result (IsAtEnd (R.remaining reader.new)) }
-    ensures fault { IfErr result (IsFirstFaultOf (R.remaining reader.old)) }
+    ensures fault { IfErr result (IsFaultOfRun (R.remaining reader.old)) }
     ensures no_write { IfErr result (λ fault. fault ≢ ReplayFault.Write) }
 {
     let trace = read_trace(alloc, reader)?;

@@ -4,7 +4,7 @@ ghost use Rattle.rrc_marks.specs.Seen.{IsPassOf};
 ghost use Rattle.rrc_marks.specs.Views.{opening_view};
 ghost use Rattle.rrc_report.specs.Reports.{IsCollated};
 ghost use Rattle.rrc_replay.specs.Faults.{IsOfReplay};
-ghost use Rattle.rrc_replay.specs.Stops.{Tells, first_fault, lower, fault_of};
+ghost use Rattle.rrc_replay.specs.Stops.{TellsFirstFault, first_fault, lower, fault_of};
 
 use crate::calls::Refused;
 use crate::gate::Gate;
@@ -107,7 +107,7 @@ fn first_fault(lines: usize, worked: &[Worked]) -> Option<ReplayFault>
 #[tactic(auto, using(crate::proofs::StopLemmas::told))]
 fn done_by(alloc: Global, lines: usize, worked: Vec<Worked>) -> Result<Vec<Done>, ReplayFault>
     ensures none { OnOk result (first_fault lines worked.items ≡ None) }
-    ensures tells { IfErr result (Tells lines worked.items) }
+    ensures tells { IfErr result (TellsFirstFault lines worked.items) }
     ensures err { IfErr result (IsOfReplay lines) }
 {
     if let Some(fault) = first_fault(lines, worked.as_slice()) {
