@@ -37,7 +37,7 @@ abbrev pub reply_of : CacheShelfOf → AskOf → Reply
 reply_of shelf ask = reply_to shelf.shelf.part.snapshot (past_of shelf.shelf.part) ask
 
 -- the record and the buffer tell a reply
-pub record Tells (told : Told) (before after : List ℕ) (reply : Reply) : Type 0 where
+pub record TellsReply (told : Told) (before after : List ℕ) (reply : Reply) : Type 0 where
   pub record_is : told ≡ told_of reply
   pub buffer_is : IsFilled before (text_of reply) after
 
@@ -49,19 +49,19 @@ pub record TellsSizeOf (told : Told) (before after : List ℕ) (reply : Reply) :
 
 -- a reply was told, for which the buffer has room, or where that is too small only its size
 abbrev pub TellsOr : Bool → Reply → Told → List ℕ → List ℕ → Type 0
-TellsOr true reply told before after = (length (text_of reply) ≤ length before) × Tells told before after reply
+TellsOr true reply told before after = (length (text_of reply) ≤ length before) × TellsReply told before after reply
 TellsOr false reply told before after = TellsSizeOf told before after reply
 
 -- one event was written, the question with its answer, which is what is told
 pub record Answers (ask : AskOf) (line : ℕ) (told : Told) (before after : List ℕ) (old new : CacheShelfOf) : Type 0 where
   pub reply : Reply
   pub made : MakesAsk old new (record { line = line; place = 0 }) ask reply
-  pub tells : Tells told before after reply
+  pub tells : TellsReply told before after reply
 
 -- nothing was written, and the reply that the shelf has is told
 pub record Shows (ask : AskOf) (told : Told) (before after : List ℕ) (old new : CacheShelfOf) : Type 0 where
   pub kept : new ≡ old
-  pub tells : Tells told before after (reply_of old ask)
+  pub tells : TellsReply told before after (reply_of old ask)
 
 -- nothing was written, and the record tells a reply whose octets are more than the buffer has
 pub record TellsSize (ask : AskOf) (told : Told) (buffer : List ℕ) (old new : CacheShelfOf) : Type 0 where
@@ -85,6 +85,6 @@ ShowsOr true ask told before after old new = Shows ask told before after old new
 ShowsOr false ask told before after old new = TellsSizeAlone ask told before after old new
 
 -- nothing was told
-pub record AreKept (told : Told) (before : List ℕ) (told_after : Told) (after : List ℕ) : Type 0 where
+pub record TellsNothing (told : Told) (before : List ℕ) (told_after : Told) (after : List ℕ) : Type 0 where
   pub record_kept : told_after ≡ told
   pub buffer_kept : after ≡ before

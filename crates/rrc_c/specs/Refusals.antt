@@ -265,18 +265,18 @@ OffersRefused octets zone bounds =
     Then (Because BadLimits (AreLimits bounds → ⊥)) (AreLimits bounds) (Then (NameRefused zone) (IsWireForm zone) (MessageRefused octets))
 
 -- there are 1 to 64 parts
-pub record AreParts (parts : ℕ) : Type 0 where
+pub record IsPartCount (parts : ℕ) : Type 0 where
   pub some : 1 ≤ parts
   pub few : parts ≤ 64
 
 -- names are divided among so many parts by a seed
 pub record IsDivision (parts : ℕ) (seed : List ℕ) : Type 0 where
-  pub are_parts : AreParts parts
+  pub are_parts : IsPartCount parts
   pub is_seed : IsSeed seed
 
 -- it is refused to divide names so: by the number of parts, and then by the seed
 abbrev pub DivisionRefused : ℕ → List ℕ → ℕ → Type 0
-DivisionRefused parts seed = Then (Because BadRules (AreParts parts → ⊥)) (AreParts parts) (SeedRefused seed)
+DivisionRefused parts seed = Then (Because BadRules (IsPartCount parts → ⊥)) (IsPartCount parts) (SeedRefused seed)
 
 -- when it is told what a key holds, and when that is refused with what
 abbrev pub StoredDue : List ℕ → ℕ → Type 0

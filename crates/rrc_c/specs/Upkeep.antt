@@ -18,14 +18,14 @@ pub record IsMessage (octets : List ℕ) (number : ℕ) : Type 0 where
   pub none : number ≡ 0
 
 -- octets have a first fault, of this number
-pub record HasFault (octets : List ℕ) (number : ℕ) : Type 0 where
+pub record HasFaultNumber (octets : List ℕ) (number : ℕ) : Type 0 where
   pub fault : WireFault
   pub first : FirstFault octets fault
   pub told : number ≡ number_of fault
 
 -- 0 where octets are a message, and else the number of their first fault
 abbrev pub TellsFault : List ℕ → ℕ → Type 0
-TellsFault octets number = IsMessage octets number ⊎ HasFault octets number
+TellsFault octets number = IsMessage octets number ⊎ HasFaultNumber octets number
 
 -- how many keys the shelf holds, how many events the open chapter has and how many chapters are
 -- closed, of which there are none where nothing is recorded, and how many octets the entries of

@@ -1,6 +1,6 @@
 // SPDX-License-Identifier: MIT
 ghost use Rattle.std.specs.Prelude.{◌≡◌, ◌+◌, ◌≤◌, ◌↔◌, length, false, IsTrue, IfOk, IfErr, IfNone, IfSome, OnOk, OnErr};
-ghost use Rattle.rrc_c.specs.Asks.{asked, purpose_of, mode_of, reply_of, AreKept, AnswersOr, ShowsOr, TellsOr};
+ghost use Rattle.rrc_c.specs.Asks.{asked, purpose_of, mode_of, reply_of, TellsNothing, AnswersOr, ShowsOr, TellsOr};
 ghost use Rattle.rrc_c.specs.Refusals.{AskDue, IsQuestion, NameRefused, PeekDue, QuestionRefused, TellingThen, WriteDue};
 ghost use Rattle.rrc_c.specs.Shelves.{IsLeftAs, MakesAsk};
 ghost use Rattle.rrc_c.specs.Statuses.{number_of, number_of_call, number_of_reply};
@@ -92,7 +92,7 @@ fn tell(reply: ReplyRef<'_>, told: &mut Told, buffer: &mut [u8]) -> Option<bool>
     ensures some { IfSome result (λ fits. TellsOr fits (reply_in reply.entry) told.new buffer.old buffer.new) }
     ensures tellable { IfSome result (λ fits. AreTellable (data_of (reply_in reply.entry))) }
     ensures none { IfNone result (AreTellable (data_of (reply_in reply.entry)) → ⊥) }
-    ensures kept { IfNone result (AreKept told.old buffer.old told.new buffer.new) }
+    ensures kept { IfNone result (TellsNothing told.old buffer.old told.new buffer.new) }
 {
     let record = told_of(reply)?;
     let fits = has_room(buffer, &record);
@@ -106,7 +106,7 @@ fn tell(reply: ReplyRef<'_>, told: &mut Told, buffer: &mut [u8]) -> Option<bool>
 /// Tells what a shelf would answer, and writes nothing. False is answered where the buffer is too small.
 fn show(shelf: &CacheShelf, ask: &Ask, told: &mut Told, buffer: &mut [u8]) -> Result<bool, Status>
     ensures ok { IfOk result (λ fits. ShowsOr fits ask.now told.new buffer.old buffer.new shelf.now shelf.now) }
-    ensures err { OnErr result (AreKept told.old buffer.old told.new buffer.new) }
+    ensures err { OnErr result (TellsNothing told.old buffer.old told.new buffer.new) }
     ensures due { TellingThen (reply_of shelf.now ask.now) (length buffer.old) (λ number. number ≡ 0) (number_of_reply result) }
 {
     match tell(shelf.would_answer(ask), told, buffer) {
@@ -135,7 +135,7 @@ fn answer_sized(
     buffer: &mut [u8],
 ) -> Result<bool, Status>
     ensures ok { IfOk result (λ fits. AnswersOr fits ask.now line told.new buffer.old buffer.new shelf.old shelf.new) }
-    ensures err { OnErr result (AreKept told.old buffer.old told.new buffer.new) }
+    ensures err { OnErr result (TellsNothing told.old buffer.old told.new buffer.new) }
     ensures left { OnErr result (IsLeftAs shelf.old shelf.new) }
     ensures due { TellingThen (reply_of shelf.old ask.now) (length buffer.old) (WriteDue shelf.old ask.now.moment) (number_of_reply result) }
 {
@@ -162,7 +162,7 @@ fn answer_lean(
 ) -> Result<bool, Status>
     requires { shelf.old.records ≡ false }
     ensures ok { IfOk result (λ fits. AnswersOr fits ask.now line told.new buffer.old buffer.new shelf.old shelf.new) }
-    ensures err { OnErr result (AreKept told.old buffer.old told.new buffer.new) }
+    ensures err { OnErr result (TellsNothing told.old buffer.old told.new buffer.new) }
     ensures left { OnErr result (IsLeftAs shelf.old shelf.new) }
     ensures due { TellingThen (reply_of shelf.old ask.now) (length buffer.old) (WriteDue shelf.old ask.now.moment) (number_of_reply result) }
 {
@@ -188,7 +188,7 @@ fn answer(
     buffer: &mut [u8],
 ) -> Result<bool, Status>
     ensures ok { IfOk result (λ fits. AnswersOr fits ask.now line told.new buffer.old buffer.new shelf.old shelf.new) }
-    ensures err { OnErr result (AreKept told.old buffer.old told.new buffer.new) }
+    ensures err { OnErr result (TellsNothing told.old buffer.old told.new buffer.new) }
     ensures left { OnErr result (IsLeftAs shelf.old shelf.new) }
     ensures due { TellingThen (reply_of shelf.old ask.now) (length buffer.old) (WriteDue shelf.old ask.now.moment) (number_of_reply result) }
 {
@@ -214,7 +214,7 @@ pub(crate) fn ask_shelf(
     buffer: &mut [u8],
 ) -> Result<bool, Status>
     ensures ok { IfOk result (λ fits. AnswersOr fits (asked name.now rtype class moment purpose mode) line told.new buffer.old buffer.new shelf.old shelf.new) }
-    ensures err { OnErr result (AreKept told.old buffer.old told.new buffer.new) }
+    ensures err { OnErr result (TellsNothing told.old buffer.old told.new buffer.new) }
     ensures left { OnErr result (IsLeftAs shelf.old shelf.new) }
     ensures fit { OnOk result (IsQuestion name.now purpose mode) }
     ensures due { AskDue name.now rtype class moment purpose mode (length buffer.old) shelf.old (number_of_reply result) }
@@ -237,7 +237,7 @@ pub(crate) fn peek_at_shelf(
     buffer: &mut [u8],
 ) -> Result<bool, Status>
     ensures ok { IfOk result (λ fits. ShowsOr fits (asked name.now rtype class moment purpose mode) told.new buffer.old buffer.new shelf.now shelf.now) }
-    ensures err { OnErr result (AreKept told.old buffer.old told.new buffer.new) }
+    ensures err { OnErr result (TellsNothing told.old buffer.old told.new buffer.new) }
     ensures fit { OnOk result (IsQuestion name.now purpose mode) }
     ensures due { PeekDue name.now rtype class moment purpose mode (length buffer.old) shelf.now (number_of_reply result) }
 {

@@ -2,7 +2,7 @@
 ghost use Rattle.std.specs.Prelude.{◌≡◌, ◌≤◌, ◌<◌, ◌/◌, ◌%◌, ◌^◌, IfOk, IfErr, OnOk};
 ghost use Rattle.std.specs.Hash.DefaultHasher as sip;
 ghost use Rattle.rrc_c.specs.Parts.{keyed_hash, keyed_part_of, number_of_seed};
-ghost use Rattle.rrc_c.specs.Refusals.{AreParts, Because, DivisionRefused, IsDivision, IsSeed, SeedRefused};
+ghost use Rattle.rrc_c.specs.Refusals.{IsPartCount, Because, DivisionRefused, IsDivision, IsSeed, SeedRefused};
 ghost use Rattle.rrc_c.specs.Statuses.{number_of};
 ghost use Rattle.rrc_name.specs.Key.{IsFolded};
 
@@ -13,8 +13,8 @@ use std::hash::{DefaultHasher, Hasher};
 
 /// Whether there may be so many parts.
 fn check_parts(parts: u64) -> Result<(), Status>
-    ensures fit { OnOk result (AreParts parts) }
-    ensures refused { IfErr result (λ status. Because Status.BadRules (AreParts parts → ⊥) (number_of status)) }
+    ensures fit { OnOk result (IsPartCount parts) }
+    ensures refused { IfErr result (λ status. Because Status.BadRules (IsPartCount parts → ⊥) (number_of status)) }
 {
     if !(1..=64).contains(&parts) {
         return Err(Status::BadRules);
