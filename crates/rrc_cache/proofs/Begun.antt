@@ -8,10 +8,10 @@ use Rattle.rrc_history.specs.declared.event.Event.{Event}
 use Rattle.rrc_history.specs.declared.snapshot.Snapshot.{Snapshot}
 use Rattle.rrc_history.specs.Chains.{link_fault, fault_from}
 use Rattle.rrc_history.specs.Chapters.{ChapterOf, IsClosing}
-use Rattle.rrc_history.specs.Same.{snapshot_eq}
+use Rattle.rrc_history.specs.Equality.{snapshot_eq}
 use Rattle.rrc_history.specs.lemmas.OneHistory.{one_contents}
 use Rattle.rrc_history.specs.lemmas.Openings.{opening}
-use Rattle.rrc_history.specs.lemmas.SameLaws.{snapshot_eq-Decides}
+use Rattle.rrc_history.specs.lemmas.EqualityLaws.{snapshot_eq-Decides}
 use Rattle.rrc_cache.specs.Lean.{Shuts}
 use Rattle.rrc_cache.specs.Part.{PartOf, past_of}
 use Rattle.rrc_cache.specs.Recording.{BeginsRecorded, RecordsChain, idle_chapter}

@@ -9,7 +9,7 @@ use Rattle.rrc_history.specs.declared.ask.Mode.{Mode}
 use Rattle.rrc_history.specs.declared.ask.Mode.TheVariants.{NoStale, Failed, Now}
 use Rattle.rrc_history.specs.Asked.{AskOf}
 use Rattle.rrc_history.specs.Fits.{OfferOf}
-use Rattle.rrc_history.specs.Same.{body_eq}
+use Rattle.rrc_history.specs.Equality.{body_eq}
 use Rattle.rrc_collate.specs.declared.script.Call.{Call}
 use Rattle.rrc_collate.specs.declared.script.Call.TheVariants.{Offer, Ask, Sweep}
 

@@ -10,11 +10,11 @@ use Rattle.rrc_history.specs.declared.chains.ChainFault.TheVariants.{NumberGap, 
 use Rattle.rrc_history.specs.declared.snapshot.Snapshot.{Snapshot}
 use Rattle.rrc_history.specs.lemmas.Chained.{lead-joined}
 use Rattle.rrc_history.specs.Chapters.{ChapterOf, LeadTo}
-use Rattle.rrc_history.specs.Same.{snapshot_eq}
+use Rattle.rrc_history.specs.Equality.{snapshot_eq}
 use Rattle.rrc_history.specs.Chains.{WholeOf, follows, link_fault, fault_from, events_of, last_closing, IsWhole}
 use Rattle.rrc_history.specs.WholeLaws.{AllKeepLaws}
 use Rattle.rrc_history.specs.lemmas.LawsHold.{legal_keeps_laws}
-use Rattle.rrc_history.specs.lemmas.SameLaws.{snapshot_eq-Decides}
+use Rattle.rrc_history.specs.lemmas.EqualityLaws.{snapshot_eq-Decides}
 
 -- the history of a chapter
 abbrev pub opened : ChapterOf → WholeOf

@@ -7,7 +7,7 @@ use Rattle.rrc_history.specs.declared.chains.ChainFault.{ChainFault}
 use Rattle.rrc_history.specs.declared.chains.ChainFault.TheVariants.{NumberGap, NotTheSameContents, Memory}
 use Rattle.rrc_history.specs.declared.snapshot.Snapshot.{Snapshot}
 use Rattle.rrc_history.specs.Chapters.{ChapterOf}
-use Rattle.rrc_history.specs.Same.{snapshot_eq}
+use Rattle.rrc_history.specs.Equality.{snapshot_eq}
 
 -- the snapshot of a history, its events, the oldest first, and its closing
 pub record WholeOf : Type 0 where

@@ -13,7 +13,7 @@ pub mod Right
 pub mod Entries
 pub mod Sound
 pub mod Octets
-pub mod Same
+pub mod Equality
 pub mod Chapters
 pub mod Chains
 pub mod Audits

@@ -12,7 +12,7 @@ pub mod DataHolds
 pub mod LawsHold
 pub mod OneHistory
 pub mod Chained
-pub mod SameLaws
+pub mod EqualityLaws
 pub mod ReplyLaws
 pub mod SnapshotLaws
 pub mod Openings

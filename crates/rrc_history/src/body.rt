@@ -75,8 +75,8 @@ impl Clone for Body {
 }
 
 impl PartialEq for Body {
-    ghost use Rattle.rrc_history.specs.Same.{body_eq};
-    ghost use Rattle.rrc_history.specs.lemmas.SameLaws.{body_eq-laws};
+    ghost use Rattle.rrc_history.specs.Equality.{body_eq};
+    ghost use Rattle.rrc_history.specs.lemmas.EqualityLaws.{body_eq-laws};
     ghost use Rattle.std.specs.Cmp.{partial_equiv_from_equiv};
 
     ghost eq = { body_eq };
@@ -130,7 +130,7 @@ impl PartialEq for Body {
 }
 
 impl Eq for Body {
-    ghost use Rattle.rrc_history.specs.lemmas.SameLaws.{body_eq-laws};
+    ghost use Rattle.rrc_history.specs.lemmas.EqualityLaws.{body_eq-laws};
 
     ghost laws = { body_eq-laws };
 }

@@ -3,7 +3,7 @@ ghost use Rattle.std.specs.Prelude.{◌≡◌, ◌≤◌, ◌<◌, [], length, s
 ghost use Rattle.std.specs.Option.{option_copied};
 ghost use Rattle.std.specs.Cmp.Lexicographic.{pointwise};
 ghost use Rattle.rrc_history.specs.EntryLists.{entry_in, entries_at, AreFilled};
-ghost use Rattle.rrc_history.specs.Same.{entry_eq};
+ghost use Rattle.rrc_history.specs.Equality.{entry_eq};
 
 use crate::snapshot::Entry;
 use rrc_name::{Sequence, Shared};
@@ -183,8 +183,8 @@ impl<'a> IntoIterator for &'a EntryList {
 impl PartialEq for EntryList {
     ghost use Rattle.std.specs.Cmp.Lexicographic.{pointwise, lists_per};
     ghost use Rattle.std.specs.Cmp.{partial_equiv_from_equiv};
-    ghost use Rattle.rrc_history.specs.Same.{entry_eq};
-    ghost use Rattle.rrc_history.specs.lemmas.SameLaws.{entry_eq-laws};
+    ghost use Rattle.rrc_history.specs.Equality.{entry_eq};
+    ghost use Rattle.rrc_history.specs.lemmas.EqualityLaws.{entry_eq-laws};
 
     ghost eq = { pointwise entry_eq };
 
@@ -197,7 +197,7 @@ impl PartialEq for EntryList {
 
 impl Eq for EntryList {
     ghost use Rattle.std.specs.Cmp.Lexicographic.{lists_equiv};
-    ghost use Rattle.rrc_history.specs.lemmas.SameLaws.{entry_eq-laws};
+    ghost use Rattle.rrc_history.specs.lemmas.EqualityLaws.{entry_eq-laws};
 
     ghost laws = { lists_equiv entry_eq-laws };
 }

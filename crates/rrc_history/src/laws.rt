@@ -1,6 +1,6 @@
 // SPDX-License-Identifier: MIT
 ghost use Rattle.rrc_history.specs.Chapters.{SoundLeadsToItself};
-ghost use Rattle.rrc_history.specs.Same.{SameAreOne};
+ghost use Rattle.rrc_history.specs.Equality.{SameAreOne};
 ghost use Rattle.rrc_history.specs.Sound.{SoundWithNoFault};
 ghost use Rattle.rrc_history.specs.WholeLaws.{CallsDetermineHistory, LegalKeepsLaws};
 

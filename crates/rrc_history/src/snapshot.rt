@@ -2,7 +2,7 @@
 ghost use Rattle.std.specs.Prelude.{◌≡◌, Some, None, IfOk, IfErr, OnOk};
 ghost use Rattle.rrc_history.specs.Snapshots.{entry_fault, snapshot_fault, IsWhyNoSnapshot};
 ghost use Rattle.rrc_history.specs.Repeats.{repeats_of};
-ghost use Rattle.rrc_history.specs.Same.{rules_eq};
+ghost use Rattle.rrc_history.specs.Equality.{rules_eq};
 
 use crate::body::Body;
 use crate::entry_list::EntryList;
@@ -225,8 +225,8 @@ impl Clone for Entry {
 }
 
 impl PartialEq for Entry {
-    ghost use Rattle.rrc_history.specs.Same.{entry_eq};
-    ghost use Rattle.rrc_history.specs.lemmas.SameLaws.{entry_eq-laws};
+    ghost use Rattle.rrc_history.specs.Equality.{entry_eq};
+    ghost use Rattle.rrc_history.specs.lemmas.EqualityLaws.{entry_eq-laws};
     ghost use Rattle.std.specs.Cmp.{partial_equiv_from_equiv};
 
     ghost eq = { entry_eq };
@@ -242,14 +242,14 @@ impl PartialEq for Entry {
 }
 
 impl Eq for Entry {
-    ghost use Rattle.rrc_history.specs.lemmas.SameLaws.{entry_eq-laws};
+    ghost use Rattle.rrc_history.specs.lemmas.EqualityLaws.{entry_eq-laws};
 
     ghost laws = { entry_eq-laws };
 }
 
 impl PartialEq for Snapshot {
-    ghost use Rattle.rrc_history.specs.Same.{snapshot_eq};
-    ghost use Rattle.rrc_history.specs.lemmas.SameLaws.{snapshot_eq-laws};
+    ghost use Rattle.rrc_history.specs.Equality.{snapshot_eq};
+    ghost use Rattle.rrc_history.specs.lemmas.EqualityLaws.{snapshot_eq-laws};
     ghost use Rattle.std.specs.Cmp.{partial_equiv_from_equiv};
 
     ghost eq = { snapshot_eq };
@@ -264,7 +264,7 @@ impl PartialEq for Snapshot {
 }
 
 impl Eq for Snapshot {
-    ghost use Rattle.rrc_history.specs.lemmas.SameLaws.{snapshot_eq-laws};
+    ghost use Rattle.rrc_history.specs.lemmas.EqualityLaws.{snapshot_eq-laws};
 
     ghost laws = { snapshot_eq-laws };
 }

@@ -12,9 +12,9 @@ use Rattle.std.proofs.lemmas.List.{length-map}
 use Rattle.rrc_history.specs.declared.rules.Rules.{Rules}
 use Rattle.rrc_history.specs.declared.snapshot.Entry.{Entry}
 use Rattle.rrc_history.specs.Chapters.{ChapterOf}
-use Rattle.rrc_history.specs.Same.{entry_eq, rules_eq, snapshot_eq}
+use Rattle.rrc_history.specs.Equality.{entry_eq, rules_eq, snapshot_eq}
 use Rattle.rrc_history.specs.Snapshots.{SnapshotOf}
-use Rattle.rrc_history.specs.lemmas.SameLaws.{entry_eq-Decides, snapshot_eq-Decides}
+use Rattle.rrc_history.specs.lemmas.EqualityLaws.{entry_eq-Decides, snapshot_eq-Decides}
 use Rattle.rrc_trace.specs.Archive.{WrittenOf, written_of, archive_text}
 use Rattle.rrc_replay.specs.declared.archive.HistoryFault.{HistoryFault}
 use Rattle.rrc_replay.specs.declared.archive.HistoryFault.TheVariants.{Empty, BadLine, BadEntry, BadNumber, NotLegal, Broken, Memory}

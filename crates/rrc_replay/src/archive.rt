@@ -3,7 +3,7 @@
 ghost use Rattle.std.specs.Prelude.{◌≡◌, length, map, reverse, None, IfOk, IfErr, IfSome, IsTrue, OnOk};
 ghost use Rattle.rrc_history.specs.Chains.{IsWhole, chain_fault};
 ghost use Rattle.rrc_history.specs.Chapters.{LeadTo};
-ghost use Rattle.rrc_history.specs.Same.{rules_eq};
+ghost use Rattle.rrc_history.specs.Equality.{rules_eq};
 ghost use Rattle.rrc_history.specs.WholeLaws.{AllKeepLaws};
 ghost use Rattle.rrc_trace.specs.Archive.{archive_text, written_of};
 ghost use Rattle.rrc_replay.specs.Archives.{TellsHistory, TellsCounted, IsWhyNoHistory, IsFaultAt, IsNoOpening, IsToldAt, HasWhy};

@@ -12,8 +12,8 @@ use Rattle.rrc_history.specs.declared.snapshot.Snapshot.{Snapshot}
 use Rattle.rrc_history.specs.Chains.{WholeOf, IsWhole, chain_fault, events_of}
 use Rattle.rrc_history.specs.Chapters.{ChapterOf, LeadTo}
 use Rattle.rrc_history.specs.WholeLaws.{AllKeepLaws}
-use Rattle.rrc_history.specs.Same.{snapshot_eq}
-use Rattle.rrc_history.specs.lemmas.SameLaws.{snapshot_eq-Decides}
+use Rattle.rrc_history.specs.Equality.{snapshot_eq}
+use Rattle.rrc_history.specs.lemmas.EqualityLaws.{snapshot_eq-Decides}
 use Rattle.rrc_cache.specs.Part.{PartOf}
 use Rattle.rrc_share.specs.Shelf.{ShelfOf, AreBefore, ShelvesChapter, first_snapshot}
 use Rattle.rrc_trace.specs.declared.fault.ReplayFault.{ReplayFault}

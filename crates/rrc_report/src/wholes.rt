@@ -1,7 +1,7 @@
 // SPDX-License-Identifier: MIT
 ghost use Rattle.std.specs.Prelude.{◌≡◌, List, [], ◌∷◌, IfOk, IfErr, IfSome, IfNone, OnOk};
 ghost use Rattle.rrc_history.specs.Chains.{WholeOf};
-ghost use Rattle.rrc_history.specs.Same.{snapshot_eq};
+ghost use Rattle.rrc_history.specs.Equality.{snapshot_eq};
 ghost use Rattle.rrc_share.specs.Shelf.{ShelvesChapter};
 ghost use Rattle.rrc_report.specs.Reports.{empty_under};
 ghost use Rattle.rrc_report.specs.Steps.{ArePartHistories, CanNotClose};

@@ -8,9 +8,9 @@ use Rattle.std.proofs.lemmas.List.{append-nil}
 use Rattle.rrc_history.specs.declared.chains.ChainFault.{ChainFault}
 use Rattle.rrc_history.specs.declared.snapshot.Snapshot.{Snapshot}
 use Rattle.rrc_history.specs.Chapters.{ChapterOf}
-use Rattle.rrc_history.specs.Same.{snapshot_eq}
+use Rattle.rrc_history.specs.Equality.{snapshot_eq}
 use Rattle.rrc_history.specs.Chains.{link_fault, fault_from, events_of, last_closing}
-use Rattle.rrc_history.specs.lemmas.SameLaws.{snapshot_eq-Decides}
+use Rattle.rrc_history.specs.lemmas.EqualityLaws.{snapshot_eq-Decides}
 use Rattle.rrc_share.specs.Shelf.{last_number}
 
 -- a chapter that goes on from another has no fault behind it

@@ -1,6 +1,6 @@
 -- SPDX-License-Identifier: MIT
 use Rattle.std.proofs.Common.{◌≡◌, true, false, arith}
-use Rattle.rrc_history.specs.Same.{entry_eq}
+use Rattle.rrc_history.specs.Equality.{entry_eq}
 use Rattle.rrc_history.proofs.Places.{unlike_at, like_at, denied, granted}
 use Rattle.rrc_history.proofs.entry_list.are_same.Goals as goal
 

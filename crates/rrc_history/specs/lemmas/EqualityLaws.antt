@@ -20,7 +20,7 @@ use Rattle.rrc_history.specs.declared.rules.Rules.{Rules}
 use Rattle.rrc_history.specs.declared.snapshot.Entry.{Entry}
 use Rattle.rrc_history.specs.Lives.{rank}
 use Rattle.rrc_history.specs.Snapshots.{SnapshotOf}
-use Rattle.rrc_history.specs.Same.{body_eq, entry_eq, rules_eq, snapshot_eq, SameAreOne}
+use Rattle.rrc_history.specs.Equality.{body_eq, entry_eq, rules_eq, snapshot_eq, SameAreOne}
 
 -- a test that decides whether two values are one is an equivalence
 equivalence_by : {A : Type 0} (eq : A → A → Bool) → ((a b : A) → Decides (eq a b) (a ≡ b)) → IsEquivalence eq
