@@ -16,6 +16,12 @@ use Rattle.rrc_history.specs.Asked.{AskOf}
 use Rattle.rrc_history.specs.Fits.{OfferOf}
 use Rattle.rrc_history.specs.Judged.{Found, reply_by, answering, key_in}
 
+-- the moment of an event's call
+abbrev pub moment_of : Event → ℕ
+moment_of (Offered outcome tag offer evicted) = offer.moment
+moment_of (Asked tag ask reply) = ask.moment
+moment_of (Swept tag moment gone) = moment
+
 -- the first of the entries of a key
 abbrev pub entry_at : KeyOf → List Entry → Option Entry
 entry_at key entries = find (λ entry. key_eq key entry.key) entries

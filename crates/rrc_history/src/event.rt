@@ -73,6 +73,22 @@ pub enum Event {
     },
 }
 
+impl Event {
+    ghost use Rattle.std.specs.Prelude.{◌≡◌};
+    ghost use Rattle.rrc_history.specs.Past.{moment_of};
+
+    /// The moment of the event's call.
+    pub fn moment(&self) -> u64
+        ensures { result ≡ moment_of self.now }
+    {
+        match self {
+            Event::Offered { offer, .. } => offer.moment,
+            Event::Asked { ask, .. } => ask.moment,
+            Event::Swept { moment, .. } => *moment,
+        }
+    }
+}
+
 impl Clone for RrSet {
     ghost use Rattle.std.specs.Prelude.{◌≡◌};
 

@@ -44,5 +44,5 @@ pub use octets::RECORD_OCTETS;
 pub use offer::{Offer, OfferFault};
 pub use reply::{ReplyRef, SetRef, SoaRef};
 pub use rrc_name as name;
-pub use rules::{LAST_MOMENT, Rules};
+pub use rules::{LAST_MOMENT, NUMBER_LIMIT, Rules};
 pub use snapshot::{Entry, NoSnapshot, Snapshot, SnapshotFault};

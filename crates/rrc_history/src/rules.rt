@@ -4,6 +4,9 @@ ghost use Rattle.std.specs.Prelude.{◌≡◌, ◌↔◌, ◌≤◌, IsSome, IfS
 /// The last moment that a call may have, in seconds.
 pub const LAST_MOMENT: u64 = 1 << 40;
 
+/// The numbers of events are below this, and so are those of closed chapters.
+pub const NUMBER_LIMIT: u64 = 1 << 62;
+
 /// How a part of the cache keeps house.
 #[derive(Clone, Copy, Debug, PartialEq, Eq, Hash)]
 pub struct Rules {

@@ -7,10 +7,9 @@ use Rattle.rrc_history.specs.declared.event.Event.TheVariants.{Offered, Asked, S
 use Rattle.rrc_history.specs.declared.snapshot.Entry.{Entry}
 use Rattle.rrc_history.specs.declared.snapshot.Snapshot.{Snapshot}
 use Rattle.rrc_history.specs.Lives.{LAST_MOMENT}
-use Rattle.rrc_history.specs.Past.{held, key_at, number_after}
+use Rattle.rrc_history.specs.Past.{held, key_at, moment_of, number_after}
 use Rattle.rrc_history.specs.Right.{IsRight, IsLegal}
 use Rattle.rrc_history.specs.WholeLaws.{IsSameCall}
-use Rattle.rrc_cache.specs.Calls.{moment_of}
 use Rattle.rrc_cache.specs.Part.{PartOf, Adds}
 use Rattle.rrc_replay.specs.declared.unlawful.Due.{Due}
 use Rattle.rrc_replay.specs.declared.unlawful.Reason.{Reason}

@@ -4,15 +4,15 @@ ghost use Rattle.std.specs.Prelude.{◌≡◌, ◌++◌, ◌∷◌, [], ◌+◌,
 ghost use Rattle.std.specs.Option.{option_map};
 ghost use Rattle.rrc_history.specs.Audits.{IsFirstBad};
 ghost use Rattle.rrc_history.specs.Chapters.{LeadTo};
+ghost use Rattle.rrc_history.specs.Past.{moment_of};
 ghost use Rattle.rrc_history.specs.Right.{IsLegal};
 ghost use Rattle.rrc_history.specs.Views.{held_in};
-ghost use Rattle.rrc_cache.specs.Calls.{moment_of};
 ghost use Rattle.rrc_cache.specs.Lean.{begun_with};
 ghost use Rattle.rrc_cache.specs.Part.{IsOpen, past_of};
 ghost use Rattle.rrc_replay.specs.Unlawful.{EndsIn, IsDueEvent, IsDueThere, IsWhyUnlawful, Repeats, held_under};
 
 use rrc_cache::{ChapterFault, Part, Refusal, restored_chapter};
-use rrc_history::{Entry, Event, Held, LAST_MOMENT, Snapshot};
+use rrc_history::{Entry, Event, Held, LAST_MOMENT, NUMBER_LIMIT, Snapshot};
 use rrc_name::{KeyRef, Shared, Slot};
 use std::alloc::{AllocError, Global};
 
@@ -30,9 +30,6 @@ pub(crate) struct Cut {
     before: Vec<Event>,
     bad: Event,
 }
-
-/// The number that no event has any more.
-const SPENT: u64 = 1 << 62;
 
 /// The events before a place, and the one there.
 fn cut_at(events: Vec<Event>, place: usize) -> Cut
@@ -63,17 +60,6 @@ fn closing_of(
             ChapterFault::Memory => Err(AllocError),
             ChapterFault::BadNumber | ChapterFault::NotLegal(_) => unreachable!(),
         },
-    }
-}
-
-/// The moment of an event's call.
-fn moment_of(event: &Event) -> u64
-    ensures { result ≡ moment_of event.now }
-{
-    match event {
-        Event::Offered { offer, .. } => offer.moment,
-        Event::Asked { ask, .. } => ask.moment,
-        Event::Swept { moment, .. } => *moment,
     }
 }
 
@@ -186,7 +172,7 @@ fn due_after(
 ) -> Result<Option<Due>, AllocError>
     ensures { IfOk result (IsDueThere closing [] bad.now) }
 {
-    if closing.first >= SPENT || moment_of(bad) > LAST_MOMENT {
+    if closing.first >= NUMBER_LIMIT || bad.moment() > LAST_MOMENT {
         return Ok(None);
     }
     let part = part_of(alloc, closing, seed)?;

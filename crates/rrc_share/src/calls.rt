@@ -5,10 +5,7 @@ ghost use Rattle.rrc_share.specs.Shelf.{AppendsAsk, AppendsOffer, AppendsSweep, 
 
 use crate::shelf::Shelf;
 use rrc_cache::{LAST_MOMENT, Part, Refusal};
-use rrc_history::{Ask, Offer, Outcome, Reply, Tag};
-
-/// The number that no event has any more, and no chapter that is closed.
-const SPENT: u64 = 1 << 62;
+use rrc_history::{Ask, NUMBER_LIMIT, Offer, Outcome, Reply, Tag};
 
 /// Whether one more event can be written, where need be in the next chapter.
 fn can_write(part: &Part) -> bool
@@ -18,7 +15,7 @@ fn can_write(part: &Part) -> bool
     let written = part.events().len() as u64;
     let next = part.snapshot().first + written;
     let is_wide = written < part.snapshot().rules().chapter;
-    next < SPENT && (is_wide || part.number() < SPENT)
+    next < NUMBER_LIMIT && (is_wide || part.number() < NUMBER_LIMIT)
 }
 
 /// Whether a shelf could take a call at this moment.
@@ -44,7 +41,7 @@ pub fn on_shelf_checkpoint(shelf: &mut Shelf) -> Result<(), Refusal>
     ensures err { OnErr result (shelf.new ≡ shelf.old) }
     ensures due { IsCloseDue shelf.old.part result }
 {
-    if shelf.part.number() >= SPENT {
+    if shelf.part.number() >= NUMBER_LIMIT {
         return Err(Refusal::HistoryFull);
     }
     shelf.closed.reserve(1)?;
