@@ -12,7 +12,7 @@ use Rattle.rrc_history.specs.declared.body.Trust.TheVariants.{Additional, NonAut
 use Rattle.rrc_history.specs.declared.event.Outcome.{Outcome}
 use Rattle.rrc_history.specs.declared.event.Outcome.TheVariants.{Kept, Cleared, LessTrusted}
 use Rattle.rrc_share.specs.CacheShelf.{CacheShelfOf}
-use Rattle.rrc_sets.specs.Limits.{Are}
+use Rattle.rrc_sets.specs.Limits.{LimitsAre}
 use Rattle.rrc_sets.specs.Message.{Brings}
 use Rattle.rrc_sets.specs.declared.limits.Limits.{Limits}
 use Rattle.rrc_c.specs.Shelves.{IsLeftAs, MakesOffer}
@@ -110,7 +110,7 @@ pub record TakesFirst (number line at : ℕ) (offers : List OfferOf) (counts : C
 pub record AreOffered (octets zone : List ℕ) (at : ℕ) (bounds : Bounds) (offers : List OfferOf) : Type 0 where
   pub zone_is : IsWireForm zone
   pub limits : Limits
-  pub are_limits : Are limits bounds.cap bounds.negative_cap bounds.recheck
+  pub are_limits : LimitsAre limits bounds.cap bounds.negative_cap bounds.recheck
   pub brought : Brings limits octets zone at offers
 
 -- all that a message offers was written

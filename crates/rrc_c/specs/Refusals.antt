@@ -10,10 +10,10 @@ use Rattle.rrc_wire.specs.Plain.{IsPlain}
 use Rattle.rrc_wire.specs.Message.{FirstFault}
 use Rattle.rrc_wire.specs.declared.fault.WireFault.{WireFault}
 use Rattle.rrc_history.specs.Lives.{LAST_MOMENT}
-use Rattle.rrc_history.specs.Limits.{AreWithin}
+use Rattle.rrc_history.specs.Limits.{MayBeRules}
 use Rattle.rrc_history.specs.Fits.{is_lifetime}
 use Rattle.rrc_history.specs.declared.event.Reply.{Reply}
-use Rattle.rrc_sets.specs.Limits.{AreWithin as AreWithinLimits}
+use Rattle.rrc_sets.specs.Limits.{MayBeLimits}
 use Rattle.rrc_cache.specs.Part.{PartOf}
 use Rattle.rrc_share.specs.CacheShelf.{CacheShelfOf}
 use Rattle.rrc_c.specs.Asks.{asked, reply_of, AreChoices}
@@ -104,7 +104,7 @@ SeedRefused seed = Because BadSeed (IsSeed seed → ⊥)
 -- when an empty shelf is made, and when that is refused with what
 abbrev pub NewDue : ℕ → ℕ → ℕ → List ℕ → ℕ → Type 0
 NewDue capacity chapter stale seed =
-    Then (Because BadRules (AreWithin capacity chapter stale → ⊥)) (AreWithin capacity chapter stale)
+    Then (Because BadRules (MayBeRules capacity chapter stale → ⊥)) (MayBeRules capacity chapter stale)
     (Then (SeedRefused seed) (IsSeed seed) IsDoneOrMemory)
 
 -- the same for a handle: 2 is answered exactly where it holds a shelf
@@ -257,7 +257,7 @@ FailureDue name rtype class ttl at shelf = Then (FailureRefused name rtype class
 
 -- the limits are in their ranges
 abbrev pub AreLimits : Bounds → Type 0
-AreLimits bounds = AreWithinLimits bounds.cap bounds.negative_cap bounds.recheck
+AreLimits bounds = MayBeLimits bounds.cap bounds.negative_cap bounds.recheck
 
 -- a message offers nothing, since it is refused
 abbrev pub OffersRefused : List ℕ → List ℕ → Bounds → ℕ → Type 0

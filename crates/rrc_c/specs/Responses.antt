@@ -3,7 +3,7 @@
 use Rattle.std.specs.Prelude.{◌≡◌, ℕ, ◌⊎◌, List, Option, None, Some, map}
 use Rattle.rrc_name.specs.Wire.{IsWireForm}
 use Rattle.rrc_history.specs.Fits.{OfferOf}
-use Rattle.rrc_sets.specs.Limits.{Are}
+use Rattle.rrc_sets.specs.Limits.{LimitsAre}
 use Rattle.rrc_sets.specs.Relevance.{AreDefault}
 use Rattle.rrc_sets.specs.RelevantMessage.{BringsRelevant, IsOfOtherQuery}
 use Rattle.rrc_sets.specs.declared.limits.Limits.{Limits}
@@ -31,7 +31,7 @@ pub record BringsByDefault (query : Query) (limits : Limits) (octets zone : List
 pub record AreRelevant (octets zone : List ℕ) (query : Query) (at : ℕ) (bounds : Bounds) (offers : List OfferOf) : Type 0 where
   pub zone_is : IsWireForm zone
   pub limits : Limits
-  pub are_limits : Are limits bounds.cap bounds.negative_cap bounds.recheck
+  pub are_limits : LimitsAre limits bounds.cap bounds.negative_cap bounds.recheck
   pub relevant : BringsByDefault query limits octets zone at offers
 
 -- a reading of a response: what of it is relevant, in order, each offer beside its part

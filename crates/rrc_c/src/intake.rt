@@ -8,7 +8,7 @@ ghost use Rattle.rrc_c.specs.Refusals.{AreLimits, AreData, Because, DataRefused,
 ghost use Rattle.rrc_c.specs.Shelves.{IsLeftAs};
 ghost use Rattle.rrc_c.specs.Statuses.{number_of, number_of_call};
 ghost use Rattle.rrc_history.specs.Fits.{fits};
-ghost use Rattle.rrc_sets.specs.Limits.{Are};
+ghost use Rattle.rrc_sets.specs.Limits.{LimitsAre};
 ghost use Rattle.rrc_sets.specs.Message.{Brings};
 ghost use Rattle.rrc_wire.specs.Plain.{IsPlain};
 
@@ -257,7 +257,7 @@ pub(crate) fn take_each(
 
 /// The limits with these numbers.
 pub(crate) fn limits_of(bounds: &Bounds) -> Result<Limits, Status>
-    ensures limits { IfOk result (λ limits. Are limits bounds.now.cap bounds.now.negative_cap bounds.now.recheck) }
+    ensures limits { IfOk result (λ limits. LimitsAre limits bounds.now.cap bounds.now.negative_cap bounds.now.recheck) }
     ensures fit { OnOk result (AreLimits bounds.now) }
     ensures refused { IfErr result (λ status. Because Status.BadLimits (AreLimits bounds.now → ⊥) (number_of status)) }
 {

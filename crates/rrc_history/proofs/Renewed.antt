@@ -9,7 +9,7 @@ use Rattle.std.proofs.lemmas.List.{append-nil}
 use Rattle.std.proofs.lemmas.List.Elements.{filter-append, filter_agree, filter_map-append}
 use Rattle.rrc_history.specs.declared.snapshot.Entry.{Entry}
 use Rattle.rrc_history.specs.declared.entry_list.Place.{Place}
-use Rattle.rrc_history.specs.EntryLists.{entry_in, entries_at, AreFilled, has_number, without, stays, staying}
+use Rattle.rrc_history.specs.EntryLists.{entry_in, entries_at, AreFilled, has_number, without, stays, places_staying}
 use Rattle.rrc_history.proofs.Places.{kept_outer, StayIn, same_entries, same_filled}
 
 -- ---- numbers
@@ -28,30 +28,30 @@ left_alike numbers others entries alike =
 -- ---- places that stay
 
 one_stays : (numbers : List ℕ) (batches : List (List Entry)) (place : Place) (places : List Place) (found : Option Entry) → entry_in batches place ≡ found
-    → entries_at batches (staying numbers batches places) ≡ without numbers (entries_at batches places)
-    → entries_at batches (cond (stays numbers found) (place ∷ staying numbers batches places) (staying numbers batches places)) ≡ without numbers (cons_option found (entries_at batches places))
+    → entries_at batches (places_staying numbers batches places) ≡ without numbers (entries_at batches places)
+    → entries_at batches (cond (stays numbers found) (place ∷ places_staying numbers batches places) (places_staying numbers batches places)) ≡ without numbers (cons_option found (entries_at batches places))
 one_stays numbers batches place places None is rest = rest
 one_stays numbers batches place places (Some entry) is rest = by (has_number numbers entry) refl
   where
     by : (gone : Bool) → has_number numbers entry ≡ gone
-        → entries_at batches (cond (not (has_number numbers entry)) (place ∷ staying numbers batches places) (staying numbers batches places)) ≡ without numbers (entry ∷ entries_at batches places)
+        → entries_at batches (cond (not (has_number numbers entry)) (place ∷ places_staying numbers batches places) (places_staying numbers batches places)) ≡ without numbers (entry ∷ entries_at batches places)
     by true has = rw has rest
-    by false has = rw has (ap (λ found. cons_option found (entries_at batches (staying numbers batches places))) is ∙ ap (λ es. entry ∷ es) rest)
+    by false has = rw has (ap (λ found. cons_option found (entries_at batches (places_staying numbers batches places))) is ∙ ap (λ es. entry ∷ es) rest)
 
-pub staying_entries : (numbers : List ℕ) (batches : List (List Entry)) (places : List Place) → entries_at batches (staying numbers batches places) ≡ without numbers (entries_at batches places)
+pub staying_entries : (numbers : List ℕ) (batches : List (List Entry)) (places : List Place) → entries_at batches (places_staying numbers batches places) ≡ without numbers (entries_at batches places)
 staying_entries numbers batches [] = refl
 staying_entries numbers batches (place ∷ places) = one_stays numbers batches place places (entry_in batches place) refl (staying_entries numbers batches places)
 
 one_filled : (numbers : List ℕ) (batches : List (List Entry)) (place : Place) (places : List Place) (found : Option Entry) → entry_in batches place ≡ found
-    → AreFilled batches (staying numbers batches places) → AreFilled batches (cond (stays numbers found) (place ∷ staying numbers batches places) (staying numbers batches places))
+    → AreFilled batches (places_staying numbers batches places) → AreFilled batches (cond (stays numbers found) (place ∷ places_staying numbers batches places) (places_staying numbers batches places))
 one_filled numbers batches place places None is rest = rest
 one_filled numbers batches place places (Some entry) is rest = by (not (has_number numbers entry))
   where
-    by : (left : Bool) → AreFilled batches (cond left (place ∷ staying numbers batches places) (staying numbers batches places))
+    by : (left : Bool) → AreFilled batches (cond left (place ∷ places_staying numbers batches places) (places_staying numbers batches places))
     by true = (subst (λ (f : Option Entry). IsSome f) (sym is) refl, rest)
     by false = rest
 
-pub staying_filled : (numbers : List ℕ) (batches : List (List Entry)) (places : List Place) → AreFilled batches (staying numbers batches places)
+pub staying_filled : (numbers : List ℕ) (batches : List (List Entry)) (places : List Place) → AreFilled batches (places_staying numbers batches places)
 staying_filled numbers batches [] = tt
 staying_filled numbers batches (place ∷ places) = one_filled numbers batches place places (entry_in batches place) refl (staying_filled numbers batches places)
 

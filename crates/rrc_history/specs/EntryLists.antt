@@ -31,5 +31,5 @@ stays numbers None = false
 stays numbers (Some entry) = not (has_number numbers entry)
 
 -- the places whose entries have none of the numbers, in their order
-abbrev pub staying : List ℕ → List (List Entry) → List Place → List Place
-staying numbers batches places = filter (λ place. stays numbers (entry_in batches place)) places
+abbrev pub places_staying : List ℕ → List (List Entry) → List Place → List Place
+places_staying numbers batches places = filter (λ place. stays numbers (entry_in batches place)) places

@@ -1,7 +1,7 @@
 // SPDX-License-Identifier: MIT
 ghost use Rattle.std.specs.Prelude.{◌≡◌, ◌≤◌, ◌<◌, ◌++◌, [], length, take, slice_index_or, IfOk};
 ghost use Rattle.rrc_history.specs.declared.snapshot.Entry.{Entry};
-ghost use Rattle.rrc_history.specs.EntryLists.{entries_at, AreFilled, has_number, without, staying};
+ghost use Rattle.rrc_history.specs.EntryLists.{entries_at, AreFilled, has_number, without, places_staying};
 
 use crate::entry_list::{self, Batched, EntryList, Place};
 use crate::snapshot::Entry;
@@ -116,7 +116,7 @@ fn places_staying(
     gone: &HashSet<u64>,
 ) -> Result<Vec<Place>, AllocError>
     requires { AreFilled batched.now.batches.items batched.now.places.items }
-    ensures { IfOk result (λ places. places.items ≡ staying gone.now.keys batched.now.batches.items batched.now.places.items) }
+    ensures { IfOk result (λ places. places.items ≡ places_staying gone.now.keys batched.now.batches.items batched.now.places.items) }
 {
     let mut places = Vec::with_capacity(alloc, batched.places.len())?;
     for at in 0..batched.places.len() {

@@ -24,12 +24,12 @@ pub struct Rules {
 }
 
 impl Rules {
-    ghost use Rattle.rrc_history.specs.Limits.{AreWithin, Are};
+    ghost use Rattle.rrc_history.specs.Limits.{MayBeRules, RulesAre};
 
     /// Rules, where each number is in its range.
     pub fn new(capacity: u64, chapter: u64, stale: u64) -> Option<Rules>
-        ensures within { IsSome result ↔ AreWithin capacity chapter stale }
-        ensures value { IfSome result (λ rules. Are rules capacity chapter stale) }
+        ensures within { IsSome result ↔ MayBeRules capacity chapter stale }
+        ensures value { IfSome result (λ rules. RulesAre rules capacity chapter stale) }
     {
         if !(1..=65_536).contains(&capacity)
             || !(1..=1_048_576).contains(&chapter)

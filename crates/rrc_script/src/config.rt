@@ -21,12 +21,12 @@ pub struct Config {
 }
 
 impl Config {
-    ghost use Rattle.rrc_script.specs.Configs.{AreWithin, Is};
+    ghost use Rattle.rrc_script.specs.Configs.{MayBeConfig, ConfigIs};
 
     /// The config of so many workers and parts, where each number is 1 to 64.
     pub fn new(workers: usize, parts: usize, rules: Rules, limits: Limits) -> Option<Config>
-        ensures within { IsSome result ↔ AreWithin workers parts }
-        ensures value { IfSome result (λ config. Is config workers parts rules limits) }
+        ensures within { IsSome result ↔ MayBeConfig workers parts }
+        ensures value { IfSome result (λ config. ConfigIs config workers parts rules limits) }
     {
         if !(1..=64).contains(&workers) || !(1..=64).contains(&parts) {
             return None;

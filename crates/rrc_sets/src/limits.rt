@@ -19,12 +19,12 @@ pub struct Limits {
 }
 
 impl Limits {
-    ghost use Rattle.rrc_sets.specs.Limits.{AreWithin, Are};
+    ghost use Rattle.rrc_sets.specs.Limits.{MayBeLimits, LimitsAre};
 
     /// Limits, where each number is in its range.
     pub fn new(cap: u32, negative_cap: u32, recheck: u32) -> Option<Limits>
-        ensures within { IsSome result ↔ AreWithin cap negative_cap recheck }
-        ensures value { IfSome result (λ limits. Are limits cap negative_cap recheck) }
+        ensures within { IsSome result ↔ MayBeLimits cap negative_cap recheck }
+        ensures value { IfSome result (λ limits. LimitsAre limits cap negative_cap recheck) }
     {
         if !(1..=604_800).contains(&cap)
             || !(1..=604_800).contains(&negative_cap)
