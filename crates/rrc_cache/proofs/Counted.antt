@@ -118,23 +118,23 @@ module _ (before after : lru.LruCache KeyOf Entry) (octets : ℕ) (is : octets �
       ∙ (ap (λ held. octets_in (lru.put_entries key_eq before key entry) + held_octets held) found ∙ put_octets key entry before room) in
       put_on octets came counted (octets_in before.entries) (octets_in after.entries) (entry_octets entry) (held_octets old) is put_is told all
 
-  pub with_written : (key : KeyOf) (entry : Entry) (came leaving : ℕ) → option_map counted_octets (lookup (key_eq key) before.entries) ≡ Some leaving
+  pub with_written : (key : KeyOf) (entry : Entry) (came replaced : ℕ) → option_map counted_octets (lookup (key_eq key) before.entries) ≡ Some replaced
       → after ≡ lru.lru_cache (lru.put_entries key_eq before key entry) before.cap → came ≡ entry_octets entry % 2 ^ 64
-      → ((octets + came) % 2 ^ 64 + (2 ^ 64 - leaving)) % 2 ^ 64 ≡ octets_in after.entries % 2 ^ 64
-  with_written key entry came leaving told left put_is = by (lookup_entry (key_eq key) before.entries) refl
+      → ((octets + came) % 2 ^ 64 + (2 ^ 64 - replaced)) % 2 ^ 64 ≡ octets_in after.entries % 2 ^ 64
+  with_written key entry came replaced told left put_is = by (lookup_entry (key_eq key) before.entries) refl
     where
       by : (found : Option (KeyOf × Entry)) → lookup_entry (key_eq key) before.entries ≡ found
-          → ((octets + came) % 2 ^ 64 + (2 ^ 64 - leaving)) % 2 ^ 64 ≡ octets_in after.entries % 2 ^ 64
+          → ((octets + came) % 2 ^ 64 + (2 ^ 64 - replaced)) % 2 ^ 64 ≡ octets_in after.entries % 2 ^ 64
       by None at =
           let none : lookup (key_eq key) before.entries ≡ None = entry_of_pair (key_eq key) before.entries ∙ ap (option_map (λ p. p.1)) at in
-          let bad : None ≡ Some leaving = sym (ap (option_map counted_octets) none) ∙ told in absurd cc
+          let bad : None ≡ Some replaced = sym (ap (option_map counted_octets) none) ∙ told in absurd cc
       by (Some pair) at =
           let some : lookup (key_eq key) before.entries ≡ Some pair.1 = entry_of_pair (key_eq key) before.entries ∙ ap (option_map (λ p. p.1)) at in
-          let same : Some (counted_octets pair.1) ≡ Some leaving = sym (ap (option_map counted_octets) some) ∙ told in
-          let its : counted_octets pair.1 ≡ leaving = cc in
+          let same : Some (counted_octets pair.1) ≡ Some replaced = sym (ap (option_map counted_octets) some) ∙ told in
+          let its : counted_octets pair.1 ≡ replaced = cc in
           let rest : octets_in (remove_entry (key_eq key) before.entries) + entry_octets pair.1 ≡ octets_in before.entries =
           ap (λ found. octets_in (remove_entry (key_eq key) before.entries) + held_octets found) (sym some) ∙ removed_octets (key_eq key) before.entries in
           let now : octets_in after.entries ≡ entry_octets entry + octets_in (remove_entry (key_eq key) before.entries) =
           ap (λ (map : lru.LruCache KeyOf Entry). octets_in map.entries) left
           ∙ ap (λ (found : Option (KeyOf × Entry)). octets_in (option_map_or (λ p. (p.0, entry) ∷ remove_entry (key_eq key) before.entries) found ((key, entry) ∷ take (before.cap - 1) before.entries))) at in
-          put_on octets came leaving (octets_in before.entries) (octets_in after.entries) (entry_octets entry) (entry_octets pair.1) is put_is (sym its) (omega (arith, rest, now))
+          put_on octets came replaced (octets_in before.entries) (octets_in after.entries) (entry_octets entry) (entry_octets pair.1) is put_is (sym its) (omega (arith, rest, now))

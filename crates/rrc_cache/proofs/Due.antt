@@ -1,11 +1,11 @@
 -- SPDX-License-Identifier: MIT
--- Deaths that move: which of them come by a time is told alike.
+-- Expiries that move: which of them come by a time is told alike.
 use Rattle.std.proofs.Common.{◌≡◌, List, [], ◌∷◌, ◌++◌, Bool, true, false, ◌||◌, Result, Ok, Err, OnOk, refl, sym, ap, ◌∙◌}
 use Rattle.std.specs.Result.{IsOk}
 use Rattle.std.specs.List.{list_any}
 use Rattle.std.specs.List.Sorted.{IsPermutation}
 use Rattle.std.proofs.lemmas.List.Sorted.{list_any-IsPermutation}
-use Rattle.rrc_cache.specs.declared.deaths.Death.{Death}
+use Rattle.rrc_cache.specs.declared.expiry_queue.Expiry.{Expiry}
 
 or_assoc : (a b c : Bool) → ((a || b) || c) ≡ (a || (b || c))
 or_assoc true b c = refl
@@ -20,25 +20,25 @@ or_swap true true c = refl
 or_swap true false c = refl
 or_swap false b c = refl
 
-any-append : (test : Death → Bool) (xs ys : List Death) → list_any test (xs ++ ys) ≡ (list_any test xs || list_any test ys)
+any-append : (test : Expiry → Bool) (xs ys : List Expiry) → list_any test (xs ++ ys) ≡ (list_any test xs || list_any test ys)
 any-append test [] ys = refl
 any-append test (x ∷ xs) ys = ap (λ b. test x || b) (any-append test xs ys) ∙ sym (or_assoc (test x) (list_any test xs) (list_any test ys))
 
 -- one more that waits
-pub any_pushed : (test : Death → Bool) (death : Death) (waiting pushed due : List Death) → IsPermutation (death ∷ waiting) pushed
-    → (list_any test pushed || list_any test due) ≡ (test death || (list_any test waiting || list_any test due))
-any_pushed test death waiting pushed due moves =
-    ap (λ b. b || list_any test due) (sym (list_any-IsPermutation test (death ∷ waiting) pushed moves))
-    ∙ or_assoc (test death) (list_any test waiting) (list_any test due)
+pub any_pushed : (test : Expiry → Bool) (expiry : Expiry) (waiting pushed due : List Expiry) → IsPermutation (expiry ∷ waiting) pushed
+    → (list_any test pushed || list_any test due) ≡ (test expiry || (list_any test waiting || list_any test due))
+any_pushed test expiry waiting pushed due moves =
+    ap (λ b. b || list_any test due) (sym (list_any-IsPermutation test (expiry ∷ waiting) pushed moves))
+    ∙ or_assoc (test expiry) (list_any test waiting) (list_any test due)
 
 -- the first of those that wait becomes due
-pub any_moved : (test : Death → Bool) (death : Death) (waiting popped due : List Death) → IsPermutation waiting (death ∷ popped)
-    → (list_any test popped || list_any test (due ++ death ∷ [])) ≡ (list_any test waiting || list_any test due)
-any_moved test death waiting popped due moves =
-    ap (λ b. list_any test popped || b) (any-append test due (death ∷ []) ∙ behind (list_any test due) (test death))
-    ∙ (or_swap (list_any test popped) (test death) (list_any test due)
-    ∙ (sym (or_assoc (test death) (list_any test popped) (list_any test due))
-    ∙ ap (λ b. b || list_any test due) (sym (list_any-IsPermutation test waiting (death ∷ popped) moves))))
+pub any_moved : (test : Expiry → Bool) (expiry : Expiry) (waiting popped due : List Expiry) → IsPermutation waiting (expiry ∷ popped)
+    → (list_any test popped || list_any test (due ++ expiry ∷ [])) ≡ (list_any test waiting || list_any test due)
+any_moved test expiry waiting popped due moves =
+    ap (λ b. list_any test popped || b) (any-append test due (expiry ∷ []) ∙ behind (list_any test due) (test expiry))
+    ∙ (or_swap (list_any test popped) (test expiry) (list_any test due)
+    ∙ (sym (or_assoc (test expiry) (list_any test popped) (list_any test due))
+    ∙ ap (λ b. b || list_any test due) (sym (list_any-IsPermutation test waiting (expiry ∷ popped) moves))))
   where
     behind : (a b : Bool) → (a || (b || false)) ≡ (b || a)
     behind true true = refl
@@ -47,12 +47,12 @@ any_moved test death waiting popped due moves =
     behind false false = refl
 
 -- one that was due is taken out
-pub any_taken : (test : Death → Bool) (death : Death) (waiting before due : List Death) → due ≡ before ++ death ∷ []
-    → (list_any test waiting || list_any test due) ≡ (test death || (list_any test waiting || list_any test before))
-any_taken test death waiting before due is =
+pub any_taken : (test : Expiry → Bool) (expiry : Expiry) (waiting before due : List Expiry) → due ≡ before ++ expiry ∷ []
+    → (list_any test waiting || list_any test due) ≡ (test expiry || (list_any test waiting || list_any test before))
+any_taken test expiry waiting before due is =
     ap (λ ds. list_any test waiting || list_any test ds) is
-    ∙ (ap (λ b. list_any test waiting || b) (any-append test before (death ∷ []))
-    ∙ shuffled (list_any test waiting) (list_any test before) (test death))
+    ∙ (ap (λ b. list_any test waiting || b) (any-append test before (expiry ∷ []))
+    ∙ shuffled (list_any test waiting) (list_any test before) (test expiry))
   where
     shuffled : (a b c : Bool) → (a || (b || (c || false))) ≡ (c || (a || b))
     shuffled true true true = refl

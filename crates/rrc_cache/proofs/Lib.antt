@@ -9,7 +9,7 @@ pub mod Stored
 pub mod Sound
 pub mod Marked
 pub mod Placing
-pub mod Following
+pub mod Tails
 pub mod Leaving
 pub mod Put
 pub mod Written

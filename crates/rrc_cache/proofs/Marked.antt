@@ -7,60 +7,60 @@ use Rattle.rrc_history.specs.declared.snapshot.Entry.{Entry}
 use Rattle.rrc_history.specs.Entries.{goes, in_front, promoted, staying}
 use Rattle.rrc_history.specs.Past.{entry_at}
 use Rattle.rrc_history.specs.lemmas.EntryLaws.{entry_at-key}
-use Rattle.rrc_cache.specs.Beside.{AreMarked, BesideOf, IsMarked, is_beside, may_hold}
+use Rattle.rrc_cache.specs.NegativeFilter.{AreMarked, NegativeFilterOf, IsMarked, is_negative_slot, may_hold}
 use Rattle.rrc_cache.proofs.Sound.{all_found, all_staying, all_with}
 
 -- what is found under a key is marked
-marked_found : (beside : BesideOf) (key : KeyOf) (entries : List Entry) (entry : Entry) → entry_at key entries ≡ Some entry → AreMarked beside entries → IsMarked beside entry
-marked_found beside key entries entry is are = subst (λ f. IfSome f (IsMarked beside)) is (all_found (IsMarked beside) (λ e. key_eq key e.key) entries are)
+marked_found : (filter : NegativeFilterOf) (key : KeyOf) (entries : List Entry) (entry : Entry) → entry_at key entries ≡ Some entry → AreMarked filter entries → IsMarked filter entry
+marked_found filter key entries entry is are = subst (λ f. IfSome f (IsMarked filter)) is (all_found (IsMarked filter) (λ e. key_eq key e.key) entries are)
 
 -- where a name may hold nothing beside its sets, nothing is found there
-pub none_beside : (beside : BesideOf) (entries : List Entry) (key : KeyOf) → AreMarked beside entries → may_hold beside key.name ≡ false → is_beside key.slot ≡ true
+pub none_negative : (filter : NegativeFilterOf) (entries : List Entry) (key : KeyOf) → AreMarked filter entries → may_hold filter key.name ≡ false → is_negative_slot key.slot ≡ true
     → entry_at key entries ≡ None
-none_beside beside entries key are unmarked at = by (entry_at key entries) refl
+none_negative filter entries key are unmarked at = by (entry_at key entries) refl
   where
     by : (found : Option Entry) → entry_at key entries ≡ found → entry_at key entries ≡ None
     by None is = is
     by (Some entry) is =
         let own : key ≡ entry.key = entry_at-key key entries entry is in
-        let holds : may_hold beside entry.key.name ≡ true = marked_found beside key entries entry is are (ap (λ (k : KeyOf). is_beside k.slot) (sym own) ∙ at) in
-        let bad : false ≡ true = sym unmarked ∙ (ap (λ (k : KeyOf). may_hold beside k.name) own ∙ holds) in
+        let holds : may_hold filter entry.key.name ≡ true = marked_found filter key entries entry is are (ap (λ (k : KeyOf). is_negative_slot k.slot) (sym own) ∙ at) in
+        let bad : false ≡ true = sym unmarked ∙ (ap (λ (k : KeyOf). may_hold filter k.name) own ∙ holds) in
         absurd cc
 
 -- the name of a key that holds something is marked
-pub held_marked : (beside : BesideOf) (key : KeyOf) (entries : List Entry) (entry : Entry) → entry_at key entries ≡ Some entry → AreMarked beside entries
-    → is_beside key.slot ≡ true → may_hold beside key.name ≡ true
-held_marked beside key entries entry is are =
-    subst (λ (k : KeyOf). is_beside k.slot ≡ true → may_hold beside k.name ≡ true) (sym (entry_at-key key entries entry is)) (marked_found beside key entries entry is are)
+pub held_marked : (filter : NegativeFilterOf) (key : KeyOf) (entries : List Entry) (entry : Entry) → entry_at key entries ≡ Some entry → AreMarked filter entries
+    → is_negative_slot key.slot ≡ true → may_hold filter key.name ≡ true
+held_marked filter key entries entry is are =
+    subst (λ (k : KeyOf). is_negative_slot k.slot ≡ true → may_hold filter k.name ≡ true) (sym (entry_at-key key entries entry is)) (marked_found filter key entries entry is are)
 
 -- one that is marked stays so where no mark goes
-pub one_still_marked : (old new : BesideOf) → ((name : List ℕ) → may_hold old name ≡ true → may_hold new name ≡ true) → (entry : Entry) → IsMarked old entry → IsMarked new entry
+pub one_still_marked : (old new : NegativeFilterOf) → ((name : List ℕ) → may_hold old name ≡ true → may_hold new name ≡ true) → (entry : Entry) → IsMarked old entry → IsMarked new entry
 one_still_marked old new stay entry is = λ at. stay entry.key.name (is at)
 
 -- as do all
-pub still_marked : (old new : BesideOf) → ((name : List ℕ) → may_hold old name ≡ true → may_hold new name ≡ true) → (entries : List Entry)
+pub still_marked : (old new : NegativeFilterOf) → ((name : List ℕ) → may_hold old name ≡ true → may_hold new name ≡ true) → (entries : List Entry)
     → AreMarked old entries → AreMarked new entries
 still_marked old new stay entries are = all_with (IsMarked old) (IsMarked new) (one_still_marked old new stay) entries are
 
 -- where a key goes
-pub removed_marked : (beside : BesideOf) (key : KeyOf) (entries : List Entry) → AreMarked beside entries → AreMarked beside (staying (goes key None) entries)
-removed_marked beside key entries are = all_staying (IsMarked beside) (goes key None) entries are
+pub removed_marked : (filter : NegativeFilterOf) (key : KeyOf) (entries : List Entry) → AreMarked filter entries → AreMarked filter (staying (goes key None) entries)
+removed_marked filter key entries are = all_staying (IsMarked filter) (goes key None) entries are
 
 -- where the entry of a key comes to the front
-pub promoted_marked : (beside : BesideOf) (key : KeyOf) (entries : List Entry) → AreMarked beside entries → AreMarked beside (promoted key entries)
-promoted_marked beside key entries are = by (entry_at key entries) refl
+pub promoted_marked : (filter : NegativeFilterOf) (key : KeyOf) (entries : List Entry) → AreMarked filter entries → AreMarked filter (promoted key entries)
+promoted_marked filter key entries are = by (entry_at key entries) refl
   where
-    by : (found : Option Entry) → entry_at key entries ≡ found → AreMarked beside (in_front key found entries)
+    by : (found : Option Entry) → entry_at key entries ≡ found → AreMarked filter (in_front key found entries)
     by None is = are
-    by (Some entry) is = (marked_found beside key entries entry is are, removed_marked beside key entries are)
+    by (Some entry) is = (marked_found filter key entries entry is are, removed_marked filter key entries are)
 
 -- an entry whose name was marked comes in front, where no mark goes
-pub put_marked : (old new : BesideOf) (entry : Entry) (entries : List Entry) → (is_beside entry.key.slot ≡ true → may_hold new entry.key.name ≡ true)
+pub put_marked : (old new : NegativeFilterOf) (entry : Entry) (entries : List Entry) → (is_negative_slot entry.key.slot ≡ true → may_hold new entry.key.name ≡ true)
     → ((name : List ℕ) → may_hold old name ≡ true → may_hold new name ≡ true) → AreMarked old entries → AreMarked new (entry ∷ staying (goes entry.key None) entries)
 put_marked old new entry entries own stay are = (own, removed_marked new entry.key entries (still_marked old new stay entries are))
 
 -- one more
-pub more_marked : (old new : BesideOf) (entries : List Entry) (entry : Entry) → (is_beside entry.key.slot ≡ true → may_hold new entry.key.name ≡ true)
+pub more_marked : (old new : NegativeFilterOf) (entries : List Entry) (entry : Entry) → (is_negative_slot entry.key.slot ≡ true → may_hold new entry.key.name ≡ true)
     → ((name : List ℕ) → may_hold old name ≡ true → may_hold new name ≡ true) → AreMarked old entries → AreMarked new (entries ++ entry ∷ [])
 more_marked old new [] entry own stay are = (own, tt)
 more_marked old new (first ∷ entries) entry own stay are = (one_still_marked old new stay first are.0, more_marked old new entries entry own stay are.1)

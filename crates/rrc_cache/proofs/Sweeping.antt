@@ -20,7 +20,7 @@ use Rattle.rrc_history.specs.lemmas.Apart.{falls_apart}
 use Rattle.rrc_history.specs.lemmas.SweepLaws.{keys_of_dead-found, living-staying, sweep_contents}
 use Rattle.rrc_history.specs.Lives.{LAST_MOMENT}
 use Rattle.rrc_cache.specs.Calls.{Leaves}
-use Rattle.rrc_cache.specs.Taken.{AreDeadKeys}
+use Rattle.rrc_cache.specs.Taken.{AreExpiredKeys}
 use Rattle.rrc_cache.proofs.Leaving.{right_leaves}
 use Rattle.rrc_cache.proofs.Sound.{made_of, made_more, made_staying}
 
@@ -78,19 +78,19 @@ staying_more gone key (entry ∷ entries) =
 -- ---- the past
 
 pub sweep_leaves : (snapshot : Snapshot) (past : List Event) (entries : List Entry) (tag : Tag) (moment : ℕ) (gone : List KeyOf) (kept : List Entry)
-    → Leaves snapshot past entries → number_after snapshot past < 2 ^ 62 → moment ≤ LAST_MOMENT → AreDeadKeys snapshot.rules.stale moment entries gone
+    → Leaves snapshot past entries → number_after snapshot past < 2 ^ 62 → moment ≤ LAST_MOMENT → AreExpiredKeys snapshot.rules.stale moment entries gone
     → kept ≡ staying (λ key. is_among key gone) entries → Leaves snapshot (Swept tag moment gone ∷ past) kept
-sweep_leaves snapshot past entries tag moment gone kept leaves below timely dead is =
+sweep_leaves snapshot past entries tag moment gone kept leaves below timely expired is =
     let event : Event = Swept tag moment gone in
     let stale : ℕ = snapshot.rules.stale in
     let out : KeyOf → Bool = λ key. is_among key gone in
     let apart : AreApart entries = falls_apart snapshot past (number_after snapshot past) entries leaves.contents.falling in
-    let listed : (key : KeyOf) → is_among key gone ≡ is_swept stale (entry_at key entries) moment = λ key. dead.dead key ∙ keys_of_dead-found stale moment key entries apart in
+    let listed : (key : KeyOf) → is_among key gone ≡ is_swept stale (entry_at key entries) moment = λ key. expired.expired key ∙ keys_of_dead-found stale moment key entries apart in
     let right : IsRight snapshot past event = record {
       numbered = below;
       right = record {
         timely = timely;
-        sorted = dead.sorted;
+        sorted = expired.sorted;
         dead = λ key. listed key ∙ ap (λ found. is_swept stale found moment) (leaves.contents.agree key);
       };
     } in

@@ -16,7 +16,7 @@ use Rattle.rrc_history.specs.Past.{AreContents, is_among, key_at, number_after}
 use Rattle.rrc_history.specs.Right.{IsLegal}
 use Rattle.rrc_history.specs.Sound.{AreSound}
 use Rattle.rrc_history.specs.WholeLaws.{IsSameCall}
-use Rattle.rrc_cache.specs.Taken.{IsTaken, IsAnswered, AreDeadKeys}
+use Rattle.rrc_cache.specs.Taken.{IsTaken, IsAnswered, AreExpiredKeys}
 
 -- a legal past leaves these entries, the key touched last first, and they may open a chapter
 pub record Leaves (snapshot : Snapshot) (past : List Event) (entries : List Entry) : Type 0 where
@@ -37,7 +37,7 @@ Writes rules number before (Offered outcome tag offer evicted) after =
 Writes rules number before (Asked tag ask reply) after =
     (slot : Option Slot) × IsAnswered rules.stale ask before reply slot × (after ≡ answered_from (option_map (key_at ask) slot) before)
 Writes rules number before (Swept tag moment gone) after =
-    AreDeadKeys rules.stale moment before gone × (after ≡ staying (λ key. is_among key gone) before)
+    AreExpiredKeys rules.stale moment before gone × (after ≡ staying (λ key. is_among key gone) before)
 
 -- the call of an event was made again, and it is told whether that wrote just this event
 pub record IsMadeAgain (rules : Rules) (number : ℕ) (before : List Entry) (event : Event) (same : Bool) (after : List Entry) : Type 0 where

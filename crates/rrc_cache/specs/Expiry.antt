@@ -11,7 +11,7 @@ use Rattle.rrc_cache.specs.Part.{PartOf, past_of}
 abbrev pub HoldsNothing : PartOf → Type 0
 HoldsNothing part = (key : KeyOf) → held part.snapshot (past_of part) key ≡ None
 
--- nothing that a key holds is dead before this moment
+-- nothing that a key holds is fully expired before this moment
 abbrev pub NoneDiesBefore : PartOf → ℕ → Type 0
 NoneDiesBefore part time =
     (key : KeyOf) (moment : ℕ) → moment < time → moment ≤ LAST_MOMENT

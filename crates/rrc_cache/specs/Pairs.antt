@@ -6,8 +6,8 @@ use Rattle.lru.specs.LruCache.{LruCache}
 use Rattle.rrc_name.specs.Key.{KeyOf}
 use Rattle.rrc_history.specs.declared.snapshot.Entry.{Entry}
 use Rattle.rrc_cache.specs.declared.seeded.Seeded.{Seeded}
-use Rattle.rrc_cache.specs.Beside.{AreMarked, BesideOf}
-use Rattle.rrc_cache.specs.Deaths.{AreForeseen, DeathsOf}
+use Rattle.rrc_cache.specs.NegativeFilter.{AreMarked, NegativeFilterOf}
+use Rattle.rrc_cache.specs.ExpiryQueue.{AreQueued, ExpiryQueueOf}
 
 -- the entries of a map, in its order
 abbrev pub entries_in : List (KeyOf × Entry) → List Entry
@@ -23,11 +23,11 @@ pub record StoreOf : Type 0 where
   pub stale : ℕ
   pub entries : List Entry
 
--- a map of entries by their keys, which lets none go by itself, deaths that foresee when they die, and marks of the names that have
+-- a map of entries by their keys, which lets none go by itself, expiries that foresee when they expire, and marks of the names that have
 -- some beside their sets
-pub record IsStore (stale : ℕ) (cache : LruCache KeyOf Entry) (deaths : DeathsOf) (beside : BesideOf) : Type 0 where
+pub record IsStore (stale : ℕ) (cache : LruCache KeyOf Entry) (queue : ExpiryQueueOf) (filter : NegativeFilterOf) : Type 0 where
   pub own : AreOwn cache.entries
   pub wide : cache.cap ≡ 2 ^ 64 - 1
   pub limit : stale ≤ 604800
-  pub foreseen : AreForeseen stale (entries_in cache.entries) deaths
-  pub marked : AreMarked beside (entries_in cache.entries)
+  pub queued : AreQueued stale (entries_in cache.entries) queue
+  pub marked : AreMarked filter (entries_in cache.entries)

@@ -51,7 +51,7 @@ pub record IsCompared (stale : ℕ) (ask : AskOf) (entries : List Entry) (reply 
   pub answered : IsAnswered stale ask entries answer slot
   pub told : same ≡ reply_eq answer reply
 
--- the keys of the dead entries, in the order of keys
-pub record AreDeadKeys (stale moment : ℕ) (entries : List Entry) (keys : List KeyOf) : Type 0 where
+-- the keys of the fully expired entries, in the order of keys
+pub record AreExpiredKeys (stale moment : ℕ) (entries : List Entry) (keys : List KeyOf) : Type 0 where
   pub sorted : IsStrictlySortedBy key_order keys
-  pub dead : (key : KeyOf) → is_among key keys ≡ is_among key (keys_of_dead stale moment entries)
+  pub expired : (key : KeyOf) → is_among key keys ≡ is_among key (keys_of_dead stale moment entries)

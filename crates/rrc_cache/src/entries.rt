@@ -5,7 +5,7 @@ ghost use Rattle.rrc_history.specs.Past.{entry_of};
 ghost use Rattle.rrc_cache.specs.Keyed.{name_hash};
 ghost use Rattle.rrc_cache.specs.Taken.{IsPlaced, IsTaken};
 
-use crate::store::{Leaving, Store};
+use crate::store::{Replaced, Store};
 use rrc_history::{Entry, Offer, Outcome, verdict};
 use rrc_name::{Key, KeyRef};
 use std::alloc::AllocError;
@@ -67,8 +67,8 @@ pub(crate) fn take(
     let outcome = verdict(held, offer);
     let evicted = match (outcome, held) {
         (Outcome::Kept, Some(held)) => {
-            let leaving = Leaving::of(held, store.stale());
-            store.replace(hash, offer, number, leaving)?;
+            let replaced = Replaced::of(held, store.stale());
+            store.replace(hash, offer, number, replaced)?;
             None
         }
         (Outcome::Kept, None) => place(store, hash, entry_of(offer, number)?, capacity)?,

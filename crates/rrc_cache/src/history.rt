@@ -27,7 +27,7 @@ unsafe impl Sync for History {}
 /// What a history is told: a call that was made, and what became of it, or that a chapter ends. What an ask is answered
 /// follows from the history.
 #[derive(Clone, Copy, Drop)]
-pub(crate) enum Told<'a> {
+pub(crate) enum StepRef<'a> {
     Offered {
         tag: Tag,
         offer: &'a Offer,
@@ -51,7 +51,7 @@ pub(crate) enum Told<'a> {
 
 impl History {
     ghost use Rattle.rrc_cache.specs.Lean.{first_chapter};
-    ghost use Rattle.rrc_cache.specs.Told.{with_told};
+    ghost use Rattle.rrc_cache.specs.GhostHistory.{after_step};
 
     /// The first chapter, with no events.
     #[inline(always)]
@@ -63,8 +63,8 @@ impl History {
 
     /// The history with the event of a call, or in its next chapter.
     #[inline(always)]
-    pub(crate) fn then(&self, _told: &Told<'_>) -> History
-        ensures { result.part ≡ with_told self.now.part _told.now }
+    pub(crate) fn then(&self, _step: &StepRef<'_>) -> History
+        ensures { result.part ≡ after_step self.now.part _step.now }
     {
         History {}
     }

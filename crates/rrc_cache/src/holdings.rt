@@ -172,11 +172,11 @@ impl Holdings {
         hash: u64,
         offer: &Offer,
         number: u64,
-        leaving: u64,
+        replaced: u64,
     ) -> Result<(), AllocError>
         requires hash { hash ≡ name_hash self.old.seeded offer.now.key.name }
         requires own { AreOwn self.old.map.entries }
-        requires held { option_map counted_octets (lookup (key_eq offer.now.key) self.old.map.entries) ≡ Some leaving }
+        requires held { option_map counted_octets (lookup (key_eq offer.now.key) self.old.map.entries) ≡ Some replaced }
         ensures ok { OnOk result (self.new.map ≡ lru_cache (put_entries key_eq self.old.map offer.now.key (entry_of offer.now number)) self.old.map.cap) }
         ensures seeded { self.new.seeded ≡ self.old.seeded }
         ensures err { OnErr result (self.new ≡ self.old) }
@@ -185,7 +185,7 @@ impl Holdings {
         let octets = self
             .octets
             .wrapping_add(offer.body.octets_under(&offer.key));
-        self.octets = octets.wrapping_sub(leaving);
+        self.octets = octets.wrapping_sub(replaced);
         Ok(())
     }
 }

@@ -14,7 +14,7 @@ use rrc_history::{Ask, Found, Held, ReplyRef, governing, recent_failure, reply_o
 use rrc_name::Slot;
 
 /// What is kept of an ask's name beside its sets, which is nothing where it may not be kept.
-fn get_beside<'a>(
+fn get_negative<'a>(
     store: &'a Store,
     hash: u64,
     ask: &Ask,
@@ -48,13 +48,13 @@ pub(crate) fn judge<'a>(
     ensures answering { option_map held_in result.1 ≡ answering (found_among store.now.entries ask.now) ask.now (reply_in result.0) }
 {
     let set = store.get(hash, ask.key_at(Slot::Set(ask.rtype)));
-    let may_be_beside = store.may_hold_beside(hash);
-    let nx = get_beside(store, hash, ask, Slot::Nx, may_be_beside);
+    let may_hold = store.may_hold_negative(hash);
+    let nx = get_negative(store, hash, ask, Slot::Nx, may_hold);
     let governing = governing(set, nx, ask.moment);
     if let Some(reply) = reply_of(governing, ask, stale, None) {
         return (reply, governing);
     }
-    let failed = get_beside(store, hash, ask, Slot::Failed(ask.rtype), may_be_beside);
+    let failed = get_negative(store, hash, ask, Slot::Failed(ask.rtype), may_hold);
     let failure = recent_failure(Found { set, nx, failed }, ask.moment);
     match reply_of(governing, ask, stale, failure) {
         Some(reply) => (reply, governing),

@@ -1,8 +1,8 @@
 // SPDX-License-Identifier: MIT
 ghost use Rattle.std.specs.Prelude.{◌≡◌, ◌<◌, ◌≤◌, ◌^◌, ◌↔◌, [], IsTrue, IfOk, IfErr, IfSome, IfNone, OnErr, Err};
 
-use crate::history::{History, Told};
-use crate::part::{KNOWN_SEED, SPENT};
+use crate::history::{History, StepRef};
+use crate::part::{KNOWN_SEED, NUMBER_LIMIT};
 use crate::refusal::Refusal;
 use crate::seeded::Seeded;
 use crate::store::Store;
@@ -90,7 +90,7 @@ impl LeanPart {
         ensures ok { IfOk result (λ part. part ≡ begun_with snapshot.now) }
         ensures due { IsRestoreDue snapshot.now result }
     {
-        if snapshot.first > SPENT {
+        if snapshot.first > NUMBER_LIMIT {
             return Err(Refusal::HistoryFull);
         }
         let rules = snapshot.rules();
@@ -99,7 +99,7 @@ impl LeanPart {
             rules,
             next: snapshot.first,
             store: Store::of(alloc, Seeded::new(seed), snapshot)?,
-            history: History::new(&rules).then(&Told::Closed { opening: snapshot }),
+            history: History::new(&rules).then(&StepRef::Closed { opening: snapshot }),
         })
     }
 
@@ -111,7 +111,7 @@ impl LeanPart {
         self.number
     }
 
-    /// How many keys the part holds. Those that are dead and not yet swept are counted too.
+    /// How many keys the part holds. Those that are fully expired and not yet swept are counted too.
     pub fn len(&self) -> usize
         ensures keys { HoldsKeys self.now result }
         ensures few { result ≤ self.now.snapshot.rules.capacity }
@@ -137,20 +137,20 @@ impl LeanPart {
         self.store.get(self.store.hash_of(key.name), key)
     }
 
-    /// A moment before which no key is dead, or `None` where the part holds none: the earliest at which a sweep may find something,
+    /// A moment before which no key is fully expired, or `None` where the part holds none: the earliest at which a sweep may find something,
     /// though not each such sweep does. It takes no memory.
     pub fn next_expiry(&self) -> Option<u64>
         ensures none { IfNone result (HoldsNothing self.now) }
         ensures some { IfSome result (λ time. NoneDiesBefore self.now time) }
     {
-        self.store.next_death()
+        self.store.next_expiry()
     }
 
     /// Whether the numbers go on to another event. Only after 2^62 events they do not.
     pub fn has_room(&self) -> bool
         ensures { IsTrue result ↔ next_number self.now < 2 ^ 62 }
     {
-        self.next < SPENT
+        self.next < NUMBER_LIMIT
     }
 
     /// The reply that `ask` would give to this ask now. It comes whatever the ask's moment is, also
@@ -195,7 +195,7 @@ impl LeanPart {
             self.next,
             self.rules.capacity,
         )?;
-        self.history = self.history.then(&Told::Offered {
+        self.history = self.history.then(&StepRef::Offered {
             tag,
             offer,
             outcome,
@@ -243,11 +243,11 @@ impl LeanPart {
     {
         let hash = self.store.hash_of(&ask.name);
         answer::touch(&mut self.store, hash, ask, slot);
-        self.history = self.history.then(&Told::Asked { tag, ask });
+        self.history = self.history.then(&StepRef::Asked { tag, ask });
         self.next += 1;
     }
 
-    /// Removes the dead keys, and answers how many there were. The history has one more event,
+    /// Removes the fully expired keys, and answers how many there were. The history has one more event,
     /// which lists them in the order of keys. The refusals are those of `offer`.
     pub fn sweep(&mut self, tag: Tag, moment: u64) -> Result<usize, Refusal>
         ensures ok { IfOk result (WritesSweep self.old self.new tag moment) }
@@ -264,9 +264,9 @@ impl LeanPart {
         ensures due { IsLeanDue self.old moment result }
     {
         self.admit(moment)?;
-        let gone = sweep::dead_keys(self.store.allocator(), &mut self.store, moment)?;
+        let gone = sweep::expired_keys(self.store.allocator(), &mut self.store, moment)?;
         sweep::remove(&mut self.store, gone.as_slice());
-        self.history = self.history.then(&Told::Swept {
+        self.history = self.history.then(&StepRef::Swept {
             tag,
             moment,
             gone: gone.as_slice(),
@@ -298,13 +298,13 @@ impl LeanPart {
         ensures err { OnErr result (self.new ≡ self.old) }
         ensures due { IsCloseDue self.old result }
     {
-        if self.number >= SPENT {
+        if self.number >= NUMBER_LIMIT {
             return Err(Refusal::HistoryFull);
         }
         let alloc = self.store.allocator();
         let closing = self.store.close(alloc, self.rules, self.next)?;
         let opening = closing.clone()?;
-        self.history = self.history.then(&Told::Closed { opening: &closing });
+        self.history = self.history.then(&StepRef::Closed { opening: &closing });
         self.number += 1;
         Ok((closing, opening))
     }
@@ -314,7 +314,7 @@ impl LeanPart {
         ensures due { IsLeanDue self.now moment result }
         ensures only { IfErr result IsOfMoments }
     {
-        if self.next >= SPENT {
+        if self.next >= NUMBER_LIMIT {
             return Err(Refusal::HistoryFull);
         }
         if moment > LAST_MOMENT {

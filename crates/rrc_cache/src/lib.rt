@@ -4,18 +4,18 @@
 
 mod ahead;
 mod answer;
-mod beside;
 mod classless;
 mod closing;
-mod deaths;
 mod entries;
-mod followed;
+mod expiry_queue;
 mod hashed;
 mod history;
 mod holdings;
 mod judge;
 mod keyed;
 mod lean;
+mod negative_filter;
+mod opening_tail;
 mod overwriting;
 mod part;
 mod rechecks;

@@ -15,7 +15,7 @@ use std::marker::Model;
 use std::mem;
 
 /// The number that no event has any more, and no chapter that is closed.
-pub(crate) const SPENT: u64 = 1 << 62;
+pub(crate) const NUMBER_LIMIT: u64 = 1 << 62;
 
 /// The seed of a part that is given none, so that tests and replays take the same time twice.
 pub(crate) const KNOWN_SEED: [u8; 16] = [0; 16];
@@ -122,7 +122,7 @@ impl Part {
         &self.snapshot
     }
 
-    /// How many keys the part holds. Those that are dead and not yet swept are counted too.
+    /// How many keys the part holds. Those that are fully expired and not yet swept are counted too.
     pub fn len(&self) -> usize
         ensures keys { HoldsKeys self.now result }
         ensures few { result ≤ self.now.snapshot.rules.capacity }
@@ -148,7 +148,7 @@ impl Part {
         self.lean.held(key)
     }
 
-    /// A moment before which no key is dead, or `None` where the part holds none: the earliest at which a sweep may find something,
+    /// A moment before which no key is fully expired, or `None` where the part holds none: the earliest at which a sweep may find something,
     /// though not each such sweep does. It takes no memory.
     pub fn next_expiry(&self) -> Option<u64>
         ensures none { IfNone result (HoldsNothing self.now) }
@@ -207,7 +207,7 @@ impl Part {
         Ok(reply)
     }
 
-    /// Removes the dead keys, and appends one event that lists them in the order of keys. It answers how many there were.
+    /// Removes the fully expired keys, and appends one event that lists them in the order of keys. It answers how many there were.
     /// The refusals are those of `offer`.
     pub fn sweep(&mut self, tag: Tag, moment: u64) -> Result<usize, Refusal>
         ensures ok { IfOk result (WritesSweep self.old self.new tag moment) }

@@ -148,9 +148,9 @@ fn is_made_again(
             Ok(same)
         }
         Event::Swept { moment, gone, .. } => {
-            let dead = sweep::dead_keys(alloc, store, *moment)?;
-            sweep::remove(store, dead.as_slice());
-            Ok(dead.as_slice() == gone.as_slice())
+            let expired = sweep::expired_keys(alloc, store, *moment)?;
+            sweep::remove(store, expired.as_slice());
+            Ok(expired.as_slice() == gone.as_slice())
         }
     }
 }

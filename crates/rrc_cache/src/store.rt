@@ -12,15 +12,15 @@ ghost use Rattle.rrc_history.specs.Right.{is_swept};
 ghost use Rattle.rrc_history.specs.Sound.{AreSound};
 ghost use Rattle.rrc_history.specs.Entries.{AreApart, goes, keys_of_dead, promoted, staying};
 ghost use Rattle.rrc_history.specs.Views.{held_in};
-ghost use Rattle.rrc_cache.specs.Beside.{AreMarked, IsMarked, beside_of, is_beside, is_marked};
-ghost use Rattle.rrc_cache.specs.Deaths.{dead_among, deaths_of, is_gone_by, leaving_of};
+ghost use Rattle.rrc_cache.specs.NegativeFilter.{AreMarked, IsMarked, filter_of, is_negative_slot, is_marked};
+ghost use Rattle.rrc_cache.specs.ExpiryQueue.{expired_among, expiries_of, is_expired_by, replaced_of};
 ghost use Rattle.rrc_cache.specs.Keyed.{hashed_entries, name_hash};
 ghost use Rattle.rrc_cache.specs.Pairs.{entries_in, AreOwn};
 
 use crate::ahead;
-use crate::beside::{Beside, is_beside};
-use crate::deaths::{self, Death, Deaths};
-use crate::followed::{self, Followed};
+use crate::negative_filter::{NegativeFilter, is_negative_slot};
+use crate::expiry_queue::{self, Expiry, ExpiryQueue};
+use crate::opening_tail::{self, OpeningTail};
 use crate::hashed::HashedKey;
 use crate::holdings::Holdings;
 use crate::seeded::Seeded;
@@ -30,55 +30,55 @@ use rrc_name::{Key, KeyRef, Name, Shared};
 use std::alloc::{AllocError, Global};
 use std::marker::Model;
 
-/// Of an entry that another comes in the place of: its number, from when on it is dead, and its
+/// Of an entry that another comes in the place of: its number, from when on it is fully expired, and its
 /// octets, modulo 2^64.
 #[derive(Clone, Copy)]
-pub(crate) struct Leaving {
+pub(crate) struct Replaced {
     pub(crate) number: u64,
-    pub(crate) dies: u64,
+    pub(crate) expires: u64,
     pub(crate) octets: u64,
 }
 
-impl Leaving {
-    pub(crate) fn of(held: Held<'_>, stale: u64) -> Leaving
+impl Replaced {
+    pub(crate) fn of(held: Held<'_>, stale: u64) -> Replaced
         requires { stale ≤ 604800 }
-        ensures { result ≡ leaving_of stale (held_in held.entry) }
+        ensures { result ≡ replaced_of stale (held_in held.entry) }
     {
-        Leaving {
+        Replaced {
             number: held.number,
-            dies: deaths::dies_at(held.body, held.moment, stale),
+            expires: expiry_queue::full_expiry(held.body, held.moment, stale),
             octets: held.body.octets_under(held.key),
         }
     }
 }
 
-/// Entries by key, and deaths by time. Contracts see the seed that names are hashed behind, for how many seconds a set may be stale,
+/// Entries by key, and expiries by time. Contracts see the seed that names are hashed behind, for how many seconds a set may be stale,
 /// and the list of the entries, the key touched last first. Who looks up tells the hash of the name too (`hash_of`), so that a call
 /// hashes its name once. A look-up takes no memory, and a call takes about as long in a large store as in a small one, on
-/// the average over many puts: after twice as many as there are entries the deaths may be made anew.
+/// the average over many puts: after twice as many as there are entries the expiries may be made anew.
 #[derive(Debug, Drop)]
 pub struct Store {
     cache: Holdings,
     /// When entries may die.
-    deaths: Deaths,
+    queue: ExpiryQueue,
     /// Of which names something may be kept beside their sets.
-    beside: Beside,
-    /// For how many seconds a set may be stale, on which deaths depend.
+    filter: NegativeFilter,
+    /// For how many seconds a set may be stale, on which expiries depend.
     stale: u64,
     /// What became of the entries with which the chapter began, while less happened than these are many.
-    followed: Option<Followed>,
+    tail: Option<OpeningTail>,
 }
 
 impl Model for Store {
-    ghost use Rattle.rrc_cache.specs.Followed.{IsFollowed};
-    ghost use Rattle.rrc_cache.specs.Beside.{beside_of};
+    ghost use Rattle.rrc_cache.specs.OpeningTail.{EndsWithTail};
+    ghost use Rattle.rrc_cache.specs.NegativeFilter.{filter_of};
     ghost use Rattle.rrc_cache.specs.Pairs.{entries_in, IsStore, StoreOf};
 
     ghost Value = { StoreOf };
 
     ghost view = { λ s. record { seeded = s.cache.seeded; stale = s.stale; entries = entries_in s.cache.map.entries } };
 
-    ghost invariant = { λ s. IsStore s.stale s.cache.map s.deaths (beside_of s.cache.seeded s.beside) × IsFollowed s.followed (entries_in s.cache.map.entries) };
+    ghost invariant = { λ s. IsStore s.stale s.cache.map s.queue (filter_of s.cache.seeded s.filter) × EndsWithTail s.tail (entries_in s.cache.map.entries) };
 }
 
 impl Store {
@@ -89,10 +89,10 @@ impl Store {
     {
         Ok(Store {
             cache: Holdings::new(alloc, seeded)?,
-            deaths: Deaths::new(alloc),
-            beside: Beside::new(alloc, (2 * rules.capacity as usize).next_power_of_two())?,
+            queue: ExpiryQueue::new(alloc),
+            filter: NegativeFilter::new(alloc, (2 * rules.capacity as usize).next_power_of_two())?,
             stale: rules.stale,
-            followed: None,
+            tail: None,
         })
     }
 
@@ -157,70 +157,70 @@ impl Store {
     }
 
     /// Whether something may be kept of a name that has the hash beside its sets. Where not, no look-up finds any of that.
-    pub(crate) fn may_hold_beside(&self, hash: u64) -> bool
-        ensures { result ≡ false → (key : KeyOf) → hash ≡ name_hash self.now.seeded key.name → is_beside key.slot ≡ true → entry_at key self.now.entries ≡ None }
+    pub(crate) fn may_hold_negative(&self, hash: u64) -> bool
+        ensures { result ≡ false → (key : KeyOf) → hash ≡ name_hash self.now.seeded key.name → is_negative_slot key.slot ≡ true → entry_at key self.now.entries ≡ None }
     {
-        self.beside.may_hold(hash)
+        self.filter.may_hold(hash)
     }
 
-    /// A moment before which no entry is dead, the time of the first death, or `None` where there is no entry.
-    pub(crate) fn next_death(&self) -> Option<u64>
+    /// A moment before which no entry is fully expired, the time of the first expiry, or `None` where there is no entry.
+    pub(crate) fn next_expiry(&self) -> Option<u64>
         ensures none { IfNone result ((key : KeyOf) → entry_at key self.now.entries ≡ None) }
         ensures some { IfSome result (λ time. (key : KeyOf) (moment : ℕ) → moment < time → moment ≤ LAST_MOMENT → is_swept self.now.stale (entry_at key self.now.entries) moment ≡ false) }
     {
-        // A sweep that was refused memory may have left deaths that it found due.
-        if !self.deaths.due().is_empty() {
+        // A sweep that was refused memory may have left expiries that it found due.
+        if !self.queue.due().is_empty() {
             return Some(0);
         }
-        self.deaths.first()
+        self.queue.first()
     }
 
-    /// The keys of the dead entries, some perhaps more than once. It looks at the deaths that came since the last time, however many
+    /// The keys of the fully expired entries, some perhaps more than once. It looks at the expiries that came since the last time, however many
     /// entries there are.
-    pub(crate) fn keys_of_dead(
+    pub(crate) fn find_expired(
         &mut self,
         alloc: Global,
         moment: u64,
     ) -> Result<Vec<Key>, AllocError>
         requires { moment ≤ LAST_MOMENT }
-        ensures dead { IfOk result (λ keys. (key : KeyOf) → is_among key keys.items ≡ is_among key (keys_of_dead self.old.stale moment self.old.entries)) }
+        ensures expired { IfOk result (λ keys. (key : KeyOf) → is_among key keys.items ≡ is_among key (keys_of_dead self.old.stale moment self.old.entries)) }
         ensures same { self.new ≡ self.old }
     {
         // The length is read for what it tells: no two entries have the same key.
         let _ = self.cache.len();
-        self.deaths.find_due(moment)?;
-        dead_among(alloc, &self.cache, self.deaths.due(), self.stale, moment)
+        self.queue.find_due(moment)?;
+        expired_among(alloc, &self.cache, self.queue.due(), self.stale, moment)
     }
 
-    /// Lets go of one of the deaths that were due, unless there is none or memory is refused. Where its key holds an entry still, one
-    /// death of the key waits for that one's time.
-    pub(crate) fn settle(&mut self)
+    /// Lets go of one of the expiries that were due, unless there is none or memory is refused. Where its key holds an entry still, one
+    /// expiry of the key waits for that one's time.
+    pub(crate) fn requeue(&mut self)
         ensures { self.new ≡ self.old }
     {
-        if let Some(death) = self.deaths.next_due() {
-            if self.deaths.is_repeated(&death) {
+        if let Some(expiry) = self.queue.next_due() {
+            if self.queue.is_repeated(&expiry) {
                 return;
             }
-            let key = KeyRef::of(&death.key);
+            let key = KeyRef::of(&expiry.key);
             match self.cache.peek(self.cache.hash_of(key.name), key) {
                 Some(entry) => {
-                    let time = deaths::time_of_death(entry, self.stale);
-                    let key = death.key;
-                    self.deaths.add(Death { time, key });
+                    let time = expiry_queue::full_expiry_of(entry, self.stale);
+                    let key = expiry.key;
+                    self.queue.add(Expiry { time, key });
                 }
                 None => {}
             }
         }
     }
 
-    /// How many deaths were due, and are to be let go. Where they are more than the keys that were removed, some of them are of keys
+    /// How many expiries were due, and are to be let go. Where they are more than the keys that were removed, some of them are of keys
     /// that hold something still, or that have others: then they stand together by their keys, so that one of each is left at most.
-    pub(crate) fn unsettled(&mut self, removed: usize) -> usize
+    pub(crate) fn count_due(&mut self, removed: usize) -> usize
         ensures { self.new ≡ self.old }
     {
-        let due = self.deaths.due().len();
+        let due = self.queue.due().len();
         if due > removed {
-            self.deaths.sort_due();
+            self.queue.sort_due();
         }
         due
     }
@@ -229,7 +229,7 @@ impl Store {
     fn entries(&self, alloc: Global) -> Result<EntryList, AllocError>
         ensures { IfOk result (λ entries. entries ≡ self.now.entries) }
     {
-        let left = followed::left(alloc, &self.followed)?;
+        let left = opening_tail::left(alloc, &self.tail)?;
         let front = first_entries(alloc, self.cache.held(), self.cache.len() - left.len())?;
         left.led_by(alloc, front)
     }
@@ -251,7 +251,7 @@ impl Store {
             entries: self.entries(alloc)?,
         };
         let snapshot = Shared::new(alloc, snapshot)?;
-        self.followed = Some(Followed::new(alloc, snapshot.clone()?));
+        self.tail = Some(OpeningTail::new(alloc, snapshot.clone()?));
         Ok(snapshot)
     }
 
@@ -269,7 +269,7 @@ impl Store {
         ensures ok { OnOk result (self.new ≡ record self.old { entries = entry ∷ staying (goes entry.key None) self.old.entries }) }
         ensures err { OnErr result (self.new ≡ self.old) }
     {
-        self.put_foreseen(hash, entry)?;
+        self.put_queued(hash, entry)?;
         self.tidy();
         Ok(())
     }
@@ -282,85 +282,85 @@ impl Store {
         hash: u64,
         offer: &Offer,
         number: u64,
-        leaving: Leaving,
+        replaced: Replaced,
     ) -> Result<(), AllocError>
         requires hash { hash ≡ name_hash self.old.seeded offer.now.key.name }
-        requires held { option_map (leaving_of self.old.stale) (entry_at offer.now.key self.old.entries) ≡ Some leaving }
+        requires held { option_map (replaced_of self.old.stale) (entry_at offer.now.key self.old.entries) ≡ Some replaced }
         ensures ok { OnOk result (self.new ≡ record self.old { entries = entry_of offer.now number ∷ staying (goes offer.now.key None) self.old.entries }) }
         ensures err { OnErr result (self.new ≡ self.old) }
     {
-        self.replace_foreseen(hash, offer, number, leaving)?;
+        self.replace_queued(hash, offer, number, replaced)?;
         self.tidy();
         Ok(())
     }
 
-    /// Makes the deaths anew where they are many, and the marks where they are worn.
+    /// Makes the expiries anew where they are many, and the marks where they are worn.
     fn tidy(&mut self)
         ensures { self.new ≡ self.old }
     {
-        if self.deaths.are_many(self.cache.len()) {
-            self.renew();
+        if self.queue.is_too_long(self.cache.len()) {
+            self.rebuild_queue();
         }
-        if self.beside.is_worn() {
-            mark_anew(&mut self.beside, self.cache.held(), self.cache.seeded());
+        if self.filter.is_worn() {
+            mark_anew(&mut self.filter, self.cache.held(), self.cache.seeded());
         }
     }
 
-    /// Puts an entry in front, and sees to it that a death comes no later than it dies, and that its name is marked where it stands
+    /// Puts an entry in front, and sees to it that an expiry comes no later than it expires, and that its name is marked where it stands
     /// beside the sets.
-    fn put_foreseen(&mut self, hash: u64, entry: Entry) -> Result<(), AllocError>
+    fn put_queued(&mut self, hash: u64, entry: Entry) -> Result<(), AllocError>
         requires { hash ≡ name_hash self.old.seeded entry.key.name }
         ensures ok { OnOk result (self.new ≡ record self.old { entries = entry ∷ staying (goes entry.key None) self.old.entries }) }
         ensures err { OnErr result (self.new ≡ self.old) }
     {
-        let time = deaths::time_of_death(&entry, self.stale);
+        let time = expiry_queue::full_expiry_of(&entry, self.stale);
         // The length is read for what it tells: there is room, and no two entries have the same key.
         let _ = self.cache.len();
-        self.deaths.reserve()?;
-        self.beside.note(hash, &entry.key);
+        self.queue.reserve()?;
+        self.filter.note(hash, &entry.key);
         let number = entry.number;
         let (key, old) = put_over(&mut self.cache, hash, entry)?;
-        followed::note_put(&mut self.followed, followed::number_of(&old), number);
-        if !is_gone_by(old, self.stale, time) {
-            let death = Death { time, key };
-            self.deaths.add(death);
+        opening_tail::note_put(&mut self.tail, opening_tail::number_of(&old), number);
+        if !is_expired_by(old, self.stale, time) {
+            let expiry = Expiry { time, key };
+            self.queue.add(expiry);
         }
         Ok(())
     }
 
-    /// Puts what an offer stores in front, where its key has an entry, and sees to it that a death comes no later than it dies.
-    fn replace_foreseen(
+    /// Puts what an offer stores in front, where its key has an entry, and sees to it that an expiry comes no later than it expires.
+    fn replace_queued(
         &mut self,
         hash: u64,
         offer: &Offer,
         number: u64,
-        leaving: Leaving,
+        replaced: Replaced,
     ) -> Result<(), AllocError>
         requires hash { hash ≡ name_hash self.old.seeded offer.now.key.name }
-        requires held { option_map (leaving_of self.old.stale) (entry_at offer.now.key self.old.entries) ≡ Some leaving }
+        requires held { option_map (replaced_of self.old.stale) (entry_at offer.now.key self.old.entries) ≡ Some replaced }
         ensures ok { OnOk result (self.new ≡ record self.old { entries = entry_of offer.now number ∷ staying (goes offer.now.key None) self.old.entries }) }
         ensures err { OnErr result (self.new ≡ self.old) }
     {
-        let time = deaths::dies_at(&offer.body, offer.moment, self.stale);
+        let time = expiry_queue::full_expiry(&offer.body, offer.moment, self.stale);
         // The length is read for what it tells: there is room, and no two entries have the same key.
         let _ = self.cache.len();
-        self.deaths.reserve()?;
-        let death = death_before(leaving, &offer.key, time)?;
-        self.cache.overwrite(hash, offer, number, leaving.octets)?;
-        followed::note_put(&mut self.followed, Some(leaving.number), number);
-        if let Some(death) = death {
-            self.deaths.add(death);
+        self.queue.reserve()?;
+        let expiry = expiry_if_sooner(replaced, &offer.key, time)?;
+        self.cache.overwrite(hash, offer, number, replaced.octets)?;
+        opening_tail::note_put(&mut self.tail, Some(replaced.number), number);
+        if let Some(expiry) = expiry {
+            self.queue.add(expiry);
         }
         Ok(())
     }
 
-    /// Makes the deaths anew, of the entries alone. Where memory is refused they stay as they are.
-    fn renew(&mut self)
+    /// Makes the expiries anew, of the entries alone. Where memory is refused they stay as they are.
+    fn rebuild_queue(&mut self)
         ensures { self.new ≡ self.old }
     {
         let alloc = self.cache.allocator();
-        if let Ok(deaths) = deaths_of(alloc, self.cache.held(), self.stale) {
-            self.deaths = Deaths::of(alloc, deaths);
+        if let Ok(queue) = expiries_of(alloc, self.cache.held(), self.stale) {
+            self.queue = ExpiryQueue::of(alloc, queue);
         }
     }
 
@@ -372,7 +372,7 @@ impl Store {
         // The length is read for what it tells: no two entries have the same key.
         let _ = self.cache.len();
         let moved = promote(&mut self.cache, hash, key);
-        followed::note_gone(&mut self.followed, moved);
+        opening_tail::note_gone(&mut self.tail, moved);
     }
 
     /// Removes the entry of a key.
@@ -382,8 +382,8 @@ impl Store {
     {
         // The length is read for what it tells: no two entries have the same key.
         let _ = self.cache.len();
-        let gone = followed::number_of(&self.cache.pop(hash, key));
-        followed::note_gone(&mut self.followed, gone);
+        let gone = opening_tail::number_of(&self.cache.pop(hash, key));
+        opening_tail::note_gone(&mut self.tail, gone);
     }
 
     /// Removes the last entry, and answers its key.
@@ -394,7 +394,7 @@ impl Store {
         // The length is read for what it tells: no two entries have the same key.
         let _ = self.cache.len();
         let (key, entry) = self.cache.pop_lru()?;
-        followed::note_move(&mut self.followed, entry.number);
+        opening_tail::note_move(&mut self.tail, entry.number);
         Some(key)
     }
 
@@ -403,7 +403,7 @@ impl Store {
     pub(crate) fn let_go(&mut self)
         ensures { self.new ≡ self.old }
     {
-        self.followed = None;
+        self.tail = None;
     }
 }
 
@@ -450,83 +450,83 @@ fn put_over(
     Ok((spare, old))
 }
 
-/// The death that is to wait for a key's new entry, which dies at a time: none where the entry that leaves has one that comes no later.
-fn death_before(leaving: Leaving, key: &Key, time: u64) -> Result<Option<Death>, AllocError>
-    ensures { IfOk result (λ death. death ≡ (if nat_le leaving.dies time then None else Some (record { time = time; key = key.now }))) }
+/// The expiry that is to wait for a key's new entry, which expires at a time: none where the entry that leaves has one that comes no later.
+fn expiry_if_sooner(replaced: Replaced, key: &Key, time: u64) -> Result<Option<Expiry>, AllocError>
+    ensures { IfOk result (λ expiry. expiry ≡ (if nat_le replaced.expires time then None else Some (record { time = time; key = key.now }))) }
 {
-    if leaving.dies <= time {
+    if replaced.expires <= time {
         return Ok(None);
     }
-    Ok(Some(Death {
+    Ok(Some(Expiry {
         time,
         key: key.clone()?,
     }))
 }
 
-/// Whether what a key held, if anything, dies at a time or before.
-fn is_gone_by(held: Option<Entry>, stale: u64, time: u64) -> bool
+/// Whether what a key held, if anything, expires at a time or before.
+fn is_expired_by(held: Option<Entry>, stale: u64, time: u64) -> bool
     requires { stale ≤ 604800 }
-    ensures { result ≡ is_gone_by stale time held }
+    ensures { result ≡ is_expired_by stale time held }
 {
     match held {
-        Some(entry) => deaths::time_of_death(&entry, stale) <= time,
+        Some(entry) => expiry_queue::full_expiry_of(&entry, stale) <= time,
         None => false,
     }
 }
 
-/// Whether what is kept under a key, if anything, is dead.
-fn is_dead(cache: &Holdings, key: KeyRef<'_>, stale: u64, moment: u64) -> bool
+/// Whether what is kept under a key, if anything, is fully expired.
+fn is_fully_expired(cache: &Holdings, key: KeyRef<'_>, stale: u64, moment: u64) -> bool
     requires own { AreOwn cache.now.map.entries }
     requires limit { stale ≤ 604800 }
     requires moment { moment ≤ LAST_MOMENT }
     ensures { result ≡ is_swept stale (entry_at (key_of key.entry) (entries_in cache.now.map.entries)) moment }
 {
     match cache.peek(cache.hash_of(key.name), key) {
-        Some(entry) => deaths::time_of_death(entry, stale) <= moment,
+        Some(entry) => expiry_queue::full_expiry_of(entry, stale) <= moment,
         None => false,
     }
 }
 
-/// The keys of deaths under which something dead is kept.
-fn dead_among(
+/// The keys of expiries under which something fully expired is kept.
+fn expired_among(
     alloc: Global,
     cache: &Holdings,
-    deaths: &[Death],
+    queue: &[Expiry],
     stale: u64,
     moment: u64,
 ) -> Result<Vec<Key>, AllocError>
     requires own { AreOwn cache.now.map.entries }
     requires limit { stale ≤ 604800 }
     requires moment { moment ≤ LAST_MOMENT }
-    ensures { IfOk result (λ keys. keys.items ≡ dead_among stale moment (entries_in cache.now.map.entries) deaths.now) }
+    ensures { IfOk result (λ keys. keys.items ≡ expired_among stale moment (entries_in cache.now.map.entries) queue.now) }
 {
     let mut keys = Vec::new(alloc);
-    for death in deaths {
-        if is_dead(cache, KeyRef::of(&death.key), stale, moment) {
-            keys.push(death.key.clone()?)?;
+    for expiry in queue {
+        if is_fully_expired(cache, KeyRef::of(&expiry.key), stale, moment) {
+            keys.push(expiry.key.clone()?)?;
         }
     }
     Ok(keys)
 }
 
 /// Marks the names of which something is kept beside their sets, and no others.
-fn mark_anew(beside: &mut Beside, cache: &LruCache<HashedKey, Entry>, seeded: Seeded)
-    ensures { AreMarked (beside_of seeded beside.new) (hashed_entries cache.now.entries) }
+fn mark_anew(filter: &mut NegativeFilter, cache: &LruCache<HashedKey, Entry>, seeded: Seeded)
+    ensures { AreMarked (filter_of seeded filter.new) (hashed_entries cache.now.entries) }
 {
-    beside.clear();
+    filter.clear();
     for (_, entry) in cache.iter() {
-        note_entry(beside, seeded, entry);
+        note_entry(filter, seeded, entry);
     }
-    beside.count_anew();
+    filter.count_anew();
 }
 
 /// Marks the name of an entry that stands beside the sets.
-fn note_entry(beside: &mut Beside, seeded: Seeded, entry: &Entry)
-    ensures own { IsMarked (beside_of seeded beside.new) entry.now }
-    ensures others { (hash : ℕ) → is_marked beside.old hash ≡ true → is_marked beside.new hash ≡ true }
+fn note_entry(filter: &mut NegativeFilter, seeded: Seeded, entry: &Entry)
+    ensures own { IsMarked (filter_of seeded filter.new) entry.now }
+    ensures others { (hash : ℕ) → is_marked filter.old hash ≡ true → is_marked filter.new hash ≡ true }
 {
-    if is_beside(entry.key.slot) {
-        beside.note(seeded.hash_of(&entry.key.name), &entry.key);
+    if is_negative_slot(entry.key.slot) {
+        filter.note(seeded.hash_of(&entry.key.name), &entry.key);
     }
 }
 
@@ -548,18 +548,18 @@ fn first_entries(
     Ok(first)
 }
 
-/// The deaths of the entries.
-fn deaths_of(
+/// The expiries of the entries.
+fn expiries_of(
     alloc: Global,
     cache: &LruCache<HashedKey, Entry>,
     stale: u64,
-) -> Result<Vec<Death>, AllocError>
+) -> Result<Vec<Expiry>, AllocError>
     requires { stale ≤ 604800 }
-    ensures { IfOk result (λ deaths. deaths.items ≡ deaths_of stale (hashed_entries cache.now.entries)) }
+    ensures { IfOk result (λ queue. queue.items ≡ expiries_of stale (hashed_entries cache.now.entries)) }
 {
-    let mut deaths = Vec::with_capacity(alloc, cache.len())?;
+    let mut queue = Vec::with_capacity(alloc, cache.len())?;
     for (_, entry) in cache.iter() {
-        deaths.push(Death::of(entry, stale)?)?;
+        queue.push(Expiry::of(entry, stale)?)?;
     }
-    Ok(deaths)
+    Ok(queue)
 }

@@ -5,7 +5,7 @@ ghost use Rattle.rrc_name.specs.Key.{KeyOf, key_order};
 ghost use Rattle.rrc_history.specs.Lives.{LAST_MOMENT};
 ghost use Rattle.rrc_history.specs.Past.{is_among};
 ghost use Rattle.rrc_history.specs.Entries.{staying};
-ghost use Rattle.rrc_cache.specs.Taken.{AreDeadKeys};
+ghost use Rattle.rrc_cache.specs.Taken.{AreExpiredKeys};
 
 use crate::store::Store;
 use rrc_name::{Key, KeyRef};
@@ -20,22 +20,22 @@ fn put_in_order(keys: &mut Vec<Key>)
     keys.dedup();
 }
 
-/// The keys of the dead entries, in the order of keys.
-pub(crate) fn dead_keys(
+/// The keys of the fully expired entries, in the order of keys.
+pub(crate) fn expired_keys(
     alloc: Global,
     store: &mut Store,
     moment: u64,
 ) -> Result<Vec<Key>, AllocError>
     requires { moment ≤ LAST_MOMENT }
-    ensures dead { IfOk result (λ keys. AreDeadKeys store.old.stale moment store.old.entries keys.items) }
+    ensures expired { IfOk result (λ keys. AreExpiredKeys store.old.stale moment store.old.entries keys.items) }
     ensures same { store.new ≡ store.old }
 {
-    let mut keys = store.keys_of_dead(alloc, moment)?;
+    let mut keys = store.find_expired(alloc, moment)?;
     put_in_order(&mut keys);
     Ok(keys)
 }
 
-/// Removes the entries of keys, and lets the deaths go that told of them. It takes no memory.
+/// Removes the entries of keys, and lets the expiries go that told of them. It takes no memory.
 pub(crate) fn remove(store: &mut Store, keys: &[Key])
     ensures { store.new ≡ record store.old { entries = staying (λ key. is_among key keys.now) store.old.entries } }
 {
@@ -43,14 +43,14 @@ pub(crate) fn remove(store: &mut Store, keys: &[Key])
         let key = KeyRef::of(key);
         store.remove(store.hash_of(key.name), key);
     }
-    settle(store, keys.len());
+    requeue(store, keys.len());
 }
 
-/// Lets the deaths go that were due, after so many keys were removed.
-fn settle(store: &mut Store, removed: usize)
+/// Lets the expiries go that were due, after so many keys were removed.
+fn requeue(store: &mut Store, removed: usize)
     ensures { store.new ≡ store.old }
 {
-    for _ in 0..store.unsettled(removed) {
-        store.settle();
+    for _ in 0..store.count_due(removed) {
+        store.requeue();
     }
 }

@@ -28,7 +28,7 @@ pub retry_from-retry_from-requires : goal.retry_from-retry_from-requires
 retry_from-retry_from-requires c =
     let P : Option Entry → Type 0 = λ f. IfSome f IsTimely in
     let key : KeyOf = key_at c.args.ask.now (Failed c.ask.inside.rtype) in
-    let found : Found = record { set = option_map held_in c.get-set.result; nx = option_map held_in c.get_beside-nx.result; failed = option_map held_in c.get_beside-failed.result } in
+    let found : Found = record { set = option_map held_in c.get-set.result; nx = option_map held_in c.get_negative-nx.result; failed = option_map held_in c.get_negative-failed.result } in
     let failed : IfSome found.failed IsTimely =
-    subst P (sym c.get_beside-failed.ensures) (timely_found (λ (entry : Entry). key_eq key entry.key) c.args.store.now.entries c.requires.timely) in
+    subst P (sym c.get_negative-failed.ensures) (timely_found (λ (entry : Entry). key_eq key entry.key) c.args.store.now.entries c.requires.timely) in
     subst P (sym c.recent_failure-failure.ensures) (timely_failure found c.ask.inside.moment failed)

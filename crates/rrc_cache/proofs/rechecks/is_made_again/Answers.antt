@@ -9,7 +9,7 @@ use Rattle.rrc_history.specs.Entries.{staying}
 use Rattle.rrc_history.specs.Past.{is_among}
 use Rattle.rrc_cache.specs.Calls.{IsMadeAgain}
 use Rattle.rrc_cache.specs.Pairs.{StoreOf}
-use Rattle.rrc_cache.specs.Taken.{AreDeadKeys}
+use Rattle.rrc_cache.specs.Taken.{AreExpiredKeys}
 use Rattle.rrc_cache.proofs.Again.{offer_told, ask_told, sweep_told}
 use Rattle.rrc_cache.proofs.rechecks.is_made_again.Goals as goal
 
@@ -36,17 +36,17 @@ returns-in-Asked-clause-again c =
       told = ask_told c.in-Asked.tag c.in-Asked.ask c.compare-same.ensures.answer c.in-Asked.reply c.compare-same.result.0 c.compare-same.ensures.told;
     })
 
-pub returns-in_ok-dead-in-Swept-clause-again : goal.returns-in_ok-dead-in-Swept-clause-again
-returns-in_ok-dead-in-Swept-clause-again c =
+pub returns-in_ok-expired-in-Swept-clause-again : goal.returns-in_ok-expired-in-Swept-clause-again
+returns-in_ok-expired-in-Swept-clause-again c =
     let P : Event → Type 0 = λ event. IsMadeAgain c.args.rules c.args.number c.args.store.now.entries event c.eq.result c.remove.new.store.entries in
     let entries : List Entry = c.args.store.now.entries in
-    let keys : List KeyOf = c.in_ok-dead-in-Swept.dead.items in
-    let dead : AreDeadKeys c.args.rules.stale c.in-Swept.moment entries keys =
-    subst (λ (stale : ℕ). AreDeadKeys stale c.in-Swept.moment entries keys) c.requires.stale c.in_ok-dead-in-Swept.ensures.dead in
+    let keys : List KeyOf = c.in_ok-expired-in-Swept.expired.items in
+    let expired : AreExpiredKeys c.args.rules.stale c.in-Swept.moment entries keys =
+    subst (λ (stale : ℕ). AreExpiredKeys stale c.in-Swept.moment entries keys) c.requires.stale c.in_ok-expired-in-Swept.ensures.expired in
     let removed : c.remove.new.store.entries ≡ staying (λ key. is_among key keys) entries =
     ap (λ (store : StoreOf). store.entries) c.remove.ensures
-    ∙ (ap (λ (ks : List KeyOf). staying (λ key. is_among key ks) c.dead_keys.new.store.entries) c.as_slice.ensures.value
-    ∙ ap (λ (store : StoreOf). staying (λ key. is_among key keys) store.entries) c.dead_keys.ensures.same) in
+    ∙ (ap (λ (ks : List KeyOf). staying (λ key. is_among key ks) c.expired_keys.new.store.entries) c.as_slice.ensures.value
+    ∙ ap (λ (store : StoreOf). staying (λ key. is_among key keys) store.entries) c.expired_keys.ensures.same) in
     let same : c.eq.result ≡ pointwise key_eq keys c.in-Swept.gone =
     c.eq.ensures ∙ (ap (λ (ks : List KeyOf). pointwise key_eq ks c.as_slice-in-Swept-2.result.now) c.as_slice-in-Swept.ensures.value
     ∙ ap (pointwise key_eq keys) c.as_slice-in-Swept-2.ensures) in
@@ -54,6 +54,6 @@ returns-in_ok-dead-in-Swept-clause-again c =
     (record {
       made = Swept c.in-Swept.tag c.in-Swept.moment keys;
       call = (refl, refl);
-      writes = (dead, removed);
+      writes = (expired, removed);
       told = sweep_told c.in-Swept.tag c.in-Swept.moment keys c.in-Swept.gone c.eq.result same;
     })

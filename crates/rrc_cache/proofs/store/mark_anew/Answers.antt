@@ -4,7 +4,7 @@ use Rattle.std.specs.Map.Iter.{deref_pair}
 use Rattle.std.proofs.lemmas.List.{map-append}
 use Rattle.rrc_history.specs.declared.snapshot.Entry.{Entry}
 use Rattle.rrc_cache.specs.declared.seeded.Seeded.{Seeded}
-use Rattle.rrc_cache.specs.Beside.{AreMarked, beside_of}
+use Rattle.rrc_cache.specs.NegativeFilter.{AreMarked, filter_of}
 use Rattle.rrc_cache.specs.declared.hashed.HashedKey.{HashedKey}
 use Rattle.rrc_cache.specs.Keyed.{hashed_entries, name_hash}
 use Rattle.rrc_cache.proofs.Marked.{more_marked}
@@ -17,6 +17,6 @@ loop-entry-preserved c =
     ap hashed_entries (map-append deref_pair c.loop-entry.yielded ((c.in-Some.field-0-0, c.in-Some.entry) ∷ []))
     ∙ map-append (λ (pair : HashedKey × Entry). pair.1) (map deref_pair c.loop-entry.yielded) ((c.in-Some.field-0-0.now, c.in-Some.entry.now) ∷ []) in
     let seeded : Seeded = c.args.seeded in
-    subst (AreMarked (beside_of seeded c.note_entry.new.beside)) (sym more)
-    (more_marked (beside_of seeded c.loop-entry.beside) (beside_of seeded c.note_entry.new.beside) before c.in-Some.entry.now c.note_entry.ensures.own
+    subst (AreMarked (filter_of seeded c.note_entry.new.filter)) (sym more)
+    (more_marked (filter_of seeded c.loop-entry.filter) (filter_of seeded c.note_entry.new.filter) before c.in-Some.entry.now c.note_entry.ensures.own
     (λ name. c.note_entry.ensures.others (name_hash seeded name)) c.loop-entry.invariant)

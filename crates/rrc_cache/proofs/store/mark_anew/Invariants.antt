@@ -2,9 +2,9 @@
 -- the names of the entries so far are marked
 use Rattle.std.proofs.Common.{map}
 use Rattle.std.specs.Map.Iter.{deref_pair}
-use Rattle.rrc_cache.specs.Beside.{AreMarked, beside_of}
+use Rattle.rrc_cache.specs.NegativeFilter.{AreMarked, filter_of}
 use Rattle.rrc_cache.specs.Keyed.{hashed_entries}
 use Rattle.rrc_cache.proofs.store.mark_anew.Given as goal
 
 abbrev pub invariant-loop-entry : goal.invariant-loop-entry
-invariant-loop-entry l = AreMarked (beside_of l.seeded l.beside) (hashed_entries (map deref_pair l.yielded))
+invariant-loop-entry l = AreMarked (filter_of l.seeded l.filter) (hashed_entries (map deref_pair l.yielded))

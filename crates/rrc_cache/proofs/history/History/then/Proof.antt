@@ -28,8 +28,8 @@ use denote.Triple.Table.{entered}
 use denote.Triple.Walked.{says, Stays, stay_dropped, walk_of, ends_at, walk_Meets, Goes-dropped}
 use Rattle.rrc_cache.proofs.Walks.{none, none_made}
 use Rattle.rrc_cache.specs.contracts.history.History as History
-use Rattle.rrc_cache.specs.contracts.history.Told as Told
-use Rattle.rrc_cache.specs.Told.{with_told}
+use Rattle.rrc_cache.specs.contracts.history.StepRef as StepRef
+use Rattle.rrc_cache.specs.GhostHistory.{after_step}
 use Rattle.rrc_cache.specs.contracts.history.History.then as F
 use Rattle.rrc_cache.specs.contracts.history.History.then.Key.{name as #self}
 use Rattle.rrc_cache.proofs.history.History.then.Statement as stated
@@ -63,7 +63,7 @@ module _ {M : Type 1} {𝓤 : Ura M} (𝓛 : Logic 𝓤) (at_mem : Memory → SP
         let vss = z.0.4 in
         let u : Val = vptr a.0.ref_ptr.0 a.0.ref_ptr.1 in
         let v : Val = vptr a.1.0.ref_ptr.0 a.1.0.ref_ptr.1 in
-        let history : (History.the_row).Denot = record { part = with_told a.0.now.part a.1.0.now } in
+        let history : (History.the_row).Denot = record { part = after_step a.0.now.part a.1.0.now } in
         qed 𝓛 ((raw toks ⊛ ‵ (owns (types_at ended.signature.params z.0.0) a vss)) ∷ raw ((held z.0.0 a).requires z.1) ∷ []) ∵
         keep ! (0 ∷ []) $ split ! $ move ! (1 ∷ []) $ fsplit ! $ fsplit ! $ feq_l ! (λ is₀. drop ! $ fsplit ! $ fsplit ! $ feq_l ! (λ is₁. drop ! $ drop ! $
         regoal ! (λ (us : List Val). prop (WpFn 𝓤 H C Λ function (us ++ (vss.1.0 ++ [])) Post)) is₀ refl $
@@ -77,7 +77,7 @@ module _ {M : Type 1} {𝓤 : Ura M} (𝓛 : Logic 𝓤) (at_mem : Memory → SP
 
   meets : (𝓣 : Tables 𝓤 H) → Meets 𝓛 ended.signature (WpFn 𝓤 H 𝓣.C 𝓣.Λ function) (closing 𝓛 ended held)
   meets 𝓣 =
-      walk_Meets 𝓛 ended stayed (Goes-dropped 𝓛 3 (RefOf (0 ∷ []) tt (plain (λ _. History.the_row)) (λ _. tt)) yes (λ κs x f. refl), (Goes-dropped 𝓛 3 (RefOf (1 ∷ []) tt (plain (λ κs. Told.the_row (named_lft 3 2 tt κs))) (λ _. tt)) yes (λ κs x f. refl), tt)) held
+      walk_Meets 𝓛 ended stayed (Goes-dropped 𝓛 3 (RefOf (0 ∷ []) tt (plain (λ _. History.the_row)) (λ _. tt)) yes (λ κs x f. refl), (Goes-dropped 𝓛 3 (RefOf (1 ∷ []) tt (plain (λ κs. StepRef.the_row (named_lft 3 2 tt κs))) (λ _. tt)) yes (λ κs x f. refl), tt)) held
       (WpFn 𝓤 H 𝓣.C 𝓣.Λ function) (WpFn-mono 𝓤 H 𝓛.laws 𝓣 function) (walks 𝓣.C 𝓣.Λ)
 
 pub then_spec : {M : Type 1} → stated.statement M

@@ -14,6 +14,6 @@ use Rattle.rrc_cache.proofs.holdings.Holdings.overwrite.Goals as goal
 pub invariant_of-self-2 : goal.invariant_of-self-2
 invariant_of-self-2 c =
     with_written c.self.inside.keyed.map c.overwrite.new.self.map c.self.inside.octets c.self.invariant c.args.offer.now.key (entry_of c.args.offer.now c.args.number)
-    c.octets_under.result c.args.leaving
-    (subst (λ (now : KeyedOf). option_map counted_octets (lookup (key_eq c.args.offer.now.key) now.map.entries) ≡ Some c.args.leaving) (sym c.self.view_is) c.requires.held)
+    c.octets_under.result c.args.replaced
+    (subst (λ (now : KeyedOf). option_map counted_octets (lookup (key_eq c.args.offer.now.key) now.map.entries) ≡ Some c.args.replaced) (sym c.self.view_is) c.requires.held)
     c.in_ok-overwrite.ensures.ok (c.octets_under.ensures ∙ ap (λ (offer : OfferOf). octets_under offer.key offer.body % 2 ^ 64) c.offer.view_is)

@@ -10,7 +10,7 @@ use Rattle.rrc_cache.proofs.lean.LeanPart.shut.Goals as goal
 pub invariant_of-self-2 : goal.invariant_of-self-2
 invariant_of-self-2 c =
     let part : PartOf = c.self.inside.history.part in
-    let below : c.self.inside.number < 2 ^ 62 = omega (arith, c.if-self-ge-SPENT.false) in
+    let below : c.self.inside.number < 2 ^ 62 = omega (arith, c.if-self-ge-NUMBER_LIMIT.false) in
     let P : StoreOf → Type 0 = λ store. HoldsLean c.then-self-inside.result.part (c.self.inside.number + 1) c.self.inside.next c.self.inside.rules store in
     subst P (sym c.close.ensures.same)
     ((shut_done c.args.self.now part c.then-self-inside.result.part c.self.inside.number c.self.inside.next c.self.inside.rules c.self.inside.store

@@ -4,7 +4,7 @@ use Rattle.rrc_history.specs.declared.snapshot.Snapshot.{Snapshot}
 use Rattle.rrc_history.specs.Sound.{AreSound}
 use Rattle.rrc_history.specs.lemmas.SnapshotLaws.{sound_exactly}
 use Rattle.rrc_cache.specs.Pairs.{entries_in, StoreOf}
-use Rattle.rrc_cache.proofs.Following.{opened_follows}
+use Rattle.rrc_cache.proofs.Tails.{opened_ends}
 use Rattle.rrc_cache.proofs.store.Store.close.Goals as goal
 
 pub invariant_of-snapshot : goal.invariant_of-snapshot
@@ -16,7 +16,7 @@ invariant_of-self c =
     let all : c.args.self.now.entries ≡ entries_in c.self.inside.cache.map.entries = sym (ap (λ (store : StoreOf). store.entries) c.self.view_is) in
     let opening : c.new-2.result.opening ≡ snapshot = c.new-2.ensures.opening ∙ (c.in_ok-clone.ensures.cases ∙ c.in_ok-snapshot.ensures.ok) in (
       c.self.invariant.0,
-      opened_follows c.args.rules.capacity c.new-2.result snapshot (entries_in c.self.inside.cache.map.entries)
+      opened_ends c.args.rules.capacity c.new-2.result snapshot (entries_in c.self.inside.cache.map.entries)
           (subst (AreSound c.args.rules.capacity c.args.first) all c.requires) (c.in_ok-entries.ensures ∙ all) opening c.new-2.ensures.moved
           (c.new-2.ensures.next ∙ ap (λ (s : Snapshot). s.first) (c.in_ok-clone.ensures.cases ∙ c.in_ok-snapshot.ensures.ok)),
     )

@@ -5,9 +5,9 @@ use Rattle.std.proofs.lemmas.List.{length-append, length-map}
 use Rattle.std.proofs.lemmas.Result.{IfOk-weaker}
 use Rattle.rrc_name.specs.Key.{KeyOf}
 use Rattle.rrc_history.specs.declared.snapshot.Entry.{Entry}
-use Rattle.rrc_cache.specs.Followed.{left_of}
+use Rattle.rrc_cache.specs.OpeningTail.{left_of}
 use Rattle.rrc_cache.specs.Pairs.{entries_in, StoreOf}
-use Rattle.rrc_cache.proofs.Following.{front_of}
+use Rattle.rrc_cache.proofs.Tails.{front_of}
 use Rattle.rrc_cache.proofs.store.Store.entries.Goals as goal
 
 -- those in front are as many as the others are not
@@ -23,17 +23,17 @@ first_of all front left count is long =
 pub overflow_sub-len : goal.overflow_sub-len
 overflow_sub-len c =
     let pairs : List (KeyOf × Entry) = c.self.inside.cache.map.entries in
-    let front = front_of c.self.inside.followed (entries_in pairs) c.self.invariant.1 in
-    let lengths : length (entries_in pairs) ≡ length front.0 + length (left_of c.self.inside.followed) = front_length (entries_in pairs) front.0 (left_of c.self.inside.followed) front.1 in
+    let front = front_of c.self.inside.tail (entries_in pairs) c.self.invariant.1 in
+    let lengths : length (entries_in pairs) ≡ length front.0 + length (left_of c.self.inside.tail) = front_length (entries_in pairs) front.0 (left_of c.self.inside.tail) front.1 in
     let mapped : length (entries_in pairs) ≡ length pairs = length-map pairs (λ pair. pair.1) in
-    let left : c.len-2.result ≡ length (left_of c.self.inside.followed) = c.len-2.ensures ∙ ap length c.in_ok-left.ensures in
+    let left : c.len-2.result ≡ length (left_of c.self.inside.tail) = c.len-2.ensures ∙ ap length c.in_ok-left.ensures in
     omega (arith, lengths, mapped, left, c.len.ensures.len)
 
 pub returns : goal.returns
 returns c =
     let pairs : List (KeyOf × Entry) = c.self.inside.cache.map.entries in
-    let left : List Entry = left_of c.self.inside.followed in
-    let front = front_of c.self.inside.followed (entries_in pairs) c.self.invariant.1 in
+    let left : List Entry = left_of c.self.inside.tail in
+    let front = front_of c.self.inside.tail (entries_in pairs) c.self.invariant.1 in
     let mapped : length (entries_in pairs) ≡ length pairs = length-map pairs (λ pair. pair.1) in
     let length_left : c.len-2.result ≡ length left = c.len-2.ensures ∙ ap length c.in_ok-left.ensures in
     let first : c.in_ok-front.front.items ≡ front.0 =

@@ -8,16 +8,16 @@ use Rattle.rrc_name.specs.Key.{KeyOf, key_eq}
 use Rattle.rrc_name.specs.KeyRef.{key_of}
 use Rattle.rrc_history.specs.declared.snapshot.Entry.{Entry}
 use Rattle.rrc_history.specs.Entries.{goes, staying}
-use Rattle.rrc_cache.specs.Beside.{AreMarked, beside_of}
-use Rattle.rrc_cache.specs.Deaths.{AreForeseen}
-use Rattle.rrc_cache.specs.Followed.{HasGivenWay, IsFollowed}
+use Rattle.rrc_cache.specs.NegativeFilter.{AreMarked, filter_of}
+use Rattle.rrc_cache.specs.ExpiryQueue.{AreQueued}
+use Rattle.rrc_cache.specs.OpeningTail.{HasGivenWay, EndsWithTail}
 use Rattle.rrc_cache.specs.Keyed.{name_hash}
 use Rattle.rrc_cache.specs.Pairs.{entries_in, AreOwn, StoreOf}
-use Rattle.rrc_cache.proofs.Following.{given_way}
+use Rattle.rrc_cache.proofs.Tails.{given_way}
 use Rattle.rrc_cache.proofs.Marked.{removed_marked}
 use Rattle.rrc_cache.proofs.Paired.{apart_in, edited, found_in_pairs, removed_in, own_removed}
 use Rattle.rrc_cache.proofs.Stored.{seeded_store}
-use Rattle.rrc_cache.proofs.Timed.{removed_foreseen}
+use Rattle.rrc_cache.proofs.Timed.{removed_queued}
 use Rattle.rrc_cache.proofs.store.Store.remove.Goals as goal
 
 after : (key : KeyOf) (cache new : LruCache KeyOf Entry) → AreOwn cache.entries → IsDistinct key_eq (keys_of cache.entries)
@@ -35,19 +35,19 @@ invariant_of-self c =
     let is : staying (goes key None) before ≡ entries_in c.pop.new.self.map.entries =
     sym (after key c.self.inside.cache.map c.pop.new.self.map c.self.invariant.0.own c.len.ensures.valid.0 c.pop.ensures.entries) in
     let pairs : List (KeyOf × Entry) = c.self.inside.cache.map.entries in
-    let gave : HasGivenWay (option_map (λ entry. entry.number) (lookup (key_eq key) pairs)) c.self.inside.followed c.note_gone.new.followed =
-    subst (λ number. HasGivenWay number c.self.inside.followed c.note_gone.new.followed) (c.number_of-gone.ensures ∙ ap (option_map (λ entry. entry.number)) c.pop.ensures.value) c.note_gone.ensures in (
-      seeded_store c.self.inside.cache.seeded c.pop.new.self.seeded c.self.inside.stale c.pop.new.self.map c.self.inside.deaths c.self.inside.beside
+    let gave : HasGivenWay (option_map (λ entry. entry.number) (lookup (key_eq key) pairs)) c.self.inside.tail c.note_gone.new.tail =
+    subst (λ number. HasGivenWay number c.self.inside.tail c.note_gone.new.tail) (c.number_of-gone.ensures ∙ ap (option_map (λ entry. entry.number)) c.pop.ensures.value) c.note_gone.ensures in (
+      seeded_store c.self.inside.cache.seeded c.pop.new.self.seeded c.self.inside.stale c.pop.new.self.map c.self.inside.queue c.self.inside.filter
           c.pop.ensures.seeded (record {
             own = rw c.pop.ensures.entries (own_removed (key_eq key) pairs c.self.invariant.0.own);
             wide = rw c.pop.ensures.entries c.self.invariant.0.wide;
             limit = c.self.invariant.0.limit;
-            foreseen = subst (λ entries. AreForeseen c.self.inside.stale entries c.self.inside.deaths) is
-                (removed_foreseen c.self.inside.stale before c.self.inside.deaths c.self.invariant.0.foreseen key);
-            marked = subst (AreMarked (beside_of c.self.inside.cache.seeded c.self.inside.beside)) is (removed_marked (beside_of c.self.inside.cache.seeded c.self.inside.beside) key before c.self.invariant.0.marked);
+            queued = subst (λ entries. AreQueued c.self.inside.stale entries c.self.inside.queue) is
+                (removed_queued c.self.inside.stale before c.self.inside.queue c.self.invariant.0.queued key);
+            marked = subst (AreMarked (filter_of c.self.inside.cache.seeded c.self.inside.filter)) is (removed_marked (filter_of c.self.inside.cache.seeded c.self.inside.filter) key before c.self.invariant.0.marked);
           }),
-      subst (IsFollowed c.note_gone.new.followed) is
-          (given_way key before (lookup (key_eq key) pairs) c.self.inside.followed c.note_gone.new.followed (apart_in pairs c.self.invariant.0.own c.len.ensures.valid.0)
+      subst (EndsWithTail c.note_gone.new.tail) is
+          (given_way key before (lookup (key_eq key) pairs) c.self.inside.tail c.note_gone.new.tail (apart_in pairs c.self.invariant.0.own c.len.ensures.valid.0)
           (sym (found_in_pairs key pairs c.self.invariant.0.own)) gave c.self.invariant.1),
     )
 

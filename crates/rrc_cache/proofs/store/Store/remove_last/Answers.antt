@@ -6,15 +6,15 @@ use Rattle.rrc_name.specs.Key.{KeyOf}
 use Rattle.rrc_history.specs.declared.snapshot.Entry.{Entry}
 use Rattle.rrc_history.specs.Past.{last_key}
 use Rattle.rrc_history.specs.Entries.{AreApart, goes, staying}
-use Rattle.rrc_cache.specs.Beside.{AreMarked, beside_of}
-use Rattle.rrc_cache.specs.Deaths.{AreForeseen}
-use Rattle.rrc_cache.specs.Followed.{IsFollowed}
+use Rattle.rrc_cache.specs.NegativeFilter.{AreMarked, filter_of}
+use Rattle.rrc_cache.specs.ExpiryQueue.{AreQueued}
+use Rattle.rrc_cache.specs.OpeningTail.{EndsWithTail}
 use Rattle.rrc_cache.specs.Pairs.{entries_in, StoreOf}
-use Rattle.rrc_cache.proofs.Following.{removed_followed}
+use Rattle.rrc_cache.proofs.Tails.{removed_tail}
 use Rattle.rrc_cache.proofs.Marked.{removed_marked}
 use Rattle.rrc_cache.proofs.Paired.{apart_in, edited, last_found, last_gone, last_in, none_taken, own_taken, taken_in}
 use Rattle.rrc_cache.proofs.Stored.{seeded_store}
-use Rattle.rrc_cache.proofs.Timed.{removed_foreseen}
+use Rattle.rrc_cache.proofs.Timed.{removed_queued}
 use Rattle.rrc_cache.proofs.store.Store.remove_last.Goals as goal
 
 abbrev key_of_pair : Option (KeyOf × Entry) → Option KeyOf
@@ -35,17 +35,17 @@ invariant_of-self-2 c =
     let apart : AreApart (entries_in pairs) = apart_in pairs c.self.invariant.0.own c.len.ensures.valid.0 in
     let left : staying (goes pair.1.key None) (entries_in pairs) ≡ entries_in c.pop_lru.new.self.map.entries =
     last_gone pairs pair apart is ∙ ap (λ (cache : LruCache KeyOf Entry). entries_in cache.entries) (sym c.pop_lru.ensures.entries) in (
-      seeded_store c.self.inside.cache.seeded c.pop_lru.new.self.seeded c.self.inside.stale c.pop_lru.new.self.map c.self.inside.deaths c.self.inside.beside
+      seeded_store c.self.inside.cache.seeded c.pop_lru.new.self.seeded c.self.inside.stale c.pop_lru.new.self.map c.self.inside.queue c.self.inside.filter
           c.pop_lru.ensures.seeded (record {
             own = rw c.pop_lru.ensures.entries (own_taken (length pairs - 1) pairs c.self.invariant.0.own);
             wide = rw c.pop_lru.ensures.entries c.self.invariant.0.wide;
             limit = c.self.invariant.0.limit;
-            foreseen = subst (λ entries. AreForeseen c.self.inside.stale entries c.self.inside.deaths) left
-                (removed_foreseen c.self.inside.stale (entries_in pairs) c.self.inside.deaths c.self.invariant.0.foreseen pair.1.key);
-            marked = subst (AreMarked (beside_of c.self.inside.cache.seeded c.self.inside.beside)) left (removed_marked (beside_of c.self.inside.cache.seeded c.self.inside.beside) pair.1.key (entries_in pairs) c.self.invariant.0.marked);
+            queued = subst (λ entries. AreQueued c.self.inside.stale entries c.self.inside.queue) left
+                (removed_queued c.self.inside.stale (entries_in pairs) c.self.inside.queue c.self.invariant.0.queued pair.1.key);
+            marked = subst (AreMarked (filter_of c.self.inside.cache.seeded c.self.inside.filter)) left (removed_marked (filter_of c.self.inside.cache.seeded c.self.inside.filter) pair.1.key (entries_in pairs) c.self.invariant.0.marked);
           }),
-      subst (IsFollowed c.note_move.new.followed) left
-          (removed_followed pair.1.key pair.1 (entries_in pairs) c.self.inside.followed c.note_move.new.followed apart (last_found pairs pair apart is)
+      subst (EndsWithTail c.note_move.new.tail) left
+          (removed_tail pair.1.key pair.1 (entries_in pairs) c.self.inside.tail c.note_move.new.tail apart (last_found pairs pair apart is)
           c.note_move.ensures c.self.invariant.1),
     )
 
@@ -54,15 +54,15 @@ invariant_of-self c =
     let pairs : List (KeyOf × Entry) = c.self.inside.cache.map.entries in
     let left : entries_in pairs ≡ entries_in c.pop_lru.new.self.map.entries =
     ap entries_in (none_taken pairs (sym c.pop_lru.ensures.value ∙ c.in_err-key.was)) ∙ ap (λ (cache : LruCache KeyOf Entry). entries_in cache.entries) (sym c.pop_lru.ensures.entries) in (
-      seeded_store c.self.inside.cache.seeded c.pop_lru.new.self.seeded c.self.inside.stale c.pop_lru.new.self.map c.self.inside.deaths c.self.inside.beside
+      seeded_store c.self.inside.cache.seeded c.pop_lru.new.self.seeded c.self.inside.stale c.pop_lru.new.self.map c.self.inside.queue c.self.inside.filter
           c.pop_lru.ensures.seeded (record {
             own = rw c.pop_lru.ensures.entries (own_taken (length pairs - 1) pairs c.self.invariant.0.own);
             wide = rw c.pop_lru.ensures.entries c.self.invariant.0.wide;
             limit = c.self.invariant.0.limit;
-            foreseen = subst (λ entries. AreForeseen c.self.inside.stale entries c.self.inside.deaths) left c.self.invariant.0.foreseen;
-            marked = subst (AreMarked (beside_of c.self.inside.cache.seeded c.self.inside.beside)) left c.self.invariant.0.marked;
+            queued = subst (λ entries. AreQueued c.self.inside.stale entries c.self.inside.queue) left c.self.invariant.0.queued;
+            marked = subst (AreMarked (filter_of c.self.inside.cache.seeded c.self.inside.filter)) left c.self.invariant.0.marked;
           }),
-      subst (IsFollowed c.self.inside.followed) left c.self.invariant.1,
+      subst (EndsWithTail c.self.inside.tail) left c.self.invariant.1,
     )
 
 pub returns-clause-value : goal.returns-clause-value

@@ -1,7 +1,0 @@
--- SPDX-License-Identifier: MIT
-use Rattle.rrc_cache.specs.Beside.{beside_of}
-use Rattle.rrc_cache.proofs.Stored.{same_store}
-use Rattle.rrc_cache.proofs.store.Store.unsettled.Goals as goal
-
-pub invariant_of-self : goal.invariant_of-self
-invariant_of-self c = (same_store c.self.inside.stale c.self.inside.cache.map (beside_of c.self.inside.cache.seeded c.self.inside.beside) c.self.inside.deaths c.sort_due.new.self c.sort_due.ensures c.self.invariant.0, c.self.invariant.1)
