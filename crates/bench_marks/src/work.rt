@@ -9,7 +9,8 @@ use std::sync::atomic::AtomicU64;
 use std::sync::atomic::Ordering::SeqCst;
 use std::thread::{Threads, join};
 
-/// What a thread does: it uses all turns of its pass, begins and finishes a mark of its own so often, or gives a turn away and takes it back so often.
+/// What a thread does: it uses all turns of its pass, begins and finishes a mark of its own so
+/// often, or gives a turn away and takes it back so often.
 #[derive(Clone, Copy)]
 pub enum Task {
     Draws,
@@ -46,7 +47,8 @@ fn begin_often(marks: &Marks, mut pass: Pass, mark: usize, count: u64, begun: &A
     pass
 }
 
-/// Gives one turn of several to another pass and takes that in, again and again, and adds how often it did.
+/// Gives one turn of several to another pass and takes that in, again and again, and adds how often
+/// it did.
 fn share_often(marks: &Marks, mut pass: Pass, count: u64, shared: &AtomicU64) -> Pass
     requires own { IsPassOf marks.now pass }
     requires free { pass.view.held ≡ [] }

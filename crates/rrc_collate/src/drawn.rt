@@ -14,8 +14,9 @@ pub(crate) enum HeldEvents<'a> {
     Listed(Vec<&'a Event>),
 }
 
-/// The events of a line, in the order of its operations. Contracts see the list of them. Nearly each line has one, and a trace may have as
-/// many of these lists as lines: so one alone, and none, take no memory.
+/// The events of a line, in the order of its operations. Contracts see the list of them. Nearly
+/// each line has one, and a trace may have as many of these lists as lines: so one alone, and none,
+/// take no memory.
 #[derive(Drop)]
 pub struct Drawn<'a> {
     held: HeldEvents<'a>,

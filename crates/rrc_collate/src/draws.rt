@@ -33,8 +33,9 @@ fn take_next<'a>(hands: &mut Hands<'a>, worker: usize, tag: Tag, call: &Call) ->
     }
 }
 
-/// The events of a line, one for each of its operations, in order of place. Each is the next of the worker's in the part that the
-/// operation goes to, and is taken from there. `None` where one of them is not of its operation.
+/// The events of a line, one for each of its operations, in order of place. Each is the next of the
+/// worker's in the part that the operation goes to, and is taken from there. `None` where one of
+/// them is not of its operation.
 pub(crate) fn draw<'a>(
     alloc: Global,
     parts: &mut [Hands<'a>],

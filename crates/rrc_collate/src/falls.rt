@@ -6,7 +6,8 @@ ghost use Rattle.rrc_collate.specs.Words.{NeverFalls};
 use crate::valued::Valued;
 use std::alloc::{AllocError, Global};
 
-/// Whether within no class a value is lower than one before it. The classes are numbered from 0, and there are `classes` of them.
+/// Whether within no class a value is lower than one before it. The classes are numbered from 0,
+/// and there are `classes` of them.
 pub(crate) fn never_falls(
     alloc: Global,
     classes: usize,

@@ -70,8 +70,9 @@ fn joins_in(alloc: Global, tasks: &[Task]) -> Result<Vec<Valued>, AllocError>
     Ok(joins)
 }
 
-/// Whether each worker that joined a fetch had another worker's fetch of that question to join. The questions are numbered from 0,
-/// and there are `questions` of them. Where there is none, it looks at no task.
+/// Whether each worker that joined a fetch had another worker's fetch of that question to join. The
+/// questions are numbered from 0, and there are `questions` of them. Where there is none, it looks
+/// at no task.
 pub(crate) fn are_joined(
     alloc: Global,
     questions: usize,

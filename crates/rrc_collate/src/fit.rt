@@ -13,11 +13,13 @@ use crate::turns::are_in_turn;
 use rrc_history::Whole;
 use std::alloc::{AllocError, Global};
 
-/// The events of each task, as `order` answers them, where what the workers did fits the parts' histories: they are just what the
-/// workers wrote, who joined a fetch had another worker's fetch of that question to join, and in every part the fetches of a question
-/// stand one behind the other, never mixed, and in the same order in all parts. `None` where one of these is not so.
+/// The events of each task, as `order` answers them, where what the workers did fits the parts'
+/// histories: they are just what the workers wrote, who joined a fetch had another worker's fetch
+/// of that question to join, and in every part the fetches of a question stand one behind the
+/// other, never mixed, and in the same order in all parts. `None` where one of these is not so.
 ///
-/// Its time is linear in lines, tasks, operations, events, and questions for each part, and so is its memory.
+/// Its time is linear in lines, tasks, operations, events, and questions for each part, and so is
+/// its memory.
 pub fn collate<'a>(
     alloc: Global,
     lines: usize,

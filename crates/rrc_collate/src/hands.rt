@@ -10,8 +10,8 @@ use std::alloc::{AllocError, Global};
 use std::collections::VecDeque;
 use std::marker::Model;
 
-/// The events of a part, dealt to the workers that took their lines: to each worker its own, in order. Contracts see the list of
-/// the hands, and each as the list of its events.
+/// The events of a part, dealt to the workers that took their lines: to each worker its own, in
+/// order. Contracts see the list of the hands, and each as the list of its events.
 #[derive(Drop)]
 pub(crate) struct Hands<'a> {
     hands: Vec<VecDeque<&'a Event>>,
@@ -76,7 +76,8 @@ fn is_nothing(hand: &VecDeque<&Event>) -> bool
     hand.is_empty()
 }
 
-/// Deals the events of a part. `owners` has the worker that took each line. `None` where an event names a line that it has not.
+/// Deals the events of a part. `owners` has the worker that took each line. `None` where an event
+/// names a line that it has not.
 pub(crate) fn deal<'a>(
     alloc: Global,
     workers: usize,

@@ -1,5 +1,6 @@
 // SPDX-License-Identifier: MIT
-//! Whether what workers say that they did fits the histories of a cache's parts: the words for it, and the checks.
+//! Whether what workers say that they did fits the histories of a cache's parts: the words for it,
+//! and the checks.
 #![tactic(auto)]
 
 mod drawn;

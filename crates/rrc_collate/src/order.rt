@@ -62,8 +62,8 @@ fn are_empty(parts: &[Hands]) -> bool
     true
 }
 
-/// The events of tasks, where the parts' histories are just what the workers wrote with their tasks. `owners` has the worker that
-/// took each line.
+/// The events of tasks, where the parts' histories are just what the workers wrote with their
+/// tasks. `owners` has the worker that took each line.
 fn events_in<'a>(
     alloc: Global,
     workers: usize,
@@ -93,9 +93,11 @@ fn events_in<'a>(
     }
 }
 
-/// The events of each task, in the order of the tasks and of their operations, where the parts' histories are just what the workers
-/// wrote with their tasks: each line below `lines` was taken once, no worker did a line behind a greater one, and in each part the
-/// events of a worker's lines are those of its tasks' operations that go there, one each, task by task. `None` where they are not.
+/// The events of each task, in the order of the tasks and of their operations, where the parts'
+/// histories are just what the workers wrote with their tasks: each line below `lines` was taken
+/// once, no worker did a line behind a greater one, and in each part the events of a worker's lines
+/// are those of its tasks' operations that go there, one each, task by task. `None` where they are
+/// not.
 ///
 /// Its time is linear in tasks, operations and events, and so is its memory.
 pub(crate) fn order<'a>(

@@ -50,8 +50,9 @@ fn seen_in(alloc: Global, classes: usize, present: &[Valued]) -> Result<Vec<Seen
     Ok(seen)
 }
 
-/// Whether beside each wanted value its class has another one: beside each worker that joined a fetch another one that fetched the
-/// question. The classes are numbered from 0, and there are `classes` of them.
+/// Whether beside each wanted value its class has another one: beside each worker that joined a
+/// fetch another one that fetched the question. The classes are numbered from 0, and there are
+/// `classes` of them.
 pub(crate) fn have_others(
     alloc: Global,
     classes: usize,

@@ -7,7 +7,8 @@ ghost use Rattle.rrc_collate.specs.Words.{AreApart, AreClasses, AreSharedOut, Ar
 use crate::valued::Valued;
 use std::alloc::{AllocError, Global};
 
-/// The class in which each value below `count` stands, where no value stands twice and no other does.
+/// The class in which each value below `count` stands, where no value stands twice and no other
+/// does.
 fn classes_of(
     alloc: Global,
     count: usize,
@@ -43,8 +44,8 @@ fn all_of(alloc: Global, found: &[Option<usize>]) -> Result<Option<Vec<usize>>, 
     Ok(Some(values))
 }
 
-/// The worker that took each line, where each of so many lines was taken once and no other line was. In `taken` the class is
-/// the worker, and the value is the line.
+/// The worker that took each line, where each of so many lines was taken once and no other line
+/// was. In `taken` the class is the worker, and the value is the line.
 pub(crate) fn owners(
     alloc: Global,
     lines: usize,

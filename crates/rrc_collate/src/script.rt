@@ -14,7 +14,8 @@ pub enum Call {
     Sweep(u64),
 }
 
-/// An operation of a line: its call, and the part that the call goes to. Its place is where it stands among the operations of the line.
+/// An operation of a line: its call, and the part that the call goes to. Its place is where it
+/// stands among the operations of the line.
 #[derive(Debug, Drop)]
 pub struct Operation {
     pub part: usize,

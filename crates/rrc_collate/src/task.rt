@@ -12,7 +12,8 @@ pub enum Fate {
     Fetched { question: usize, home: usize },
 }
 
-/// A line that a worker says it did, with the operations that the line then called for, in order of place.
+/// A line that a worker says it did, with the operations that the line then called for, in order of
+/// place.
 #[derive(Debug, Drop)]
 pub struct Task {
     pub worker: usize,

@@ -9,8 +9,8 @@ use crate::hands::Hands;
 use crate::task::Task;
 use std::alloc::{AllocError, Global};
 
-/// The events of tasks, in order: each task takes those of its operations from its worker's hands. `None` where a hand has other
-/// events than its worker's tasks call for, or fewer.
+/// The events of tasks, in order: each task takes those of its operations from its worker's hands.
+/// `None` where a hand has other events than its worker's tasks call for, or fewer.
 pub(crate) fn draw_all<'a>(
     alloc: Global,
     parts: &mut [Hands<'a>],

@@ -48,7 +48,8 @@ fn is_home(part: usize, fate: Option<Fate>) -> bool
     }
 }
 
-/// Notes the number of each line's last event in a part, counted from 1, for the lines that fetched a question of a name in it.
+/// Notes the number of each line's last event in a part, counted from 1, for the lines that fetched
+/// a question of a name in it.
 fn note_turns(turns: &mut Vec<usize>, fates: &[Option<Fate>], part: usize, events: &[Event])
     requires size { length turns.old.items ≡ length fates.now }
     requires named { AreNamed (length fates.now) events.now }
@@ -63,7 +64,8 @@ fn note_turns(turns: &mut Vec<usize>, fates: &[Option<Fate>], part: usize, event
     }
 }
 
-/// The turn of each line that fetched a question: the number of its last event in the part of the question's name.
+/// The turn of each line that fetched a question: the number of its last event in the part of the
+/// question's name.
 fn turns_in(
     alloc: Global,
     fates: &[Option<Fate>],
@@ -166,11 +168,12 @@ fn none_fetched(questions: usize, tasks: &[Task]) -> bool
     true
 }
 
-/// Whether in every part the fetches of a question stand one behind the other, never mixed, and in the same order in all parts: in
-/// the order of their turns. The lines are numbered from 0, and there are `lines` of them, and so are the questions.
+/// Whether in every part the fetches of a question stand one behind the other, never mixed, and in
+/// the same order in all parts: in the order of their turns. The lines are numbered from 0, and
+/// there are `lines` of them, and so are the questions.
 ///
-/// Its time is linear in lines, tasks, questions for each part, and events, and so is its memory. Where nothing was fetched, as in most
-/// traces, it looks at the tasks at most and takes no memory.
+/// Its time is linear in lines, tasks, questions for each part, and events, and so is its memory.
+/// Where nothing was fetched, as in most traces, it looks at the tasks at most and takes no memory.
 pub(crate) fn are_in_turn(
     alloc: Global,
     lines: usize,

@@ -7,12 +7,14 @@ pub fn each_step_keeps_the_rule()
     ensures { EachStepKeepsTheRule }
 {}
 
-/// Does nothing. Its contract is that no step goes uncounted: one of any kind adds one to the steps that all passes have taken.
+/// Does nothing. Its contract is that no step goes uncounted: one of any kind adds one to the steps
+/// that all passes have taken.
 pub fn each_step_is_counted()
     ensures { EachStepIsCounted }
 {}
 
-/// Does nothing. Its contract is what the rule of a table says of its passes, at every moment between two steps.
+/// Does nothing. Its contract is what the rule of a table says of its passes, at every moment
+/// between two steps.
 pub fn the_rule_tells_passes_apart()
     ensures one_holder { EachMarkHasOneHolder }
     ensures drawn_once { EachNumberIsDrawnOnce }

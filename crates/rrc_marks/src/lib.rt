@@ -1,5 +1,6 @@
 // SPDX-License-Identifier: MIT
-//! Marks that one thread at a time holds, and numbers that threads draw once each, over words that change in single atomic steps under a rule.
+//! Marks that one thread at a time holds, and numbers that threads draw once each, over words that
+//! change in single atomic steps under a rule.
 #![tactic(auto)]
 
 mod began;

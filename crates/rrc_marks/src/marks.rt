@@ -1,5 +1,6 @@
 // SPDX-License-Identifier: MIT
-// The table of marks, and its calls. Word 0 counts the draws, and word m + 1 is the mark m: 1 where a pass holds it, else 0.
+// The table of marks, and its calls. Word 0 counts the draws, and word m + 1 is the mark m: 1 where
+// a pass holds it, else 0.
 ghost use Rattle.std.specs.Prelude.{◌≡◌, ℕ, ◌<◌, ◌≤◌, [], true, false, length, IfOk, IfSome, IfNone, MatchResult};
 ghost use Rattle.rrc_marks.specs.Limits.{is_within_limits, IsFaultOf};
 ghost use Rattle.rrc_marks.specs.Views.{opening_view, after_step, after_finish, after_split, split_off, after_join, all_turns, IsAlone, Holds, Lacks, EachOnceBelow};
@@ -22,7 +23,8 @@ const MOST_LINES: u64 = 1_000_000;
 
 const MOST_TURNS: u64 = 1 << 40;
 
-/// A table of marks, and of numbers to be drawn. To a contract it is its name, its number of marks, and its lines: a draw below them is answered.
+/// A table of marks, and of numbers to be drawn. To a contract it is its name, its number of marks,
+/// and its lines: a draw below them is answered.
 #[derive(Drop)]
 pub struct Marks {
     table: Table<(), View, Terms, Kept, Global>,
@@ -49,7 +51,8 @@ fn is_within(marks: usize, lines: u64, turns: u64) -> bool
 impl Marks {
     /// Makes a table of `marks` free marks, and the pass that has all `turns`.
     ///
-    /// `BadNumber` unless there are 1 to 4,096 marks, at most 1,000,000 lines and 1 to 2^40 turns; else `Memory` where memory was refused.
+    /// `BadNumber` unless there are 1 to 4,096 marks, at most 1,000,000 lines and 1 to 2^40 turns;
+    /// else `Memory` where memory was refused.
     pub fn new(
         alloc: Global,
         marks: usize,
@@ -98,7 +101,8 @@ impl Marks {
         Ok((marks, pass))
     }
 
-    /// Draws the next number, for one turn. `None` where it is not below the table's lines; the pass has drawn it all the same.
+    /// Draws the next number, for one turn. `None` where it is not below the table's lines; the
+    /// pass has drawn it all the same.
     pub fn draw(&self, pass: &mut Pass) -> Option<u64>
         requires own { IsPassOf self.now pass.old }
         requires turn { 0 < pass.old.view.turns }
@@ -171,7 +175,8 @@ impl Marks {
         }
     }
 
-    // A step that splits takes no number, so the proof of the call that passes `Brand` picks `G.turns`.
+    // A step that splits takes no number, so the proof of the call that passes `Brand` picks
+    // `G.turns`.
     fn cut<G: Gift>(&self, seat: &mut Seat<(), View>, turns: u64) -> Seat<(), View>
         requires own { seat.old.table_id ≡ self.now.table }
         requires gift { turns ≡ G.turns }
@@ -193,13 +198,15 @@ impl Marks {
     {
         let Pass { seat, turns, draws } = other;
         self.table.shared.join_seat::<Merge>(&mut pass.seat, seat);
-        // The joining step tells nothing of the other passes. This one tells that the sums below are within the turns at the start.
+        // The joining step tells nothing of the other passes. This one tells that the sums below
+        // are within the turns at the start.
         self.table.shared.load::<Look>(&mut pass.seat, 0);
         pass.turns += turns;
         pass.draws += draws;
     }
 
-    /// Ends the table, once one pass has all turns, left and used, and holds no mark. Answers how many numbers were drawn.
+    /// Ends the table, once one pass has all turns, left and used, and holds no mark. Answers how
+    /// many numbers were drawn.
     pub fn close(self, pass: Pass) -> u64
         requires own { IsPassOf self pass }
         requires alone { IsAlone pass.view }

@@ -6,7 +6,9 @@ use crate::rule::View;
 use atomic_table::Seat;
 use std::marker::Model;
 
-/// The right to use some turns of one table, which one thread has at a time. To a contract it is the name of its table and what the pass knows: the numbers that it drew, the marks that it holds, the turns that it has left, and the turns at the start.
+/// The right to use some turns of one table, which one thread has at a time. To a contract it is
+/// the name of its table and what the pass knows: the numbers that it drew, the marks that it
+/// holds, the turns that it has left, and the turns at the start.
 ///
 /// A pass that is dropped takes its turns and its marks with it, and its table can't be closed.
 #[derive(Drop)]

@@ -9,7 +9,8 @@ use atomic_table::{Join, Play, Split, TableRule};
 use std::collections::LinkedList;
 use std::marker::{Brand, PhantomData};
 
-/// What a pass knows: the numbers that it drew, the marks that it holds, the turns that it has left, the turns at the table's start, and how many steps it has taken. No value of it is made.
+/// What a pass knows: the numbers that it drew, the marks that it holds, the turns that it has
+/// left, the turns at the table's start, and how many steps it has taken. No value of it is made.
 pub struct View {
     pub drawn: LinkedList<u64>,
     pub held: LinkedList<u64>,

@@ -69,7 +69,8 @@ fn fetched<R: Wait, G>(
     Ok(Answer::Fetched { told, reply })
 }
 
-/// Fetches, unless another worker is fetching the question. The mark of the question is held from then on until all is asked.
+/// Fetches, unless another worker is fetching the question. The mark of the question is held from
+/// then on until all is asked.
 fn fetch_or_join<R: Wait, G: Gate>(
     rt: &R,
     alloc: Global,
@@ -98,7 +99,8 @@ fn fetch_or_join<R: Wait, G: Gate>(
     answer
 }
 
-/// Answers a fetch: what the cache has, or when to try again, or what was fetched, by this worker or another one.
+/// Answers a fetch: what the cache has, or when to try again, or what was fetched, by this worker
+/// or another one.
 fn answer_fetch<R: Wait, G: Gate>(
     rt: &R,
     alloc: Global,

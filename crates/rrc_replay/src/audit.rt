@@ -15,8 +15,9 @@ pub enum Audit {
     Made,
 }
 
-/// Makes each call of a part's whole history again, and compares what that writes (`rrc_cache::recheck`). It finds the history legal,
-/// as each part's is, unless memory is refused: `NotLegal` never comes.
+/// Makes each call of a part's whole history again, and compares what that writes
+/// (`rrc_cache::recheck`). It finds the history legal, as each part's is, unless memory is refused:
+/// `NotLegal` never comes.
 fn audit_whole(alloc: Global, whole: &Whole, seed: [u8; 16]) -> Result<(), ReplayFault>
     ensures { IfErr result (λ fault. fault ≡ ReplayFault.Memory) }
 {

@@ -28,8 +28,8 @@ pub struct Audited {
 }
 
 /// Audits the history that an archive tells, and tells what was found: `legal: N chapters, M events
-/// from number F on`, or else `not legal: ` and why; of an event that is not right what was written,
-/// what is due in its place, and what its keys held. An error is that memory was refused.
+/// from number F on`, or else `not legal: ` and why; of an event that is not right what was
+/// written, what is due in its place, and what its keys held. An error is that memory was refused.
 ///
 /// Keys are hashed behind the seed; nothing that is told depends on it.
 pub fn audit_archive(alloc: Global, octets: &[u8], seed: [u8; 16]) -> Result<Audited, AllocError>

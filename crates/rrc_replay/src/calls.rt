@@ -60,7 +60,8 @@ pub(crate) fn tell<R: Wait>(
     }
 }
 
-/// Makes the calls of a line's offers, in order, the first of them at this place, and tells what became of each.
+/// Makes the calls of a line's offers, in order, the first of them at this place, and tells what
+/// became of each.
 pub(crate) fn tell_all<R: Wait>(
     rt: &R,
     alloc: Global,

@@ -1,6 +1,6 @@
 // SPDX-License-Identifier: MIT
-/// What a replay calls at some places of each line, in the thread that does the line. No lock is held then. A gate that does not return
-/// holds up its worker, and no other one.
+/// What a replay calls at some places of each line, in the thread that does the line. No lock is
+/// held then. A gate that does not return holds up its worker, and no other one.
 pub trait Gate {
     /// The line was drawn, and none of its operations was made.
     fn before(&self, line: usize);

@@ -1,6 +1,6 @@
 // SPDX-License-Identifier: MIT
-//! Replays traces by many workers on one cache that they share, and a whole run from its trace to its
-//! report; and audits archives of histories.
+//! Replays traces by many workers on one cache that they share, and a whole run from its trace to
+//! its report; and audits archives of histories.
 #![tactic(auto)]
 
 mod answers;

@@ -179,8 +179,8 @@ fn due_after(
     Ok(Some(due_on(alloc, part, bad)?))
 }
 
-/// An event that is not right, and what is due in its place: none where the numbers are spent or its
-/// moment is above 2^40.
+/// An event that is not right, and what is due in its place: none where the numbers are spent or
+/// its moment is above 2^40.
 #[derive(Debug, Drop)]
 pub struct Reason {
     pub written: Event,

@@ -16,11 +16,13 @@ use std::io::{Read, Write};
 use std::sync::Wait;
 use std::thread::Threads;
 
-/// Reads a whole trace, has many workers replay it, audits their histories where that is wanted, and writes the report. Config, seed and gate are
-/// those of `replay`. No answer depends on the audit: a history that is not legal would be `NotLegal`, and never is.
+/// Reads a whole trace, has many workers replay it, audits their histories where that is wanted,
+/// and writes the report. Config, seed and gate are those of `replay`. No answer depends on the
+/// audit: a history that is not legal would be `NotLegal`, and never is.
 ///
-/// What was read is a trace, and what was written is the text of a report that is collated for it, and nothing else. The faults are
-/// those of `read_trace` and `replay`, after which nothing is written, and `Write`, after which a beginning of the report is.
+/// What was read is a trace, and what was written is the text of a report that is collated for it,
+/// and nothing else. The faults are those of `read_trace` and `replay`, after which nothing is
+/// written, and `Write`, after which a beginning of the report is.
 pub fn run<T: Threads + Wait + Sync, R: Read, W: Write, G: Gate + Sync>(
     rt: &T,
     alloc: Global,

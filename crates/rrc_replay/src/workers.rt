@@ -39,7 +39,8 @@ fn hired<'a, G>(
     Ok(workers)
 }
 
-/// Has each worker work in a thread of its own, and waits for all of them. Where a thread is refused none is made behind it.
+/// Has each worker work in a thread of its own, and waits for all of them. Where a thread is
+/// refused none is made behind it.
 fn all_worked<R: Threads + Wait + Sync, G: Gate + Sync>(
     rt: &R,
     alloc: Global,
@@ -163,13 +164,16 @@ fn recorded(alloc: Global, parts: Vec<CacheShelf>) -> Result<Option<Vec<Shelf>>,
     Ok(Some(shelves))
 }
 
-/// Replays a trace by many workers, each in a thread of its own, on a cache that they share, and tells what each line got. A worker draws one
-/// line after another, so a line that takes long holds up no other one, and makes the line's calls, each under the lock of one part. What
-/// the workers did is then held against the histories of the parts (`rrc_report::collate`). Keys are hashed behind the seed: under
-/// one that nobody can foresee no names make the replay slow. The gate is called at some places of each line.
+/// Replays a trace by many workers, each in a thread of its own, on a cache that they share, and
+/// tells what each line got. A worker draws one line after another, so a line that takes long holds
+/// up no other one, and makes the line's calls, each under the lock of one part. What the workers
+/// did is then held against the histories of the parts (`rrc_report::collate`). Keys are hashed
+/// behind the seed: under one that nobody can foresee no names make the replay slow. The gate is
+/// called at some places of each line.
 ///
-/// `Strayed` where the workers did not do just what the trace calls for; `Spent` of the lowest line that met a part whose numbers are spent, or of
-/// the number of lines where a part's last chapter can't be closed; `Memory` where memory or a thread was refused. No other fault comes.
+/// `Strayed` where the workers did not do just what the trace calls for; `Spent` of the lowest line
+/// that met a part whose numbers are spent, or of the number of lines where a part's last chapter
+/// can't be closed; `Memory` where memory or a thread was refused. No other fault comes.
 pub fn replay<R: Threads + Wait + Sync, G: Gate + Sync>(
     rt: &R,
     alloc: Global,

@@ -6,8 +6,8 @@ use rrc_wire::{Message, Octets, WireFault, read_message};
 use std::alloc::Global;
 use std::process::Abort;
 
-/// The flags of a header (RFC 1035 section 4.1.1): their octets, the opcode, AA, TC, RD, RA, and the
-/// RCODE.
+/// The flags of a header (RFC 1035 section 4.1.1): their octets, the opcode, AA, TC, RD, RA, and
+/// the RCODE.
 type Flags = ([u8; 2], u8, bool, bool, bool, bool, u8);
 
 static FLAGS: [Flags; 8] = [

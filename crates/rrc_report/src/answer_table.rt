@@ -36,7 +36,8 @@ fn blank_table(alloc: Global, count: usize) -> Result<Vec<Answer>, AllocError>
     Ok(table)
 }
 
-/// Puts the answer of each line into its place, completed by the line's events. `false` where the events tell another answer.
+/// Puts the answer of each line into its place, completed by the line's events. `false` where the
+/// events tell another answer.
 fn fill(
     alloc: Global,
     table: &mut [Answer],
@@ -60,8 +61,9 @@ fn fill(
     Ok(true)
 }
 
-/// What each of so many lines got, in order, completed by their events; or `None` where the events tell other answers. As each line was
-/// taken, each place of the table is written. Its time is linear in lines and events.
+/// What each of so many lines got, in order, completed by their events; or `None` where the events
+/// tell other answers. As each line was taken, each place of the table is written. Its time is
+/// linear in lines and events.
 pub(crate) fn lines_of(
     alloc: Global,
     count: usize,

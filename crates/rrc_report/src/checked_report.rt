@@ -43,7 +43,8 @@ fn shares_of(alloc: Global, done: &[Done]) -> Result<Sequence<Sequence<usize>>, 
     Ok(Sequence::from_vec(shares))
 }
 
-/// The events of what workers say that they did, where these fit the histories of the parts, or `None` where no events do.
+/// The events of what workers say that they did, where these fit the histories of the parts, or
+/// `None` where no events do.
 #[tactic(auto, using(crate::proofs::Tasked::workers_below, crate::proofs::Tasked::parts_below, crate::proofs::Tasked::are_numbered))]
 fn events_of<'a>(
     alloc: Global,
@@ -74,10 +75,12 @@ fn events_of<'a>(
     )?)
 }
 
-/// The report of a replay: what each line got, from what the workers say that they did and the shelves that they left.
+/// The report of a replay: what each line got, from what the workers say that they did and the
+/// shelves that they left.
 ///
-/// `Strayed` where no report that holds these is one of the trace; `Spent` of the number of lines where a part's last chapter can't be
-/// closed; `Memory`. Its time is linear in lines, offers and events, times log n for the questions.
+/// `Strayed` where no report that holds these is one of the trace; `Spent` of the number of lines
+/// where a part's last chapter can't be closed; `Memory`. Its time is linear in lines, offers and
+/// events, times log n for the questions.
 #[tactic(auto, using(crate::proofs::ReportLaws::given_shared_out, crate::proofs::ReportLaws::events_given))]
 pub fn collate(
     alloc: Global,

@@ -41,8 +41,8 @@ fn is_hit(reply: &Reply) -> bool
     }
 }
 
-/// What became of an offer, with whom its event says that it evicted. `None` where that event tells another outcome or is of another
-/// call, or where an evicted key was told already.
+/// What became of an offer, with whom its event says that it evicted. `None` where that event tells
+/// another outcome or is of another call, or where an evicted key was told already.
 fn told_by(told: &Told, event: &Event) -> Result<Option<Told>, AllocError>
     ensures { IfOk result (λ found. found ≡ told_by told.now event.now) }
 {
@@ -218,7 +218,8 @@ fn complete(alloc: Global, given: Answer, events: &[&Event]) -> Result<Option<An
     }
 }
 
-/// The answer that events complete, with whom its offers evicted, or `None` where they tell another one.
+/// The answer that events complete, with whom its offers evicted, or `None` where they tell another
+/// one.
 pub(crate) fn completed(
     alloc: Global,
     given: Answer,

@@ -11,7 +11,8 @@ use rrc_script::{Config, script_of};
 use rrc_trace::{Questions, ReplayFault, Trace};
 use std::alloc::Global;
 
-/// The task of a line that a worker says it did, or `None` where the line is not one of the trace or can't have got such an answer.
+/// The task of a line that a worker says it did, or `None` where the line is not one of the trace
+/// or can't have got such an answer.
 fn task_of(
     alloc: Global,
     trace: &Trace,
@@ -61,7 +62,8 @@ fn tasks_by(
     Ok(Some(tasks))
 }
 
-/// The tasks of what workers say that they did, worker by worker, or `None` where a line is not one of the trace or can't have got such an answer.
+/// The tasks of what workers say that they did, worker by worker, or `None` where a line is not one
+/// of the trace or can't have got such an answer.
 pub(crate) fn tasks_of(
     alloc: Global,
     trace: &Trace,

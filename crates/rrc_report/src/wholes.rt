@@ -26,7 +26,8 @@ fn shut(lines: u64, shelf: &mut Shelf) -> Result<(), ReplayFault>
     }
 }
 
-/// The whole history of a shelf, over all its chapters. `Spent` of the number of lines where the chapter that is open can't be closed.
+/// The whole history of a shelf, over all its chapters. `Spent` of the number of lines where the
+/// chapter that is open can't be closed.
 fn whole_of(lines: u64, shelf: Shelf) -> Result<Whole, ReplayFault>
     ensures whole { IfOk result (IsKeptBy shelf) }
     ensures err { IfErr result (CanNotClose lines (shelf ∷ [])) }
@@ -54,8 +55,9 @@ fn begins_with(whole: &Whole, snapshot: &Snapshot) -> bool
     *whole.snapshot == *snapshot
 }
 
-/// The whole histories of shelves, over all their chapters, or `None` where one does not begin with an empty part that has these rules.
-/// `Spent` of the number of lines where a part's last chapter can't be closed.
+/// The whole histories of shelves, over all their chapters, or `None` where one does not begin with
+/// an empty part that has these rules. `Spent` of the number of lines where a part's last chapter
+/// can't be closed.
 pub(crate) fn wholes_of(
     alloc: Global,
     rules: &Rules,

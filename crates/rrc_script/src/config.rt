@@ -4,7 +4,8 @@ ghost use Rattle.std.specs.Prelude.{◌≡◌, ◌↔◌, ◌≤◌, IsSome, IfS
 use rrc_history::Rules;
 use rrc_sets::Limits;
 
-/// How a trace is replayed: by how many workers, over how many parts of a cache, and by which rules and limits.
+/// How a trace is replayed: by how many workers, over how many parts of a cache, and by which rules
+/// and limits.
 #[derive(Clone, Copy, Debug, PartialEq, Eq, Hash)]
 pub struct Config {
     /// How many workers take the lines: 1 to 64.

@@ -10,7 +10,8 @@ use rrc_trace::{Fetch, Put, ReplayFault};
 use rrc_wire::WireFault;
 use std::alloc::{AllocError, Global};
 
-/// The offer of a put, which lives as long as a time to live that is written so (RFC 8767 section 4).
+/// The offer of a put, which lives as long as a time to live that is written so (RFC 8767 section
+/// 4).
 pub fn offer_at(put: &Put, limits: &Limits) -> Result<Offer, AllocError>
     requires { has_items put.now.items ≡ true }
     ensures { IfOk result (λ offer. offer ≡ offer_of limits.now put.now) }
@@ -58,7 +59,8 @@ fn failure_alone(alloc: Global, fetch: &Fetch, limits: &Limits) -> Result<Vec<Of
     Ok(offers)
 }
 
-/// What a fetch offers: what the message offers that was fetched, or where none was, that the question could not be answered.
+/// What a fetch offers: what the message offers that was fetched, or where none was, that the
+/// question could not be answered.
 pub fn offers_fetched(
     alloc: Global,
     fetch: &Fetch,

@@ -90,7 +90,8 @@ fn refused_script(
     }
 }
 
-/// The script of a fetch that another one of its question stood in for, or `None` where its question has no number.
+/// The script of a fetch that another one of its question stood in for, or `None` where its
+/// question has no number.
 fn joined_script(
     config: &Config,
     questions: &Questions,
@@ -196,8 +197,8 @@ pub fn script_of(
     }
 }
 
-/// A line has one script for an answer: so what a report of a trace tells is determined by its lines. The function does nothing; its
-/// contract is the law.
+/// A line has one script for an answer: so what a report of a trace tells is determined by its
+/// lines. The function does nothing; its contract is the law.
 pub fn one_script()
     ensures { OneScript }
 {

@@ -75,8 +75,8 @@ fn name_of(alloc: Global, wire: &[u8]) -> Result<Name, AllocError>
     })
 }
 
-/// The name that an answer ends with (RFC 2308 section 1), at most 16 aliases behind the question's name. Where the question is about
-/// aliases, or about every type, it is the question's name.
+/// The name that an answer ends with (RFC 2308 section 1), at most 16 aliases behind the question's
+/// name. Where the question is about aliases, or about every type, it is the question's name.
 pub(crate) fn final_name(alloc: Global, message: &Message) -> Result<Option<Name>, AllocError>
     ensures { IfOk result (λ name. name ≡ final_name message.now) }
 {
@@ -96,7 +96,8 @@ pub(crate) fn final_name(alloc: Global, message: &Message) -> Result<Option<Name
     }
 }
 
-/// The names of a chain of aliases that begins with a name: that one, and so many behind it at most.
+/// The names of a chain of aliases that begins with a name: that one, and so many behind it at
+/// most.
 fn chain(alloc: Global, answer: &[Rr], first: Name, aliases: u8) -> Result<Vec<Name>, AllocError>
     ensures { IfOk result (λ names. names.items ≡ chain aliases answer.now first) }
 {
@@ -115,8 +116,8 @@ fn chain(alloc: Global, answer: &[Rr], first: Name, aliases: u8) -> Result<Vec<N
     Ok(names)
 }
 
-/// The names that an answer is about: the question's and at most so many aliases behind it. Where the question is about aliases, or
-/// about every type, it is the question's name alone.
+/// The names that an answer is about: the question's and at most so many aliases behind it. Where
+/// the question is about aliases, or about every type, it is the question's name alone.
 pub(crate) fn question_names(
     alloc: Global,
     message: &Message,

@@ -49,7 +49,8 @@ fn denied_name(message: &Message, name: &Name) -> Option<Slot>
     }
 }
 
-/// That the name has no record of the question's type, where that type is kept in its class and the answer has none (RFC 2308 section 2.2).
+/// That the name has no record of the question's type, where that type is kept in its class and the
+/// answer has none (RFC 2308 section 2.2).
 fn denied_type(message: &Message, name: &Name) -> Option<Slot>
     ensures { result ≡ denied_type message.now name.now }
 {
@@ -74,8 +75,8 @@ fn denied(message: &Message, name: &Name) -> Option<Slot>
     }
 }
 
-/// The SOA record of a negative reply (RFC 2308 section 2): the first of the authority section whose owner is in the zone, and at or
-/// above the name.
+/// The SOA record of a negative reply (RFC 2308 section 2): the first of the authority section
+/// whose owner is in the zone, and at or above the name.
 fn soa_of<'a>(message: &'a Message, zone: &Name, name: &Name) -> Option<&'a Rr>
     ensures value { option_copied result ≡ soa_of message.now zone.now name.now }
     ensures soa { IfSome result (λ rr. rr.now.rtype ≡ 6) }

@@ -40,7 +40,8 @@ fn behind(octets: &[u8], place: usize) -> &[u8]
     }
 }
 
-/// Puts the hosts whose names stand at a place in some data behind the others, while they are not too many.
+/// Puts the hosts whose names stand at a place in some data behind the others, while they are not
+/// too many.
 fn add_hosts(
     alloc: Global,
     hosts: &mut Vec<Octets>,

@@ -1,5 +1,6 @@
 // SPDX-License-Identifier: MIT
-//! What a response of the DNS offers to a cache: its RRsets with their ranks of trust and their times to live.
+//! What a response of the DNS offers to a cache: its RRsets with their ranks of trust and their
+//! times to live.
 #![tactic(auto)]
 
 mod alias;

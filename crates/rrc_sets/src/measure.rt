@@ -32,7 +32,8 @@ pub(crate) fn items_of(body: &Body) -> &[Octets]
     }
 }
 
-/// How many octets the data of an RRset have: an address of class IN has 4 or 16, other data any number.
+/// How many octets the data of an RRset have: an address of class IN has 4 or 16, other data any
+/// number.
 fn length_of(offer: &Offer) -> Option<usize>
     ensures { result ≡ length_of offer.now }
 {
@@ -78,7 +79,8 @@ fn are_within(items: &[Octets], most: usize) -> bool
     true
 }
 
-/// Whether an RRset has no more octets of rdata than the limit, and its addresses are as long as addresses are.
+/// Whether an RRset has no more octets of rdata than the limit, and its addresses are as long as
+/// addresses are.
 #[tactic(auto, unfolding(crate::specs::Relevant::is_measured))]
 pub(crate) fn is_measured(relevance: &RelevanceLimits, offer: &Offer) -> bool
     ensures { result ≡ is_measured relevance.now offer.now }

@@ -38,12 +38,13 @@ pub fn offers_in(
     }
 }
 
-/// Reads a response (RFC 1035 section 4.1), and tells what of it is relevant to a query for a zone, at a moment in seconds, as
-/// `relevant_offers` does. The first fault of octets that are no message, why the message does not answer the query, or `Memory`.
+/// Reads a response (RFC 1035 section 4.1), and tells what of it is relevant to a query for a zone,
+/// at a moment in seconds, as `relevant_offers` does. The first fault of octets that are no
+/// message, why the message does not answer the query, or `Memory`.
 ///
-/// No RRset has more octets of rdata than the limit, and no entry that an offer makes has more octets
-/// than the limit, two names, and 48 for each record that the octets have room for (`few`): 302,830
-/// by default, where the octets are as many as they may be.
+/// No RRset has more octets of rdata than the limit, and no entry that an offer makes has more
+/// octets than the limit, two names, and 48 for each record that the octets have room for (`few`):
+/// 302,830 by default, where the octets are as many as they may be.
 pub fn relevant_offers_in(
     alloc: Global,
     octets: &[u8],

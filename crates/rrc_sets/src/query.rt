@@ -60,7 +60,8 @@ impl From<WireFault> for QueryFault {
     }
 }
 
-/// Whether two questions are one, but for the case of letters in their names (RFC 1035 section 4.1.2, RFC 4343).
+/// Whether two questions are one, but for the case of letters in their names (RFC 1035 section
+/// 4.1.2, RFC 4343).
 fn is_same_question(asked: &Question, answered: &Question) -> bool
     ensures { result ≡ is_same_question asked.now answered.now }
 {

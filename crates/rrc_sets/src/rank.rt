@@ -12,8 +12,8 @@ pub(crate) enum Section {
     Additional,
 }
 
-/// How far a set of a section is trusted (RFC 2181 section 5.4.1), by whether the reply is authoritative, and whether the set's owner
-/// is the name that was asked for.
+/// How far a set of a section is trusted (RFC 2181 section 5.4.1), by whether the reply is
+/// authoritative, and whether the set's owner is the name that was asked for.
 pub(crate) fn rank_of(section: Section, aa: bool, asked: bool) -> Trust
     ensures { result ≡ rank_of section aa asked }
 {

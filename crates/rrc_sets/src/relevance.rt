@@ -1,13 +1,16 @@
 // SPDX-License-Identifier: MIT
 ghost use Rattle.std.specs.Prelude.{◌≡◌};
 
-/// How much of a response is relevant at most. They bound the time that it takes to tell, which is in proportion to the octets of the
-/// message times the aliases and hosts, and what one message leaves in a cache: a relevant RRset has no more than `octets`.
+/// How much of a response is relevant at most. They bound the time that it takes to tell, which is
+/// in proportion to the octets of the message times the aliases and hosts, and what one message
+/// leaves in a cache: a relevant RRset has no more than `octets`.
 #[derive(Clone, Copy, Debug, PartialEq, Eq, Hash)]
 pub struct RelevanceLimits {
-    /// The most aliases behind the question's name (RFC 1034 section 3.6.2): 0 to 255, by default 11.
+    /// The most aliases behind the question's name (RFC 1034 section 3.6.2): 0 to 255, by default
+    /// 11.
     pub aliases: u8,
-    /// The most hosts, named by NS, MX and SRV records, whose addresses are relevant: 0 to 255, by default 20.
+    /// The most hosts, named by NS, MX and SRV records, whose addresses are relevant: 0 to 255, by
+    /// default 20.
     pub hosts: u8,
     /// The most octets of the rdata of an RRset, all together: by default 16,384.
     pub octets: u32,

@@ -58,8 +58,8 @@ fn is_asked_for(qtype: u16, offer: &Offer) -> bool
     qtype == ANY || is_set_of(qtype, offer)
 }
 
-/// Whether an RRset is of a name of the chain, and of the type that was asked for or an alias, or is a DNAME record above such a name
-/// (RFC 6672 section 2.3).
+/// Whether an RRset is of a name of the chain, and of the type that was asked for or an alias, or
+/// is a DNAME record above such a name (RFC 6672 section 2.3).
 #[tactic(auto, unfolding(crate::specs::Relevant::is_on_chain))]
 fn is_on_chain(qtype: u16, names: &[Name], offer: &Offer) -> bool
     ensures { result ≡ is_on_chain qtype names.now offer.now }
@@ -80,8 +80,8 @@ fn has_below(name: &Option<Name>, offer: &Offer) -> bool
     }
 }
 
-/// Whether an RRset is an SOA record, the name servers of a zone or their DS record (RFC 4035 section 3.1.4), where the final name is in
-/// that zone.
+/// Whether an RRset is an SOA record, the name servers of a zone or their DS record (RFC 4035
+/// section 3.1.4), where the final name is in that zone.
 #[tactic(auto, unfolding(crate::specs::Relevant::is_of_final_zone))]
 fn is_of_final_zone(name: &Option<Name>, offer: &Offer) -> bool
     ensures { result ≡ is_of_final_zone name.now offer.now }
@@ -284,17 +284,22 @@ fn relevant_of(
     }
 }
 
-/// Those of the offers of a response, as `offers` makes them and in their order, that are relevant to a query:
+/// Those of the offers of a response, as `offers` makes them and in their order, that are relevant
+/// to a query:
 ///
-/// - of the answer section the RRsets of the question's name, and of the aliases behind it, that have the type that was asked for or are
-///   CNAME records, and the DNAME records above such a name;
-/// - of the authority section the first SOA record, the first NS and the first DS RRset of a zone that the final name is in;
+/// - of the answer section the RRsets of the question's name, and of the aliases behind it, that
+///   have the type that was asked for or are CNAME records, and the DNAME records above such a
+///   name;
+/// - of the authority section the first SOA record, the first NS and the first DS RRset of a zone
+///   that the final name is in;
 /// - of the additional section the addresses of hosts that NS, MX and SRV records among these name;
 /// - the negative answer, and the failure.
 ///
-/// No RRset has more octets than the limit, and the addresses of class IN have 4 or 16 octets (RFC 1035 section 3.4.1, RFC 3596 section
-/// 2.2). A response with another identifier or to another question offers nothing: why is answered (RFC 5452 section 9.1), and only
-/// then can memory be refused. The time is in proportion to the octets of the message times the limits of aliases and hosts.
+/// No RRset has more octets than the limit, and the addresses of class IN have 4 or 16 octets (RFC
+/// 1035 section 3.4.1, RFC 3596 section 2.2). A response with another identifier or to another
+/// question offers nothing: why is answered (RFC 5452 section 9.1), and only then can memory be
+/// refused. The time is in proportion to the octets of the message times the limits of aliases and
+/// hosts.
 pub fn relevant_offers(
     alloc: Global,
     message: &Message,

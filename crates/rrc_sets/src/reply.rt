@@ -139,7 +139,8 @@ fn answer_offers(
     Ok(offers)
 }
 
-/// The offers of a reply that answers, by its records of its question's class. Most replies have no others, and are not copied.
+/// The offers of a reply that answers, by its records of its question's class. Most replies have no
+/// others, and are not copied.
 fn own_offers(
     alloc: Global,
     message: &Message,
@@ -212,11 +213,13 @@ fn offers_of(
     }
 }
 
-/// What a response offers to a cache for a zone, at a moment in seconds: its RRsets from the zone, section by section, each ranked by
-/// where it stood (RFC 2181 sections 5 and 8), and its negative answer (RFC 2308); or that asking failed (RFC 8767 section 5). A
-/// message that is truncated, is no standard query, or whose question is of a class that is not kept (RFC 1035 section 3.2.4) or outside
-/// the zone, offers nothing, and records of another class than the question's count for nothing. All that is offered is of the
-/// question's class, of types that are kept in it, with plain data, and of that moment.
+/// What a response offers to a cache for a zone, at a moment in seconds: its RRsets from the zone,
+/// section by section, each ranked by where it stood (RFC 2181 sections 5 and 8), and its negative
+/// answer (RFC 2308); or that asking failed (RFC 8767 section 5). A message that is truncated, is
+/// no standard query, or whose question is of a class that is not kept (RFC 1035 section 3.2.4) or
+/// outside the zone, offers nothing, and records of another class than the question's count for
+/// nothing. All that is offered is of the question's class, of types that are kept in it, with
+/// plain data, and of that moment.
 pub fn offers(
     alloc: Global,
     message: &Message,

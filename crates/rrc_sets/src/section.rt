@@ -8,8 +8,8 @@ use crate::walks::sets_by_walks;
 use rrc_wire::Rr;
 use std::alloc::{AllocError, Global};
 
-/// So many records of a section are few: to build trees of them takes longer than to walk over them. Walks over more would take a
-/// time that grows with the square of their number.
+/// So many records of a section are few: to build trees of them takes longer than to walk over
+/// them. Walks over more would take a time that grows with the square of their number.
 const FEW: usize = 16;
 
 /// The sets of a section's records (RFC 2181 section 5), in order of their first records.

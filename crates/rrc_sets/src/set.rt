@@ -10,9 +10,9 @@ use smallvec::SmallVec;
 use std::alloc::{AllocError, Global};
 use std::marker::Model;
 
-/// An RRset of a section (RFC 2181 section 5): its owner as its first record spells it, its data without
-/// repeats, one at least and all plain data of its type, which is kept in its class, and the times to live of all its
-/// records.
+/// An RRset of a section (RFC 2181 section 5): its owner as its first record spells it, its data
+/// without repeats, one at least and all plain data of its type, which is kept in its class, and
+/// the times to live of all its records.
 #[derive(Debug, Drop)]
 pub(crate) struct Set {
     pub(crate) owner: Name,
@@ -35,7 +35,8 @@ impl Model for Set {
 }
 
 impl Set {
-    /// The set of one record, with room for this many in all. An event keeps the data as long as it stands, and their room with them.
+    /// The set of one record, with room for this many in all. An event keeps the data as long as it
+    /// stands, and their room with them.
     pub(crate) fn alone(alloc: Global, rr: &Rr, room: usize) -> Result<Set, AllocError>
         ensures { IfOk result (λ set. set ≡ alone rr.now) }
     {
@@ -68,7 +69,8 @@ impl Set {
             .any(|item| same_rdata(self.rtype, item.as_slice(), rdata))
     }
 
-    /// Takes one more of its records, of which is known whether its data are new: these where they are, and its time to live in any case.
+    /// Takes one more of its records, of which is known whether its data are new: these where they
+    /// are, and its time to live in any case.
     pub(crate) fn take(&mut self, rr: &Rr, is_new: bool) -> Result<(), AllocError>
         requires own { holds self.old rr.now ≡ true }
         requires is_new { is_new ≡ not (list_any (λ item. same_rdata self.old.rtype item rr.now.rdata) self.old.items) }

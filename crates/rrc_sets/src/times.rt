@@ -4,8 +4,9 @@ ghost use Rattle.rrc_sets.specs.Life.{life, lowest_life, are_one, set_life};
 
 use crate::limits::Limits;
 
-/// The seconds that data live whose time to live is written so (RFC 2181 section 8, RFC 8767 section 4): no more than the cap. A time
-/// to live with its top bit set is a large one, so it is capped too. It takes no memory.
+/// The seconds that data live whose time to live is written so (RFC 2181 section 8, RFC 8767
+/// section 4): no more than the cap. A time to live with its top bit set is a large one, so it is
+/// capped too. It takes no memory.
 pub fn life(ttl: u32, limits: &Limits) -> u32
     ensures { result ≡ life ttl limits.now }
 {
@@ -39,8 +40,8 @@ fn lowest_life(ttls: &[u32], limits: &Limits) -> u32
     lowest
 }
 
-/// The life of a set whose records have these times to live (RFC 2181 section 5.2): a reply that is not authoritative gives none to a
-/// set whose times differ.
+/// The life of a set whose records have these times to live (RFC 2181 section 5.2): a reply that is
+/// not authoritative gives none to a set whose times differ.
 pub(crate) fn set_life(ttls: &[u32], aa: bool, limits: &Limits) -> Option<u32>
     ensures value { result ≡ set_life limits.now aa ttls.now }
     ensures capped { IfSome result (λ ttl. ttl ≤ limits.now.cap) }

@@ -13,8 +13,9 @@ use std::alloc::{AllocError, Global};
 use std::collections::{BTreeMap, BTreeSet};
 use std::marker::Model;
 
-/// The sets of the records so far, with ordered trees in which the set of a record and its data are found. They are trees and no
-/// tables of hashes, since who sends a message picks its names and data.
+/// The sets of the records so far, with ordered trees in which the set of a record and its data are
+/// found. They are trees and no tables of hashes, since who sends a message picks its names and
+/// data.
 #[derive(Drop)]
 pub(crate) struct Gathered {
     sets: Vec<Set>,
@@ -44,7 +45,8 @@ fn key_of(rr: &Rr) -> Result<(u16, Vec<u8>), AllocError>
     Ok((rr.rtype, rr.owner.wire.lowered()?.into_vec()?))
 }
 
-/// The place of a record's set, or that behind the others, which is then the place of sets of its type and owner.
+/// The place of a record's set, or that behind the others, which is then the place of sets of its
+/// type and owner.
 fn place_of(
     places: &mut BTreeMap<(u16, Vec<u8>), usize>,
     sets: &[Set],
@@ -113,8 +115,8 @@ impl Gathered {
     }
 }
 
-/// The sets of a section's records (RFC 2181 section 5), in order of their first records, in a time that grows little faster than
-/// their number.
+/// The sets of a section's records (RFC 2181 section 5), in order of their first records, in a time
+/// that grows little faster than their number.
 pub(crate) fn sets_by_trees(alloc: Global, records: &[Rr]) -> Result<Vec<Set>, AllocError>
     ensures { IfOk result (λ sets. sets.items ≡ sets_of records.now) }
 {

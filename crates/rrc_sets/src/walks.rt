@@ -46,7 +46,8 @@ fn put(alloc: Global, sets: &mut Vec<Set>, records: &[Rr], rr: &Rr) -> Result<()
     Ok(())
 }
 
-/// The sets of a section's records, where each is sought by a walk over the sets and over the data of one of them.
+/// The sets of a section's records, where each is sought by a walk over the sets and over the data
+/// of one of them.
 pub(crate) fn sets_by_walks(alloc: Global, records: &[Rr]) -> Result<Vec<Set>, AllocError>
     ensures { IfOk result (λ sets. sets.items ≡ sets_of records.now) }
 {

@@ -157,8 +157,8 @@ impl CacheShelf {
 
     /// Makes an offer: `on_shelf_offer` while it records, else `LeanPart::offer`.
     ///
-    /// `HistoryFull` comes first, then `MomentTooLarge` (above 2^40 seconds), then `Memory`. After a
-    /// refusal the history is as it was; while it records, a chapter that was full may be closed.
+    /// `HistoryFull` comes first, then `MomentTooLarge` (above 2^40 seconds), then `Memory`. After
+    /// a refusal the history is as it was; while it records, a chapter that was full may be closed.
     pub fn offer(&mut self, tag: Tag, offer: Offer) -> Result<Outcome, Refusal>
         ensures records { self.new.records ≡ self.old.records }
         ensures ok { IfOk result (TakesOffer self.old.records self.old.shelf self.new.shelf tag offer) }
@@ -278,8 +278,8 @@ impl CacheShelf {
     /// Records nothing from here on, and hands out the closed chapters, the oldest first, of which
     /// the last is that which was open. Where nothing is recorded there are none.
     ///
-    /// `HistoryFull` comes exactly where it records and the chapter's number is 2^62, else `Memory`.
-    /// Either hands the shelf back as it was.
+    /// `HistoryFull` comes exactly where it records and the chapter's number is 2^62, else
+    /// `Memory`. Either hands the shelf back as it was.
     pub fn stop_recording(self) -> Result<(CacheShelf, Vec<Chapter>), NotSwitched>
         ensures records { IfOk result (λ told. told.0.records ≡ false) }
         ensures ok { IfOk result (λ told. Stops self.records self.shelf told.0.shelf told.1.items) }

@@ -35,7 +35,8 @@ fn admit(part: &Part, moment: u64) -> Result<(), Refusal>
 
 /// Closes the chapter that is open, and opens the next. No event is written.
 ///
-/// `HistoryFull` comes exactly where the chapter's number is 2^62, else `Memory`. A shelf that refuses is as it was.
+/// `HistoryFull` comes exactly where the chapter's number is 2^62, else `Memory`. A shelf that
+/// refuses is as it was.
 pub fn on_shelf_checkpoint(shelf: &mut Shelf) -> Result<(), Refusal>
     ensures ok { OnOk result (ShelvesChapter shelf.old shelf.new) }
     ensures err { OnErr result (shelf.new ≡ shelf.old) }
@@ -65,8 +66,9 @@ fn make_room(shelf: &mut Shelf) -> Result<(), Refusal>
 
 /// Closes the chapter where it is full, and then offers to the part (`Part::offer`).
 ///
-/// `HistoryFull` comes first, exactly where the next event's number is 2^62, or where the chapter is full and its number is 2^62; then
-/// `MomentTooLarge` (above 2^40 seconds), then `Memory`. After a refusal the history is as it was; a chapter that was full may be closed.
+/// `HistoryFull` comes first, exactly where the next event's number is 2^62, or where the chapter
+/// is full and its number is 2^62; then `MomentTooLarge` (above 2^40 seconds), then `Memory`. After
+/// a refusal the history is as it was; a chapter that was full may be closed.
 pub fn on_shelf_offer(shelf: &mut Shelf, tag: Tag, offer: Offer) -> Result<Outcome, Refusal>
     ensures ok { IfOk result (AppendsOffer shelf.old shelf.new tag offer) }
     ensures err { OnErr result (IsLeft shelf.old shelf.new) }
@@ -77,7 +79,8 @@ pub fn on_shelf_offer(shelf: &mut Shelf, tag: Tag, offer: Offer) -> Result<Outco
     shelf.part.offer(tag, offer)
 }
 
-/// Closes the chapter where it is full, and then asks the part (`Part::ask`). The refusals are those of `on_shelf_offer`.
+/// Closes the chapter where it is full, and then asks the part (`Part::ask`). The refusals are
+/// those of `on_shelf_offer`.
 pub fn on_shelf_ask(shelf: &mut Shelf, tag: Tag, ask: &Ask) -> Result<Reply, Refusal>
     ensures ok { IfOk result (AppendsAsk shelf.old shelf.new tag ask.now) }
     ensures err { OnErr result (IsLeft shelf.old shelf.new) }
@@ -88,7 +91,8 @@ pub fn on_shelf_ask(shelf: &mut Shelf, tag: Tag, ask: &Ask) -> Result<Reply, Ref
     shelf.part.ask(tag, ask)
 }
 
-/// Closes the chapter where it is full, and then sweeps the part (`Part::sweep`). The refusals are those of `on_shelf_offer`.
+/// Closes the chapter where it is full, and then sweeps the part (`Part::sweep`). The refusals are
+/// those of `on_shelf_offer`.
 pub fn on_shelf_sweep(shelf: &mut Shelf, tag: Tag, moment: u64) -> Result<usize, Refusal>
     ensures ok { IfOk result (AppendsSweep shelf.old shelf.new tag moment) }
     ensures err { OnErr result (IsLeft shelf.old shelf.new) }

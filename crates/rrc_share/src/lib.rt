@@ -1,6 +1,6 @@
 // SPDX-License-Identifier: MIT
-//! The cache that threads share: parts under locks, each of which records its history in chapters, or
-//! records nothing.
+//! The cache that threads share: parts under locks, each of which records its history in chapters,
+//! or records nothing.
 #![tactic(auto)]
 
 mod cache_shelf;

@@ -20,12 +20,13 @@ type Locked = CachePadded<Mutex<CacheShelf>>;
 /// its history on a shelf, or records nothing; it is switched between two calls, while other
 /// threads call the other parts. Contracts see how many parts there are.
 ///
-/// - A call takes one lock, that of one part, and never a second one beside it. In which part a name lies is worked out before.
+/// - A call takes one lock, that of one part, and never a second one beside it. In which part a
+///   name lies is worked out before.
 /// - The lock is held for one call on the part, the one that the method names, and for nothing
 ///   else: as long as that call on a part takes, and where it closes a chapter as long as there are
 ///   keys. It makes its room and drops what goes under the lock.
-/// - An offer is made before, by the caller. An answer shares its data with what is kept, so that under a lock no name and no data
-///   are copied, and it is read after the lock is let go.
+/// - An offer is made before, by the caller. An answer shares its data with what is kept, so that
+///   under a lock no name and no data are copied, and it is read after the lock is let go.
 /// - What a call does under its lock the contract of the call on the part says. Here only that is
 ///   said which holds of every part, since no clause can name what another thread left there. Nor
 ///   is it proved that a call which waits for a lock gets it.

@@ -7,8 +7,9 @@ use std::alloc::Global;
 use std::marker::Model;
 use std::mem;
 
-/// A part of the cache and the chapters of its history that are closed, the oldest first. They chain, the part's snapshot is the
-/// last closing, and its number is the next; where none is closed this asks nothing. Contracts see both.
+/// A part of the cache and the chapters of its history that are closed, the oldest first. They
+/// chain, the part's snapshot is the last closing, and its number is the next; where none is closed
+/// this asks nothing. Contracts see both.
 #[derive(Debug, Drop)]
 pub struct Shelf {
     pub closed: Vec<Chapter>,
@@ -58,8 +59,9 @@ impl Shelf {
         &self.part
     }
 
-    /// The reply that the part would give (`Part::would_answer`), as an owner of its data, so that it stays when the part goes on. It
-    /// copies no name and no data. `Memory` comes only where these have as many owners as can be counted.
+    /// The reply that the part would give (`Part::would_answer`), as an owner of its data, so that
+    /// it stays when the part goes on. It copies no name and no data. `Memory` comes only where
+    /// these have as many owners as can be counted.
     pub fn would_answer(&self, ask: &Ask) -> Result<Reply, Refusal>
         ensures ok { IfOk result (λ reply. reply ≡ reply_to self.now.part.snapshot (past_of self.now.part) ask.now) }
         ensures memory { OnErr result (result ≡ Err Refusal.Memory) }
@@ -67,7 +69,8 @@ impl Shelf {
         Ok(self.part.would_answer(ask).to_owned()?)
     }
 
-    /// Hands out the closed chapters, the oldest first, and leaves none. The part goes on from the last of them. It takes no memory.
+    /// Hands out the closed chapters, the oldest first, and leaves none. The part goes on from the
+    /// last of them. It takes no memory.
     pub fn take_chapters(&mut self) -> Vec<Chapter>
         ensures chapters { result.items ≡ self.old.closed }
         ensures before { AreBefore result.items self.old.part }

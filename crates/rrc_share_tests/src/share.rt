@@ -49,8 +49,8 @@ fn close<R: Abort + Wait>(rt: &R, cache: &SharedCache) -> (usize, usize)
     (removed, cache.take_chapters(rt, 1).len())
 }
 
-/// Of a part that records: how many chapters are closed, the number of the one that is open, and how
-/// many events that has.
+/// Of a part that records: how many chapters are closed, the number of the one that is open, and
+/// how many events that has.
 fn stand(part: &CacheShelf) -> Option<(usize, u64, usize)> {
     match part.recorded() {
         Some(shelf) => {

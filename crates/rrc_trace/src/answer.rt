@@ -22,11 +22,13 @@ pub enum Answer {
     Refused(WireFault),
     /// The reply of a fetch that the cache answered.
     Hit(Reply),
-    /// The moment at which a fetch may be tried again, since it failed not long ago (RFC 8767 section 5).
+    /// The moment at which a fetch may be tried again, since it failed not long ago (RFC 8767
+    /// section 5).
     Held(u64),
     /// A fetch whose question another worker was fetching.
     Joined,
-    /// What became of the offers of the message that was fetched, in order, and the reply behind them.
+    /// What became of the offers of the message that was fetched, in order, and the reply behind
+    /// them.
     Fetched { told: Sequence<Told>, reply: Reply },
     /// How many keys a sweep removed from each part, in order.
     Swept(Sequence<usize>),

@@ -1,6 +1,6 @@
 // SPDX-License-Identifier: MIT
-//! The texts of the cache: traces of its operations, which are read, reports of their answers, which
-//! are written, and archives of its histories, which are both.
+//! The texts of the cache: traces of its operations, which are read, reports of their answers,
+//! which are written, and archives of its histories, which are both.
 #![tactic(auto)]
 
 mod answer;

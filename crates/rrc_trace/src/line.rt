@@ -14,7 +14,8 @@ pub struct Put {
     pub trust: Trust,
     /// The time to live as written, in seconds.
     pub ttl: u32,
-    /// The data in the order of the line, plain data of the type. Of the same data the first spelling stays.
+    /// The data in the order of the line, plain data of the type. Of the same data the first
+    /// spelling stays.
     pub items: Shared<RdataList>,
 }
 
@@ -39,7 +40,8 @@ pub struct Response {
     pub octets: Octets,
 }
 
-/// A question that a resolver fetches from servers of a zone where its cache has no answer, at a moment in seconds.
+/// A question that a resolver fetches from servers of a zone where its cache has no answer, at a
+/// moment in seconds.
 #[derive(Debug, Drop)]
 pub struct Fetch {
     pub moment: u64,

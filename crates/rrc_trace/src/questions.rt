@@ -8,12 +8,14 @@ use std::alloc::{AllocError, Global};
 use std::collections::BTreeMap;
 use std::marker::Model;
 
-/// The questions that lines fetch, each once, in the order in which they stand first. A question is a name, in whatever case it is
-/// written, a class and a type, and its number is its place. Contracts see the list of the questions.
+/// The questions that lines fetch, each once, in the order in which they stand first. A question is
+/// a name, in whatever case it is written, a class and a type, and its number is its place.
+/// Contracts see the list of the questions.
 #[derive(Debug, Drop)]
 pub struct Questions {
     keys: Vec<Key>,
-    /// The number of each question. It is a tree and no table of hashes, since who writes a trace picks its questions.
+    /// The number of each question. It is a tree and no table of hashes, since who writes a trace
+    /// picks its questions.
     numbers: BTreeMap<Key, usize>,
 }
 
@@ -49,7 +51,8 @@ impl Questions {
         }
     }
 
-    /// Adds the question that a line fetches, if it fetches one and that is new. An `Err` leaves all as it was.
+    /// Adds the question that a line fetches, if it fetches one and that is new. An `Err` leaves
+    /// all as it was.
     pub(crate) fn add(&mut self, line: &Line) -> Result<(), AllocError>
         ensures ok { OnOk result (self.new ≡ with_question self.old (fetched_by line.now)) }
         ensures err { OnErr result (self.new ≡ self.old) }
@@ -74,7 +77,8 @@ impl Questions {
         Ok(())
     }
 
-    /// The number of the question of a fetch, if it is one of these. It takes memory only to fold the name.
+    /// The number of the question of a fetch, if it is one of these. It takes memory only to fold
+    /// the name.
     pub fn number(&self, fetch: &Fetch) -> Result<Option<usize>, AllocError>
         ensures { IfOk result (λ number. number ≡ number_among self.now (question_of fetch.now)) }
     {

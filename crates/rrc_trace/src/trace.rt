@@ -4,9 +4,10 @@ use crate::questions::Questions;
 use rrc_name::Sequence;
 use std::marker::Model;
 
-/// The lines of a trace, in order: at most 1,000,000, which fetch at most 4,096 questions. Each has a moment of at most 2^40 seconds, and a type that it names is one that
-/// is kept. A put has 1 to 256 data, each of them plain data of its type, as `plain_rdata` takes them, and no two of them the same by
-/// `same_rdata`. Contracts see the list of lines.
+/// The lines of a trace, in order: at most 1,000,000, which fetch at most 4,096 questions. Each has
+/// a moment of at most 2^40 seconds, and a type that it names is one that is kept. A put has 1 to
+/// 256 data, each of them plain data of its type, as `plain_rdata` takes them, and no two of them
+/// the same by `same_rdata`. Contracts see the list of lines.
 #[derive(Debug, Drop)]
 pub struct Trace {
     pub lines: Sequence<Line>,

@@ -12,8 +12,8 @@ use crate::name::read_wire;
 use crate::source::Source;
 use rrc_name::Octets;
 
-/// So many names one after another in the data of a record, which end at `end`, behind the data before them; and the place
-/// behind them.
+/// So many names one after another in the data of a record, which end at `end`, behind the data
+/// before them; and the place behind them.
 fn read_names(
     source: &mut Source<'_>,
     names: u8,
@@ -63,8 +63,8 @@ fn read_laid_out(
     Ok(data)
 }
 
-/// The data from `place` to `end` of a kept record, with the names in them expanded, so that they are
-/// plain data of its type. There are as many as RDLENGTH tells, which has 16 bits.
+/// The data from `place` to `end` of a kept record, with the names in them expanded, so that they
+/// are plain data of its type. There are as many as RDLENGTH tells, which has 16 bits.
 pub(crate) fn read_data(
     source: &mut Source<'_>,
     rtype: u16,

@@ -2,8 +2,8 @@
 use std::alloc::{AllocError, AllocFailed};
 use thiserror::Error;
 
-/// Why octets are not a response. The first fault is answered: of the size, then of the header, then of the question and the records
-/// field by field. The variants stand by their numbers.
+/// Why octets are not a response. The first fault is answered: of the size, then of the header,
+/// then of the question and the records field by field. The variants stand by their numbers.
 #[derive(Clone, Copy, Debug, PartialEq, Eq, Hash, Error)]
 pub enum WireFault {
     #[error("the message ends too soon")]

@@ -7,7 +7,8 @@ ghost use Rattle.rrc_wire.specs.Header.{header_of, fields_of, flag};
 use crate::fault::WireFault;
 use crate::field::word_at;
 
-/// The header of a response with one question (RFC 1035 section 4.1.1). Its counts are those of the three sections.
+/// The header of a response with one question (RFC 1035 section 4.1.1). Its counts are those of the
+/// three sections.
 #[derive(Clone, Copy)]
 pub(crate) struct Header {
     pub(crate) id: u16,

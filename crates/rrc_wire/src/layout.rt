@@ -28,8 +28,8 @@ fn row(before: u8, names: u8, behind: u8) -> Option<Layout>
     })
 }
 
-/// The layout of a type whose data hold names (RFC 1035 section 3.3, RFC 1183, RFC 2163 and RFC 2782), or `None` where they are
-/// opaque octets.
+/// The layout of a type whose data hold names (RFC 1035 section 3.3, RFC 1183, RFC 2163 and RFC
+/// 2782), or `None` where they are opaque octets.
 #[tactic(auto, unfolding(crate::specs::Layout::layout_of))]
 pub(crate) fn layout_of(rtype: u16) -> Option<Layout>
     ensures { option_map as_layout result ≡ layout_of rtype }
@@ -58,16 +58,17 @@ fn is_kept_type(rtype: u16) -> bool
     !matches!(rtype, 0 | 24 | 30 | 35 | 41 | 46 | 128..=255)
 }
 
-/// Whether records of a class are kept: IN (1), CH (3) and HS (4) (RFC 1035 section 3.2.4). It takes no memory.
+/// Whether records of a class are kept: IN (1), CH (3) and HS (4) (RFC 1035 section 3.2.4). It
+/// takes no memory.
 pub fn is_kept_class(class: u16) -> bool
     ensures { result ≡ is_kept_class class }
 {
     matches!(class, 1 | 3 | 4)
 }
 
-/// Whether records of a type are kept in a class: in IN (1) and HS (4) every type but 0, SIG (24), NXT (30), NAPTR (35), OPT (41),
-/// RRSIG (46), and the types 128 to 255 of questions and of messages; in CH (3) the same but A (1), whose data hold a name there. It
-/// takes no memory.
+/// Whether records of a type are kept in a class: in IN (1) and HS (4) every type but 0, SIG (24),
+/// NXT (30), NAPTR (35), OPT (41), RRSIG (46), and the types 128 to 255 of questions and of
+/// messages; in CH (3) the same but A (1), whose data hold a name there. It takes no memory.
 pub fn is_kept(rtype: u16, class: u16) -> bool
     ensures { result ≡ is_kept rtype class }
 {

@@ -14,7 +14,8 @@ use crate::source::Source;
 use rrc_name::Sequence;
 use std::alloc::Global;
 
-/// A response of the DNS with one question (RFC 1035 section 4.1). Its sections have the kept records alone.
+/// A response of the DNS with one question (RFC 1035 section 4.1). Its sections have the kept
+/// records alone.
 #[derive(Debug, Drop, PartialEq, Eq)]
 pub struct Message {
     pub id: u16,
@@ -34,11 +35,12 @@ pub struct Message {
     pub additional: Sequence<Rr>,
 }
 
-/// The message that some octets begin with; those behind its last record are ignored. Records of a type that is not kept in their
-/// class are read over. The time is in proportion to the octets of the message and to those that its names expand to; chains of
-/// pointers cost no more.
+/// The message that some octets begin with; those behind its last record are ignored. Records of a
+/// type that is not kept in their class are read over. The time is in proportion to the octets of
+/// the message and to those that its names expand to; chains of pointers cost no more.
 ///
-/// The first fault in the order of reading is answered, or `Memory` where memory was refused before it.
+/// The first fault in the order of reading is answered, or `Memory` where memory was refused before
+/// it.
 pub fn read_message(alloc: Global, octets: &[u8]) -> Result<Message, WireFault>
     ensures ok { IfOk result (λ message. MessageOf octets.now message) }
     ensures err { IfErr result (λ fault. (fault ≡ WireFault.Memory) ⊎ FirstFault octets.now fault) }
@@ -46,14 +48,14 @@ pub fn read_message(alloc: Global, octets: &[u8]) -> Result<Message, WireFault>
     read_whole(alloc, octets)
 }
 
-/// The law of the reader: all octets either begin with one message and have no fault, or have one first fault and begin with
-/// no message.
+/// The law of the reader: all octets either begin with one message and have no fault, or have one
+/// first fault and begin with no message.
 pub fn one_message_or_fault()
     ensures { (octets : List ℕ) → BeginsWithMessage octets ⊎ HasFault octets }
 {}
 
-/// The law of pointers: a chain of them leads from each place to one last place, and a name stands at the first exactly where it
-/// stands at the last.
+/// The law of pointers: a chain of them leads from each place to one last place, and a name stands
+/// at the first exactly where it stands at the last.
 pub fn chains_lead_to_names()
     ensures { (message : List ℕ) (place : ℕ) → LeadsToName message place }
 {}

@@ -14,11 +14,13 @@ use rrc_name::{Name, Octets, Shared};
 /// Names with a pointer are read into room for so many octets at first, which is enough for most.
 const USUAL_SIZE: usize = 64;
 
-/// A name has at most so many octets in all (RFC 1035 section 2.3.4), and so it has fewer than half as many labels.
+/// A name has at most so many octets in all (RFC 1035 section 2.3.4), and so it has fewer than half
+/// as many labels.
 const MOST_SIZE: usize = 255;
 
-/// How much room to ask for where a name is read that begins at a place: that of its octets, where it has no pointer. It is only a
-/// guess, so that a name which is kept has no room to spare, and no reading rests on it.
+/// How much room to ask for where a name is read that begins at a place: that of its octets, where
+/// it has no pointer. It is only a guess, so that a name which is kept has no room to spare, and no
+/// reading rests on it.
 fn room_for_name(message: &[u8], place: usize) -> usize
     ensures { result ≤ 255 }
 {
@@ -37,8 +39,8 @@ fn room_for_name(message: &[u8], place: usize) -> usize
     USUAL_SIZE
 }
 
-/// The name whose first run begins at a place and may read up to the message's end, and the place behind the name. A pointer to
-/// the name that was read last shares it, and takes no memory.
+/// The name whose first run begins at a place and may read up to the message's end, and the place
+/// behind the name. A pointer to the name that was read last shares it, and takes no memory.
 pub(crate) fn read_name(source: &mut Source<'_>, place: usize) -> Result<(Name, usize), WireFault>
     ensures gives { Gives (λ read. read) result (name_at source.old (to_end source.old place)) }
     ensures within { IfOk result (λ read. read.1 ≤ length source.old) }
@@ -79,8 +81,8 @@ fn read_and_remember(source: &mut Source<'_>, place: usize) -> Result<(Name, usi
     Ok((name, behind))
 }
 
-/// The octets of the name whose first run is given, with the pointers in it followed, and the place behind it. A chain of pointers
-/// is one step.
+/// The octets of the name whose first run is given, with the pointers in it followed, and the place
+/// behind it. A chain of pointers is one step.
 pub(crate) fn read_wire(source: &mut Source<'_>, first: Run) -> Result<(Octets, usize), WireFault>
     requires { first.end ≤ length source.old }
     ensures gives { Gives (λ read. read) result (name_at source.old (as_run first)) }

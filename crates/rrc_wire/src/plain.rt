@@ -77,8 +77,9 @@ pub(crate) fn is_plain(rtype: u16, octets: &[u8]) -> bool
         }
 }
 
-/// The same octets, where they are plain data of a type: at most 65,535 of them that fill its layout, each name whole, of at most
-/// 255 octets and with no pointer (RFC 3597 section 4). Data of a type without a layout are any octets.
+/// The same octets, where they are plain data of a type: at most 65,535 of them that fill its
+/// layout, each name whole, of at most 255 octets and with no pointer (RFC 3597 section 4). Data of
+/// a type without a layout are any octets.
 ///
 /// `BadData` is answered where they are not, or `Memory` where memory was refused.
 pub fn plain_rdata(alloc: Global, rtype: u16, octets: &[u8]) -> Result<Octets, WireFault>
@@ -92,7 +93,8 @@ pub fn plain_rdata(alloc: Global, rtype: u16, octets: &[u8]) -> Result<Octets, W
     Ok(Octets::from_slice(alloc, octets)?)
 }
 
-/// The law of the data that are read: those of each kept record of a message are plain data of its type.
+/// The law of the data that are read: those of each kept record of a message are plain data of its
+/// type.
 pub fn read_data_are_plain()
     ensures { ReadsPlainData }
 {}

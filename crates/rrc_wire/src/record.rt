@@ -14,8 +14,8 @@ use rrc_name::{Name, Octets, Sequence};
 use std::alloc::AllocError;
 use std::marker::Model;
 
-/// A kept record (RFC 1035 section 4.1.3): its type is one that is kept in its class, and its data are
-/// plain data of that type, since the names in them are expanded.
+/// A kept record (RFC 1035 section 4.1.3): its type is one that is kept in its class, and its data
+/// are plain data of that type, since the names in them are expanded.
 #[derive(Debug, Drop, PartialEq, Eq)]
 pub struct Rr {
     pub owner: Name,

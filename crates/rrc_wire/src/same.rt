@@ -34,8 +34,9 @@ fn has_same_parts(layout: Layout, a: &[u8], b: &[u8]) -> bool
     before == other_before && names.eq_ignore_ascii_case(other_names) && behind == other_behind
 }
 
-/// Whether data of a type are the same: where both are plain, as `plain_rdata` takes them, the letters A to Z of their names are
-/// read as a to z (RFC 4343 section 3); every other octet has to be equal (RFC 3597 section 6). It takes no memory.
+/// Whether data of a type are the same: where both are plain, as `plain_rdata` takes them, the
+/// letters A to Z of their names are read as a to z (RFC 4343 section 3); every other octet has to
+/// be equal (RFC 3597 section 6). It takes no memory.
 pub fn same_rdata(rtype: u16, a: &[u8], b: &[u8]) -> bool
     ensures value { result ≡ same_rdata rtype a.now b.now }
     ensures meaning { IsTrue result ↔ IsSameRdata rtype a.now b.now }
@@ -65,9 +66,9 @@ fn lowered_by(alloc: Global, layout: Layout, octets: &[u8]) -> Result<Octets, Al
     Ok(Octets::from_vec(lowered))
 }
 
-/// The data with the letters A to Z of their names as a to z (RFC 4343 section 3), where they are plain, as `plain_rdata` takes them;
-/// all others stay as they are (RFC 3597 section 6). Data of a type are the same, as `same_rdata` has it, exactly where they are
-/// lowered to the same octets.
+/// The data with the letters A to Z of their names as a to z (RFC 4343 section 3), where they are
+/// plain, as `plain_rdata` takes them; all others stay as they are (RFC 3597 section 6). Data of a
+/// type are the same, as `same_rdata` has it, exactly where they are lowered to the same octets.
 pub fn lowered_rdata(alloc: Global, rtype: u16, octets: &[u8]) -> Result<Octets, AllocError>
     ensures { IfOk result (λ lowered. lowered ≡ lowered_rdata rtype octets.now) }
 {
@@ -77,8 +78,9 @@ pub fn lowered_rdata(alloc: Global, rtype: u16, octets: &[u8]) -> Result<Octets,
     }
 }
 
-/// The laws of sameness: the test in its definition tells which data are plain; plain data are lowered name by name, and stay
-/// plain; and of data of one type sameness is an equivalence, so which of the same data stands for them makes no difference.
+/// The laws of sameness: the test in its definition tells which data are plain; plain data are
+/// lowered name by name, and stay plain; and of data of one type sameness is an equivalence, so
+/// which of the same data stands for them makes no difference.
 pub fn laws_of_sameness()
     ensures plain { (rtype : ℕ) (octets : List ℕ) → IsTrue (is_plain rtype octets) ↔ IsPlain rtype octets }
     ensures lowered { LowersNames }

@@ -20,13 +20,14 @@ pub(crate) struct Standing {
     pub(crate) name: Name,
 }
 
-/// A message as it is read, where its chains of pointers end, and the name that was read last. Contracts see its octets.
+/// A message as it is read, where its chains of pointers end, and the name that was read last.
+/// Contracts see its octets.
 #[derive(Drop)]
 pub(crate) struct Source<'m> {
     alloc: Global,
     message: &'m [u8],
-    // For each place that a pointer can lead to, where its chain ends. It is empty until a chain of two pointers is met, so that
-    // most messages need none.
+    // For each place that a pointer can lead to, where its chain ends. It is empty until a chain of
+    // two pointers is met, so that most messages need none.
     ends: Vec<u16>,
     // Most owners are pointers to the name that was read before them.
     last: Option<Standing>,

@@ -1,6 +1,6 @@
 // SPDX-License-Identifier: MIT
-//! Replays a trace of cache operations from standard input by many workers, and writes its report to
-//! standard output; or audits the history that an archive on standard input tells.
+//! Replays a trace of cache operations from standard input by many workers, and writes its report
+//! to standard output; or audits the history that an archive on standard input tells.
 #![tactic(auto)]
 
 mod history;
@@ -41,7 +41,8 @@ fn no_text(rt: &impl Eprint) -> ExitCode {
     ExitCode::from(WRONG_ARGUMENTS)
 }
 
-/// A seed that nobody can foresee, so that names picked by whoever made the trace don't make its replay slow.
+/// A seed that nobody can foresee, so that names picked by whoever made the trace don't make its
+/// replay slow.
 fn random_seed(rt: &HostRuntime) -> io::Result<[u8; 16]> {
     let mut seed = [0; 16];
     rt.fill_bytes(&mut seed)?;

@@ -26,7 +26,8 @@ impl<'a, R: Clock> Progress<'a, R> {
         })
     }
 
-    /// Whether a second has passed since a line was told last. Of several threads one is answered so.
+    /// Whether a second has passed since a line was told last. Of several threads one is answered
+    /// so.
     fn is_due(&self) -> bool {
         let Ok(passed) = self.begun.elapsed(self.rt) else {
             return false;

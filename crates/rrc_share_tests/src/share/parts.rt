@@ -19,8 +19,8 @@ fn recorded<R: Abort + Wait>(rt: &R, cache: &SharedCache, ask: &Ask) -> Vec<Chap
     cache.release_part(rt, 1).expect(rt, "no chapters")
 }
 
-/// How many chapters part 1 has where nothing is recorded, after a checkpoint, and how many it hands
-/// out when it is to record nothing.
+/// How many chapters part 1 has where nothing is recorded, after a checkpoint, and how many it
+/// hands out when it is to record nothing.
 fn unrecorded<R: Abort + Wait>(rt: &R, cache: &SharedCache) -> (usize, usize)
     requires { 1 < cache.now }
 {

@@ -17,7 +17,8 @@ fn is_digit(octet: u8) -> bool
     matches!(octet, b'A'..=b'F' | b'a'..=b'f' | b'0'..=b'9')
 }
 
-/// Whether all octets are hexadecimal digits. There is no way out of its loop, so that it looks at many octets at a time.
+/// Whether all octets are hexadecimal digits. There is no way out of its loop, so that it looks at
+/// many octets at a time.
 fn are_digits(octets: &[u8]) -> bool
     ensures { IsTrue result ↔ AllPass is_hex_digit octets.now }
 {
@@ -28,7 +29,8 @@ fn are_digits(octets: &[u8]) -> bool
     all
 }
 
-/// The value of a hexadecimal digit. A letter of either case has bit 6, and its lowest four bits count from 1.
+/// The value of a hexadecimal digit. A letter of either case has bit 6, and its lowest four bits
+/// count from 1.
 fn value_of(digit: u8) -> u8
     requires { is_hex_digit digit ≡ true }
     ensures value { hex_digit_value digit ≡ Some result }
@@ -72,7 +74,8 @@ fn many_of(alloc: Global, digits: &[u8]) -> Result<Octets, AllocError>
     Ok(Octets::from_vec(octets))
 }
 
-/// The octets that hexadecimal digits of either case spell, or `None` where the octets are no such digits or an odd number of them.
+/// The octets that hexadecimal digits of either case spell, or `None` where the octets are no such
+/// digits or an odd number of them.
 pub(crate) fn decoded(alloc: Global, digits: &[u8]) -> Result<Option<Octets>, AllocError>
     ensures { IfOk result (λ found. found ≡ result_ok (decode_of digits.now)) }
 {

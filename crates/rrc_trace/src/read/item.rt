@@ -117,7 +117,8 @@ fn add_item(
     Ok(())
 }
 
-/// The items of a type that a field spells, 256 at most with repeats. Of the same data the first spelling stays.
+/// The items of a type that a field spells, 256 at most with repeats. Of the same data the first
+/// spelling stays.
 fn items_in(alloc: Global, rtype: u16, field: &[u8]) -> Result<Sequence<Octets>, LineFault>
     ensures { Gives (λ items. items) result (items_of rtype field.now) }
 {

@@ -242,7 +242,8 @@ fn bounded(octets: &[u8]) -> Result<&[u8], LineFault>
     }
 }
 
-/// The line of a piece of a trace, which ends with its LF or with the trace. A CR before an LF is dropped.
+/// The line of a piece of a trace, which ends with its LF or with the trace. A CR before an LF is
+/// dropped.
 pub(crate) fn line_of_piece(
     alloc: Global,
     names: &mut Names,

@@ -25,8 +25,8 @@ pub(crate) fn name_in(alloc: Global, field: &[u8]) -> Result<Name, LineFault>
     }
 }
 
-/// A field says the name that it spells, and where it spells none it says none (RFC 1035 section 5.1). The function does nothing; its
-/// contract is the law.
+/// A field says the name that it spells, and where it spells none it says none (RFC 1035 section
+/// 5.1). The function does nothing; its contract is the law.
 pub fn names_are_spelled()
     ensures { SaysWhatIsSpelled }
 {}

@@ -36,8 +36,8 @@ impl Model for Spelling {
     ghost invariant = { λ s. name_of s.field ≡ Some s.name };
 }
 
-/// The names that were read not long ago, each at the place that its field has: the lines of a trace are mostly about few names, and
-/// then share them.
+/// The names that were read not long ago, each at the place that its field has: the lines of a
+/// trace are mostly about few names, and then share them.
 #[derive(Drop)]
 pub(crate) struct Names {
     spellings: Vec<Option<Spelling>>,
@@ -54,8 +54,9 @@ fn places(alloc: Global, count: usize) -> Result<Vec<Option<Spelling>>, AllocErr
     Ok(spellings)
 }
 
-/// A number that differs for most fields. Fields of one number share a place in turn, and nothing else comes of it: a trace whose
-/// fields are picked to share one takes as long as one whose names are all different.
+/// A number that differs for most fields. Fields of one number share a place in turn, and nothing
+/// else comes of it: a trace whose fields are picked to share one takes as long as one whose names
+/// are all different.
 fn number_of(field: &[u8]) -> u64 {
     let mut hasher = FoldHasher::default();
     hasher.write(field);
@@ -86,7 +87,8 @@ impl Names {
         }
     }
 
-    /// Gives a spelling a place, and all names more places once as many were read as there are. Those that had one lose it then.
+    /// Gives a spelling a place, and all names more places once as many were read as there are.
+    /// Those that had one lose it then.
     fn keep(&mut self, alloc: Global, place: usize, spelling: Spelling) -> Result<(), AllocError> {
         let count = self.spellings.len();
         if self.read < count || count >= MOST_PLACES {

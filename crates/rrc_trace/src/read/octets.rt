@@ -33,7 +33,8 @@ pub(crate) fn message_at(alloc: Global, octets: &[u8]) -> Result<(Octets, &[u8])
     Ok((octets_in(alloc, field)?, rest))
 }
 
-/// The octets of a message that was fetched, or none where a dash stands, and the octets of the line behind them.
+/// The octets of a message that was fetched, or none where a dash stands, and the octets of the
+/// line behind them.
 pub(crate) fn fetched_at(alloc: Global, octets: &[u8]) -> Result<(Option<Octets>, &[u8]), LineFault>
     ensures { Gives (λ found. (found.0, found.1.now)) result (said_at fetched_of octets.now) }
 {

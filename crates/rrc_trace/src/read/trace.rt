@@ -57,8 +57,8 @@ fn cut(octets: &[u8]) -> (&[u8], bool)
     }
 }
 
-/// Moves octets from those ahead to a piece: to the first LF and with it, or all, but no more than one octet more than a line may
-/// have. Whether the LF came.
+/// Moves octets from those ahead to a piece: to the first LF and with it, or all, but no more than
+/// one octet more than a line may have. Whether the LF came.
 fn move_part(ahead: &mut Ahead, piece: &mut Vec<u8>) -> Result<bool, AllocError>
     requires some { 0 < length ahead.old }
     requires room { vec_len piece.old ≤ 140000 }
@@ -73,7 +73,8 @@ fn move_part(ahead: &mut Ahead, piece: &mut Vec<u8>) -> Result<bool, AllocError>
     Ok(ended)
 }
 
-/// Reads the next piece into a buffer: with its LF, or to the end, or one octet more than a line may have.
+/// Reads the next piece into a buffer: with its LF, or to the end, or one octet more than a line
+/// may have.
 fn piece_from<R: Read>(
     reader: &mut R,
     ahead: &mut Ahead,
@@ -108,7 +109,8 @@ fn count(questions: &mut Questions, line: &Line, number: u64) -> Result<(), Repl
     }
 }
 
-/// The line of a piece, which has this number. The question that it fetches is put to those before it.
+/// The line of a piece, which has this number. The question that it fetches is put to those before
+/// it.
 fn line_at(
     alloc: Global,
     names: &mut Names,
@@ -200,10 +202,11 @@ impl Reading {
 
 /// The trace that a reader gives, to its end.
 ///
-/// `BadLine(n)` where line n, from 0 on, is none; `TooManyQuestions(n)` where line n is one, and with it the lines so far fetch
-/// more than 4,096 questions; `TooManyLines` where an octet follows the millionth line, and none of the lines before it has a fault;
-/// `Read` where a read failed before a fault of the text was met. The first fault is answered. Octets behind a fault may have been
-/// read too.
+/// `BadLine(n)` where line n, from 0 on, is none; `TooManyQuestions(n)` where line n is one, and
+/// with it the lines so far fetch more than 4,096 questions; `TooManyLines` where an octet follows
+/// the millionth line, and none of the lines before it has a fault; `Read` where a read failed
+/// before a fault of the text was met. The first fault is answered. Octets behind a fault may have
+/// been read too.
 pub fn read_trace<R: Read>(alloc: Global, reader: &mut R) -> Result<Trace, ReplayFault>
     ensures ok { IfOk result (IsTraceFrom (R.remaining reader.old)) }
     ensures whole { OnOk result (IsAtEnd (R.remaining reader.new)) }
@@ -217,8 +220,8 @@ pub fn read_trace<R: Read>(alloc: Global, reader: &mut R) -> Result<Trace, Repla
     })
 }
 
-/// Every text is the text of one list of lines, or it has one first fault, and never both. The function does nothing; its
-/// contract is the law.
+/// Every text is the text of one list of lines, or it has one first fault, and never both. The
+/// function does nothing; its contract is the law.
 pub fn one_trace_or_fault()
     ensures { OneTraceOrFault }
 {}

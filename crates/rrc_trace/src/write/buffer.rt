@@ -7,7 +7,8 @@ use std::marker::Model;
 /// So many octets are written at once, at most.
 const ROOM: usize = 4_096;
 
-/// Octets that wait to be written, at most 4,096. Their memory is reserved at first, and they never take more.
+/// Octets that wait to be written, at most 4,096. Their memory is reserved at first, and they never
+/// take more.
 #[derive(Drop)]
 pub(crate) struct Buffer {
     octets: Vec<u8>,

@@ -250,9 +250,10 @@ fn put_report<W: Write>(output: &mut Output<'_, W>, answers: &[Answer])
     }
 }
 
-/// Writes the text of a report, at most 4,096 octets at once, and flushes. `Memory` where room for so many is refused, before anything is
-/// written; then no memory is asked for any more. `Write` where a write or the flush failed, or a write took nothing; a beginning of the
-/// text went out then. Nothing that failed is tried again.
+/// Writes the text of a report, at most 4,096 octets at once, and flushes. `Memory` where room for
+/// so many is refused, before anything is written; then no memory is asked for any more. `Write`
+/// where a write or the flush failed, or a write took nothing; a beginning of the text went out
+/// then. Nothing that failed is tried again.
 pub fn write_report<W: Write>(
     alloc: Global,
     writer: &mut W,

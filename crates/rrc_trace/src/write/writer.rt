@@ -6,8 +6,8 @@ ghost use Rattle.rrc_trace.specs.Writer.{AppendsFront};
 use crate::fault::ReplayFault;
 use std::io::Write;
 
-/// Writes octets. `Write` where a write failed or took nothing; a beginning of the octets went out then. Nothing that failed is
-/// tried again.
+/// Writes octets. `Write` where a write failed or took nothing; a beginning of the octets went out
+/// then. Nothing that failed is tried again.
 pub(crate) fn write_out<W: Write>(writer: &mut W, octets: &[u8]) -> Result<(), ReplayFault>
     ensures ok { OnOk result (Appends (W.contents writer.old) (W.contents writer.new) octets.now) }
     ensures err { OnErr result (result ≡ Err ReplayFault.Write) }
