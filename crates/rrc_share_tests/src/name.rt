@@ -1,5 +1,6 @@
 // SPDX-License-Identifier: MIT
 mod names;
+mod rdata_lists;
 mod sequences;
 
 use rrc_name::Name;
