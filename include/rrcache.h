@@ -5,8 +5,9 @@
    history. A resolver makes 16 to 64 of them, each with a lock beside it, and picks the one for a
    name by `rrcache_part_of`: all that is known of a name lies in one part, in whatever case the
    name is written. Which part that is goes by a hash under a secret seed (`struct rrcache_parts`),
-   so that nobody else can pick names of one part, to fill it and keep its lock busy. With more
-   shelves fewer threads wait for one lock; one shelf with no lock will do where one thread asks.
+   which is to keep others from picking names of one part, to fill it and keep its lock busy. With
+   more shelves fewer threads wait for one lock; one shelf with no lock will do where one thread
+   asks.
 
    Who owns what
    - The caller owns the handle, the lock and each buffer, and no call keeps a pointer to any of
@@ -32,25 +33,25 @@
      `rrcache_free_chapters`, takes no shelf, and needs none: the shelf may be called or freed
      meanwhile. Of a handle of chapters the same is true: one call at a time.
    - `rrcache_fault` and `rrcache_part_of` take no handle and need no lock.
-   - No call waits, sleeps or takes a lock, and none calls back but `rrcache_write_line` and
-     `rrcache_write_chapter`, which call the sink that they are handed. None may be made in a signal
-     handler, nor in the child of a process with threads that forked.
+   - No call waits, sleeps or takes a lock, unless malloc or free does, and none calls back but
+     `rrcache_write_line` and `rrcache_write_chapter`, which call the sink that they are handed.
+     None may be made in a signal handler, nor after a fork in the child of a process with threads.
 
    Memory
-   - The library calls malloc, realloc and free and nothing else. Where malloc refuses, the call
-     returns RRCACHE_MEMORY.
+   - The library takes memory by malloc and realloc alone, and gives it back by free. Where they
+     refuse, the call returns RRCACHE_MEMORY.
    - What a reply says is copied into the caller's buffer.
 
    What a refusal leaves
-   - Every call returns a status. RRCACHE_DONE is 0; each other one is a refusal, and nothing ends
-     the process.
+   - Every call but `rrcache_version` returns a status. RRCACHE_DONE is 0; each other one is a
+     refusal, and nothing ends the process.
    - A refusal leaves the shelf's history and its replies as they were; while the history is
      recorded, a chapter that was full may have been closed. `rrcache_offer_message`,
      `rrcache_offer_part`, `rrcache_offer_read` and `rrcache_sweep_some` alone may leave a part of
      their work: the offers of one message, and the sweeps of one call, are made one after another,
-     and where one is refused, those before it stay. `counts`, and of the last `removed`, tells how
-     many they are. Of what `rrcache_write_chapter` and `rrcache_write_line` write, a beginning may
-     have been written.
+     and where one is refused, those before it stay. `counts` tells how many offers these are, and
+     `removed` how many keys they removed. Of what `rrcache_write_chapter` and `rrcache_write_line`
+     write, a beginning may have been written.
    - Chapters that were to be taken stay in their shelf, and a record that was to end goes on.
    - What a call was to write for the caller is as it was after a refusal, but for `counts`, for
      `removed` and `is_done` of `rrcache_sweep_some`, and for `told` and `is_alias` after
@@ -62,24 +63,25 @@
      shelves reads the message once, by `rrcache_read_response` or `rrcache_read_message` and under
      no lock, which tells the shelves that it concerns. For each of these it calls
      `rrcache_offer_read` with that shelf's number, counted from 0, under that shelf's lock. Each
-     call keeps what the message says of names in that shelf and nothing else, so that all calls
-     together keep all that it says, and each name's data lie where `rrcache_part_of` leads with the
-     same `struct rrcache_parts`. A shelf of whose names the message tells nothing gets no event.
+     call offers what the message says of names in that shelf and nothing else, so that all calls
+     together offer all that was read, and each name's data lie where `rrcache_part_of` leads with
+     the same `struct rrcache_parts`. A shelf of whose names the message tells nothing gets no
+     event.
    - `rrcache_offer_part` does the same in one call for each shelf, and reads the whole message
      anew, under that shelf's lock. That will do for one shelf's share alone.
    - A CNAME record is then followed from shelf to shelf: one `rrcache_ask_alias` for each name,
-     under the lock of that name's shelf. How many are followed the caller bounds, which ends loops
+     under the lock of that name's shelf. The caller bounds how many are followed, which ends loops
      too; each RRset on the way has a time to live of its own.
-   - `rrcache_offer_message` keeps all in the one shelf that it is given. That will do where there
+   - `rrcache_offer_message` offers all to the one shelf that it is given. That will do where there
      is one shelf alone.
 
    What may be offered
    - `rrcache_read_response` takes of a message only what is relevant to the query that the resolver
      sent, and refuses one with another identifier or question. That is the call for what comes from
-     servers. By which address and port it came the caller finds out.
-   - Each other call reads a message by itself, and takes all that it says within the zone. Whether
-     it is the response to a query, by the addresses and ports, the identifier and the question, the
-     caller finds out before it offers it: nothing is compared with anything.
+     servers. The caller checks from which address and port it came.
+   - Each other call reads a message by itself, and takes all that it says within the zone. It does
+     not compare it with a query: the caller checks addresses and ports, the identifier and the
+     question before it offers the message.
    - A message that was truncated, with TC set (0x02 of the third octet), offers nothing (RFC 2181
      section 9). Where it can be read RRCACHE_DONE is returned, `counts` is all 0 and no event is
      written. Where it ends within a record it is RRCACHE_BAD_MESSAGE, as it is without TC. So
@@ -123,12 +125,12 @@
      chapter and of one with more touches and removals than keys at its beginning. No name and no
      data are copied, and no event. A chapter should have about as many events as the shelf has
      keys.
-   - Whoever records takes the closed chapters out from time to time, by `rrcache_take_chapters`, or
-     drops them, by `rrcache_drop_chapters`. To take them is one step, however many they are. To
-     drop them frees each of their events, one by one, and each of the copied entries that nothing
-     else holds. So its time goes with the events that were written since the last time, and it is
-     spent under the lock as well: it is short where chapters are dropped often.
-     `rrcache_free_chapters` frees the same under no lock.
+   - A caller that records takes the closed chapters out from time to time, by
+     `rrcache_take_chapters`, or drops them, by `rrcache_drop_chapters`. To take them is one step,
+     however many they are. To drop them frees each of their events, one by one, and each of the
+     copied entries that nothing else holds. So its time goes with the events that were written
+     since the last time, and it is spent under the lock as well: it is short where chapters are
+     dropped often. `rrcache_free_chapters` frees the same under no lock.
    - `rrcache_write_chapter` writes a chapter that was taken as text: a line for what it begins
      with, for each key that was held then, and for each event. All chapters of one record, written
      one behind another as they were taken, are an archive, which `rrcache --audit-history` judges.
@@ -141,15 +143,15 @@
      events a second that is after 146 years.
 
    Which refusal is told
-   - Where more than one is due, the first of these, of which each call has some: RRCACHE_NULL;
-     RRCACHE_NO_SHELF or RRCACHE_HAS_SHELF; RRCACHE_NO_OFFERS or RRCACHE_HAS_OFFERS;
+   - Where more than one is due, the first of this list is told. Each call has some of them:
+     RRCACHE_NULL; RRCACHE_NO_SHELF or RRCACHE_HAS_SHELF; RRCACHE_NO_OFFERS or RRCACHE_HAS_OFFERS;
      RRCACHE_NO_CHAPTERS or RRCACHE_HAS_CHAPTERS; RRCACHE_NO_LINE; RRCACHE_SINK;
      RRCACHE_BAD_RULES; RRCACHE_BAD_SEED; RRCACHE_BAD_LIMITS; RRCACHE_BAD_CHOICE; RRCACHE_BAD_TYPE;
      RRCACHE_BAD_NAME; RRCACHE_BAD_MESSAGE or RRCACHE_BAD_DATA; RRCACHE_OTHER_QUERY;
      RRCACHE_WRONG_BODY; RRCACHE_WIDE; RRCACHE_SMALL; RRCACHE_HISTORY_FULL;
      RRCACHE_MOMENT_TOO_LARGE.
-   - RRCACHE_MEMORY is told where malloc refuses on this way: behind what was found before, and in
-     place of what would have been found later.
+   - RRCACHE_MEMORY is told where malloc refuses while a call tests these: in place of those that
+     the call would have found later.
    - A message meets RRCACHE_HISTORY_FULL and RRCACHE_MOMENT_TOO_LARGE with its first offer. One
      that offers nothing is RRCACHE_DONE, also where numbers are spent, and whatever its moment is.
 
@@ -161,9 +163,8 @@
    buffers that do not overlap. The inline functions below return RRCACHE_NULL where a pointer is
    null that may not be, and where what the call writes, the handle too, overlaps any octets that it
    is handed; what is only read may overlap, and a struct that is handed in is read before anything
-   is written. Else they call them. That a handle was made by
-   zeros, that no two threads are in it, and that buffers lie where they are said to, no test finds
-   out. */
+   is written. Otherwise they call them. No test can tell whether a handle began as zeros, whether
+   two threads are in it, and whether buffers lie where they are said to. */
 #ifndef RRCACHE_H
 #define RRCACHE_H
 
@@ -306,7 +307,8 @@ struct rrcache_counts {
                          offer is an event, and no call is refused for it */
 };
 
-/* What a shelf holds of a name, a type and a class: a set, or that the name has no such data. A
+/* What a shelf holds of a name, a type and a class: a set, or that the name has no such data. That
+   the name does not exist is not told here, and does not hide a set that the shelf still holds. A
    resolver that renews data before their time is over (prefetch) sees here how much of it is left:
    `ttl` seconds from `moment` on. */
 struct rrcache_stored {
@@ -537,9 +539,9 @@ static inline bool rrcache_holds(const struct rrcache_shelf *shelf, const void *
    events in a chapter, and sets that may answer for 0 to 604,800 seconds past their time to live.
    It records none of its history until `rrcache_record` is called, and till then no chapter is
    full. Names are hashed by SipHash-1-3 under the seed of 16 octets. Let it be random and keep it
-   secret: then nobody can pick names whose hashes are alike, which would make calls slow. Where the
-   handle holds a shelf RRCACHE_HAS_SHELF is returned, whatever the rules are, and that shelf is as
-   it was. */
+   secret, to keep others from picking names whose hashes are alike, which would make calls slow.
+   Where the handle holds a shelf RRCACHE_HAS_SHELF is returned, whatever the rules are, and that
+   shelf is as it was. */
 static inline enum rrcache_status rrcache_make(struct rrcache_shelf *shelf, uint64_t capacity,
                                                uint64_t chapter, uint64_t stale,
                                                const uint8_t seed[16])
@@ -617,8 +619,8 @@ static inline enum rrcache_status rrcache_offer_message(struct rrcache_shelf *sh
 }
 
 /* Offers what a response says of the names that lie in one of so many parts, counted from 0
-   (`rrcache_part_of`): that of `rrcache_offer_message`, but for what lies in other parts, which is
-   neither offered nor counted. */
+   (`rrcache_part_of`): of what `rrcache_offer_message` offers, what lies in that part. What lies in
+   other parts is neither offered nor counted. */
 static inline enum rrcache_status rrcache_offer_part(struct rrcache_shelf *shelf,
                                                      const struct rrcache_response *response,
                                                      const struct rrcache_parts *parts,
@@ -674,19 +676,20 @@ static inline enum rrcache_status rrcache_read_message(struct rrcache_offers *of
         division.seed, sizeof division.seed, response->moment, &limits, concerned);
 }
 
-/* Reads a response as `rrcache_read_message` does, and of its offers only those that are relevant
-   to the query that was sent, with this identifier for the name, type and class of `query`, of
-   which nothing else is looked at. A response with another identifier or question (in which the
-   case of letters counts for nothing) is RRCACHE_OTHER_QUERY.
+/* Reads a response as `rrcache_read_message` does, but keeps in the handle only those of its offers
+   that are relevant to the query that was sent: with this identifier, for the name, type and class
+   of `query`, whose other fields are not read. A response with another identifier or question (in
+   which the case of letters counts for nothing) is RRCACHE_OTHER_QUERY.
 
    Relevant are: of the answer section, RRsets of the name and of at most 11 names that CNAME
-   records lead to from it, of the type that was asked for or CNAME, and DNAME records above them;
-   of the authority section, the first NS, SOA and DS set of a zone that the last name is in; of
-   the additional section, addresses of at most 20 names that NS, MX and SRV records among these
-   name; and the negative answer, or that asking failed. Of class IN an address has 4 octets with
-   type A and 16 with AAAA. No set of more than 16,384 octets is relevant. So a server of `example`
-   that is asked for one name can replace what is held of another one only where it leads the
-   question there by CNAME records, or names it as a host or a zone of its answer. */
+   records lead to from it, of the type that was asked for (any type, where that is ANY) or CNAME,
+   and DNAME records above them; of the authority section, the first NS, SOA and DS set of a zone
+   that the last name is in; of the additional section, addresses of at most 20 names that NS, MX
+   and SRV records among these name; and the negative answer, or that asking failed. Of class IN an
+   address has 4 octets with type A and 16 with AAAA. No set with more than 16,384 octets of data is
+   relevant. So a server of `example` that is asked for one name can replace what is held of another
+   one only where it leads the question there by CNAME records, names it as a host of its answer, or
+   offers NS, SOA, DS or DNAME records of a name above the question's or above one of those. */
 static inline enum rrcache_status
 rrcache_read_response(struct rrcache_offers *offers, const struct rrcache_response *response,
                       const struct rrcache_query *query, uint16_t id,
@@ -710,9 +713,10 @@ rrcache_read_response(struct rrcache_offers *offers, const struct rrcache_respon
 }
 
 /* Offers a shelf what was read of the names that lie in a part, counted from 0 and below the number
-   of parts that the message was read for: that of `rrcache_offer_part`, and nothing is read. The
-   offers stay in their handle, so that a part may be offered again, and what the shelf keeps of
-   them outlives the handle. No name and no data are copied. */
+   of parts that the message was read for. After `rrcache_read_message` that is what
+   `rrcache_offer_part` offers, without reading the message again. The offers stay in their handle,
+   so that a part may be offered again, and what the shelf keeps of them outlives the handle. No
+   name and no data are copied. */
 static inline enum rrcache_status rrcache_offer_read(struct rrcache_shelf *shelf,
                                                      struct rrcache_offers *offers, uint64_t part,
                                                      uint64_t line, struct rrcache_counts *counts)
@@ -847,8 +851,9 @@ static inline enum rrcache_status rrcache_peek(struct rrcache_shelf *shelf,
 }
 
 /* Tells how far what the shelf holds of the name, type and class of a query is trusted, its time to
-   live and when it was stored, whether it is past its time or not. A name that does not exist holds
-   nothing of its types. No event is written and no key touched. */
+   live and when it was stored, whether it is past its time or not. That the name does not exist is
+   not told, also where an ask is answered so: a set that the shelf still holds is told, or zeros.
+   No event is written and no key touched. */
 static inline enum rrcache_status rrcache_tell_stored(struct rrcache_shelf *shelf,
                                                       const struct rrcache_query *query,
                                                       struct rrcache_stored *stored)
@@ -928,11 +933,12 @@ static inline enum rrcache_status rrcache_next_expiry(struct rrcache_shelf *shel
     return (enum rrcache_status)rrc_next_expiry(shelf, moment);
 }
 
-/* Sweeps in steps, so that no call is long: at each moment up to this one at which a key died, from
-   the earliest on, until `most` keys or more are removed, or `most` sweeps made. It tells how many
-   keys were removed, and whether none is left that was dead. Each step is a sweep of its own, which
-   is one event. Keys that die in one second go in one step. What the steps before a refusal removed
-   stays removed, and is told. */
+/* Sweeps in steps, so that no call is long: at each moment up to this one that
+   `rrcache_next_expiry` tells, from the earliest on, until `most` keys or more are removed, or
+   `most` sweeps made. It tells how many keys were removed, and whether no key is left that is dead
+   at this moment. Each step is a sweep of its own, which is one event, and may remove no key. Keys
+   that die in one second go in one step. What the steps before a refusal removed stays removed, and
+   is told. */
 static inline enum rrcache_status rrcache_sweep_some(struct rrcache_shelf *shelf, uint64_t moment,
                                                      uint64_t most, uint64_t line,
                                                      uint64_t *removed, bool *is_done)
