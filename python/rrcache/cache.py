@@ -40,9 +40,10 @@ class Cache:
             return shelf.ask(name, rtype, moment, **more)
 
     def follow(self, name: Name, rtype: int, moment: int, **more: Any) -> list[Reply]:
-        """The reply to a question, or where the name is an alias those along the chain: a CNAME
-        record's for each alias, at most 16, and last what the chain ends with (RFC 1034 section
-        3.6.2). A chain that is longer, or leads back, ends with its last alias."""
+        """The reply to a question, or where that is a miss and the name is an alias those along the
+        chain: a CNAME record's for each alias, and last what the chain ends with (RFC 1034 section
+        3.6.2). They are at most 16; those of a chain that has more, or leads back, end with an
+        alias. Each ask is one event."""
         replies: list[Reply] = []
         seen = set()
         while True:
@@ -72,7 +73,8 @@ class Cache:
         return total
 
     def sweep(self, moment: int) -> int:
-        """Sweeps each part, one after another, and tells how many keys were removed."""
+        """Sweeps each part, one after another, and tells how many keys were removed. Of a history
+        that is recorded the closed chapters of each part are dropped."""
         removed = 0
         for lock, shelf in self._shelves:
             with lock:

@@ -66,7 +66,7 @@ class Key:
 
 @dataclass(frozen=True)
 class RRset:
-    """All records of one owner and type. The owner is spelled as it was received.
+    """All records of one owner, class and type. The owner is spelled as it was received.
 
     >>> RRset(Rank.AUTHORITY, 60, "www.Example.", (bytes([192, 0, 2, 1]),)).data[0].hex()
     'c0000201'

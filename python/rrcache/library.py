@@ -100,8 +100,8 @@ def fault(message: bytes) -> int:
 
 
 def part_of(name: str | bytes, parts: int, seed: bytes) -> int:
-    """In which of 1 to 64 parts all keys of a name lie. Who does not know the seed, of 16 random
-    octets, cannot pick names of one part.
+    """In which of 1 to 64 parts all keys of a name lie. The seed, 16 random octets, is to keep
+    others from picking names of one part.
 
     >>> seed = os.urandom(16)
     >>> part_of("WWW.example.", 16, seed) == part_of("www.example.", 16, seed)

@@ -37,8 +37,8 @@ class Status(IntEnum):
 
 
 class Refused(Exception):
-    """A call was refused, and left all as it was, but that of a message some offers may have been
-    made: `counts` has these."""
+    """A call was refused, and left what is held and the history as they were. Only of a message
+    some offers may have been made: `counts` has these."""
 
     status: Status
     reason = "refused"

@@ -101,8 +101,8 @@ class Shelf:
 
     def offer_message(self, message: bytes, zone: Name, moment: int, limits: Limits = Limits(),
                       line: int = 0) -> Counts:
-        """Offers all that a response from servers of a zone says. Whether it is the response to a
-        query that was sent is for the caller to find out."""
+        """Offers all that a response from servers of a zone says within that zone. The caller
+        checks before that it is the response to a query that was sent."""
         return self._offer("rrc_offer_message", *sized(message), *sized(to_wire(zone)), moment,
                            (c_uint32 * 3)(*limits), line)
 
@@ -164,8 +164,9 @@ class Shelf:
         return self._reply("rrc_peek", *sized(to_wire(name)), rtype, rclass, moment, purpose, mode)
 
     def stored(self, name: Name, rtype: int, rclass: Class | int = Class.IN) -> Stored | None:
-        """What the shelf holds of a name and a type, past its time or not: its rank, its TTL when
-        it was stored, and that moment. So a resolver sees when data are to be renewed."""
+        """What the shelf holds of a name and a type, an RRset or that there is none, past its time
+        or not: its rank, its TTL when it was stored, and that moment. So a resolver sees when data
+        are to be renewed. That the name does not exist is not told here."""
         held = StoredNumbers()
         call("rrc_stored", self._handle, *sized(to_wire(name)), rtype, rclass, byref(held))
         return Stored(Rank(held.rank), held.ttl, held.moment) if held.rank else None
@@ -177,15 +178,16 @@ class Shelf:
         return told("rrc_sweep", c_uint64, self._handle, moment, line)
 
     def next_expiry(self) -> int | None:
-        """A moment before which no key is dead, the earliest at which a sweep may remove one; None
-        where the shelf holds no key."""
+        """A moment before which no key is dead, so that no sweep before it removes one; a sweep at
+        it may remove none. It is None where the shelf holds no key."""
         moment = told("rrc_next_expiry", c_uint64, self._handle)
         return None if moment == 2 ** 64 - 1 else moment
 
     def sweep_some(self, moment: int, most: int, line: int = 0) -> tuple[int, bool]:
-        """Sweeps in steps, at each moment up to this one at which a key died, from the earliest on,
-        until `most` keys or more are removed, or `most` sweeps made. It tells how many keys were
-        removed, and whether none is left that was dead."""
+        """Sweeps in steps, at each moment up to this one that `next_expiry` tells, from the
+        earliest on, until `most` keys or more are removed, or `most` sweeps made. It tells how many
+        keys were removed, and whether none is left that is dead. Where a step is refused that is
+        raised, and what the steps before it removed stays removed."""
         removed = 0
         for _ in range(most):
             due = self.next_expiry()
