@@ -28,3 +28,5 @@ pub mod CancelEvents
 pub mod CancelChapters
 pub mod HeldLemmas
 pub mod ArchiveLemmas
+pub mod CountLemmas
+pub mod WrittenLemmas

@@ -23,18 +23,18 @@ use Rattle.rrc_trace.proofs.SaidLemmas.{said_first, said_last}
 use Rattle.rrc_trace.proofs.SearchLemmas.{position-cons}
 
 -- a decimal digit has a value of at most 9
-record HasValue (digit : ℕ) : Type 0 where
-  small : digit - 48 ≤ 9
-  same : 48 + (digit - 48) ≡ digit
+pub record HasValue (digit : ℕ) : Type 0 where
+  pub small : digit - 48 ≤ 9
+  pub same : 48 + (digit - 48) ≡ digit
 
-digit-value : (digit : ℕ) → is_ascii_digit digit ≡ true → HasValue digit
+pub digit-value : (digit : ℕ) → is_ascii_digit digit ≡ true → HasValue digit
 digit-value digit is =
     let within = and_parts (nat_le 48 digit) (nat_le digit 57) is in
     let low : 48 ≤ digit = leb-true 48 digit within.0 in
     let high : digit ≤ 57 = leb-true digit 57 within.1 in
     record { small = omega (arith, low, high); same = omega (arith, low) }
 
-value-digit : (value : ℕ) → value ≤ 9 → is_ascii_digit (48 + value) ≡ true
+pub value-digit : (value : ℕ) → value ≤ 9 → is_ascii_digit (48 + value) ≡ true
 value-digit value small =
     and_from (nat_le 48 (48 + value)) (nat_le (48 + value) 57) (le-leb 48 (48 + value) (omega arith)) (le-leb (48 + value) 57 (omega (arith, small)))
 
@@ -93,11 +93,11 @@ spelled-number digits number (digit_more {digits = front} {number = before} {val
     number-more front before value (spelled-number front before spells) small
 
 -- a number that is not too large
-record IsWithin (most : ℕ) (number : Option ℕ) (value : ℕ) : Type 0 where
-  is : number ≡ Some value
-  few : value ≤ most
+pub record IsWithin (most : ℕ) (number : Option ℕ) (value : ℕ) : Type 0 where
+  pub is : number ≡ Some value
+  pub few : value ≤ most
 
-at_most-says : (most : ℕ) (number : Option ℕ) (value : ℕ) → at_most most number ≡ Some value → IsWithin most number value
+pub at_most-says : (most : ℕ) (number : Option ℕ) (value : ℕ) → at_most most number ≡ Some value → IsWithin most number value
 at_most-says most None value said = absurd cc
 at_most-says most (Some number) value said = by (nat_le number most) refl
   where
@@ -107,7 +107,7 @@ at_most-says most (Some number) value said = by (nat_le number most) refl
         record { is = ap Some same; few = subst (λ n. n ≤ most) same (leb-true number most few) }
     by false few = let never : None ≡ Some value = rw few at said in absurd cc
 
-within-is : (most : ℕ) (number : Option ℕ) (value : ℕ) → number ≡ Some value → value ≤ most → at_most most number ≡ Some value
+pub within-is : (most : ℕ) (number : Option ℕ) (value : ℕ) → number ≡ Some value → value ≤ most → at_most most number ≡ Some value
 within-is most number value is few = rw (is, le-leb value most few) refl
 
 pub moment-says : (field : List ℕ) (moment : ℕ) → moment_of field ≡ Some moment → IsMoment field moment

@@ -14,6 +14,7 @@ pub mod Questions
 pub mod Lawful
 pub mod Report
 pub mod Archive
+pub mod ArchiveFields
 pub mod ArchiveLines
 pub mod ArchiveLaw
 pub mod Writer

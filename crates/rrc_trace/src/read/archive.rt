@@ -1,6 +1,8 @@
 // SPDX-License-Identifier: MIT
 ghost use Rattle.std.specs.Prelude.{◌≡◌, ◌++◌, ◌==◌, ◌<◌, length, position, IfOk, IfErr, IfSome, OnOk};
 ghost use Rattle.rrc_trace.specs.Archive.{archive_text};
+ghost use Rattle.rrc_trace.specs.ArchiveFields.{entry_of};
+ghost use Rattle.rrc_trace.specs.Gives.{Gives};
 ghost use Rattle.rrc_trace.specs.ArchiveLaw.{OneArchive, IsOnlyArchive, HoldsEntry, HoldsChapter};
 ghost use Rattle.std.specs.List.{AllByRecursion};
 ghost use Rattle.rrc_trace.specs.ArchiveLines.{HoldsSaid, IsFaultOfArchive, IsCutBehindLf};
@@ -38,8 +40,10 @@ fn head_in(octets: &[u8]) -> Result<Said, LineFault>
 }
 
 /// The entry of a line whose first word was `entry`.
+#[tactic(auto, unfolding(crate::specs::ArchiveFields::entry_of))]
 fn entry_in(alloc: Global, octets: &[u8]) -> Result<Entry, LineFault>
     ensures held { IfOk result HoldsEntry }
+    ensures exact { Gives (λ entry. entry) result (entry_of octets.now) }
 {
     let (number, rest) = count_at(octets)?;
     let (moment, rest) = count_at(rest)?;

@@ -1,8 +1,12 @@
 // SPDX-License-Identifier: MIT
-ghost use Rattle.std.specs.Prelude.{IfOk, OnOk};
+ghost use Rattle.std.specs.Prelude.{◌≡◌, ◌∷◌, ◌++◌, [], Some, IfOk, OnOk};
 ghost use Rattle.hex.specs.Hex.{IsBytes};
 ghost use Rattle.rrc_name.specs.Wire.{IsWireForm};
+ghost use Rattle.rrc_trace.specs.ArchiveFields.{with_written, data_of, source_at, positive_at, negative_at, failure_at, body_at};
 ghost use Rattle.rrc_trace.specs.ArchiveLaw.{IsNumber, HoldsItems, HoldsBody};
+ghost use Rattle.rrc_trace.specs.Fields.{said_at};
+ghost use Rattle.rrc_trace.specs.Gives.{Gives};
+ghost use Rattle.rrc_trace.specs.Octets.{octets_of};
 
 use crate::read::field::field_at;
 use crate::read::item::cut_at_comma;
@@ -14,7 +18,6 @@ use rrc_history::{Body, Trust};
 use rrc_name::{Name, Octets, RdataList, Sequence, Shared};
 use std::alloc::Global;
 
-/// Items in hexadecimal with a comma between two, one at least. Repeats are kept.
 /// Octets are below 256. The function does nothing.
 fn tell_octets(octets: &[u8])
     ensures { IsBytes octets.now }
@@ -25,23 +28,28 @@ fn tell_octets(octets: &[u8])
 /// Octets in hexadecimal, or a dash for none.
 fn item_in(alloc: Global, piece: &[u8]) -> Result<Octets, LineFault>
     ensures held { IfOk result IsBytes }
+    ensures exact { Gives (λ item. item) result (octets_of piece.now) }
 {
     let item = octets_in(alloc, piece)?;
     tell_octets(item.as_slice());
     Ok(item)
 }
 
+/// Puts the item of a piece behind the others.
 fn add_item(alloc: Global, items: &mut Sequence<Octets>, piece: &[u8]) -> Result<(), LineFault>
     requires { HoldsItems items.old }
     ensures held { OnOk result (HoldsItems items.new) }
+    ensures exact { Gives (λ _. items.new) result (with_written items.old piece.now) }
 {
     let item = item_in(alloc, piece)?;
     items.push(item)?;
     Ok(())
 }
 
+/// Items in hexadecimal with a comma between two, one at least. Repeats are kept.
 fn items_in(alloc: Global, field: &[u8]) -> Result<Sequence<Octets>, LineFault>
     ensures held { IfOk result HoldsItems }
+    ensures exact { Gives (λ items. items) result (data_of field.now) }
 {
     let mut items = Sequence::new(alloc);
     let mut rest = field;
@@ -51,11 +59,13 @@ fn items_in(alloc: Global, field: &[u8]) -> Result<Sequence<Octets>, LineFault>
                 add_item(alloc, &mut items, piece)?;
                 rest = more;
             }
-            None => break,
+            None => {
+                add_item(alloc, &mut items, rest)?;
+                return Ok(items);
+            }
         }
     }
-    add_item(alloc, &mut items, rest)?;
-    Ok(items)
+    Err(LineFault::NotOne)
 }
 
 /// The data of a set, and the octets behind them.
@@ -64,6 +74,7 @@ pub(crate) fn data_at(
     octets: &[u8],
 ) -> Result<(Shared<RdataList>, &[u8]), LineFault>
     ensures held { IfOk result (λ found. HoldsItems found.0) }
+    ensures exact { Gives (λ found. (found.0, found.1.now)) result (said_at data_of octets.now) }
 {
     let (field, rest) = field_at(octets)?;
     let items = RdataList::from_vec(items_in(alloc, field)?.into_vec());
@@ -73,6 +84,7 @@ pub(crate) fn data_at(
 /// The data of an SOA record, and the octets behind them.
 pub(crate) fn soa_at(alloc: Global, octets: &[u8]) -> Result<(Shared<Octets>, &[u8]), LineFault>
     ensures held { IfOk result (λ found. IsBytes found.0) }
+    ensures exact { Gives (λ found. (found.0, found.1.now)) result (said_at octets_of octets.now) }
 {
     let (field, rest) = field_at(octets)?;
     Ok((Shared::new(alloc, item_in(alloc, field)?)?, rest))
@@ -80,8 +92,10 @@ pub(crate) fn soa_at(alloc: Global, octets: &[u8]) -> Result<(Shared<Octets>, &[
 
 /// How far data are trusted, for how many seconds they live and whose they are, and the octets
 /// behind these.
+#[tactic(auto, unfolding(crate::specs::ArchiveFields::source_at))]
 fn source_at(alloc: Global, octets: &[u8]) -> Result<(Trust, u32, Name, &[u8]), LineFault>
     ensures held { IfOk result (λ found. IsNumber found.1 × IsWireForm found.2) }
+    ensures exact { Gives (λ found. (found.0, found.1, found.2, found.3.now)) result (source_at octets.now) }
 {
     let (trust, rest) = trust_at(octets)?;
     let (ttl, rest) = ttl_at(rest)?;
@@ -89,8 +103,10 @@ fn source_at(alloc: Global, octets: &[u8]) -> Result<(Trust, u32, Name, &[u8]), 
     Ok((trust, ttl, owner, rest))
 }
 
+#[tactic(auto, unfolding(crate::specs::ArchiveFields::positive_at))]
 fn positive_at(alloc: Global, octets: &[u8]) -> Result<(Body, &[u8]), LineFault>
     ensures held { IfOk result (λ found. HoldsBody found.0) }
+    ensures exact { Gives (λ found. (found.0, found.1.now)) result (positive_at octets.now) }
 {
     let (trust, ttl, owner, rest) = source_at(alloc, octets)?;
     let (items, rest) = data_at(alloc, rest)?;
@@ -103,8 +119,10 @@ fn positive_at(alloc: Global, octets: &[u8]) -> Result<(Body, &[u8]), LineFault>
     Ok((body, rest))
 }
 
+#[tactic(auto, unfolding(crate::specs::ArchiveFields::negative_at))]
 fn negative_at(alloc: Global, octets: &[u8]) -> Result<(Body, &[u8]), LineFault>
     ensures held { IfOk result (λ found. HoldsBody found.0) }
+    ensures exact { Gives (λ found. (found.0, found.1.now)) result (negative_at octets.now) }
 {
     let (trust, ttl, soa_owner, rest) = source_at(alloc, octets)?;
     let (soa, rest) = soa_at(alloc, rest)?;
@@ -117,16 +135,20 @@ fn negative_at(alloc: Global, octets: &[u8]) -> Result<(Body, &[u8]), LineFault>
     Ok((body, rest))
 }
 
+#[tactic(auto, unfolding(crate::specs::ArchiveFields::failure_at))]
 fn failure_at(octets: &[u8]) -> Result<(Body, &[u8]), LineFault>
     ensures held { IfOk result (λ found. HoldsBody found.0) }
+    ensures exact { Gives (λ found. (found.0, found.1.now)) result (failure_at octets.now) }
 {
     let (ttl, rest) = ttl_at(octets)?;
     Ok((Body::Failure { ttl }, rest))
 }
 
 /// What a key holds, or is to hold, and the octets behind it.
+#[tactic(auto, unfolding(crate::specs::ArchiveFields::body_at))]
 pub(crate) fn body_at(alloc: Global, octets: &[u8]) -> Result<(Body, &[u8]), LineFault>
     ensures held { IfOk result (λ found. HoldsBody found.0) }
+    ensures exact { Gives (λ found. (found.0, found.1.now)) result (body_at octets.now) }
 {
     let (word, rest) = field_at(octets)?;
     if word == b"set".as_slice() {

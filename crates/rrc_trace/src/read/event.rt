@@ -1,7 +1,10 @@
 // SPDX-License-Identifier: MIT
-ghost use Rattle.std.specs.Prelude.{IfOk, OnOk};
+ghost use Rattle.std.specs.Prelude.{◌≡◌, ◌∷◌, ◌++◌, [], Some, IfOk, OnOk};
 ghost use Rattle.std.specs.List.{AllByRecursion};
+ghost use Rattle.rrc_trace.specs.ArchiveFields.{tag_at, outcome_of, offer_at, evicted_of, offered_of, asked_of, with_key, keys_of, swept_of};
 ghost use Rattle.rrc_trace.specs.ArchiveLaw.{IsNumber, HoldsKey, HoldsTag, HoldsOffer, HoldsEvicted, HoldsEvent};
+ghost use Rattle.rrc_trace.specs.Fields.{said_at};
+ghost use Rattle.rrc_trace.specs.Gives.{Gives};
 
 use crate::read::body::body_at;
 use crate::read::field::{field_at, has_field};
@@ -15,8 +18,10 @@ use rrc_name::{Key, Sequence};
 use std::alloc::Global;
 
 /// What a caller calls a call by, and its moment, and the octets behind them.
+#[tactic(auto, unfolding(crate::specs::ArchiveFields::tag_at))]
 fn tag_at(octets: &[u8]) -> Result<(Tag, u64, &[u8]), LineFault>
     ensures held { IfOk result (λ found. HoldsTag found.0 × IsNumber found.1) }
+    ensures exact { Gives (λ found. (found.0, found.1, found.2.now)) result (tag_at octets.now) }
 {
     let (line, rest) = count_at(octets)?;
     let (place, rest) = count_at(rest)?;
@@ -24,7 +29,10 @@ fn tag_at(octets: &[u8]) -> Result<(Tag, u64, &[u8]), LineFault>
     Ok((Tag { line, place }, moment, rest))
 }
 
-fn outcome_at(octets: &[u8]) -> Result<(Outcome, &[u8]), LineFault> {
+/// What became of an offer, and the octets behind it.
+fn outcome_at(octets: &[u8]) -> Result<(Outcome, &[u8]), LineFault>
+    ensures { Gives (λ found. (found.0, found.1.now)) result (said_at outcome_of octets.now) }
+{
     let (word, rest) = field_at(octets)?;
     if word == b"kept".as_slice() {
         Ok((Outcome::Kept, rest))
@@ -38,8 +46,10 @@ fn outcome_at(octets: &[u8]) -> Result<(Outcome, &[u8]), LineFault> {
 }
 
 /// An offer, and the octets behind it.
+#[tactic(auto, unfolding(crate::specs::ArchiveFields::offer_at))]
 fn offer_at(alloc: Global, moment: u64, octets: &[u8]) -> Result<(Offer, &[u8]), LineFault>
     ensures held { IfOk result (λ found. HoldsOffer found.0) }
+    ensures exact { Gives (λ found. (found.0, found.1.now)) result (offer_at moment octets.now) }
 {
     let (key, rest) = key_at(alloc, octets)?;
     let (body, rest) = body_at(alloc, rest)?;
@@ -50,8 +60,10 @@ fn offer_at(alloc: Global, moment: u64, octets: &[u8]) -> Result<(Offer, &[u8]),
 }
 
 /// The key that was evicted, where the line does not end before it.
+#[tactic(auto, unfolding(crate::specs::ArchiveFields::evicted_of))]
 fn evicted_in(alloc: Global, octets: &[u8]) -> Result<Option<Key>, LineFault>
     ensures held { IfOk result HoldsEvicted }
+    ensures exact { Gives (λ evicted. evicted) result (evicted_of octets.now) }
 {
     if !has_field(octets) {
         return Ok(None);
@@ -61,8 +73,10 @@ fn evicted_in(alloc: Global, octets: &[u8]) -> Result<Option<Key>, LineFault>
 }
 
 /// The event of a line whose first word was `offer`.
+#[tactic(auto, unfolding(crate::specs::ArchiveFields::offered_of))]
 pub(crate) fn offered_in(alloc: Global, octets: &[u8]) -> Result<Event, LineFault>
     ensures held { IfOk result HoldsEvent }
+    ensures exact { Gives (λ event. event) result (offered_of octets.now) }
 {
     let (tag, moment, rest) = tag_at(octets)?;
     let (offer, rest) = offer_at(alloc, moment, rest)?;
@@ -77,8 +91,10 @@ pub(crate) fn offered_in(alloc: Global, octets: &[u8]) -> Result<Event, LineFaul
 }
 
 /// The event of a line whose first word was `ask`.
+#[tactic(auto, unfolding(crate::specs::ArchiveFields::asked_of))]
 pub(crate) fn asked_in(alloc: Global, octets: &[u8]) -> Result<Event, LineFault>
     ensures held { IfOk result HoldsEvent }
+    ensures exact { Gives (λ event. event) result (asked_of octets.now) }
 {
     let (tag, moment, rest) = tag_at(octets)?;
     let (name, rest) = owner_at(alloc, rest)?;
@@ -107,6 +123,7 @@ fn add_key<'a>(
 ) -> Result<&'a [u8], LineFault>
     requires { AllByRecursion HoldsKey keys.old }
     ensures held { OnOk result (AllByRecursion HoldsKey keys.new) }
+    ensures exact { Gives (λ rest. (keys.new, rest.now)) result (with_key keys.old octets.now) }
 {
     let (key, rest) = key_at(alloc, octets)?;
     keys.push(key)?;
@@ -116,12 +133,13 @@ fn add_key<'a>(
 /// The keys to the end of a line.
 fn keys_in(alloc: Global, octets: &[u8]) -> Result<Sequence<Key>, LineFault>
     ensures held { IfOk result (AllByRecursion HoldsKey) }
+    ensures exact { Gives (λ keys. keys) result (keys_of octets.now) }
 {
     let mut keys = Sequence::new(alloc);
     let mut rest = octets;
     for _seen in 0..octets.len() {
         if !has_field(rest) {
-            break;
+            return Ok(keys);
         }
         rest = add_key(alloc, &mut keys, rest)?;
     }
@@ -129,8 +147,10 @@ fn keys_in(alloc: Global, octets: &[u8]) -> Result<Sequence<Key>, LineFault>
 }
 
 /// The event of a line whose first word was `sweep`.
+#[tactic(auto, unfolding(crate::specs::ArchiveFields::swept_of))]
 pub(crate) fn swept_in(alloc: Global, octets: &[u8]) -> Result<Event, LineFault>
     ensures held { IfOk result HoldsEvent }
+    ensures exact { Gives (λ event. event) result (swept_of octets.now) }
 {
     let (tag, moment, rest) = tag_at(octets)?;
     let gone = keys_in(alloc, rest)?;

@@ -1,5 +1,6 @@
 // SPDX-License-Identifier: MIT
 ghost use Rattle.std.specs.Prelude.{◌≡◌, ◌<◌, ◌^◌, length, IfSome, IfOk};
+ghost use Rattle.rrc_trace.specs.ArchiveFields.{count_of};
 ghost use Rattle.rrc_trace.specs.ArchiveLaw.{IsNumber};
 ghost use Rattle.rrc_trace.specs.Fields.{said_at};
 ghost use Rattle.rrc_trace.specs.Gives.{Gives};
@@ -37,6 +38,7 @@ fn number_in(digits: &[u8], most: u64) -> Result<u64, LineFault>
 /// A number of 64 bits, and the octets behind it. A sign and zeros may stand in front.
 pub(crate) fn count_at(octets: &[u8]) -> Result<(u64, &[u8]), LineFault>
     ensures held { IfOk result (λ found. IsNumber found.0) }
+    ensures exact { Gives (λ found. (found.0, found.1.now)) result (said_at count_of octets.now) }
 {
     let (field, rest) = field_at(octets)?;
     let Ok(text) = str::from_utf8(field) else {
@@ -104,6 +106,7 @@ fn kind_in(field: &[u8]) -> Result<Kind, LineFault>
 /// A type and its class, and the octets behind them.
 pub(crate) fn kind_at(octets: &[u8]) -> Result<(Kind, &[u8]), LineFault>
     ensures held { IfOk result (λ found. IsNumber found.0.rtype × IsNumber found.0.class) }
+    ensures exact { Gives (λ found. (found.0, found.1.now)) result (said_at kind_of octets.now) }
 {
     let (field, rest) = field_at(octets)?;
     Ok((kind_in(field)?, rest))
