@@ -2,8 +2,9 @@
 ghost use Rattle.rrc_name.specs.Key.{IsFolded};
 ghost use Rattle.rrc_name.specs.NameRef.{name_in};
 
-use crate::ask::{Mode, Purpose};
+use crate::ask::{Ask, Mode, Purpose};
 use rrc_name::{KeyRef, NameRef, Slot};
+use std::alloc::{AllocError, Global};
 
 /// An `Ask` whose name belongs to somebody else. Contracts see it by `ask_in`, as they see an
 /// `Ask`.
@@ -19,7 +20,7 @@ pub struct AskRef<'a> {
 }
 
 impl<'a> AskRef<'a> {
-    ghost use Rattle.std.specs.Prelude.{◌≡◌};
+    ghost use Rattle.std.specs.Prelude.{◌≡◌, IfOk};
     ghost use Rattle.rrc_name.specs.KeyRef.{key_of};
     ghost use Rattle.rrc_history.specs.Past.{key_at};
     ghost use Rattle.rrc_history.specs.Views.{ask_in};
@@ -33,5 +34,19 @@ impl<'a> AskRef<'a> {
             class: self.class,
             slot,
         }
+    }
+
+    /// An ask whose name is its own.
+    pub fn to_owned(self, alloc: Global) -> Result<Ask, AllocError>
+        ensures { IfOk result (λ ask. ask ≡ ask_in self.entry) }
+    {
+        Ok(Ask {
+            name: self.name.to_owned(alloc)?,
+            class: self.class,
+            rtype: self.rtype,
+            moment: self.moment,
+            purpose: self.purpose,
+            mode: self.mode,
+        })
     }
 }

@@ -2,6 +2,10 @@
 ghost use Rattle.rrc_name.specs.Wire.{IsWireForm};
 ghost use Rattle.std.proofs.Props.{props};
 
+use crate::name::Name;
+use crate::octets::Octets;
+use crate::shared::Shared;
+use std::alloc::{AllocError, Global};
 use std::hash::{Hash, Hasher};
 
 /// A name of the DNS that belongs to somebody else: its wire form (RFC 1035 section 3.1), lent.
@@ -13,7 +17,7 @@ pub struct NameRef<'a> {
 }
 
 impl<'a> NameRef<'a> {
-    ghost use Rattle.std.specs.Prelude.{◌≡◌};
+    ghost use Rattle.std.specs.Prelude.{◌≡◌, IfOk};
     ghost use Rattle.rrc_name.specs.NameRef.{name_in};
 
     /// A name that is lent, by its wire form.
@@ -30,6 +34,15 @@ impl<'a> NameRef<'a> {
         ensures name { IsWireForm (name_in self.entry) }
     {
         self.octets
+    }
+
+    /// A name of its own.
+    pub fn to_owned(self, alloc: Global) -> Result<Name, AllocError>
+        ensures { IfOk result (λ name. name ≡ name_in self.entry) }
+    {
+        Ok(Name {
+            wire: Shared::new(alloc, Octets::from_slice(alloc, self.as_slice())?)?,
+        })
     }
 }
 
