@@ -6,13 +6,13 @@ ghost use Rattle.rrc_history.specs.declared.event.Event.TheVariants.{Asked};
 ghost use Rattle.rrc_history.specs.Entries.{answered_from};
 ghost use Rattle.rrc_history.specs.Past.{key_at};
 ghost use Rattle.rrc_history.specs.Lives.{IsTimely};
-ghost use Rattle.rrc_history.specs.Views.{held_in};
+ghost use Rattle.rrc_history.specs.Views.{ask_in, held_in};
 ghost use Rattle.rrc_cache.specs.Keyed.{name_hash};
 ghost use Rattle.rrc_cache.specs.Taken.{IsAnswered, IsCompared, HasName, slot_of};
 
 use crate::judge;
 use crate::store::Store;
-use rrc_history::{Ask, Event, Held, Reply, Tag};
+use rrc_history::{Ask, AskRef, Event, Held, Reply, Tag};
 use rrc_name::Slot;
 use std::alloc::AllocError;
 
@@ -62,7 +62,7 @@ pub(crate) fn answer(
     ensures answered { IfOk result (λ told. IsAnswered stale ask.now store.now.entries told.0 told.2) }
     ensures asked { IfOk result (λ told. told.1 ≡ ask.now) }
 {
-    let (reply, answering) = judge::judge(store, hash, ask, stale);
+    let (reply, answering) = judge::judge(store, hash, ask.as_ref(), stale);
     Ok((
         reply.to_owned()?,
         kept_ask(ask, answering)?,
@@ -85,23 +85,23 @@ pub(crate) fn event_of(tag: Tag, ask: Ask, reply: &Reply) -> Result<Event, Alloc
 pub(crate) fn compare(
     store: &Store,
     hash: u64,
-    ask: &Ask,
+    ask: AskRef<'_>,
     stale: u64,
     reply: &Reply,
 ) -> (bool, Option<Slot>)
-    requires hash { hash ≡ name_hash store.now.seeded ask.now.name }
+    requires hash { hash ≡ name_hash store.now.seeded (ask_in ask).name }
     requires stale { stale ≤ 604800 }
     requires timely { AllByRecursion IsTimely store.now.entries }
-    ensures { IsCompared stale ask.now store.now.entries reply.now result.0 result.1 }
+    ensures { IsCompared stale (ask_in ask.entry) store.now.entries reply.now result.0 result.1 }
 {
     let (answered, answering) = judge::judge(store, hash, ask, stale);
     (answered.is(reply), slot_of(answering))
 }
 
 /// Moves the entry that gave an answer to the front. It takes no memory.
-pub(crate) fn touch(store: &mut Store, hash: u64, ask: &Ask, slot: Option<Slot>)
-    requires { hash ≡ name_hash store.old.seeded ask.now.name }
-    ensures { store.new ≡ record store.old { entries = answered_from (option_map (key_at ask.now) slot) store.old.entries } }
+pub(crate) fn touch(store: &mut Store, hash: u64, ask: AskRef<'_>, slot: Option<Slot>)
+    requires { hash ≡ name_hash store.old.seeded (ask_in ask).name }
+    ensures { store.new ≡ record store.old { entries = answered_from (option_map (key_at (ask_in ask.entry)) slot) store.old.entries } }
 {
     if let Some(slot) = slot {
         store.promote(hash, ask.key_at(slot));

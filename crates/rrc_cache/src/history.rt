@@ -3,7 +3,7 @@ ghost use Rattle.std.specs.Prelude.{◌≡◌};
 ghost use Rattle.std.specs.Borrow.{ftrue};
 ghost use Rattle.rrc_cache.specs.Part.{PartOf};
 
-use rrc_history::{Ask, Offer, Outcome, Rules, Snapshot, Tag};
+use rrc_history::{AskRef, Offer, Outcome, Rules, Snapshot, Tag};
 use rrc_name::Key;
 use std::marker::Model;
 
@@ -36,7 +36,7 @@ pub(crate) enum StepRef<'a> {
     },
     Asked {
         tag: Tag,
-        ask: &'a Ask,
+        ask: AskRef<'a>,
     },
     Swept {
         tag: Tag,

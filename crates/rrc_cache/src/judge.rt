@@ -6,24 +6,24 @@ ghost use Rattle.rrc_history.specs.Entries.{found_among};
 ghost use Rattle.rrc_history.specs.Judged.{reply_by, answering};
 ghost use Rattle.rrc_history.specs.Lives.{IsTimely};
 ghost use Rattle.rrc_history.specs.Past.{entry_at, key_at};
-ghost use Rattle.rrc_history.specs.Views.{held_in, reply_in};
+ghost use Rattle.rrc_history.specs.Views.{ask_in, held_in, reply_in};
 ghost use Rattle.rrc_cache.specs.Keyed.{name_hash};
 
 use crate::store::Store;
-use rrc_history::{Ask, Found, Held, ReplyRef, governing, recent_failure, reply_of, retry_from};
+use rrc_history::{AskRef, Found, Held, ReplyRef, governing, recent_failure, reply_of, retry_from};
 use rrc_name::Slot;
 
 /// What is kept of an ask's name beside its sets, which is nothing where it may not be kept.
 fn get_negative<'a>(
     store: &'a Store,
     hash: u64,
-    ask: &Ask,
+    ask: AskRef<'_>,
     slot: Slot,
     may_be_kept: bool,
 ) -> Option<Held<'a>>
-    requires hash { hash ≡ name_hash store.now.seeded ask.now.name }
-    requires kept { may_be_kept ≡ false → entry_at (key_at ask.now slot) store.now.entries ≡ None }
-    ensures { option_map held_in result ≡ entry_at (key_at ask.now slot) store.now.entries }
+    requires hash { hash ≡ name_hash store.now.seeded (ask_in ask).name }
+    requires kept { may_be_kept ≡ false → entry_at (key_at (ask_in ask) slot) store.now.entries ≡ None }
+    ensures { option_map held_in result ≡ entry_at (key_at (ask_in ask.entry) slot) store.now.entries }
 {
     if may_be_kept {
         store.get(hash, ask.key_at(slot))
@@ -38,14 +38,14 @@ fn get_negative<'a>(
 pub(crate) fn judge<'a>(
     store: &'a Store,
     hash: u64,
-    ask: &Ask,
+    ask: AskRef<'_>,
     stale: u64,
 ) -> (ReplyRef<'a>, Option<Held<'a>>)
-    requires hash { hash ≡ name_hash store.now.seeded ask.now.name }
+    requires hash { hash ≡ name_hash store.now.seeded (ask_in ask).name }
     requires stale { stale ≤ 604800 }
     requires timely { AllByRecursion IsTimely store.now.entries }
-    ensures reply { reply_in result.0 ≡ reply_by stale (found_among store.now.entries ask.now) ask.now }
-    ensures answering { option_map held_in result.1 ≡ answering (found_among store.now.entries ask.now) ask.now (reply_in result.0) }
+    ensures reply { reply_in result.0 ≡ reply_by stale (found_among store.now.entries (ask_in ask.entry)) (ask_in ask.entry) }
+    ensures answering { option_map held_in result.1 ≡ answering (found_among store.now.entries (ask_in ask.entry)) (ask_in ask.entry) (reply_in result.0) }
 {
     let set = store.get(hash, ask.key_at(Slot::Set(ask.rtype)));
     let may_hold = store.may_hold_negative(hash);

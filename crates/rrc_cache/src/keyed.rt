@@ -6,6 +6,7 @@ ghost use Rattle.std.specs.Option.{option_copied, option_map};
 ghost use Rattle.lru.specs.LruCache.{IsValid, last_entry, lru_cache, promoted, put_entries};
 ghost use Rattle.rrc_name.specs.Key.{key_eq};
 ghost use Rattle.rrc_name.specs.KeyRef.{key_of};
+ghost use Rattle.rrc_name.specs.NameRef.{name_in};
 ghost use Rattle.rrc_history.specs.Past.{entry_of};
 ghost use Rattle.rrc_cache.specs.Keyed.{hashed_eq, hashed_entries, name_hash};
 ghost use Rattle.rrc_cache.specs.Pairs.{entries_in, AreOwn};
@@ -15,7 +16,7 @@ use crate::overwriting::overwrite;
 use crate::seeded::Seeded;
 use lru::LruCache;
 use rrc_history::{Entry, Offer};
-use rrc_name::{Key, KeyRef, Name};
+use rrc_name::{Key, KeyRef, NameRef};
 use std::alloc::{AllocError, Global};
 use std::marker::Model;
 
@@ -60,8 +61,8 @@ impl Keyed {
     }
 
     /// The hash of a name.
-    pub(crate) fn hash_of(&self, name: &Name) -> u64
-        ensures { result ≡ name_hash self.now.seeded name.now }
+    pub(crate) fn hash_of(&self, name: NameRef<'_>) -> u64
+        ensures { result ≡ name_hash self.now.seeded (name_in name.entry) }
     {
         self.seeded.hash_of(name)
     }

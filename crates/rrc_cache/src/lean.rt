@@ -7,7 +7,9 @@ use crate::refusal::Refusal;
 use crate::seeded::Seeded;
 use crate::store::Store;
 use crate::{ahead, answer, entries, judge, sweep};
-use rrc_history::{Ask, Held, LAST_MOMENT, Offer, Outcome, Reply, ReplyRef, Rules, Snapshot, Tag};
+use rrc_history::{
+    Ask, AskRef, Held, LAST_MOMENT, Offer, Outcome, Reply, ReplyRef, Rules, Snapshot, Tag,
+};
 use rrc_name::{Key, KeyRef, Shared, Slot};
 use std::alloc::{AllocError, Global};
 use std::fmt::{self, Debug, Formatter, Write};
@@ -43,7 +45,7 @@ impl Model for LeanPart {
 impl LeanPart {
     ghost use Rattle.rrc_history.specs.declared.event.Event.TheVariants.{Offered, Swept};
     ghost use Rattle.rrc_history.specs.Past.{held, reply_to};
-    ghost use Rattle.rrc_history.specs.Views.{held_in, reply_in};
+    ghost use Rattle.rrc_history.specs.Views.{ask_in, held_in, reply_in};
     ghost use Rattle.rrc_name.specs.KeyRef.{key_of};
     ghost use Rattle.std.specs.Option.{option_map};
     ghost use Rattle.rrc_cache.specs.Expiry.{HoldsNothing, NoneDiesBefore};
@@ -156,10 +158,10 @@ impl LeanPart {
     /// The reply that `ask` would give to this ask now. It comes whatever the ask's moment is, also
     /// above the last one, and where the numbers are spent, where `ask` refuses. It takes no memory
     /// and touches nothing.
-    pub fn would_answer(&self, ask: &Ask) -> ReplyRef<'_>
-        ensures { reply_in result ≡ reply_to self.now.snapshot (past_of self.now) ask.now }
+    pub fn would_answer(&self, ask: AskRef<'_>) -> ReplyRef<'_>
+        ensures { reply_in result ≡ reply_to self.now.snapshot (past_of self.now) (ask_in ask.entry) }
     {
-        let hash = self.store.hash_of(&ask.name);
+        let hash = self.store.hash_of(ask.name);
         judge::judge(&self.store, hash, ask, self.rules.stale).0
     }
 
@@ -212,23 +214,23 @@ impl LeanPart {
         ensures err { OnErr result (self.new ≡ self.old) }
         ensures due { IsLeanDue self.old ask.now.moment result }
     {
-        let (reply, slot) = self.judge(ask)?;
+        let (reply, slot) = self.judge(ask.as_ref())?;
         let reply = reply.to_owned()?;
-        self.note_asked(tag, ask, slot);
+        self.note_asked(tag, ask.as_ref(), slot);
         Ok(reply)
     }
 
     /// The first half of `ask`, which takes no memory: the reply, as it is kept, and the slot of
     /// the entry that gives it, to be handed to `note_asked`. It touches nothing. The refusals are
     /// those of `offer`, without `Memory`.
-    pub fn judge(&self, ask: &Ask) -> Result<(ReplyRef<'_>, Option<Slot>), Refusal>
-        ensures reply { IfOk result (λ judged. reply_in judged.0 ≡ reply_to self.now.snapshot (past_of self.now) ask.now) }
-        ensures pick { IfOk result (λ judged. IsPick self.now ask.now judged.1) }
-        ensures due { IsLeanDue self.now ask.now.moment result }
+    pub fn judge(&self, ask: AskRef<'_>) -> Result<(ReplyRef<'_>, Option<Slot>), Refusal>
+        ensures reply { IfOk result (λ judged. reply_in judged.0 ≡ reply_to self.now.snapshot (past_of self.now) (ask_in ask.entry)) }
+        ensures pick { IfOk result (λ judged. IsPick self.now (ask_in ask.entry) judged.1) }
+        ensures due { IsLeanDue self.now (ask_in ask.entry).moment result }
         ensures only { IfErr result IsOfMoments }
     {
         self.admit(ask.moment)?;
-        let hash = self.store.hash_of(&ask.name);
+        let hash = self.store.hash_of(ask.name);
         let (reply, answering) = judge::judge(&self.store, hash, ask, self.rules.stale);
         Ok((reply, answer::slot_of(answering)))
     }
@@ -236,12 +238,12 @@ impl LeanPart {
     /// The second half of `ask`, for an ask that `judge` answered just before, with the slot that
     /// it told: it moves that entry to the front, and the history has one more event, which tells
     /// the ask and its reply. It takes no memory and refuses nothing.
-    pub fn note_asked(&mut self, tag: Tag, ask: &Ask, slot: Option<Slot>)
-        requires open { IsLeanOpen self.old ask.now.moment }
-        requires pick { IsPick self.old ask.now slot }
-        ensures { WritesAsk self.old self.new tag ask.now (reply_to self.old.snapshot (past_of self.old) ask.now) }
+    pub fn note_asked(&mut self, tag: Tag, ask: AskRef<'_>, slot: Option<Slot>)
+        requires open { IsLeanOpen self.old (ask_in ask).moment }
+        requires pick { IsPick self.old (ask_in ask) slot }
+        ensures { WritesAsk self.old self.new tag (ask_in ask.entry) (reply_to self.old.snapshot (past_of self.old) (ask_in ask.entry)) }
     {
-        let hash = self.store.hash_of(&ask.name);
+        let hash = self.store.hash_of(ask.name);
         answer::touch(&mut self.store, hash, ask, slot);
         self.history = self.history.then(&StepRef::Asked { tag, ask });
         self.next += 1;
@@ -282,7 +284,7 @@ impl LeanPart {
         ensures asked { IfOk result (λ told. told.1 ≡ ask.now) }
         ensures pick { IfOk result (λ told. IsPick self.now ask.now told.2) }
     {
-        let hash = self.store.hash_of(&ask.name);
+        let hash = self.store.hash_of(ask.name.as_ref());
         let (reply, asked, slot) = answer::answer(&self.store, hash, ask, self.rules.stale)?;
         Ok((reply, asked, slot))
     }

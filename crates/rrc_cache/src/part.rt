@@ -7,7 +7,8 @@ use crate::recording::NotRecorded;
 use crate::refusal::Refusal;
 use crate::{answer, closing};
 use rrc_history::{
-    Ask, Chapter, Event, Held, LAST_MOMENT, Offer, Outcome, Reply, ReplyRef, Rules, Snapshot, Tag,
+    Ask, AskRef, Chapter, Event, Held, LAST_MOMENT, Offer, Outcome, Reply, ReplyRef, Rules,
+    Snapshot, Tag,
 };
 use rrc_name::{KeyRef, Sequence, Shared};
 use std::alloc::Global;
@@ -48,7 +49,7 @@ impl Part {
     ghost use Rattle.rrc_cache.specs.Sizes.{HoldsKeys, HoldsOctets};
     ghost use Rattle.rrc_cache.specs.Expiry.{HoldsNothing, NoneDiesBefore};
     ghost use Rattle.rrc_history.specs.Past.{held, reply_to};
-    ghost use Rattle.rrc_history.specs.Views.{held_in, reply_in};
+    ghost use Rattle.rrc_history.specs.Views.{ask_in, held_in, reply_in};
     ghost use Rattle.rrc_name.specs.KeyRef.{key_of};
     ghost use Rattle.std.specs.Option.{option_map};
 
@@ -166,8 +167,8 @@ impl Part {
 
     /// The reply that `ask` would give to this ask now. It comes whatever the ask's moment is, also above the last one, and in a
     /// full chapter too, where `ask` refuses. It takes no memory and touches nothing.
-    pub fn would_answer(&self, ask: &Ask) -> ReplyRef<'_>
-        ensures { reply_in result ≡ reply_to self.now.snapshot (past_of self.now) ask.now }
+    pub fn would_answer(&self, ask: AskRef<'_>) -> ReplyRef<'_>
+        ensures { reply_in result ≡ reply_to self.now.snapshot (past_of self.now) (ask_in ask.entry) }
     {
         self.lean.would_answer(ask)
     }
@@ -202,7 +203,7 @@ impl Part {
         self.events.reserve(1)?;
         let (reply, asked, slot) = self.lean.answer(ask)?;
         let event = answer::event_of(tag, asked, &reply)?;
-        self.lean.note_asked(tag, ask, slot);
+        self.lean.note_asked(tag, ask.as_ref(), slot);
         self.events.push_reserved(event);
         Ok(reply)
     }

@@ -142,7 +142,8 @@ fn is_made_again(
             Ok(is_told(became, &went, *outcome, evicted))
         }
         Event::Asked { ask, reply, .. } => {
-            let hash = store.hash_of(&ask.name);
+            let ask = ask.as_ref();
+            let hash = store.hash_of(ask.name);
             let (same, slot) = answer::compare(store, hash, ask, rules.stale, reply);
             answer::touch(store, hash, ask, slot);
             Ok(same)

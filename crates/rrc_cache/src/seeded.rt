@@ -1,8 +1,9 @@
 // SPDX-License-Identifier: MIT
 ghost use Rattle.std.specs.Prelude.{◌≡◌};
+ghost use Rattle.rrc_name.specs.NameRef.{name_in};
 ghost use Rattle.rrc_cache.specs.Keyed.{name_hash};
 
-use rrc_name::Name;
+use rrc_name::NameRef;
 use std::fmt::{self, Debug, Formatter, Write};
 use std::hash::{BuildHasher, DefaultHasher, Hasher, RandomState};
 use std::io;
@@ -49,8 +50,8 @@ impl Seeded {
     }
 
     /// The hash of a name.
-    pub(crate) fn hash_of(&self, name: &Name) -> u64
-        ensures { result ≡ name_hash self.now name.now }
+    pub(crate) fn hash_of(&self, name: NameRef<'_>) -> u64
+        ensures { result ≡ name_hash self.now (name_in name.entry) }
     {
         let mut hasher = self.fresh;
         hasher.write(name.as_slice());

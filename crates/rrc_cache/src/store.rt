@@ -5,6 +5,7 @@ ghost use Rattle.std.specs.Option.{option_map};
 ghost use Rattle.lru.specs.LruCache.{lru_cache, put_entries, promoted as lru_promoted};
 ghost use Rattle.rrc_name.specs.Key.{KeyOf, key_eq};
 ghost use Rattle.rrc_name.specs.KeyRef.{key_of};
+ghost use Rattle.rrc_name.specs.NameRef.{name_in};
 ghost use Rattle.rrc_history.specs.Lives.{LAST_MOMENT};
 ghost use Rattle.rrc_history.specs.Octets.{octets_of};
 ghost use Rattle.rrc_history.specs.Past.{entry_at, entry_of, is_among, last_key};
@@ -26,7 +27,7 @@ use crate::holdings::Holdings;
 use crate::seeded::Seeded;
 use lru::LruCache;
 use rrc_history::{Entry, EntryList, Held, Offer, Rules, Snapshot};
-use rrc_name::{Key, KeyRef, Name, Shared};
+use rrc_name::{Key, KeyRef, NameRef, Shared};
 use std::alloc::{AllocError, Global};
 use std::marker::Model;
 
@@ -111,7 +112,7 @@ impl Store {
         // The last one first, since each is put in front.
         for place in (0..entries.len()).rev() {
             let entry = entries.entry(place).clone()?;
-            store.put(seeded.hash_of(&entry.key.name), entry)?;
+            store.put(seeded.hash_of(entry.key.name.as_ref()), entry)?;
         }
         Ok(store)
     }
@@ -136,8 +137,8 @@ impl Store {
     }
 
     /// The hash of a name, by which its keys are looked up.
-    pub(crate) fn hash_of(&self, name: &Name) -> u64
-        ensures { result ≡ name_hash self.now.seeded name.now }
+    pub(crate) fn hash_of(&self, name: NameRef<'_>) -> u64
+        ensures { result ≡ name_hash self.now.seeded (name_in name.entry) }
     {
         self.cache.hash_of(name)
     }
@@ -526,7 +527,7 @@ fn note_entry(filter: &mut NegativeFilter, seeded: Seeded, entry: &Entry)
     ensures others { (hash : ℕ) → is_marked filter.old hash ≡ true → is_marked filter.new hash ≡ true }
 {
     if is_negative_slot(entry.key.slot) {
-        filter.note(seeded.hash_of(&entry.key.name), &entry.key);
+        filter.note(seeded.hash_of(entry.key.name.as_ref()), &entry.key);
     }
 }
 

@@ -1,20 +1,28 @@
 -- SPDX-License-Identifier: MIT
-use Rattle.std.proofs.Common.{◌≡◌, ◌∙◌}
+use Rattle.std.proofs.Common.{◌≡◌, ◌∙◌, subst}
+use Rattle.std.specs.Prelude.{IfSome}
 use Rattle.std.specs.Option.{option_map}
+use Rattle.rrc_history.specs.Asked.{AskOf}
 use Rattle.rrc_history.specs.Judged.{answering}
 use Rattle.rrc_history.specs.Entries.{found_among}
-use Rattle.rrc_history.specs.Views.{held_in, reply_in}
+use Rattle.rrc_history.specs.Views.{ask_in, held_in, reply_in}
+use Rattle.rrc_cache.specs.Taken.{HasName, IsAnswered}
 use Rattle.rrc_cache.proofs.Answering.{answering-named, answered_at}
 use Rattle.rrc_cache.proofs.answer.answer.Goals as goal
 
 pub kept_ask-requires : goal.kept_ask-requires
-kept_ask-requires c = answering-named c.args.store.now.entries c.args.ask.now (reply_in c.judge.result.0) (option_map held_in c.judge.result.1)
-    c.judge.ensures.answering
+kept_ask-requires c =
+    let P : AskOf → Type 0 = λ ask. IfSome (option_map held_in c.judge.result.1) (HasName ask.name) in
+    subst P c.as_ref.ensures
+    (answering-named c.args.store.now.entries (ask_in c.as_ref.result) (reply_in c.judge.result.0) (option_map held_in c.judge.result.1) c.judge.ensures.answering)
 
 pub returns-clause-answered : goal.returns-clause-answered
 returns-clause-answered c =
+    let asked : AskOf = ask_in c.as_ref.result in
+    let P : AskOf → Type 0 = λ ask. IsAnswered c.args.stale ask c.args.store.now.entries c.in_ok-to_owned.field-0 c.slot_of.result in
     let reply : c.in_ok-to_owned.field-0 ≡ reply_in c.judge.result.0 = c.in_ok-to_owned.ensures in
-    let gave : option_map held_in c.judge.result.1 ≡ answering (found_among c.args.store.now.entries c.args.ask.now) c.args.ask.now c.in_ok-to_owned.field-0 =
+    let gave : option_map held_in c.judge.result.1 ≡ answering (found_among c.args.store.now.entries asked) asked c.in_ok-to_owned.field-0 =
     rw reply (c.judge.ensures.answering) in
-    answered_at c.args.stale c.args.ask.now c.args.store.now.entries c.in_ok-to_owned.field-0 (option_map held_in c.judge.result.1) c.slot_of.result (reply ∙ c.judge.ensures.reply) gave
-    c.slot_of.ensures
+    subst P c.as_ref.ensures
+    (answered_at c.args.stale asked c.args.store.now.entries c.in_ok-to_owned.field-0 (option_map held_in c.judge.result.1) c.slot_of.result (reply ∙ c.judge.ensures.reply) gave
+    c.slot_of.ensures)

@@ -8,7 +8,7 @@ use Rattle.rrc_history.specs.Past.{key_at}
 use Rattle.rrc_history.specs.declared.snapshot.Entry.{Entry}
 use Rattle.rrc_history.specs.Judged.{Found, is_before, recent_failure}
 use Rattle.rrc_history.specs.Lives.{is_unexpired, IsTimely}
-use Rattle.rrc_history.specs.Views.{held_in}
+use Rattle.rrc_history.specs.Views.{ask_in, held_in}
 use Rattle.rrc_cache.proofs.Sound.{timely_found}
 use Rattle.rrc_cache.proofs.judge.judge.Goals as goal
 
@@ -27,8 +27,8 @@ timely_failure found moment timely = by found.failed refl timely
 pub retry_from-retry_from-requires : goal.retry_from-retry_from-requires
 retry_from-retry_from-requires c =
     let P : Option Entry → Type 0 = λ f. IfSome f IsTimely in
-    let key : KeyOf = key_at c.args.ask.now (Failed c.ask.inside.rtype) in
+    let key : KeyOf = key_at (ask_in c.args.ask) (Failed c.args.ask.rtype) in
     let found : Found = record { set = option_map held_in c.get-set.result; nx = option_map held_in c.get_negative-nx.result; failed = option_map held_in c.get_negative-failed.result } in
     let failed : IfSome found.failed IsTimely =
     subst P (sym c.get_negative-failed.ensures) (timely_found (λ (entry : Entry). key_eq key entry.key) c.args.store.now.entries c.requires.timely) in
-    subst P (sym c.recent_failure-failure.ensures) (timely_failure found c.ask.inside.moment failed)
+    subst P (sym c.recent_failure-failure.ensures) (timely_failure found c.args.ask.moment failed)

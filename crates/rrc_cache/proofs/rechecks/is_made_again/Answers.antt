@@ -5,8 +5,10 @@ use Rattle.rrc_name.specs.Key.{KeyOf, key_eq}
 use Rattle.rrc_history.specs.declared.event.Event.{Event}
 use Rattle.rrc_history.specs.declared.event.Event.TheVariants.{Offered, Asked, Swept}
 use Rattle.rrc_history.specs.declared.snapshot.Entry.{Entry}
+use Rattle.rrc_history.specs.Asked.{AskOf}
 use Rattle.rrc_history.specs.Entries.{staying}
 use Rattle.rrc_history.specs.Past.{is_among}
+use Rattle.rrc_history.specs.Views.{ask_in}
 use Rattle.rrc_cache.specs.Calls.{IsMadeAgain}
 use Rattle.rrc_cache.specs.Pairs.{StoreOf}
 use Rattle.rrc_cache.specs.Taken.{AreExpiredKeys}
@@ -28,13 +30,16 @@ returns-in_ok-became-in-Offered-clause-again c =
 pub returns-in-Asked-clause-again : goal.returns-in-Asked-clause-again
 returns-in-Asked-clause-again c =
     let P : Event → Type 0 = λ event. IsMadeAgain c.args.rules c.args.number c.args.store.now.entries event c.compare-same.result.0 c.touch.new.store.entries in
+    let ask : AskOf = ask_in c.as_ref-ask.result in
+    let Q : AskOf → Type 0 = λ asked. P (Asked c.in-Asked.tag asked c.in-Asked.reply) in
     subst P (sym c.in-Asked.is)
+    (subst Q c.as_ref-ask.ensures
     (record {
-      made = Asked c.in-Asked.tag c.in-Asked.ask c.compare-same.ensures.answer;
+      made = Asked c.in-Asked.tag ask c.compare-same.ensures.answer;
       call = (refl, refl);
       writes = (c.compare-same.result.1, c.compare-same.ensures.answered, ap (λ (store : StoreOf). store.entries) c.touch.ensures);
-      told = ask_told c.in-Asked.tag c.in-Asked.ask c.compare-same.ensures.answer c.in-Asked.reply c.compare-same.result.0 c.compare-same.ensures.told;
-    })
+      told = ask_told c.in-Asked.tag ask c.compare-same.ensures.answer c.in-Asked.reply c.compare-same.result.0 c.compare-same.ensures.told;
+    }))
 
 pub returns-in_ok-expired-in-Swept-clause-again : goal.returns-in_ok-expired-in-Swept-clause-again
 returns-in_ok-expired-in-Swept-clause-again c =

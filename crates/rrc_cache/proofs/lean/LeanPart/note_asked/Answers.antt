@@ -3,6 +3,7 @@ use Rattle.std.proofs.Common.{ap, subst, sym}
 use Rattle.rrc_history.specs.declared.event.Event.{Event}
 use Rattle.rrc_history.specs.declared.event.Event.TheVariants.{Asked}
 use Rattle.rrc_history.specs.Past.{reply_to}
+use Rattle.rrc_history.specs.Views.{ask_in}
 use Rattle.rrc_cache.specs.Lean.{IsPick}
 use Rattle.rrc_cache.specs.Pairs.{StoreOf}
 use Rattle.rrc_cache.specs.Part.{PartOf, past_of, Adds}
@@ -12,12 +13,12 @@ use Rattle.rrc_cache.proofs.lean.LeanPart.note_asked.Goals as goal
 pub invariant_of-self : goal.invariant_of-self
 invariant_of-self c =
     let part : PartOf = c.self.inside.history.part in
-    let event : PartOf → Event = λ p. Asked c.args.tag c.args.ask.now (reply_to p.snapshot (past_of p) c.args.ask.now) in
-    let P : PartOf → Type 0 = λ p. IsPick p c.args.ask.now c.args.slot in
+    let event : PartOf → Event = λ p. Asked c.args.tag (ask_in c.args.ask) (reply_to p.snapshot (past_of p) (ask_in c.args.ask)) in
+    let P : PartOf → Type 0 = λ p. IsPick p (ask_in c.args.ask) c.args.slot in
     (lean_done c.args.self.now part c.then-self-inside.result.part c.self.inside.number c.self.inside.next c.self.inside.rules
     c.self.inside.store c.touch.new.store (event part) c.self.view_is c.then-self-inside.ensures c.self.invariant c.requires.open (
       c.args.slot,
-      pick_answers part c.self.inside.rules c.self.inside.store.entries c.args.ask.now c.args.slot c.self.invariant.ruled c.self.invariant.leaves.contents
+      pick_answers part c.self.inside.rules c.self.inside.store.entries (ask_in c.args.ask) c.args.slot c.self.invariant.ruled c.self.invariant.leaves.contents
           (subst P (sym c.self.view_is) c.requires.pick),
       ap (λ (store : StoreOf). store.entries) c.touch.ensures,
     )
@@ -26,14 +27,14 @@ invariant_of-self c =
 pub returns : goal.returns
 returns c =
     let part : PartOf = c.self.inside.history.part in
-    let event : PartOf → Event = λ p. Asked c.args.tag c.args.ask.now (reply_to p.snapshot (past_of p) c.args.ask.now) in
-    let P : PartOf → Type 0 = λ p. IsPick p c.args.ask.now c.args.slot in
+    let event : PartOf → Event = λ p. Asked c.args.tag (ask_in c.args.ask) (reply_to p.snapshot (past_of p) (ask_in c.args.ask)) in
+    let P : PartOf → Type 0 = λ p. IsPick p (ask_in c.args.ask) c.args.slot in
     let A : PartOf → Type 0 = λ p. Adds c.args.self.now c.then-self-inside.result.part (event p) in
     subst A c.self.view_is
     ((lean_done c.args.self.now part c.then-self-inside.result.part c.self.inside.number c.self.inside.next c.self.inside.rules
     c.self.inside.store c.touch.new.store (event part) c.self.view_is c.then-self-inside.ensures c.self.invariant c.requires.open (
       c.args.slot,
-      pick_answers part c.self.inside.rules c.self.inside.store.entries c.args.ask.now c.args.slot c.self.invariant.ruled c.self.invariant.leaves.contents
+      pick_answers part c.self.inside.rules c.self.inside.store.entries (ask_in c.args.ask) c.args.slot c.self.invariant.ruled c.self.invariant.leaves.contents
           (subst P (sym c.self.view_is) c.requires.pick),
       ap (λ (store : StoreOf). store.entries) c.touch.ensures,
     )
