@@ -8,7 +8,7 @@ use crate::calls::{on_shelf_ask, on_shelf_checkpoint, on_shelf_offer, on_shelf_s
 use crate::kept::Kept;
 use crate::shelf::Shelf;
 use rrc_cache::{LeanPart, Part, Refusal};
-use rrc_history::{Ask, Chapter, Held, Offer, Outcome, Reply, ReplyRef, Tag};
+use rrc_history::{Ask, AskRef, Chapter, Held, Offer, Outcome, Reply, ReplyRef, Tag};
 use rrc_name::{KeyRef, Slot};
 use std::alloc::Global;
 use std::marker::Model;
@@ -45,7 +45,7 @@ impl CacheShelf {
     ghost use Rattle.rrc_cache.specs.Expiry.{HoldsNothing, NoneDiesBefore};
     ghost use Rattle.rrc_cache.specs.Lean.{IsLeanDue, IsLeanOpen, IsPick};
     ghost use Rattle.rrc_cache.specs.Sizes.{HoldsKeys, HoldsOctets};
-    ghost use Rattle.rrc_history.specs.Views.{held_in, reply_in};
+    ghost use Rattle.rrc_history.specs.Views.{ask_in, held_in, reply_in};
     ghost use Rattle.rrc_name.specs.KeyRef.{key_of};
     ghost use Rattle.rrc_share.specs.CacheShelf.{held_by, reply_of, IsDueBy, IsLeftBy, IsSoundBy, NotesAsk, ShutsBy, TakesAsk, TakesOffer, TakesSweep};
     ghost use Rattle.rrc_share.specs.Shelf.{AreBefore};
@@ -146,8 +146,8 @@ impl CacheShelf {
 
     /// The reply that `ask` would give, lent (`Part::would_answer`). It takes no memory and touches
     /// nothing.
-    pub fn would_answer(&self, ask: &Ask) -> ReplyRef<'_>
-        ensures { reply_in result ≡ reply_of self.now.shelf ask.now }
+    pub fn would_answer(&self, ask: AskRef<'_>) -> ReplyRef<'_>
+        ensures { reply_in result ≡ reply_of self.now.shelf (ask_in ask.entry) }
     {
         match &self.kept {
             Kept::Lean(part) => part.would_answer(ask),
@@ -201,11 +201,11 @@ impl CacheShelf {
 
     /// The first half of `ask` while nothing is recorded (`LeanPart::judge`): the reply, as it is
     /// kept, and the slot for `note_asked`. It takes no memory and touches nothing.
-    pub fn judge(&self, ask: &Ask) -> Result<(ReplyRef<'_>, Option<Slot>), Refusal>
+    pub fn judge(&self, ask: AskRef<'_>) -> Result<(ReplyRef<'_>, Option<Slot>), Refusal>
         requires { self.now.records ≡ false }
-        ensures reply { IfOk result (λ judged. reply_in judged.0 ≡ reply_of self.now.shelf ask.now) }
-        ensures pick { IfOk result (λ judged. IsPick self.now.shelf.part ask.now judged.1) }
-        ensures due { IsLeanDue self.now.shelf.part ask.now.moment result }
+        ensures reply { IfOk result (λ judged. reply_in judged.0 ≡ reply_of self.now.shelf (ask_in ask.entry)) }
+        ensures pick { IfOk result (λ judged. IsPick self.now.shelf.part (ask_in ask.entry) judged.1) }
+        ensures due { IsLeanDue self.now.shelf.part (ask_in ask.entry).moment result }
         ensures only { IfErr result IsOfMoments }
     {
         match &self.kept {
@@ -216,12 +216,12 @@ impl CacheShelf {
 
     /// The second half of `ask` while nothing is recorded (`LeanPart::note_asked`), for an ask that
     /// `judge` answered just before, with its slot. It takes no memory and refuses nothing.
-    pub fn note_asked(&mut self, tag: Tag, ask: &Ask, slot: Option<Slot>)
+    pub fn note_asked(&mut self, tag: Tag, ask: AskRef<'_>, slot: Option<Slot>)
         requires lean { self.old.records ≡ false }
-        requires open { IsLeanOpen self.old.shelf.part ask.now.moment }
-        requires pick { IsPick self.old.shelf.part ask.now slot }
+        requires open { IsLeanOpen self.old.shelf.part (ask_in ask).moment }
+        requires pick { IsPick self.old.shelf.part (ask_in ask) slot }
         ensures records { self.new.records ≡ false }
-        ensures written { NotesAsk self.old.shelf self.new.shelf tag ask.now }
+        ensures written { NotesAsk self.old.shelf self.new.shelf tag (ask_in ask.entry) }
     {
         match &mut self.kept {
             Kept::Lean(part) => part.note_asked(tag, ask, slot),

@@ -184,7 +184,7 @@ impl SharedCache {
     {
         let home = self.home(&ask.name);
         let part = self.part(rt, home);
-        Ok(part.would_answer(ask).to_owned()?)
+        Ok(part.would_answer(ask.as_ref()).to_owned()?)
     }
 
     /// Sweeps a part (`CacheShelf::sweep`), under its lock. The refusals are those of `offer`.

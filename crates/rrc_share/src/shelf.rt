@@ -66,7 +66,7 @@ impl Shelf {
         ensures ok { IfOk result (λ reply. reply ≡ reply_to self.now.part.snapshot (past_of self.now.part) ask.now) }
         ensures memory { OnErr result (result ≡ Err Refusal.Memory) }
     {
-        Ok(self.part.would_answer(ask).to_owned()?)
+        Ok(self.part.would_answer(ask.as_ref()).to_owned()?)
     }
 
     /// Hands out the closed chapters, the oldest first, and leaves none. The part goes on from the

@@ -22,9 +22,9 @@ fn left_of(reply: ReplyRef<'_>) -> Option<u32> {
 
 /// The same of an ask by two calls: the reply is read where it is kept, and then noted.
 fn ask_by_two(rt: &impl Abort, part: &mut LeanPart, ask: &Ask) -> Option<u32> {
-    let (reply, slot) = part.judge(ask).expect(rt, "no reply");
+    let (reply, slot) = part.judge(ask.as_ref()).expect(rt, "no reply");
     let left = left_of(reply);
-    part.note_asked(TAG, ask, slot);
+    part.note_asked(TAG, ask.as_ref(), slot);
     left
 }
 

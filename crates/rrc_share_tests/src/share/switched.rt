@@ -31,9 +31,9 @@ fn retry_from(reply: ReplyRef<'_>) -> Option<u64> {
 fn ask_by_two(rt: &impl Abort, shelf: &mut CacheShelf, ask: &Ask) -> Option<u64>
     requires { shelf.old.records ≡ false }
 {
-    let (reply, slot) = shelf.judge(ask).expect(rt, "no reply");
+    let (reply, slot) = shelf.judge(ask.as_ref()).expect(rt, "no reply");
     let told = retry_from(reply);
-    shelf.note_asked(TAG, ask, slot);
+    shelf.note_asked(TAG, ask.as_ref(), slot);
     told
 }
 
