@@ -914,8 +914,8 @@ rrcache_ask_alias(struct rrcache_shelf *shelf, const struct rrcache_query *query
 }
 
 /* Removes the keys that can answer no more at a moment, which is one event, and tells how many they
-   were. While such a key is held, that its name does not exist, it keeps an older set of the name
-   from being told as stale; once it is removed, that set may be told again. */
+   were. A key by which a name does not exist keeps an older set of the name from being told as
+   stale, also after its own time; once it is removed, that set may be told again. */
 static inline enum rrcache_status rrcache_sweep(struct rrcache_shelf *shelf, uint64_t moment,
                                                 uint64_t line, uint64_t *removed)
 {

@@ -174,8 +174,8 @@ class Shelf:
     # ---- housekeeping
 
     def sweep(self, moment: int, line: int = 0) -> int:
-        """Removes the keys that can answer no more, and tells how many. That a name does not exist
-        keeps an older set of it from being stale, and no more once it is removed."""
+        """Removes the keys that can answer no more, and tells how many. A key by which a name does
+        not exist keeps an older set of the name from being told as stale until it is removed."""
         return told("rrc_sweep", c_uint64, self._handle, moment, line)
 
     def next_expiry(self) -> int | None:
