@@ -17,7 +17,7 @@ use Rattle.rrc_history.specs.declared.event.Reply.{Reply}
 use Rattle.rrc_history.specs.declared.event.Tag.{Tag}
 use Rattle.rrc_share.specs.CacheShelf.{CacheShelfOf, IsLeftBy, TakesAsk, TakesOffer, TakesSweep}
 use Rattle.rrc_share.specs.Shelf.{ShelfOf, Appends, HasMadeRoom, ShelvesChapter}
-use Rattle.rrc_share.specs.Switching.{Starts, Stops}
+use Rattle.rrc_share.specs.Switches.{Starts, Stops}
 use Rattle.rrc_sets.specs.Octets.{most_octets, MakesAtMost}
 use Rattle.rrc_sets.specs.lemmas.RelevantSizes.{are_few}
 use Rattle.rrc_sets.specs.declared.query.Query.{Query}

@@ -4,7 +4,7 @@ use Rattle.std.specs.Prelude.{◌≡◌, ℕ, ◌⊎◌, List, [], ◌∷◌, �
 use Rattle.rrc_history.specs.Chapters.{ChapterOf}
 use Rattle.rrc_share.specs.CacheShelf.{CacheShelfOf, lean_shelf}
 use Rattle.rrc_share.specs.Shelf.{AreBefore}
-use Rattle.rrc_share.specs.Switching.{Stops}
+use Rattle.rrc_share.specs.Switches.{Stops}
 use Rattle.rrc_trace.specs.Archive.{lines_of, written_of}
 use Rattle.rrc_c.specs.Refusals.{IsDoneOrMemory, OutOfMemory, RecordDueBy}
 use Rattle.rrc_c.specs.Told.{IsFilled}

@@ -10,7 +10,7 @@ use Rattle.rrc_history.specs.declared.event.Tag.{Tag}
 use Rattle.rrc_cache.specs.Part.{PartOf, next_number}
 use Rattle.rrc_share.specs.CacheShelf.{CacheShelfOf, lean_shelf, IsLeftBy, TakesAsk, TakesOffer, TakesSweep}
 use Rattle.rrc_share.specs.Shelf.{ShelfOf, CanWrite, IsShelfSpent}
-use Rattle.rrc_share.specs.Switching.{Starts}
+use Rattle.rrc_share.specs.Switches.{Starts}
 
 -- ---- events
 

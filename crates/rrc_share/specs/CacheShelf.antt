@@ -13,8 +13,8 @@ use Rattle.rrc_cache.specs.Lean.{IsLeanDue, IsLeanSound}
 use Rattle.rrc_cache.specs.Part.{PartOf, past_of, WritesOffer, WritesAsk, WritesSweep}
 use Rattle.rrc_cache.specs.declared.refusal.Refusal.{Refusal}
 use Rattle.rrc_share.specs.Shelf.{ShelfOf, AppendsOffer, AppendsAsk, AppendsSweep, IsShelfDue, IsLeft, IsShelf, ShelvesChapter}
-use Rattle.rrc_share.specs.declared.kept.Kept.{Kept}
-use Rattle.rrc_share.specs.declared.kept.Kept.TheVariants.{Lean, Recording}
+use Rattle.rrc_share.specs.declared.state.ShelfState.{ShelfState}
+use Rattle.rrc_share.specs.declared.state.ShelfState.TheVariants.{Lean, Recorded}
 
 -- whether the history is recorded, and the closed chapters and the part
 pub record CacheShelfOf : Type 0 where
@@ -25,9 +25,9 @@ pub record CacheShelfOf : Type 0 where
 abbrev pub lean_shelf : PartOf → ShelfOf
 lean_shelf part = record { closed = []; part = part }
 
-abbrev pub kept_in : Kept → CacheShelfOf
-kept_in (Lean part) = record { records = false; shelf = lean_shelf part }
-kept_in (Recording shelf) = record { records = true; shelf = shelf }
+abbrev pub shelf_in : ShelfState → CacheShelfOf
+shelf_in (Lean part) = record { records = false; shelf = lean_shelf part }
+shelf_in (Recorded shelf) = record { records = true; shelf = shelf }
 
 -- what holds of every part: of one that records, what holds of a shelf; of one that does not, that
 -- its history is legal, and that it has no closed chapters

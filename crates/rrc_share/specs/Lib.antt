@@ -2,5 +2,5 @@
 pub mod Shelf
 pub mod Shared
 pub mod CacheShelf
-pub mod Switching
+pub mod Switches
 pub mod Empty

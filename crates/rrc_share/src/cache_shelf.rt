@@ -2,11 +2,11 @@
 ghost use Rattle.std.specs.Prelude.{◌≡◌, ◌≤◌, [], true, false, not, Err, IfErr, IfNone, IfOk, IfSome, OnErr, OnOk};
 ghost use Rattle.rrc_cache.specs.Part.{IsCloseDue, IsOfMoments};
 ghost use Rattle.rrc_share.specs.CacheShelf.{lean_shelf};
-ghost use Rattle.rrc_share.specs.Switching.{HandsOut, IsSwitchDue, Starts, Stops, refused_by};
+ghost use Rattle.rrc_share.specs.Switches.{HandsOut, IsSwitchDue, Starts, Stops, refused_by};
 
 use crate::calls::{on_shelf_ask, on_shelf_checkpoint, on_shelf_offer, on_shelf_sweep};
-use crate::kept::Kept;
 use crate::shelf::Shelf;
+use crate::state::ShelfState;
 use rrc_cache::{LeanPart, Part, Refusal};
 use rrc_history::{Ask, AskRef, Chapter, Held, Offer, Outcome, Reply, ReplyRef, Tag};
 use rrc_name::{KeyRef, Slot};
@@ -22,7 +22,7 @@ use thiserror::Error;
 #[derive(Debug, Drop)]
 pub struct CacheShelf {
     alloc: Global,
-    kept: Kept,
+    state: ShelfState,
 }
 
 /// Why a shelf was not switched, and that shelf, which is as it was.
@@ -34,11 +34,11 @@ pub struct NotSwitched {
 }
 
 impl Model for CacheShelf {
-    ghost use Rattle.rrc_share.specs.CacheShelf.{CacheShelfOf, kept_in};
+    ghost use Rattle.rrc_share.specs.CacheShelf.{CacheShelfOf, shelf_in};
 
     ghost Value = { CacheShelfOf };
 
-    ghost view = { λ s. kept_in s.kept };
+    ghost view = { λ s. shelf_in s.state };
 }
 
 impl CacheShelf {
@@ -57,7 +57,7 @@ impl CacheShelf {
     {
         CacheShelf {
             alloc,
-            kept: Kept::Lean(part),
+            state: ShelfState::Lean(part),
         }
     }
 
@@ -67,7 +67,7 @@ impl CacheShelf {
     {
         CacheShelf {
             alloc,
-            kept: Kept::Recording(shelf),
+            state: ShelfState::Recorded(shelf),
         }
     }
 
@@ -87,13 +87,13 @@ impl CacheShelf {
         ensures lean { IfNone result (self.now.shelf.closed ≡ []) }
         ensures sound { IsSoundBy self.now.records self.now.shelf }
     {
-        match &self.kept {
-            Kept::Lean(part) => {
+        match &self.state {
+            ShelfState::Lean(part) => {
                 // The number is read for what it tells: the history is legal.
                 let _ = part.number();
                 None
             }
-            Kept::Recording(shelf) => {
+            ShelfState::Recorded(shelf) => {
                 // The part is read for what it tells: the shelf is sound.
                 let _ = shelf.part();
                 Some(shelf)
@@ -106,9 +106,9 @@ impl CacheShelf {
         ensures keys { HoldsKeys self.now.shelf.part result }
         ensures few { result ≤ self.now.shelf.part.snapshot.rules.capacity }
     {
-        match &self.kept {
-            Kept::Lean(part) => part.len(),
-            Kept::Recording(shelf) => shelf.part.len(),
+        match &self.state {
+            ShelfState::Lean(part) => part.len(),
+            ShelfState::Recorded(shelf) => shelf.part.len(),
         }
     }
 
@@ -116,9 +116,9 @@ impl CacheShelf {
     pub fn octets(&self) -> u64
         ensures { HoldsOctets self.now.shelf.part result }
     {
-        match &self.kept {
-            Kept::Lean(part) => part.octets(),
-            Kept::Recording(shelf) => shelf.part.octets(),
+        match &self.state {
+            ShelfState::Lean(part) => part.octets(),
+            ShelfState::Recorded(shelf) => shelf.part.octets(),
         }
     }
 
@@ -126,9 +126,9 @@ impl CacheShelf {
     pub fn held(&self, key: KeyRef<'_>) -> Option<Held<'_>>
         ensures { option_map held_in result ≡ held_by self.now.shelf (key_of key.entry) }
     {
-        match &self.kept {
-            Kept::Lean(part) => part.held(key),
-            Kept::Recording(shelf) => shelf.part.held(key),
+        match &self.state {
+            ShelfState::Lean(part) => part.held(key),
+            ShelfState::Recorded(shelf) => shelf.part.held(key),
         }
     }
 
@@ -138,9 +138,9 @@ impl CacheShelf {
         ensures none { IfNone result (HoldsNothing self.now.shelf.part) }
         ensures some { IfSome result (λ time. NoneDiesBefore self.now.shelf.part time) }
     {
-        match &self.kept {
-            Kept::Lean(part) => part.next_expiry(),
-            Kept::Recording(shelf) => shelf.part.next_expiry(),
+        match &self.state {
+            ShelfState::Lean(part) => part.next_expiry(),
+            ShelfState::Recorded(shelf) => shelf.part.next_expiry(),
         }
     }
 
@@ -149,9 +149,9 @@ impl CacheShelf {
     pub fn would_answer(&self, ask: AskRef<'_>) -> ReplyRef<'_>
         ensures { reply_in result ≡ reply_of self.now.shelf (ask_in ask.entry) }
     {
-        match &self.kept {
-            Kept::Lean(part) => part.would_answer(ask),
-            Kept::Recording(shelf) => shelf.part.would_answer(ask),
+        match &self.state {
+            ShelfState::Lean(part) => part.would_answer(ask),
+            ShelfState::Recorded(shelf) => shelf.part.would_answer(ask),
         }
     }
 
@@ -165,9 +165,9 @@ impl CacheShelf {
         ensures err { OnErr result (IsLeftBy self.old.records self.old.shelf self.new.shelf) }
         ensures due { IsDueBy self.old.records self.old.shelf.part offer.moment result }
     {
-        match &mut self.kept {
-            Kept::Lean(part) => part.offer(tag, offer),
-            Kept::Recording(shelf) => on_shelf_offer(shelf, tag, offer),
+        match &mut self.state {
+            ShelfState::Lean(part) => part.offer(tag, offer),
+            ShelfState::Recorded(shelf) => on_shelf_offer(shelf, tag, offer),
         }
     }
 
@@ -179,9 +179,9 @@ impl CacheShelf {
         ensures err { OnErr result (IsLeftBy self.old.records self.old.shelf self.new.shelf) }
         ensures due { IsDueBy self.old.records self.old.shelf.part ask.now.moment result }
     {
-        match &mut self.kept {
-            Kept::Lean(part) => part.ask(tag, ask),
-            Kept::Recording(shelf) => on_shelf_ask(shelf, tag, ask),
+        match &mut self.state {
+            ShelfState::Lean(part) => part.ask(tag, ask),
+            ShelfState::Recorded(shelf) => on_shelf_ask(shelf, tag, ask),
         }
     }
 
@@ -193,9 +193,9 @@ impl CacheShelf {
         ensures err { OnErr result (IsLeftBy self.old.records self.old.shelf self.new.shelf) }
         ensures due { IsDueBy self.old.records self.old.shelf.part moment result }
     {
-        match &mut self.kept {
-            Kept::Lean(part) => part.sweep(tag, moment),
-            Kept::Recording(shelf) => on_shelf_sweep(shelf, tag, moment),
+        match &mut self.state {
+            ShelfState::Lean(part) => part.sweep(tag, moment),
+            ShelfState::Recorded(shelf) => on_shelf_sweep(shelf, tag, moment),
         }
     }
 
@@ -208,9 +208,9 @@ impl CacheShelf {
         ensures due { IsLeanDue self.now.shelf.part (ask_in ask.entry).moment result }
         ensures only { IfErr result IsOfMoments }
     {
-        match &self.kept {
-            Kept::Lean(part) => part.judge(ask),
-            Kept::Recording(_) => unreachable!(),
+        match &self.state {
+            ShelfState::Lean(part) => part.judge(ask),
+            ShelfState::Recorded(_) => unreachable!(),
         }
     }
 
@@ -223,9 +223,9 @@ impl CacheShelf {
         ensures records { self.new.records ≡ false }
         ensures written { NotesAsk self.old.shelf self.new.shelf tag (ask_in ask.entry) }
     {
-        match &mut self.kept {
-            Kept::Lean(part) => part.note_asked(tag, ask, slot),
-            Kept::Recording(_) => unreachable!(),
+        match &mut self.state {
+            ShelfState::Lean(part) => part.note_asked(tag, ask, slot),
+            ShelfState::Recorded(_) => unreachable!(),
         }
     }
 
@@ -237,9 +237,9 @@ impl CacheShelf {
         ensures err { OnErr result (self.new ≡ self.old) }
         ensures due { IsSwitchDue self.old.records self.old.shelf.part result }
     {
-        match &mut self.kept {
-            Kept::Lean(_) => Ok(()),
-            Kept::Recording(shelf) => on_shelf_checkpoint(shelf),
+        match &mut self.state {
+            ShelfState::Lean(_) => Ok(()),
+            ShelfState::Recorded(shelf) => on_shelf_checkpoint(shelf),
         }
     }
 
@@ -251,9 +251,9 @@ impl CacheShelf {
         ensures records { self.new.records ≡ self.old.records }
         ensures left { self.new.shelf ≡ lean_shelf self.old.shelf.part }
     {
-        match &mut self.kept {
-            Kept::Lean(_) => Vec::new(self.alloc),
-            Kept::Recording(shelf) => shelf.take_chapters(),
+        match &mut self.state {
+            ShelfState::Lean(_) => Vec::new(self.alloc),
+            ShelfState::Recorded(shelf) => shelf.take_chapters(),
         }
     }
 
@@ -268,10 +268,10 @@ impl CacheShelf {
         ensures err { IfErr result (λ refused. refused.shelf ≡ self) }
         ensures due { IsSwitchDue (not self.records) self.shelf.part (refused_by result) }
     {
-        let CacheShelf { alloc, kept } = self;
-        match kept {
-            Kept::Recording(shelf) => Ok(CacheShelf::recording(alloc, shelf)),
-            Kept::Lean(part) => started(alloc, part),
+        let CacheShelf { alloc, state } = self;
+        match state {
+            ShelfState::Recorded(shelf) => Ok(CacheShelf::recording(alloc, shelf)),
+            ShelfState::Lean(part) => started(alloc, part),
         }
     }
 
@@ -286,10 +286,10 @@ impl CacheShelf {
         ensures err { IfErr result (λ refused. refused.shelf ≡ self) }
         ensures due { IsSwitchDue self.records self.shelf.part (refused_by result) }
     {
-        let CacheShelf { alloc, kept } = self;
-        match kept {
-            Kept::Lean(part) => Ok((CacheShelf::new(alloc, part), Vec::new(alloc))),
-            Kept::Recording(shelf) => stopped(alloc, shelf),
+        let CacheShelf { alloc, state } = self;
+        match state {
+            ShelfState::Lean(part) => Ok((CacheShelf::new(alloc, part), Vec::new(alloc))),
+            ShelfState::Recorded(shelf) => stopped(alloc, shelf),
         }
     }
 
@@ -298,10 +298,10 @@ impl CacheShelf {
     pub fn drop_record(self) -> CacheShelf
         ensures { result ≡ record { records = false; shelf = lean_shelf self.shelf.part } }
     {
-        let CacheShelf { alloc, kept } = self;
-        match kept {
-            Kept::Lean(part) => CacheShelf::new(alloc, part),
-            Kept::Recording(shelf) => {
+        let CacheShelf { alloc, state } = self;
+        match state {
+            ShelfState::Lean(part) => CacheShelf::new(alloc, part),
+            ShelfState::Recorded(shelf) => {
                 let Shelf { part, .. } = shelf;
                 CacheShelf::new(alloc, part.into_lean())
             }
@@ -313,9 +313,9 @@ impl CacheShelf {
         ensures recorded { IfOk result (λ shelf. self ≡ record { records = true; shelf = shelf }) }
         ensures lean { IfErr result (λ part. self ≡ record { records = false; shelf = lean_shelf part }) }
     {
-        match self.kept {
-            Kept::Lean(part) => Err(part),
-            Kept::Recording(shelf) => Ok(shelf),
+        match self.state {
+            ShelfState::Lean(part) => Err(part),
+            ShelfState::Recorded(shelf) => Ok(shelf),
         }
     }
 }

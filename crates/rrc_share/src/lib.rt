@@ -5,10 +5,10 @@
 
 mod cache_shelf;
 mod calls;
-mod kept;
 mod recording;
 mod shared;
 mod shelf;
+mod state;
 mod switches;
 
 pub use cache_shelf::{CacheShelf, NotSwitched};

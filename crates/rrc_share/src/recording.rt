@@ -20,7 +20,7 @@ pub enum Recording {
 
 /// An empty part that records, on its shelf.
 fn recorded(alloc: Global, rules: Rules, seed: Option<[u8; 16]>) -> Result<CacheShelf, Refusal>
-    ensures ok { IfOk result (λ kept. kept ≡ empty_part Recording.On rules) }
+    ensures ok { IfOk result (λ shelf. shelf ≡ empty_part Recording.On rules) }
     ensures memory { OnErr result (result ≡ Err Refusal.Memory) }
 {
     let part = match seed {
@@ -32,7 +32,7 @@ fn recorded(alloc: Global, rules: Rules, seed: Option<[u8; 16]>) -> Result<Cache
 
 /// An empty part that records nothing.
 fn unrecorded(alloc: Global, rules: Rules, seed: Option<[u8; 16]>) -> Result<CacheShelf, Refusal>
-    ensures ok { IfOk result (λ kept. kept ≡ empty_part Recording.Off rules) }
+    ensures ok { IfOk result (λ shelf. shelf ≡ empty_part Recording.Off rules) }
     ensures memory { OnErr result (result ≡ Err Refusal.Memory) }
 {
     let part = match seed {
@@ -50,7 +50,7 @@ pub(crate) fn empty_part(
     seed: Option<[u8; 16]>,
     recording: Recording,
 ) -> Result<CacheShelf, Refusal>
-    ensures ok { IfOk result (λ kept. kept ≡ empty_part recording rules) }
+    ensures ok { IfOk result (λ shelf. shelf ≡ empty_part recording rules) }
     ensures memory { OnErr result (result ≡ Err Refusal.Memory) }
 {
     match recording {

@@ -4,7 +4,7 @@ use rrc_cache::LeanPart;
 
 /// A part that records nothing, or one that records, on its shelf.
 #[derive(Debug, Drop)]
-pub(crate) enum Kept {
+pub(crate) enum ShelfState {
     Lean(LeanPart),
-    Recording(Shelf),
+    Recorded(Shelf),
 }
