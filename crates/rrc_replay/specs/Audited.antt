@@ -31,8 +31,8 @@ pub record IsToldLegal (octets text : List ℕ) : Type 0 where
   pub told : text ≡ legal_text (length chapters) (length whole.events) whole.snapshot.first
 
 -- not legal: and why in some words
-abbrev pub IsOneLine : List ℕ → Type 0
-IsOneLine text = (words : List ℕ) × (text ≡ codes "not legal: " ++ (words ++ 10 ∷ []))
+abbrev pub SaysNotLegal : List ℕ → Type 0
+SaysNotLegal text = (words : List ℕ) × (text ≡ codes "not legal: " ++ (words ++ 10 ∷ []))
 
 -- not legal: chapter N of the archive, event K (line L)
 abbrev pub place_text : ℕ → ℕ → ℕ → List ℕ
@@ -58,13 +58,13 @@ reason_text reason = event_line (codes "written: ") reason.written ++ due_text r
 
 -- the text says why a history is not legal
 abbrev pub IsRefusal : HistoryFault → List ℕ → Type 0
-IsRefusal Empty text = IsOneLine text
-IsRefusal (BadLine line) text = IsOneLine text
-IsRefusal (BadEntry chapter fault) text = IsOneLine text
-IsRefusal (BadNumber chapter) text = IsOneLine text
+IsRefusal Empty text = SaysNotLegal text
+IsRefusal (BadLine line) text = SaysNotLegal text
+IsRefusal (BadEntry chapter fault) text = SaysNotLegal text
+IsRefusal (BadNumber chapter) text = SaysNotLegal text
 IsRefusal (NotLegal chapter event line reason) text = text ≡ place_text chapter event line ++ reason_text reason
-IsRefusal (Broken fault) text = IsOneLine text
-IsRefusal Memory text = IsOneLine text
+IsRefusal (Broken fault) text = SaysNotLegal text
+IsRefusal Memory text = SaysNotLegal text
 
 -- the octets tell no legal history, and the text says so
 pub record IsToldNot (octets text : List ℕ) : Type 0 where

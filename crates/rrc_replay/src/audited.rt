@@ -3,7 +3,7 @@
 ghost use Rattle.std.specs.Prelude.{◌≡◌, ◌++◌, ◌∷◌, [], length, IfOk, OnOk};
 ghost use Rattle.std.specs.List.{flat_map};
 ghost use Rattle.rrc_trace.specs.Archive.{line_text};
-ghost use Rattle.rrc_replay.specs.Audited.{IsAudit, IsOneLine, IsRefusal, IsToldLegal, due_text, held_line, legal_text, place_text, reason_text};
+ghost use Rattle.rrc_replay.specs.Audited.{IsAudit, SaysNotLegal, IsRefusal, IsToldLegal, due_text, held_line, legal_text, place_text, reason_text};
 
 use crate::archive::{Counted, HistoryFault, counted_in};
 use crate::unlawful::{Due, Reason};
@@ -92,7 +92,7 @@ fn refusal(alloc: Global, fault: &HistoryFault) -> Result<Vec<u8>, AllocError>
 }
 
 fn one_line(alloc: Global, fault: &HistoryFault) -> Result<Vec<u8>, AllocError>
-    ensures { IfOk result (λ text. IsOneLine text.items) }
+    ensures { IfOk result (λ text. SaysNotLegal text.items) }
 {
     let why = format!(in alloc; "{fault}")?;
     let text = format!(in alloc; "not legal: {why}\n")?;
