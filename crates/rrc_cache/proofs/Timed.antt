@@ -234,7 +234,7 @@ among_expired stale moment entries key (first ∷ expiries) =
     swept = is_swept stale (entry_at key entries) moment
 
     rest_any : Bool
-    rest_any = list_any (λ expiry. key_eq key expiry.key) expiries
+    rest_any = list_any (λ expiry. key_eq key expiry.key) queue
 
     same_swept : key_eq key first.key ≡ true → is_swept stale (entry_at key entries) moment ≡ is_swept stale (entry_at first.key entries) moment
     same_swept same = ap (λ k. is_swept stale (entry_at k entries) moment) (key_eq-same key first.key same)
