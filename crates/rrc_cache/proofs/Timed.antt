@@ -234,18 +234,18 @@ among_expired stale moment entries key (first ∷ expiries) =
     swept = is_swept stale (entry_at key entries) moment
 
     rest_any : Bool
-    rest_any = list_any (λ expiry. key_eq key expiry.key) queue
+    rest_any = list_any (λ expiry. key_eq key expiry.key) expiries
 
     same_swept : key_eq key first.key ≡ true → is_swept stale (entry_at key entries) moment ≡ is_swept stale (entry_at first.key entries) moment
     same_swept same = ap (λ k. is_swept stale (entry_at k entries) moment) (key_eq-same key first.key same)
 
     by : (b : Bool) → is_swept stale (entry_at first.key entries) moment ≡ b → (same : Bool) → key_eq key first.key ≡ same
-        → is_among key (expired_among stale moment entries queue) ≡ (swept && rest_any)
-        → is_among key (expired_among stale moment entries (first ∷ queue)) ≡ (swept && (key_eq key first.key || rest_any))
+        → is_among key (expired_among stale moment entries expiries) ≡ (swept && rest_any)
+        → is_among key (expired_among stale moment entries (first ∷ expiries)) ≡ (swept && (key_eq key first.key || rest_any))
     by true at true same rest =
-        rw at (ap (λ b. b || is_among key (expired_among stale moment entries queue)) same ∙ sym (and_from swept (key_eq key first.key || rest_any) (same_swept same ∙ at) (ap (λ b. b || rest_any) same)))
+        rw at (ap (λ b. b || is_among key (expired_among stale moment entries expiries)) same ∙ sym (and_from swept (key_eq key first.key || rest_any) (same_swept same ∙ at) (ap (λ b. b || rest_any) same)))
     by true at false same rest =
-        rw at (ap (λ b. b || is_among key (expired_among stale moment entries queue)) same ∙ (rest ∙ sym (ap (λ b. swept && (b || rest_any)) same)))
+        rw at (ap (λ b. b || is_among key (expired_among stale moment entries expiries)) same ∙ (rest ∙ sym (ap (λ b. swept && (b || rest_any)) same)))
     by false at true same rest =
         rw at (rest ∙ (and_left swept rest_any (same_swept same ∙ at) ∙ sym (and_left swept (key_eq key first.key || rest_any) (same_swept same ∙ at))))
     by false at false same rest = rw at (rest ∙ sym (ap (λ b. swept && (b || rest_any)) same))

@@ -12,7 +12,7 @@ returns-in-Some c = λ repeats key time is.
     let due : List Expiry = c.self.inside.due.items in
     let last : Expiry = c.in-Some.last.now in
     let there : slice_get due (length due - 1) ≡ Some last =
-    ap (λ (expiries : List Expiry). slice_get queue (length queue - 1)) (sym c.as_slice.ensures.value) ∙ (sym c.last.ensures.value ∙ ap option_copied c.in-Some.is) in
+    ap (λ (expiries : List Expiry). slice_get expiries (length expiries - 1)) (sym c.as_slice.ensures.value) ∙ (sym c.last.ensures.value ∙ ap option_copied c.in-Some.is) in
     let by : is_by key time last ≡ true = is_by-before key time last c.args.expiry.now (sym c.is_before.ensures ∙ repeats) is in
     sym (ap (λ (d : ExpiryQueueOf). expires_by d key time) c.self.view_is)
     ∙ either (list_any (is_by key time) c.self.inside.waiting.data.items) (list_any (is_by key time) due) (any_at (is_by key time) due (length due - 1) last there by)
