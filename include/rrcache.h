@@ -7,7 +7,8 @@
    name is written. Which part that is goes by a hash under a secret seed (`struct rrcache_parts`),
    which is to keep others from picking names of one part, to fill it and keep its lock busy. With
    more shelves fewer threads wait for one lock; one shelf with no lock will do where one thread
-   asks.
+   asks. The rules are in docs/RULES.md, which has other words for some things: docs/GLOSSARY.md has
+   a table of this header's.
 
    Who owns what
    - The caller owns the handle, the lock and each buffer, and no call keeps a pointer to any of
@@ -92,11 +93,21 @@
    - What is kept is of class IN, CH or HS (RFC 1035 section 3.2.4), and each class of a name has
      keys of its own. Of a message the records of its question's class count alone. Data of type A
      of class CH are not kept, since they begin with a name. A question of a class or a type that is
-     not kept may be asked: it is a miss, or of such a type RRCACHE_NXDOMAIN where that is held.
+     not kept may be asked: it is a miss, or of such a type RRCACHE_NXDOMAIN where that is held. Of
+     ANY that is so also where sets of the name are held that are trusted more.
+   - A message may answer its question and leave nothing to ask for: its time to live is 0, its type
+     is not kept, the times to live of a set differ with AA clear, a negative answer has no SOA
+     record, or the set is not relevant. No call tells what a handle of offers holds. So where the
+     ask that follows is a miss, the client that waits is answered from the message, which the
+     resolver reads by itself.
+   - A failure that the shelf holds is still told after such a message, as RRCACHE_MISS_FAILED and
+     until its time is over, since nothing later is held. `rrcache_offer_failure` with `ttl` 0 ends
+     it.
+   - A message may have more new keys than the shelf has room for, and then evicts some of its own.
 
    Moments
-   - Moments are seconds, at most 2^40. The caller keeps them: no clock is read, and no call asks
-     that its moment be no lower than that of an earlier call.
+   - Moments are seconds, at most 2^40 (timestamps, in docs/RULES.md). The caller keeps them: no
+     clock is read, and no call asks that its moment be no lower than that of an earlier call.
    - Where a call's moment is lower than that of the data that it meets, their age is 0, and `left`
      is their whole time to live. It is never more.
    - So a clock that is set back lengthens the life of all that is kept by as much. What had
@@ -228,8 +239,8 @@ enum rrcache_kind {
     RRCACHE_NO_DATA = 3,     /* the name has no data of the type (RFC 2308 section 2.2) */
     RRCACHE_NO_NAME = 4,     /* the name does not exist (RFC 2308 section 2.1) */
     RRCACHE_MISS = 5,        /* nothing that will do */
-    RRCACHE_MISS_FAILED = 6, /* nothing that will do, and asking has lately failed: `retry_from`
-                                says when to try again */
+    RRCACHE_MISS_FAILED = 6, /* nothing that will do, and a failure is held, not past its time and
+                                later than what else is held: `retry_from` says when to try again */
     RRCACHE_NODATA = RRCACHE_NO_DATA,      /* as RFC 2308 calls it */
     RRCACHE_NXDOMAIN = RRCACHE_NO_NAME,    /* the same */
     RRCACHE_SERVFAIL = RRCACHE_MISS_FAILED /* what a resolver answers then (RFC 9520) */
@@ -242,8 +253,8 @@ enum rrcache_class { RRCACHE_IN = 1, RRCACHE_CH = 3, RRCACHE_HS = 4 };
    (RFC 2181 section 5.4.1). */
 enum rrcache_purpose { RRCACHE_ANYTHING = 0, RRCACHE_QUESTION = 1 };
 
-/* Whether a stale answer will do (RFC 8767 section 5): no; where asking has lately failed; at
-   once. */
+/* Whether a stale answer will do (RFC 8767 section 5): no; where a failure is held by which a miss
+   would be RRCACHE_MISS_FAILED; at once. */
 enum rrcache_mode { RRCACHE_NO_STALE = 0, RRCACHE_STALE_IF_FAILED = 1, RRCACHE_STALE_NOW = 2 };
 
 /* How far data are trusted (RFC 2181 section 5.4.1), from low to high. */
@@ -658,7 +669,8 @@ static inline bool rrcache_can_read(const struct rrcache_offers *offers,
    `concerned` is set where one lies in part 0, bit 1 for part 1, and so on. It takes no shelf and
    writes no event. A handle that holds offers keeps them, and RRCACHE_HAS_OFFERS is returned,
    whatever else would be refused. Where a response offers nothing, as one with TC set, `concerned`
-   is 0, and the handle is to be freed like any other. */
+   is 0, and the handle is to be freed like any other. What the handle holds can be offered, and
+   cannot be read. It is what a `response` line of a trace offers. */
 static inline enum rrcache_status rrcache_read_message(struct rrcache_offers *offers,
                                                        const struct rrcache_response *response,
                                                        const struct rrcache_parts *parts,
@@ -681,15 +693,21 @@ static inline enum rrcache_status rrcache_read_message(struct rrcache_offers *of
    of `query`, whose other fields are not read. A response with another identifier or question (in
    which the case of letters counts for nothing) is RRCACHE_OTHER_QUERY.
 
-   Relevant are: of the answer section, RRsets of the name and of at most 11 names that CNAME
-   records lead to from it, of the type that was asked for (any type, where that is ANY) or CNAME,
-   and DNAME records above them; of the authority section, the first NS, SOA and DS set of a zone
-   that the last name is in; of the additional section, addresses of at most 20 names that NS, MX
-   and SRV records among these name; and the negative answer, or that asking failed. Of class IN an
-   address has 4 octets with type A and 16 with AAAA. No set with more than 16,384 octets of data is
-   relevant. So a server of `example` that is asked for one name can replace what is held of another
-   one only where it leads the question there by CNAME records, names it as a host of its answer, or
-   offers NS, SOA, DS or DNAME records of a name above the question's or above one of those. */
+   Relevant are: of the answer section, RRsets of the name and of at most 11 that CNAME records lead
+   to from it, of the type that was asked for (any type, where that is ANY) or CNAME, and DNAME
+   records above them; of the authority section, the first NS, SOA and DS set of a zone that the
+   last name is in; of the additional section, addresses of the hosts that NS, MX and SRV records
+   among these name; and the negative answer, or that asking failed. The hosts are the first 20
+   names in the data of these records, in the order of the message: a name in two data counts twice,
+   and one outside the zone counts, though its addresses are left out.
+
+   No set with more than 16,384 octets of data is relevant, and of class IN none of type A in which
+   a datum has other than 4 octets, or of type AAAA other than 16.
+
+   So a server of `example` that is asked for one name can replace what is held of another one in
+   three ways alone: its CNAME records lead the question there; its NS, MX or SRV records name the
+   other one as a host; or the other one is above the question's name, or above one that CNAME
+   records lead to, and the server sends its NS, SOA, DS or DNAME records. */
 static inline enum rrcache_status
 rrcache_read_response(struct rrcache_offers *offers, const struct rrcache_response *response,
                       const struct rrcache_query *query, uint16_t id,
@@ -737,7 +755,10 @@ static inline enum rrcache_status rrcache_free_offers(struct rrcache_offers *off
     return (enum rrcache_status)rrc_free_offers(offers);
 }
 
-/* Offers one set under its owner. */
+/* Offers one set under its owner. With `ttl` 0, RRCACHE_AUTHORITATIVE_ANSWER and any data of the
+   type it clears what the shelf holds of the name, type and class, a set or that there are no such
+   data: so a key is flushed. `rrcache_offer_negative` with RRCACHE_DENIES_NAME, the same `trust`
+   and `ttl` 0 flushes that the name does not exist. No call flushes all names below one. */
 static inline enum rrcache_status rrcache_offer_set(struct rrcache_shelf *shelf,
                                                     const struct rrcache_set *set, uint64_t line,
                                                     uint32_t *outcome)
@@ -782,7 +803,8 @@ static inline enum rrcache_status rrcache_offer_negative(struct rrcache_shelf *s
         negative->soa_size, negative->moment, line, outcome);
 }
 
-/* Offers that asking for data of a type failed. */
+/* Offers that asking for data of a type failed. That is always kept. With `ttl` 0 it ends the
+   failure that the shelf holds, and is told by no ask. */
 static inline enum rrcache_status rrcache_offer_failure(struct rrcache_shelf *shelf,
                                                         const struct rrcache_failure *failure,
                                                         uint64_t line, uint32_t *outcome)
@@ -851,9 +873,9 @@ static inline enum rrcache_status rrcache_peek(struct rrcache_shelf *shelf,
 }
 
 /* Tells how far what the shelf holds of the name, type and class of a query is trusted, its time to
-   live and when it was stored, whether it is past its time or not. That the name does not exist is
-   not told, also where an ask is answered so: a set that the shelf still holds is told, or zeros.
-   No event is written and no key touched. */
+   live and when it was stored, whether it is past its time or not. No reply tells these. That the
+   name does not exist is not told, also where an ask is answered so: a set that the shelf still
+   holds is told, or zeros. Nor are failures. No event is written and no key touched. */
 static inline enum rrcache_status rrcache_tell_stored(struct rrcache_shelf *shelf,
                                                       const struct rrcache_query *query,
                                                       struct rrcache_stored *stored)
@@ -880,11 +902,10 @@ static inline bool rrcache_is_alias_told(uint32_t of_alias, uint32_t of_type)
 }
 
 /* Asks as `rrcache_ask` does, which is one event, for data of the type or for the name's CNAME
-   record: for the latter where the type has a miss and the record is fresh or stale, and where the
-   type has stale data and the record is fresh. `is_alias` tells which. Fresh data and negative
-   answers are told themselves, and so is a miss of both. The resolver then asks for the record's
-   target, under the lock of that name's shelf. `is_alias` is written where RRCACHE_DONE or
-   RRCACHE_SMALL is returned. */
+   record, and `is_alias` tells which. The record is told where the type has a miss and the record
+   is fresh or stale, and where the type has stale data and the record is fresh. In each other case
+   the reply for the type is told. The resolver then asks for the record's target, under the lock of
+   that name's shelf. `is_alias` is written where RRCACHE_DONE or RRCACHE_SMALL is returned. */
 static inline enum rrcache_status
 rrcache_ask_alias(struct rrcache_shelf *shelf, const struct rrcache_query *query, uint64_t line,
                   struct rrcache_told *told, uint8_t *buffer, size_t buffer_size, bool *is_alias)
@@ -1005,7 +1026,11 @@ static inline enum rrcache_status rrcache_take_chapters(struct rrcache_shelf *sh
    those that were closed and not taken before, and behind them the one that was open, which it
    closes. It tells how many they are, which is 0 where nothing was recorded. No reply changes, and
    no key is lost. RRCACHE_HISTORY_FULL is returned where the chapter has the number 2^62; after it
-   and RRCACHE_MEMORY the history is recorded as before, and `rrcache_release` can end that. */
+   and RRCACHE_MEMORY the history is recorded as before, and `rrcache_release` can end that. Right
+   after `rrcache_record` it takes one chapter with no event, whose lines tell all that the shelf
+   holds: so keys are listed and saved. No call here makes a shelf of such a chapter; a caller may
+   offer each entry again, with the moment, trust and time to live of its line, in the order of
+   their events' numbers. */
 static inline enum rrcache_status rrcache_stop_recording(struct rrcache_shelf *shelf,
                                                          struct rrcache_chapters *chapters,
                                                          uint64_t *count)
