@@ -20,8 +20,8 @@ class Purpose(IntEnum):
 
 
 class Mode(IntEnum):
-    """Whether a stale answer will do (RFC 8767 section 5): no; where asking has lately failed; at
-    once."""
+    """Whether a stale answer will do (RFC 8767 section 5): no; where a failure is held by which a
+    miss would be MISS_FAILED; at once."""
 
     NO_STALE = 0
     STALE_IF_FAILED = 1
@@ -54,8 +54,9 @@ class Outcome(IntEnum):
 
 
 class Kind(IntEnum):
-    """What a reply is. With MISS_FAILED asking has lately failed. NODATA and NXDOMAIN are what RFC
-    2308 calls NO_DATA and NO_NAME, and SERVFAIL is what a resolver answers for MISS_FAILED."""
+    """What a reply is. With MISS_FAILED a failure is held that is not past its time and later than
+    what else is held. NODATA and NXDOMAIN are what RFC 2308 calls NO_DATA and NO_NAME, and SERVFAIL
+    is what a resolver answers for MISS_FAILED."""
 
     FRESH = 1
     STALE = 2

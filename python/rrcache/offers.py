@@ -12,8 +12,8 @@ from .replies import Limits, Query
 
 class Offers:
     """What a response says that servers of a zone sent, read once and for no shelf:
-    `Shelf.offer_read` then offers the share of a part. It is for one thread at a time. A `with`
-    frees it at its end.
+    `Shelf.offer_read` then offers the share of a part. What they are cannot be read here. It is for
+    one thread at a time. A `with` frees it at its end.
 
     `concerned` are the parts, of 1 to 64, that the response has something for, by the seed that
     `part_of` takes. With the query that was sent only what is relevant to it is taken, and

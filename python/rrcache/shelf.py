@@ -119,7 +119,8 @@ class Shelf:
 
     def offer_set(self, owner: Name, rtype: int, rank: Rank | int, ttl: int, data: Iterable[bytes],
                   moment: int, line: int = 0, rclass: Class | int = Class.IN) -> Outcome:
-        """Offers one RRset."""
+        """Offers one RRset. With the highest rank and a TTL of 0 it clears what the shelf holds of
+        the name and type."""
         octets = b"".join(len(it).to_bytes(2, "big") + it for it in data)
         return Outcome(told("rrc_offer_set", c_uint32, self._handle, *sized(to_wire(owner)), rtype,
                             rclass, rank, ttl, *sized(octets), moment, line))
@@ -135,7 +136,8 @@ class Shelf:
 
     def offer_failure(self, name: Name, rtype: int, ttl: int, moment: int, line: int = 0,
                       rclass: Class | int = Class.IN) -> Outcome:
-        """Offers that asking for data of a type failed, for `ttl` seconds (RFC 9520)."""
+        """Offers that asking for data of a type failed, for `ttl` seconds (RFC 9520). With a TTL of
+        0 it ends the failure that is held."""
         return Outcome(told("rrc_offer_failure", c_uint32, self._handle, *sized(to_wire(name)),
                             rtype, rclass, ttl, moment, line))
 
@@ -166,7 +168,7 @@ class Shelf:
     def stored(self, name: Name, rtype: int, rclass: Class | int = Class.IN) -> Stored | None:
         """What the shelf holds of a name and a type, an RRset or that there is none, past its time
         or not: its rank, its TTL when it was stored, and that moment. So a resolver sees when data
-        are to be renewed. That the name does not exist is not told here."""
+        are to be renewed. No reply tells these. That the name does not exist is not told here."""
         held = StoredNumbers()
         call("rrc_stored", self._handle, *sized(to_wire(name)), rtype, rclass, byref(held))
         return Stored(Rank(held.rank), held.ttl, held.moment) if held.rank else None
@@ -248,7 +250,8 @@ class Shelf:
         return self._chapters("rrc_take_chapters")
 
     def stop_recording(self) -> list[Chapter]:
-        """Records nothing from here on, and takes all chapters, the open one last.
+        """Records nothing from here on, and takes all chapters, the open one last. Right after
+        `record` that is one chapter, whose `entries` are all that the shelf holds.
 
         >>> with Shelf(record=True) as shelf:
         ...     _ = shelf.ask("WWW.example.", 1, moment=1000, line=7)
