@@ -1029,8 +1029,8 @@ static inline enum rrcache_status rrcache_take_chapters(struct rrcache_shelf *sh
    and RRCACHE_MEMORY the history is recorded as before, and `rrcache_release` can end that. Right
    after `rrcache_record` it takes one chapter with no event, whose lines tell all that the shelf
    holds: so keys are listed and saved. No call here makes a shelf of such a chapter; a caller may
-   offer each entry again, with the moment, trust and time to live of its line, in the order of
-   their events' numbers. */
+   offer each entry to an empty one, with the moment, trust and time to live of its line, in the
+   order of their events' numbers. */
 static inline enum rrcache_status rrcache_stop_recording(struct rrcache_shelf *shelf,
                                                          struct rrcache_chapters *chapters,
                                                          uint64_t *count)
