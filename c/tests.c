@@ -3,8 +3,9 @@
    about, at each call that can answer it, and what a refusal leaves. Two statuses are not met:
    RRCACHE_HISTORY_FULL asks for 2^62 events, and RRCACHE_WIDE for a datum that no call takes.
 
-   The last line is 'N passed, M failed'. Where the program is linked with --wrap for malloc,
-   realloc and free, each allocation is refused in turn as well. */
+   The last line is 'N passed, M failed'. Where the program is linked with --wrap for malloc, calloc,
+   realloc and free, each allocation is refused in turn as well, and those of calls that only look are
+   counted: there are none. */
 #include "rrcache.h"
 
 #include <stdio.h>
@@ -2236,20 +2237,30 @@ static void test_overlaps(void)
 /* ---- Each allocation refused in turn. */
 
 void *__real_malloc(size_t size);
+void *__real_calloc(size_t count, size_t size);
 void *__real_realloc(void *old, size_t size);
 void __real_free(void *old);
 
-/* How many allocations are granted before one is refused, and how many blocks are out. */
-static long granted = -1, blocks;
+/* How many allocations are granted before one is refused, how many blocks are out, and how often
+   memory was asked for. */
+static long granted = -1, blocks, wanted;
 
 static bool is_refused(void)
 {
+    wanted++;
     return granted >= 0 && granted-- == 0;
 }
 
 void *__wrap_malloc(size_t size)
 {
     void *made = is_refused() ? NULL : __real_malloc(size);
+    blocks += made != NULL;
+    return made;
+}
+
+void *__wrap_calloc(size_t count, size_t size)
+{
+    void *made = is_refused() ? NULL : __real_calloc(count, size);
     blocks += made != NULL;
     return made;
 }
@@ -2433,10 +2444,72 @@ static void test_refused_memory(void)
         refused++;
     EXPECT(refused > 20 && refused < 1000);
     for (int number = 0; number <= CALLS + 1; number++)
-        /* To free takes no memory. */
-        EXPECT(met_refusal[number] == (number != 11 && number != 14 && number != 16));
+        /* To look takes no memory, and neither does to free. */
+        EXPECT(met_refusal[number]
+               == (number != 7 && number != 11 && number != 14 && number != 16 && number != 17));
     printf("refused each of %ld allocations in turn\n", refused);
     blocks = out;
+}
+
+enum { LONGEST = 255, LOOKS = 1000 };
+
+/* Writes a name of so many octets whose labels are of one letter. */
+static void fill_name(uint8_t *name, size_t size, char letter)
+{
+    size_t place = 0;
+    while (place + 1 < size) {
+        size_t label = size - place - 2 < 63 ? size - place - 2 : 63;
+        name[place] = (uint8_t)label;
+        memset(name + place + 1, letter, label);
+        place += label + 1;
+    }
+    name[place] = 0;
+}
+
+/* Asks of a name that is kept and of one that is not, peeks at both, and tells of the first what is
+   stored and which part it lies in; answers whether all that is told is right. */
+static bool look(struct rrcache_shelf *shelf, const uint8_t *kept, const uint8_t *other,
+                 size_t size)
+{
+    struct rrcache_told told;
+    struct rrcache_stored stored;
+    uint64_t part = PARTS;
+    uint8_t buffer[LONGEST + sizeof ADDRESS];
+#define TOLD(call) ((call) == RRCACHE_DONE ? (int)told.kind : -1)
+#define OF(name) QUERY(name, size, A, RRCACHE_IN, FIRST, RRCACHE_QUESTION, RRCACHE_NO_STALE)
+    return TOLD(rrcache_ask(shelf, OF(kept), 1, &told, buffer, sizeof buffer)) == RRCACHE_FRESH
+           && TOLD(rrcache_ask(shelf, OF(other), 1, &told, buffer, sizeof buffer)) == RRCACHE_MISS
+           && TOLD(rrcache_peek(shelf, OF(kept), &told, buffer, sizeof buffer)) == RRCACHE_FRESH
+           && TOLD(rrcache_peek(shelf, OF(other), &told, buffer, sizeof buffer)) == RRCACHE_MISS
+           && rrcache_tell_stored(shelf, OF(kept), &stored) == RRCACHE_DONE && stored.ttl == 60
+           && rrcache_part_of(kept, size, PARTED(PARTS), &part) == RRCACHE_DONE && part < PARTS;
+#undef OF
+#undef TOLD
+}
+
+/* What only looks takes no memory, however long the name is and whatever its case; an ask takes some
+   where it is recorded. */
+static void test_looks_take_no_memory(void)
+{
+    static const size_t SIZES[] = {3, 40, LONGEST};
+    for (size_t i = 0; i < sizeof SIZES / sizeof *SIZES; i++) {
+        struct rrcache_shelf shelf = {0};
+        uint8_t kept[LONGEST], other[LONGEST];
+        bool right = true;
+        fill_name(kept, SIZES[i], 'K');
+        fill_name(other, SIZES[i], 'O');
+        EXPECT(rrcache_make(&shelf, 100, 4, 3600, SEED) == RRCACHE_DONE);
+        EXPECT(offer_address(&shelf, kept, SIZES[i], RRCACHE_AUTHORITATIVE_ANSWER, 60)
+               == RRCACHE_KEPT);
+        wanted = 0;
+        for (int turn = 0; turn < LOOKS; turn++)
+            right = look(&shelf, kept, other, SIZES[i]) && right;
+        EXPECT(right && wanted == 0);
+        EXPECT(rrcache_record(&shelf) == RRCACHE_DONE);
+        wanted = 0;
+        EXPECT(look(&shelf, kept, other, SIZES[i]) && wanted > 0);
+        EXPECT(rrcache_free(&shelf) == RRCACHE_DONE);
+    }
 }
 #endif
 
@@ -2484,6 +2557,7 @@ int main(void)
     test_overlaps();
 #ifdef REFUSE
     test_refused_memory();
+    test_looks_take_no_memory();
 #endif
     printf("%u passed, %u failed\n", passed, failed);
     return failed != 0;

@@ -41,6 +41,9 @@
    Memory
    - The library takes memory by malloc and realloc alone, and gives it back by free. Where they
      refuse, the call returns RRCACHE_MEMORY.
+   - What only looks takes no memory, however long the name is, and never returns RRCACHE_MEMORY:
+     `rrcache_peek`, `rrcache_tell_stored` and `rrcache_part_of`. Neither does `rrcache_ask` while
+     nothing is recorded.
    - What a reply says is copied into the caller's buffer.
 
    What a refusal leaves
@@ -841,7 +844,7 @@ static inline bool rrcache_can_tell(const struct rrcache_shelf *shelf,
    small RRCACHE_SMALL is returned, `told` tells the reply and its sizes, and no event is written. A
    reply never takes more than 255 octets and those of its data. RRCACHE_SMALL comes before
    RRCACHE_HISTORY_FULL and RRCACHE_MOMENT_TOO_LARGE, so that the call with room enough may still be
-   refused. */
+   refused. It takes no memory while nothing is recorded, and RRCACHE_MEMORY does not come then. */
 static inline enum rrcache_status rrcache_ask(struct rrcache_shelf *shelf,
                                               const struct rrcache_query *query, uint64_t line,
                                               struct rrcache_told *told, uint8_t *buffer,
@@ -857,7 +860,7 @@ static inline enum rrcache_status rrcache_ask(struct rrcache_shelf *shelf,
 }
 
 /* What `rrcache_ask` would answer. No event is written and no key touched. It is not refused for
-   its moment, which may be above 2^40, nor where numbers are spent. */
+   its moment, which may be above 2^40, nor where numbers are spent. It takes no memory. */
 static inline enum rrcache_status rrcache_peek(struct rrcache_shelf *shelf,
                                                const struct rrcache_query *query,
                                                struct rrcache_told *told, uint8_t *buffer,
@@ -875,7 +878,8 @@ static inline enum rrcache_status rrcache_peek(struct rrcache_shelf *shelf,
 /* Tells how far what the shelf holds of the name, type and class of a query is trusted, its time to
    live and when it was stored, whether it is past its time or not. No reply tells these. That the
    name does not exist is not told, also where an ask is answered so: a set that the shelf still
-   holds is told, or zeros. Nor are failures. No event is written and no key touched. */
+   holds is told, or zeros. Nor are failures. No event is written and no key touched. It
+   takes no memory. */
 static inline enum rrcache_status rrcache_tell_stored(struct rrcache_shelf *shelf,
                                                       const struct rrcache_query *query,
                                                       struct rrcache_stored *stored)
@@ -1152,7 +1156,7 @@ static inline enum rrcache_status rrcache_fault(const uint8_t *octets, size_t si
     return (enum rrcache_status)rrc_fault(rrcache_octets(octets, size), size, fault);
 }
 
-/* Tells in which of so many parts all keys of a name lie, counted from 0. */
+/* Tells in which of so many parts all keys of a name lie, counted from 0. It takes no memory. */
 static inline enum rrcache_status rrcache_part_of(const uint8_t *name, size_t name_size,
                                                   const struct rrcache_parts *parts, uint64_t *part)
 {

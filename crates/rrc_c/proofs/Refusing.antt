@@ -5,12 +5,13 @@ use Rattle.std.proofs.lemmas.List.{drop_all}
 use Rattle.std.specs.List.{AllByRecursion}
 use Rattle.std.specs.Prelude.{IfErr, IsErrAnd}
 use Rattle.rrc_history.specs.declared.event.Outcome.{Outcome}
-use Rattle.rrc_cache.specs.Part.{PartOf}
+use Rattle.rrc_cache.specs.Lean.{IsLeanDue}
+use Rattle.rrc_cache.specs.Part.{PartOf, IsOfMoments}
 use Rattle.rrc_cache.specs.declared.refusal.Refusal.{Refusal}
 use Rattle.rrc_cache.specs.declared.refusal.Refusal.TheVariants as Refusals
 use Rattle.rrc_share.specs.CacheShelf.{CacheShelfOf, IsDueBy}
 use Rattle.rrc_history.specs.Lives.{LAST_MOMENT}
-use Rattle.rrc_c.specs.Refusals.{Because, IfHeld, IsDoneOrMemory, Then, WriteDue}
+use Rattle.rrc_c.specs.Refusals.{Because, IfHeld, IsDoneOrMemory, NoteDue, Then, WriteDue}
 use Rattle.rrc_c.specs.Shelves.{CanWriteBy, IsSpentBy}
 use Rattle.rrc_c.specs.Statuses.{number_of, number_of_call, refused_as}
 use Rattle.rrc_c.specs.Told.{data_text, AreNarrow, AreTellable}
@@ -32,6 +33,20 @@ refused_by A false part at Refusals.Memory ready = inr (ready.number, inr (ready
 -- a shelf that refuses an offer tells why
 pub write_refused : (shelf : CacheShelfOf) (at : ℕ) (refusal : Refusal) → IsDueBy {A = Outcome} shelf.records shelf.shelf.part at (Err refusal) → WriteDue shelf at (number_of (refused_as refusal))
 write_refused shelf at refusal due = refused_by Outcome shelf.records shelf.shelf.part at refusal due
+
+lean_refused_by : (A : Type 0) (part : PartOf) (at : ℕ) (refusal : Refusal) → IsLeanDue {A = A} part at (Err refusal) → IsOfMoments refusal
+    → Then (Because HistoryFull (IsSpentBy false part)) (CanWriteBy false part) (Then (Because MomentTooLarge (LAST_MOMENT < at)) (at ≤ LAST_MOMENT) (λ number. number ≡ 0)) (number_of (refused_as refusal))
+lean_refused_by A part at Refusals.HistoryFull spent only = inl (refl, spent)
+lean_refused_by A part at Refusals.MomentTooLarge (can, late) only = inr (can, inl (refl, late))
+lean_refused_by A part at Refusals.Memory ready only = absurd only
+
+-- a shelf that records nothing tells why it refuses to judge an ask, and never for want of memory
+pub note_refused : (A : Type 0) (shelf : CacheShelfOf) (at : ℕ) (refusal : Refusal) → shelf.records ≡ false → IsLeanDue {A = A} shelf.shelf.part at (Err refusal) → IsOfMoments refusal
+    → NoteDue shelf at (number_of (refused_as refusal))
+note_refused A shelf at refusal lean due only =
+    let P : Bool → Type 0 = λ records. Then (Because HistoryFull (IsSpentBy records shelf.shelf.part)) (CanWriteBy records shelf.shelf.part)
+    (Then (Because MomentTooLarge (LAST_MOMENT < at)) (at ≤ LAST_MOMENT) (λ number. number ≡ 0)) (number_of (refused_as refusal)) in
+    subst P (sym lean) (lean_refused_by A shelf.shelf.part at refusal due only)
 
 -- what is said of a refusal is said of the number that a call answers
 pub refused_told : {A : Type 0} (result : Result A Status) (status : Status) (X : ℕ → Type 0) → IsErrAnd result (λ one. one ≡ status) → X (number_of status) → X (number_of_call result)

@@ -53,8 +53,12 @@ IfHeld (Some shelf) fact = fact shelf
 abbrev pub HasNameFault : List ℕ → Type 0
 HasNameFault octets = (fault : WireNameFault) × IsFirstFaultOfWire octets fault
 
+-- a name is refused that is read where it is, which takes no memory
+abbrev pub WireRefused : List ℕ → ℕ → Type 0
+WireRefused octets = Because BadName (HasNameFault octets)
+
 abbrev pub NameRefused : List ℕ → ℕ → Type 0
-NameRefused octets number = OutOfMemory number ⊎ Because BadName (HasNameFault octets) number
+NameRefused octets number = OutOfMemory number ⊎ WireRefused octets number
 
 abbrev pub MessageRefused : List ℕ → ℕ → Type 0
 MessageRefused octets number = OutOfMemory number ⊎ Because BadMessage ((fault : WireFault) × FirstFault octets fault) number
@@ -114,12 +118,20 @@ MakingDue capacity chapter stale seed None number = NewDue capacity chapter stal
 
 -- ---- events
 
--- when an event is written at a moment, and when that is refused with what: while nothing is
--- recorded no chapter is ever full
-abbrev pub WriteDue : CacheShelfOf → ℕ → ℕ → Type 0
-WriteDue shelf at =
+-- when an event may be written at a moment, and then what is done next: while nothing is recorded no
+-- chapter is ever full
+abbrev pub WritingThen : CacheShelfOf → ℕ → (ℕ → Type 0) → ℕ → Type 0
+WritingThen shelf at next =
     Then (Because HistoryFull (IsSpentBy shelf.records shelf.shelf.part)) (CanWriteBy shelf.records shelf.shelf.part)
-    (Then (Because MomentTooLarge (LAST_MOMENT < at)) (at ≤ LAST_MOMENT) IsDoneOrMemory)
+    (Then (Because MomentTooLarge (LAST_MOMENT < at)) (at ≤ LAST_MOMENT) next)
+
+-- when an event is written at a moment, and when that is refused with what
+abbrev pub WriteDue : CacheShelfOf → ℕ → ℕ → Type 0
+WriteDue shelf at = WritingThen shelf at IsDoneOrMemory
+
+-- the same of an event that takes no memory
+abbrev pub NoteDue : CacheShelfOf → ℕ → ℕ → Type 0
+NoteDue shelf at = WritingThen shelf at (λ number. number ≡ 0)
 
 -- ---- recording
 
@@ -144,11 +156,11 @@ pub record IsQuestion (octets : List ℕ) (purpose mode : ℕ) : Type 0 where
   pub name : IsWireForm octets
 
 abbrev pub QuestionRefused : List ℕ → ℕ → ℕ → ℕ → Type 0
-QuestionRefused name purpose mode = Then (Because BadChoice (AreNoChoices purpose mode)) (AreChoices purpose mode) (NameRefused name)
+QuestionRefused name purpose mode = Then (Because BadChoice (AreNoChoices purpose mode)) (AreChoices purpose mode) (WireRefused name)
 
 -- a reply that no record can tell
 abbrev pub ReplyRefused : Reply → ℕ → Type 0
-ReplyRefused reply number = OutOfMemory number ⊎ Because WideAnswer (AreTellable (data_of reply) → ⊥) number
+ReplyRefused reply = Because WideAnswer (AreTellable (data_of reply) → ⊥)
 
 -- a buffer of so many octets has room for a reply, or too little, which is told by 16
 abbrev pub HasRoomFor : Reply → ℕ → Type 0
@@ -161,13 +173,19 @@ IsSmall reply room number = (number ≡ 16) × (room < length (text_of reply))
 abbrev pub TellingThen : Reply → ℕ → (ℕ → Type 0) → ℕ → Type 0
 TellingThen reply room next = Then (ReplyRefused reply) (AreTellable (data_of reply)) (Then (IsSmall reply room) (HasRoomFor reply room) next)
 
+-- when a question is answered from a shelf that has this reply, and when that is refused with what.
+-- Memory is refused only where the history is recorded, which keeps the question
+abbrev pub AnswerDue : Bool → CacheShelfOf → Reply → ℕ → ℕ → ℕ → Type 0
+AnswerDue true shelf reply room at number = OutOfMemory number ⊎ TellingThen reply room (WriteDue shelf at) number
+AnswerDue false shelf reply room at number = TellingThen reply room (NoteDue shelf at) number
+
 -- when a question is answered, and when that is refused with what
 abbrev pub AskDue : List ℕ → ℕ → ℕ → ℕ → ℕ → ℕ → ℕ → CacheShelfOf → ℕ → Type 0
 AskDue name rtype class at purpose mode room shelf =
     Then (QuestionRefused name purpose mode) (IsQuestion name purpose mode)
-    (TellingThen (reply_of shelf (asked name rtype class at purpose mode)) room (WriteDue shelf at))
+    (AnswerDue shelf.records shelf (reply_of shelf (asked name rtype class at purpose mode)) room at)
 
--- when the reply to a question is told, and when that is refused with what
+-- when the reply to a question is told, and when that is refused with what: never for want of memory
 abbrev pub PeekDue : List ℕ → ℕ → ℕ → ℕ → ℕ → ℕ → ℕ → CacheShelfOf → ℕ → Type 0
 PeekDue name rtype class at purpose mode room shelf =
     Then (QuestionRefused name purpose mode) (IsQuestion name purpose mode)
@@ -278,11 +296,11 @@ pub record IsDivision (parts : ℕ) (seed : List ℕ) : Type 0 where
 abbrev pub DivisionRefused : ℕ → List ℕ → ℕ → Type 0
 DivisionRefused parts seed = Then (Because BadRules (IsPartCount parts → ⊥)) (IsPartCount parts) (SeedRefused seed)
 
--- when it is told what a key holds, and when that is refused with what
+-- when it is told what a key holds, and when that is refused with what: never for want of memory
 abbrev pub StoredDue : List ℕ → ℕ → Type 0
-StoredDue name = Then (NameRefused name) (IsWireForm name) (λ number. number ≡ 0)
+StoredDue name = Then (WireRefused name) (IsWireForm name) (λ number. number ≡ 0)
 
--- when the part of a name is told, and when that is refused with what
+-- when the part of a name is told, and when that is refused with what: never for want of memory
 abbrev pub PartDue : List ℕ → ℕ → List ℕ → ℕ → Type 0
 PartDue name parts seed =
-    Then (DivisionRefused parts seed) (IsDivision parts seed) (Then (NameRefused name) (IsWireForm name) (λ number. number ≡ 0))
+    Then (DivisionRefused parts seed) (IsDivision parts seed) (Then (WireRefused name) (IsWireForm name) (λ number. number ≡ 0))

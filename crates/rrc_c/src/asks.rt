@@ -1,17 +1,18 @@
 // SPDX-License-Identifier: MIT
-ghost use Rattle.std.specs.Prelude.{◌≡◌, ◌+◌, ◌≤◌, ◌↔◌, length, false, IsTrue, IfOk, IfErr, IfNone, IfSome, OnOk, OnErr};
-ghost use Rattle.rrc_c.specs.Asks.{asked, purpose_of, mode_of, reply_of, TellsNothing, AnswersOr, ShowsOr, TellsOr};
-ghost use Rattle.rrc_c.specs.Refusals.{AskDue, IsQuestion, NameRefused, PeekDue, QuestionRefused, TellingThen, WriteDue};
+ghost use Rattle.std.specs.Prelude.{◌≡◌, ℕ, ◌+◌, ◌≤◌, ◌↔◌, length, false, IsTrue, IfOk, IfErr, IfNone, IfSome, OnOk, OnErr};
+ghost use Rattle.rrc_c.specs.Asks.{asked, reply_of, TellsNothing, AnswersOr, ShowsOr, TellsOr};
+ghost use Rattle.rrc_c.specs.Refusals.{AnswerDue, AskDue, IsQuestion, NameRefused, NoteDue, PeekDue, TellingThen, WriteDue};
 ghost use Rattle.rrc_c.specs.Shelves.{IsLeftAs, MakesAsk};
 ghost use Rattle.rrc_c.specs.Statuses.{number_of, number_of_call, number_of_reply};
 ghost use Rattle.rrc_c.specs.Told.{data_of, AreTellable};
-ghost use Rattle.rrc_history.specs.Views.{reply_in};
+ghost use Rattle.rrc_history.specs.Views.{ask_in, reply_in};
 ghost use Rattle.rrc_name.specs.Wire.{IsWireForm};
 
+use crate::question::question_of;
 use crate::status::Status;
 use crate::text::fill;
 use crate::told::{Told, data_of, lent, owner_of, told_of};
-use rrc_history::{Ask, Mode, Purpose, Reply, ReplyRef, Tag};
+use rrc_history::{Ask, AskRef, Reply, ReplyRef, Tag};
 use rrc_name::{Name, WireNameFault};
 use rrc_share::CacheShelf;
 use std::alloc::Global;
@@ -27,55 +28,6 @@ pub(crate) fn name_of(alloc: Global, octets: &[u8]) -> Result<Name, Status>
         Err(WireNameFault::Memory) => Err(Status::Memory),
         Err(_) => Err(Status::BadName),
     }
-}
-
-fn purpose_of(number: u32) -> Purpose
-    ensures { result ≡ purpose_of number }
-{
-    if number == 0 {
-        Purpose::Any
-    } else {
-        Purpose::Answer
-    }
-}
-
-fn mode_of(number: u32) -> Mode
-    ensures { result ≡ mode_of number }
-{
-    if number == 0 {
-        Mode::NoStale
-    } else if number == 1 {
-        Mode::Failed
-    } else {
-        Mode::Now
-    }
-}
-
-/// The question that C asks.
-pub(crate) fn ask_of(
-    alloc: Global,
-    name: &[u8],
-    rtype: u16,
-    class: u16,
-    moment: u64,
-    purpose: u32,
-    mode: u32,
-) -> Result<Ask, Status>
-    ensures ask { IfOk result (λ ask. ask ≡ asked name.now rtype class moment purpose mode) }
-    ensures fit { OnOk result (IsQuestion name.now purpose mode) }
-    ensures refused { IfErr result (λ status. QuestionRefused name.now purpose mode (number_of status)) }
-{
-    if purpose > 1 || mode > 2 {
-        return Err(Status::BadChoice);
-    }
-    Ok(Ask {
-        name: name_of(alloc, name)?.folded()?,
-        class,
-        rtype,
-        moment,
-        purpose: purpose_of(purpose),
-        mode: mode_of(mode),
-    })
 }
 
 /// Whether a buffer has as many octets as a reply takes.
@@ -104,10 +56,15 @@ fn tell(reply: ReplyRef<'_>, told: &mut Told, buffer: &mut [u8]) -> Option<bool>
 }
 
 /// Tells what a shelf would answer, and writes nothing. False is answered where the buffer is too small.
-fn show(shelf: &CacheShelf, ask: &Ask, told: &mut Told, buffer: &mut [u8]) -> Result<bool, Status>
-    ensures ok { IfOk result (λ fits. ShowsOr fits ask.now told.new buffer.old buffer.new shelf.now shelf.now) }
+fn show(
+    shelf: &CacheShelf,
+    ask: AskRef<'_>,
+    told: &mut Told,
+    buffer: &mut [u8],
+) -> Result<bool, Status>
+    ensures ok { IfOk result (λ fits. ShowsOr fits (ask_in ask.entry) told.new buffer.old buffer.new shelf.now shelf.now) }
     ensures err { OnErr result (TellsNothing told.old buffer.old told.new buffer.new) }
-    ensures due { TellingThen (reply_of shelf.now ask.now) (length buffer.old) (λ number. number ≡ 0) (number_of_reply result) }
+    ensures due { TellingThen (reply_of shelf.now (ask_in ask.entry)) (length buffer.old) (λ number. number ≡ 0) (number_of_reply result) }
 {
     match tell(shelf.would_answer(ask), told, buffer) {
         Some(fits) => Ok(fits),
@@ -139,7 +96,7 @@ fn answer_sized(
     ensures left { OnErr result (IsLeftAs shelf.old shelf.new) }
     ensures due { TellingThen (reply_of shelf.old ask.now) (length buffer.old) (WriteDue shelf.old ask.now.moment) (number_of_reply result) }
 {
-    let Some(record) = told_of(shelf.would_answer(ask)) else {
+    let Some(record) = told_of(shelf.would_answer(ask.as_ref())) else {
         return Err(Status::WideAnswer);
     };
     let is_written = has_room(buffer, &record);
@@ -151,23 +108,48 @@ fn answer_sized(
     Ok(is_written)
 }
 
+/// Refuses a question with a status, after what is found out first: that no record can tell the
+/// reply, or that the buffer is too small, and then its size is told.
+fn refuse(
+    shelf: &CacheShelf,
+    ask: AskRef<'_>,
+    status: Status,
+    told: &mut Told,
+    buffer: &[u8],
+) -> Result<bool, Status>
+    requires { NoteDue shelf.now (ask_in ask).moment (number_of status) }
+    ensures ok { IfOk result (λ fits. (line : ℕ) → AnswersOr fits (ask_in ask.entry) line told.new buffer.now buffer.now shelf.now shelf.now) }
+    ensures err { OnErr result (told.new ≡ told.old) }
+    ensures due { TellingThen (reply_of shelf.now (ask_in ask.entry)) (length buffer.now) (NoteDue shelf.now (ask_in ask.entry).moment) (number_of_reply result) }
+{
+    let Some(record) = told_of(shelf.would_answer(ask)) else {
+        return Err(Status::WideAnswer);
+    };
+    if has_room(buffer, &record) {
+        return Err(status);
+    }
+    *told = record;
+    Ok(false)
+}
+
 /// Answers a question of which nothing is recorded: it is looked up once, and the reply is copied
-/// to the buffer alone. Where the call is to be refused, that is found out as for any other shelf.
+/// to the buffer alone. It takes no memory.
 fn answer_lean(
     shelf: &mut CacheShelf,
-    ask: &Ask,
+    ask: AskRef<'_>,
     line: u64,
     told: &mut Told,
     buffer: &mut [u8],
 ) -> Result<bool, Status>
     requires { shelf.old.records ≡ false }
-    ensures ok { IfOk result (λ fits. AnswersOr fits ask.now line told.new buffer.old buffer.new shelf.old shelf.new) }
+    ensures ok { IfOk result (λ fits. AnswersOr fits (ask_in ask.entry) line told.new buffer.old buffer.new shelf.old shelf.new) }
     ensures err { OnErr result (TellsNothing told.old buffer.old told.new buffer.new) }
     ensures left { OnErr result (IsLeftAs shelf.old shelf.new) }
-    ensures due { TellingThen (reply_of shelf.old ask.now) (length buffer.old) (WriteDue shelf.old ask.now.moment) (number_of_reply result) }
+    ensures due { TellingThen (reply_of shelf.old (ask_in ask.entry)) (length buffer.old) (NoteDue shelf.old (ask_in ask.entry).moment) (number_of_reply result) }
 {
-    let Ok((reply, slot)) = shelf.judge(ask) else {
-        return answer_sized(shelf, ask, line, told, buffer);
+    let (reply, slot) = match shelf.judge(ask) {
+        Ok(judged) => judged,
+        Err(refusal) => return refuse(shelf, ask, Status::from(refusal), told, buffer),
     };
     let Some(fits) = tell(reply, told, buffer) else {
         return Err(Status::WideAnswer);
@@ -179,21 +161,22 @@ fn answer_lean(
 }
 
 /// Answers a question, which is one event. False is answered where the buffer is too small, and then
-/// no event is written.
+/// no event is written. It takes memory only where the history is recorded, which keeps the question.
 fn answer(
+    alloc: Global,
     shelf: &mut CacheShelf,
-    ask: &Ask,
+    ask: AskRef<'_>,
     line: u64,
     told: &mut Told,
     buffer: &mut [u8],
 ) -> Result<bool, Status>
-    ensures ok { IfOk result (λ fits. AnswersOr fits ask.now line told.new buffer.old buffer.new shelf.old shelf.new) }
+    ensures ok { IfOk result (λ fits. AnswersOr fits (ask_in ask.entry) line told.new buffer.old buffer.new shelf.old shelf.new) }
     ensures err { OnErr result (TellsNothing told.old buffer.old told.new buffer.new) }
     ensures left { OnErr result (IsLeftAs shelf.old shelf.new) }
-    ensures due { TellingThen (reply_of shelf.old ask.now) (length buffer.old) (WriteDue shelf.old ask.now.moment) (number_of_reply result) }
+    ensures due { AnswerDue shelf.old.records shelf.old (reply_of shelf.old (ask_in ask.entry)) (length buffer.old) (ask_in ask.entry).moment (number_of_reply result) }
 {
     if shelf.is_recording() {
-        answer_sized(shelf, ask, line, told, buffer)
+        answer_sized(shelf, &ask.to_owned(alloc)?, line, told, buffer)
     } else {
         answer_lean(shelf, ask, line, told, buffer)
     }
@@ -219,13 +202,12 @@ pub(crate) fn ask_shelf(
     ensures fit { OnOk result (IsQuestion name.now purpose mode) }
     ensures due { AskDue name.now rtype class moment purpose mode (length buffer.old) shelf.old (number_of_reply result) }
 {
-    let ask = ask_of(alloc, name, rtype, class, moment, purpose, mode)?;
-    answer(shelf, &ask, line, told, buffer)
+    let question = question_of(name, rtype, class, moment, purpose, mode)?;
+    answer(alloc, shelf, question.as_ref(), line, told, buffer)
 }
 
-/// Tells C what a shelf would answer to what it asks.
+/// Tells C what a shelf would answer to what it asks. It takes no memory.
 pub(crate) fn peek_at_shelf(
-    alloc: Global,
     shelf: &CacheShelf,
     name: &[u8],
     rtype: u16,
@@ -241,6 +223,6 @@ pub(crate) fn peek_at_shelf(
     ensures fit { OnOk result (IsQuestion name.now purpose mode) }
     ensures due { PeekDue name.now rtype class moment purpose mode (length buffer.old) shelf.now (number_of_reply result) }
 {
-    let ask = ask_of(alloc, name, rtype, class, moment, purpose, mode)?;
-    show(shelf, &ask, told, buffer)
+    let question = question_of(name, rtype, class, moment, purpose, mode)?;
+    show(shelf, question.as_ref(), told, buffer)
 }

@@ -97,7 +97,7 @@ pub extern "C" fn rrc_peek(
         return NO_SHELF;
     };
     let fits = peek_at_shelf(
-        alloc, &shelf, name, rtype, class, moment, purpose, mode, told, buffer,
+        &shelf, name, rtype, class, moment, purpose, mode, told, buffer,
     );
     handle.put(shelf);
     number_of_reply(fits)
@@ -443,7 +443,7 @@ pub extern "C" fn rrc_stored(
     let Some(shelf) = handle.take(alloc) else {
         return NO_SHELF;
     };
-    let found = stored_in(alloc, &shelf, name, rtype, class);
+    let found = stored_in(&shelf, name, rtype, class);
     handle.put(shelf);
     match found {
         Ok(found) => {
@@ -466,17 +466,11 @@ pub extern "C" fn rrc_fault(alloc: Global, octets: &[u8], fault: &mut u32) -> u3
 
 /// Tells in which of so many parts all keys of a name lie by a seed.
 #[unsafe(no_mangle)]
-pub extern "C" fn rrc_part_of(
-    alloc: Global,
-    name: &[u8],
-    parts: u64,
-    seed: &[u8],
-    part: &mut u64,
-) -> u32
+pub extern "C" fn rrc_part_of(name: &[u8], parts: u64, seed: &[u8], part: &mut u64) -> u32
     ensures done { OnDone result (part.new ≡ keyed_part_of seed.now name.now parts) }
     ensures below { OnDone result (part.new < parts) }
     ensures refused { OnRefused result (part.new ≡ part.old) }
     ensures due { PartDue name.now parts seed.now result }
 {
-    number_of_u64(part_in(alloc, name, parts, seed), part)
+    number_of_u64(part_in(name, parts, seed), part)
 }

@@ -5,10 +5,11 @@ ghost use Rattle.rrc_c.specs.Parts.{keyed_hash, keyed_part_of, number_of_seed};
 ghost use Rattle.rrc_c.specs.Refusals.{IsPartCount, Because, DivisionRefused, IsDivision, IsSeed, SeedRefused};
 ghost use Rattle.rrc_c.specs.Statuses.{number_of};
 ghost use Rattle.rrc_name.specs.Key.{IsFolded};
+ghost use Rattle.rrc_name.specs.NameRef.{name_in};
 
 use crate::status::Status;
 use core::hash::keyed_hasher;
-use rrc_name::Name;
+use rrc_name::NameRef;
 use std::hash::{DefaultHasher, Hasher};
 
 /// Whether there may be so many parts.
@@ -64,11 +65,11 @@ fn keyed_hash(octets: &[u8], seed: &[u8; 16]) -> u64
 /// The part, below `parts`, which is 1 to 64, that all keys of a name lie in, by a seed. Who does
 /// not know the seed cannot pick names of one part. It takes no memory, and so wants the name
 /// folded.
-pub(crate) fn keyed_part_of(name: &Name, seed: &[u8; 16], parts: usize) -> usize
-    requires folded { IsFolded name.now }
+pub(crate) fn keyed_part_of(name: NameRef<'_>, seed: &[u8; 16], parts: usize) -> usize
+    requires folded { IsFolded (name_in name) }
     requires some { 1 ≤ parts }
     requires few { parts ≤ 64 }
-    ensures value { result ≡ keyed_part_of seed.now name.now parts }
+    ensures value { result ≡ keyed_part_of seed.now (name_in name.entry) parts }
     ensures below { result < parts }
 {
     let upper = keyed_hash(name.as_slice(), seed) / (1 << 32);

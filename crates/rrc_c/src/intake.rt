@@ -335,7 +335,7 @@ fn offers_of_part(offers: Vec<Offer>, parts: usize, seed: &[u8; 16], part: usize
     ensures { result.items ≡ lying_in parts seed.now part offers.items }
 {
     let mut offers = offers;
-    offers.retain(|offer| keyed_part_of(offer.key.name(), seed, parts) == part);
+    offers.retain(|offer| keyed_part_of(offer.key.name().as_ref(), seed, parts) == part);
     offers
 }
 

@@ -14,6 +14,7 @@ mod handle;
 mod intake;
 mod lookup;
 mod offers;
+mod question;
 mod reading;
 mod reading_calls;
 mod reading_seal;

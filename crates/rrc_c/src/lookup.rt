@@ -7,13 +7,12 @@ ghost use Rattle.rrc_c.specs.Stored.{stored_in, stored_of};
 ghost use Rattle.rrc_history.specs.Lives.{rank};
 ghost use Rattle.rrc_history.specs.Views.{held_in};
 
-use crate::asks::name_of;
+use crate::question::folded_name_of;
 use crate::status::Status;
 use crate::stored::Stored;
 use rrc_history::{Body, Held, Trust};
 use rrc_name::{KeyRef, Slot};
 use rrc_share::CacheShelf;
-use std::alloc::Global;
 
 fn rank(trust: Trust) -> u32
     ensures { result ≡ rank trust }
@@ -51,7 +50,6 @@ fn stored_of(held: Option<Held<'_>>) -> Stored
 
 /// What a shelf holds of a name, a type and a class: a set, or that the name has no data of the type.
 pub(crate) fn stored_in(
-    alloc: Global,
     shelf: &CacheShelf,
     name: &[u8],
     rtype: u16,
@@ -60,9 +58,9 @@ pub(crate) fn stored_in(
     ensures value { IfOk result (λ stored. stored ≡ stored_in shelf.now name.now rtype class) }
     ensures due { StoredDue name.now (number_of_call result) }
 {
-    let name = name_of(alloc, name)?.folded()?;
+    let name = folded_name_of(name)?;
     let key = KeyRef {
-        name: &name,
+        name: name.as_ref(),
         class,
         slot: Slot::Set(rtype),
     };

@@ -40,7 +40,7 @@ pub(crate) fn placed_in(
 {
     let mut placed = Vec::with_capacity(alloc, offers.len())?;
     for offer in offers {
-        let part = keyed_part_of(offer.key.name(), seed, parts) as u64;
+        let part = keyed_part_of(offer.key.name().as_ref(), seed, parts) as u64;
         placed.push(Placed { part, offer })?;
     }
     Ok(placed)

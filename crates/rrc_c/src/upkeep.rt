@@ -9,8 +9,8 @@ ghost use Rattle.rrc_c.specs.Refusals.{OutOfMemory, PartDue, RecordDue, WriteDue
 ghost use Rattle.rrc_c.specs.Shelves.{DropsRecord, IsLeftAs, MakesSweep, StartsRecord, recorded_chapters, recorded_events};
 ghost use Rattle.rrc_c.specs.Statuses.{number_of, number_of_call};
 
-use crate::asks::name_of;
 use crate::division::{check_division, keyed_part_of};
+use crate::question::folded_name_of;
 use crate::status::Status;
 use core::mem::replace_with;
 use rrc_history::Tag;
@@ -115,14 +115,14 @@ pub(crate) fn fault_in(alloc: Global, octets: &[u8]) -> Result<u32, Status>
 }
 
 /// The part that a name lies in by a seed, so many being all.
-pub(crate) fn part_in(alloc: Global, name: &[u8], parts: u64, seed: &[u8]) -> Result<u64, Status>
+pub(crate) fn part_in(name: &[u8], parts: u64, seed: &[u8]) -> Result<u64, Status>
     ensures value { IfOk result (λ part. part ≡ keyed_part_of seed.now name.now parts) }
     ensures below { IfOk result (λ part. part < parts) }
     ensures due { PartDue name.now parts seed.now (number_of_call result) }
 {
     let seed = check_division(parts, seed)?;
-    let name = name_of(alloc, name)?.folded()?;
-    Ok(keyed_part_of(&name, &seed, parts as usize) as u64)
+    let name = folded_name_of(name)?;
+    Ok(keyed_part_of(name.as_ref(), &seed, parts as usize) as u64)
 }
 
 /// The law of the octets that `rrc_sizes` tells: where no entry has more than some number, they are
