@@ -34,7 +34,8 @@ type Answers = (Option<(u32, usize, usize)>, Option<u32>);
 fn answers(rt: &impl Abort, alloc: Global, part: &mut LeanPart) -> Answers {
     let ask = question(rt, alloc, "a.example.");
     let by_one = fresh(rt, part.ask(TAG, &ask));
-    (by_one, ask_by_two(rt, part, &ask))
+    let own = ask.as_ref().to_owned(alloc).expect(rt, "no ask of its own");
+    (by_one, ask_by_two(rt, part, &own))
 }
 
 /// What both ways answer, and how many keys a sweep then removes.

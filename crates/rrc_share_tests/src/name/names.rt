@@ -1,6 +1,6 @@
 // SPDX-License-Identifier: MIT
 use super::name;
-use rrc_name::Name;
+use rrc_name::{FoldedName, Name, WireNameFault};
 use std::alloc::Global;
 use std::cmp::Ordering;
 use std::process::Abort;
@@ -88,4 +88,41 @@ fn is_folded(rt: &impl Abort, alloc: Global, text: &str, wire: &[u8]) -> bool {
 fn a_folded_name_is_shared(rt: HostRuntime) {
     let wire = b"\x03www\x07example\x03z-9\x01[\0".as_slice();
     assert!(rt; is_folded(&rt, rt.alloc(), "wWw.EXAMPLE.Z-9.[", wire));
+}
+
+/// Whether octets are read into the stack as the folded name of a wire form, which is lent, and
+/// whether the name that is made of it is the same.
+fn is_lent(rt: &impl Abort, alloc: Global, octets: &[u8], low: &[u8]) -> bool {
+    let name = FoldedName::from_wire(octets).expect(rt, "no name");
+    let lent = name.as_ref();
+    let own = lent.to_owned(alloc).expect(rt, "no name of its own");
+    lent.as_slice() == low && own.as_ref() == lent
+}
+
+#[test]
+fn a_folded_name_is_read_into_the_stack(rt: HostRuntime) {
+    let octets = b"\x03wWw\x07EXAMPLE\x03Z-9\x01[\0".as_slice();
+    let low = b"\x03www\x07example\x03z-9\x01[\0".as_slice();
+    assert!(rt; is_lent(&rt, rt.alloc(), octets, low));
+}
+
+fn fault_of(octets: &[u8]) -> Option<WireNameFault> {
+    match FoldedName::from_wire(octets) {
+        Ok(_name) => None,
+        Err(fault) => Some(fault),
+    }
+}
+
+/// Octets that are the wire form of no name, and why (RFC 1035 section 2.3.4).
+static NO_NAMES: [(&[u8], WireNameFault); 3] = [
+    (b"\x03ww", WireNameFault::Short),
+    (b"\x40", WireNameFault::LabelTooLong),
+    (b"\x01a\0\0", WireNameFault::LeftOver),
+];
+
+#[test]
+fn what_is_no_name_is_not_read_into_the_stack(rt: HostRuntime) {
+    for (octets, fault) in &NO_NAMES {
+        assert!(rt; fault_of(octets) == Some(*fault), "{fault}");
+    }
 }
