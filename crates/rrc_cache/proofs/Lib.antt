@@ -8,6 +8,7 @@ pub mod Timed
 pub mod Stored
 pub mod Sound
 pub mod Marked
+pub mod Last
 pub mod Placing
 pub mod Tails
 pub mod Leaving

@@ -15,18 +15,29 @@ use Rattle.rrc_history.specs.Past.{entry_at, last_key}
 use Rattle.rrc_history.specs.Entries.{LacksKey, AreApart, goes, in_front, promoted, staying}
 use Rattle.rrc_history.specs.lemmas.Apart.{entry_at-middle, staying-lacks, staying-middle}
 use Rattle.rrc_cache.specs.declared.seeded.Seeded.{Seeded}
-use Rattle.rrc_cache.specs.Pairs.{entries_in, AreOwn, StoreOf}
+use Rattle.rrc_cache.specs.Pairs.{entries_in, AreOwn, EntriesOf, StoreOf}
 
--- ---- the view
+-- ---- the views
 
+-- entries, as the callers of a map see them
+abbrev pub listed : Seeded → List Entry → EntriesOf
+listed seeded entries = record { seeded = seeded; entries = entries }
+
+-- an edit of them
+pub edited : (edit : List Entry → List Entry) (seeded still : Seeded) (before after : List Entry) (now : EntriesOf) → still ≡ seeded → after ≡ edit before
+    → listed seeded before ≡ now → listed still after ≡ listed now.seeded (edit now.entries)
+edited edit seeded still before after now same is view =
+    ap (λ s. listed s after) same ∙ (ap (listed seeded) is ∙ ap (λ (map : EntriesOf). listed map.seeded (edit map.entries)) view)
+
+-- entries, as the callers of a store see them
 abbrev pub seen : Seeded → ℕ → List Entry → StoreOf
 seen seeded stale entries = record { seeded = seeded; stale = stale; entries = entries }
 
--- an edit of the entries, as callers see it
-pub edited : (edit : List Entry → List Entry) (seeded still : Seeded) (stale : ℕ) (before after : List Entry) (now : StoreOf) → still ≡ seeded → after ≡ edit before
-    → seen seeded stale before ≡ now → seen still stale after ≡ seen now.seeded now.stale (edit now.entries)
-edited edit seeded still stale before after now same is view =
-    ap (λ s. seen s stale after) same ∙ (ap (seen seeded stale) is ∙ ap (λ (store : StoreOf). seen store.seeded store.stale (edit store.entries)) view)
+-- an edit of them
+pub edited_store : (edit : List Entry → List Entry) (stale : ℕ) (before after : EntriesOf) (now : StoreOf) → after ≡ listed before.seeded (edit before.entries)
+    → seen before.seeded stale before.entries ≡ now → seen after.seeded stale after.entries ≡ seen now.seeded now.stale (edit now.entries)
+edited_store edit stale before after now is view =
+    ap (λ (map : EntriesOf). seen map.seeded stale map.entries) is ∙ ap (λ (store : StoreOf). seen store.seeded store.stale (edit store.entries)) view
 
 -- ---- look-ups
 
@@ -265,6 +276,14 @@ last_in (pair ∷ []) own = ap Some (sym own.0)
 last_in (pair ∷ next ∷ pairs) own =
     let behind : length (pair ∷ next ∷ pairs) - 1 ≡ suc (length (next ∷ pairs) - 1) = omega arith in
     ap (λ i. option_map (λ (p : KeyOf × Entry). p.0) (slice_get (pair ∷ next ∷ pairs) i)) behind ∙ last_in (next ∷ pairs) own.1
+
+-- it is kept under its own key
+pub last_own : (pairs : List (KeyOf × Entry)) (pair : KeyOf × Entry) → AreOwn pairs → lru.last_entry pairs ≡ Some pair → pair.1.key ≡ pair.0
+last_own [] pair own is = absurd cc
+last_own (first ∷ []) pair own is = let same : first ≡ pair = cc in subst (λ (p : KeyOf × Entry). p.1.key ≡ p.0) same own.0
+last_own (first ∷ next ∷ pairs) pair own is =
+    let behind : length (first ∷ next ∷ pairs) - 1 ≡ suc (length (next ∷ pairs) - 1) = omega arith in
+    last_own (next ∷ pairs) pair own.1 (sym (ap (slice_get (first ∷ next ∷ pairs)) behind) ∙ is)
 
 -- where there is no last one, there is none
 pub none_taken : (pairs : List (KeyOf × Entry)) → lru.last_entry pairs ≡ None → pairs ≡ take (length pairs - 1) pairs

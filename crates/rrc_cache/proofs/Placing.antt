@@ -13,13 +13,8 @@ use Rattle.rrc_history.specs.Entries.{LacksKey, AreApart, goes, staying}
 use Rattle.rrc_history.specs.lemmas.Apart.{staying-lacks}
 use Rattle.rrc_history.specs.lemmas.OfferLaws.{length-staying_found}
 use Rattle.rrc_cache.specs.Taken.{IsPlaced}
+use Rattle.rrc_cache.proofs.Last.{lacks_last}
 use Rattle.rrc_cache.proofs.Paired.{absent_lacks}
-
--- a key that no entry has is not the last one's
-lacks_last : (key : KeyOf) (entries : List Entry) (last : KeyOf) → LacksKey key entries → last_key entries ≡ Some last → key_eq key last ≡ false
-lacks_last key [] last lacks is = absurd cc
-lacks_last key (entry ∷ []) last lacks is = let same : entry.key ≡ last = cc in subst (λ k. key_eq key k ≡ false) same lacks.0
-lacks_last key (entry ∷ next ∷ entries) last lacks is = lacks_last key (next ∷ entries) last lacks.1 is
 
 -- the last entry alone goes
 all_but_last : (key : KeyOf) (entries : List Entry) (last : KeyOf) → LacksKey key entries → AreApart entries → last_key entries ≡ Some last

@@ -194,10 +194,10 @@ module _ (stale : ℕ) (entries : List Entry) (queue : ExpiryQueueOf) (are : Are
   -- ---- sweeps
 
   -- where an expiry is let go, and another stands for what its key holds still
-  pub settled_queued : (expiry : Expiry) (new : ExpiryQueueOf) (found : Option Entry) → entry_at expiry.key entries ≡ found
+  pub requeued : (expiry : Expiry) (new : ExpiryQueueOf) (found : Option Entry) → entry_at expiry.key entries ≡ found
       → ((key : KeyOf) (time : ℕ) → key_eq key expiry.key ≡ false → expires_by queue key time ≡ true → expires_by new key time ≡ true)
       → IsQueued stale new found → AreQueued stale entries new
-  settled_queued expiry new found is stays own = λ key. by key (key_eq expiry.key key) refl
+  requeued expiry new found is stays own = λ key. by key (key_eq expiry.key key) refl
     where
       by : (key : KeyOf) (b : Bool) → key_eq expiry.key key ≡ b → IsQueued stale new (entry_at key entries)
       by key true same = subst (IsQueued stale new) (sym (found_same expiry.key key entries found is same)) own

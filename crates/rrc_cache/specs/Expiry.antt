@@ -1,5 +1,5 @@
 -- SPDX-License-Identifier: MIT
--- When the keys of a part die next.
+-- When keys of a part are fully expired next.
 use Rattle.std.specs.Prelude.{◌≡◌, ℕ, ◌<◌, ◌≤◌, false, None}
 use Rattle.rrc_name.specs.Key.{KeyOf}
 use Rattle.rrc_history.specs.Lives.{LAST_MOMENT}

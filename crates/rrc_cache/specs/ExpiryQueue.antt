@@ -1,5 +1,5 @@
 -- SPDX-License-Identifier: MIT
--- The expiries of entries.
+-- The queue of full expiry: when entries may be fully expired.
 use Rattle.std.specs.Prelude.{◌≡◌, ℕ, List, Bool, false, true, ◌&&◌, ◌||◌, nat_le, Option, Some, None, map, filter}
 use Rattle.std.specs.declared.cmp.Ordering.{Ordering}
 use Rattle.std.specs.Ordering.{nat_cmp}
@@ -10,7 +10,7 @@ use Rattle.rrc_history.specs.Past.{entry_at}
 use Rattle.rrc_history.specs.Right.{is_swept}
 use Rattle.rrc_cache.specs.Counted.{counted_octets}
 use Rattle.rrc_cache.specs.declared.expiry_queue.Expiry.{Expiry}
-use Rattle.rrc_cache.specs.declared.store.Replaced.{Replaced}
+use Rattle.rrc_cache.specs.declared.replaced.Replaced.{Replaced}
 use Rattle.rrc_cache.specs.FullExpiry.{full_expiry_of}
 
 -- the expiry of an entry
@@ -25,7 +25,8 @@ expiries_of stale entries = map (λ entry. expiry_of stale entry) entries
 abbrev pub expiry_order : Expiry → Expiry → Ordering
 expiry_order a b = nat_cmp b.time a.time
 
--- the expiries that wait for their time and those whose time came, and for how many more there is room
+-- the expiries that wait for their time and those whose time came, and for how many more there is
+-- room
 pub record ExpiryQueueOf : Type 0 where
   pub waiting : List Expiry
   pub due : List Expiry
@@ -43,21 +44,21 @@ expires_by queue key time = list_any (is_by key time) queue.waiting || list_any 
 abbrev pub HasSameExpiries : ExpiryQueueOf → ExpiryQueueOf → Type 0
 HasSameExpiries new old = (key : KeyOf) (time : ℕ) → expires_by new key time ≡ expires_by old key time
 
--- what is kept under a key expires no sooner than its key has an expiry
+-- what is kept under a key expires no sooner than an expiry of its key comes
 abbrev pub IsQueued : ℕ → ExpiryQueueOf → Option Entry → Type 0
 IsQueued stale queue None = Unit {0}
 IsQueued stale queue (Some entry) = expires_by queue entry.key (full_expiry_of stale entry) ≡ true
 
--- each entry has an expiry that comes no later than it expires
+-- each entry has an expiry that is no later than its own
 abbrev pub AreQueued : ℕ → List Entry → ExpiryQueueOf → Type 0
 AreQueued stale entries queue = (key : KeyOf) → IsQueued stale queue (entry_at key entries)
 
--- whether what a key held, if anything, expires at a time or before
+-- whether what a key held, if anything, is fully expired at a time
 abbrev pub is_expired_by : ℕ → ℕ → Option Entry → Bool
 is_expired_by stale time None = false
 is_expired_by stale time (Some entry) = nat_le (full_expiry_of stale entry) time
 
--- of an entry that another comes in the place of: its number, from when on it is fully expired, and its octets
+-- of an entry that another replaces: its number, from when on it is fully expired, and its octets
 -- modulo 2^64
 abbrev pub replaced_of : ℕ → Entry → Replaced
 replaced_of stale entry = record { number = entry.number; expires = full_expiry_of stale entry; octets = counted_octets entry }

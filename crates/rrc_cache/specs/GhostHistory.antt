@@ -1,5 +1,5 @@
 -- SPDX-License-Identifier: MIT
--- What a history that only proofs read becomes of what it is told.
+-- What a history that only proofs read becomes of a step.
 use Rattle.rrc_history.specs.declared.event.Event.TheVariants.{Offered, Asked, Swept}
 use Rattle.rrc_history.specs.Past.{reply_to}
 use Rattle.rrc_history.specs.Views.{ask_in}

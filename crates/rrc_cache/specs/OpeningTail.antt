@@ -1,5 +1,5 @@
 -- SPDX-License-Identifier: MIT
--- What became of the entries with which a chapter began.
+-- The entries with which a chapter began, less those that moved since.
 use Rattle.std.specs.Prelude.{◌≡◌, ℕ, ◌+◌, ◌≤◌, List, [], ◌∷◌, ◌++◌, Option, Some, None}
 use Rattle.std.specs.List.{AllByRecursion}
 use Rattle.rrc_history.specs.declared.snapshot.Entry.{Entry}
@@ -12,25 +12,26 @@ abbrev pub left_of : Option OpeningTail → List Entry
 left_of None = []
 left_of (Some tail) = without tail.moved.items tail.opening.entries
 
--- they stand behind all others; no two entries have the same number, and the next entry has none of these
+-- they stand behind all others; no two entries have the same number, and the next entry has none of
+-- these
 pub record EndsWith (tail : OpeningTail) (entries : List Entry) : Type 0 where
   pub front : List Entry
   pub stands : entries ≡ front ++ left_of (Some tail)
   pub numbered : AreNumberedApart entries
   pub before : AllByRecursion (IsBefore tail.next) entries
 
--- where something is followed, that stands so
+-- where there is a tail, the entries end with it
 abbrev pub EndsWithTail : Option OpeningTail → List Entry → Type 0
 EndsWithTail None entries = Unit {0}
 EndsWithTail (Some tail) entries = EndsWith tail entries
 
--- the entry of a number moved, unless nothing is followed any more
+-- the entry of a number moved, unless there is no tail any more
 abbrev pub HasMoved : ℕ → Option OpeningTail → Option OpeningTail → Type 0
 HasMoved number old None = Unit {0}
 HasMoved number None (Some new) = ⊥
 HasMoved number (Some old) (Some new) = (new.opening ≡ old.opening) × (new.moved.items ≡ old.moved.items ++ number ∷ []) × (new.next ≡ old.next)
 
--- an entry of the next number or a greater one came, unless nothing is followed any more
+-- an entry of the next number or a greater one came, unless there is no tail any more
 abbrev pub HasCome : ℕ → Option OpeningTail → Option OpeningTail → Type 0
 HasCome number old None = Unit {0}
 HasCome number None (Some new) = ⊥

@@ -5,7 +5,8 @@ ghost use Rattle.rrc_history.specs.Past.{entry_of};
 ghost use Rattle.rrc_cache.specs.Keyed.{name_hash};
 ghost use Rattle.rrc_cache.specs.Taken.{IsPlaced, IsTaken};
 
-use crate::store::{Replaced, Store};
+use crate::replaced::Replaced;
+use crate::store::Store;
 use rrc_history::{Entry, Offer, Outcome, verdict};
 use rrc_name::{Key, KeyRef};
 use std::alloc::AllocError;

@@ -15,21 +15,22 @@ use std::cmp::Ordering;
 use std::collections::BinaryHeap;
 use std::marker::Model;
 
-/// How many expiries may wait for each entry before they are made anew, and how many beyond those.
+/// How many expiries may wait for each entry before the queue is made anew, and how many beyond
+/// those.
 const MOST_OF_ONE: usize = 3;
 
 const SPARE: usize = 64;
 
-/// From which moment on what a key holds may answer no more. Expiries are compared by their times alone, the other way round, since
-/// a heap has the greatest on top.
+/// From which moment on what a key holds may be fully expired. Expiries are compared by their times
+/// alone, the other way round, since a heap has the greatest on top.
 #[derive(Debug, Drop)]
 pub(crate) struct Expiry {
     pub(crate) time: u64,
     pub(crate) key: Key,
 }
 
-/// The moment from which on a body of a moment can answer no more. One that may not answer for a second is fully expired at every moment, also
-/// before its own.
+/// The moment from which on a body of a moment is fully expired: it can answer no more, be it stale
+/// (RFC 8767). One that may not answer for a second is so at every moment, also before its own.
 pub(crate) fn full_expiry(body: &Body, moment: u64, stale: u64) -> u64
     requires { stale ≤ 604800 }
     ensures { result ≡ full_expiry stale body.now moment }
@@ -40,7 +41,7 @@ pub(crate) fn full_expiry(body: &Body, moment: u64, stale: u64) -> u64
     }
 }
 
-/// The moment from which on an entry can answer no more.
+/// The moment from which on an entry is fully expired.
 pub(crate) fn full_expiry_of(entry: &Entry, stale: u64) -> u64
     requires { stale ≤ 604800 }
     ensures { result ≡ full_expiry_of stale entry.now }
@@ -107,12 +108,15 @@ impl Ord for Expiry {
     }
 }
 
-/// Expiries of keys, by time. Each entry has one that comes no later than it expires, and there may be others: of keys that hold nothing
-/// any more, and of entries that others replaced. So most puts change nothing here, and no removal does. A sweep takes out the expiries
-/// that came, in the logarithm of their number each, looks their keys up to see whether what is kept there is fully expired, and keeps one
-/// of each key that holds something still: it pays for what it removes, and once for each put that recorded or outlived an expiry.
+/// Expiries of keys, by time. Each entry has one that is no later than its own, and there may be
+/// others: of keys that hold nothing any more, and of entries that others replaced. So most puts
+/// change nothing here, and no removal does. A sweep takes out the expiries that came, in the
+/// logarithm of their number each, looks their keys up to see whether what is kept there is fully
+/// expired, and puts one back of each key that holds something still: it pays for what it removes,
+/// and once for each put that queued or outlived an expiry.
 ///
-/// Contracts see the expiries that wait for their time, those that a sweep found due, and for how many more there is room.
+/// Contracts see the expiries that wait for their time, those that a sweep found due, and for how
+/// many more there is room.
 #[derive(Debug, Drop)]
 pub(crate) struct ExpiryQueue {
     waiting: BinaryHeap<Expiry>,
@@ -177,7 +181,8 @@ impl ExpiryQueue {
         let _ = self.waiting.push(expiry);
     }
 
-    /// Finds those due at a moment. An `Err` leaves them as they were, though some may have been found.
+    /// Finds those due at a moment. An `Err` leaves them as they were, though some may have been
+    /// found.
     pub(crate) fn find_due(&mut self, moment: u64) -> Result<(), AllocError>
         ensures ok { OnOk result (AllByRecursion (λ expiry. moment < expiry.time) self.new.waiting) }
         ensures same { HasSameExpiries self.new self.old }
@@ -195,8 +200,8 @@ impl ExpiryQueue {
         self.due.as_slice()
     }
 
-    /// Takes one out that was found due, and makes room for another in its place. There is no answer where there is none, or where
-    /// memory is refused.
+    /// Takes one out that was found due, and makes room for another in its place. There is no
+    /// answer where there is none, or where memory is refused.
     pub(crate) fn next_due(&mut self) -> Option<Expiry>
         ensures some { IfSome result (λ expiry. (key : KeyOf) (time : ℕ) → expires_by self.old key time ≡ (is_by key time expiry || expires_by self.new key time)) }
         ensures room { IfSome result (λ expiry. 0 < self.new.room) }

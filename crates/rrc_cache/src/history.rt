@@ -24,8 +24,8 @@ unsafe impl Send for History {}
 
 unsafe impl Sync for History {}
 
-/// What a history is told: a call that was made, and what became of it, or that a chapter ends. What an ask is answered
-/// follows from the history.
+/// A step of a history, lent: a call that was made, and what became of it, or that a chapter ends.
+/// What an ask is answered follows from the history.
 #[derive(Clone, Copy, Drop)]
 pub(crate) enum StepRef<'a> {
     Offered {

@@ -13,7 +13,7 @@ use crate::store::Store;
 use rrc_history::{AskRef, Found, Held, ReplyRef, governing, recent_failure, reply_of, retry_from};
 use rrc_name::Slot;
 
-/// What is kept of an ask's name beside its sets, which is nothing where it may not be kept.
+/// The NXDOMAIN or failure that is cached of an ask's name, which is none where none may be.
 fn get_negative<'a>(
     store: &'a Store,
     hash: u64,
@@ -32,9 +32,10 @@ fn get_negative<'a>(
     }
 }
 
-/// What an ask, whose name has the hash, is answered from what is kept, and the entry that answers. That the name does not exist, and that asking failed, are
-/// looked up only where something may be kept beside the sets of the name, and that asking failed only where no entry answers
-/// without it.
+/// What an ask, whose name has the hash, is answered from what is kept, and the entry that answers.
+/// That the name does not exist, and that asking failed, are looked up only where NXDOMAIN or a
+/// failure may be cached of the name, and that asking failed only where no entry answers without
+/// it.
 pub(crate) fn judge<'a>(
     store: &'a Store,
     hash: u64,

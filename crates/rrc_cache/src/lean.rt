@@ -113,7 +113,8 @@ impl LeanPart {
         self.number
     }
 
-    /// How many keys the part holds. Those that are fully expired and not yet swept are counted too.
+    /// How many keys the part holds. Those that are fully expired and not yet swept are counted
+    /// too.
     pub fn len(&self) -> usize
         ensures keys { HoldsKeys self.now result }
         ensures few { result ≤ self.now.snapshot.rules.capacity }
@@ -139,8 +140,9 @@ impl LeanPart {
         self.store.get(self.store.hash_of(key.name), key)
     }
 
-    /// A moment before which no key is fully expired, or `None` where the part holds none: the earliest at which a sweep may find something,
-    /// though not each such sweep does. It takes no memory.
+    /// A moment before which no key is fully expired, or `None` where the part holds none: the
+    /// earliest at which a sweep may find something, though not each such sweep does. It takes no
+    /// memory.
     pub fn next_expiry(&self) -> Option<u64>
         ensures none { IfNone result (HoldsNothing self.now) }
         ensures some { IfSome result (λ time. NoneDiesBefore self.now time) }
@@ -249,8 +251,8 @@ impl LeanPart {
         self.next += 1;
     }
 
-    /// Removes the fully expired keys, and answers how many there were. The history has one more event,
-    /// which lists them in the order of keys. The refusals are those of `offer`.
+    /// Removes the fully expired keys, and answers how many there were. The history has one more
+    /// event, which lists them in the order of keys. The refusals are those of `offer`.
     pub fn sweep(&mut self, tag: Tag, moment: u64) -> Result<usize, Refusal>
         ensures ok { IfOk result (WritesSweep self.old self.new tag moment) }
         ensures err { OnErr result (self.new ≡ self.old) }

@@ -4,10 +4,14 @@
 
 mod ahead;
 mod answer;
+mod chapter_entries;
 mod classless;
 mod closing;
 mod entries;
+mod entry_map;
+mod expiries;
 mod expiry_queue;
+mod filtered_entries;
 mod hashed;
 mod history;
 mod holdings;
@@ -21,6 +25,7 @@ mod part;
 mod rechecks;
 mod recording;
 mod refusal;
+mod replaced;
 mod restored;
 mod seeded;
 mod store;

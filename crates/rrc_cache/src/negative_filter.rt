@@ -6,18 +6,21 @@ use rrc_name::{Key, Slot};
 use std::alloc::{AllocError, Global};
 use std::marker::Model;
 
-/// Of which names something may be kept beside their sets: that they do not exist, or that asking for a type failed. Most names have
-/// nothing there, and an ask about one of those looks up its set alone, in place of three keys.
+/// Of which names NXDOMAIN or a failure may be cached (RFC 2308, RFC 9520), each of which has a
+/// slot of its own. NODATA is in the slot of its type. Most names have neither, and an ask about
+/// one of those looks up its RRset alone, in place of three keys.
 ///
-/// A name has a place in a table, by its hash behind the seed, so that nobody can pick names that share a place. The place of a name
-/// is marked with the first thing that is put beside its sets, and stays marked when that goes, and two names may share a place: a
-/// mark says only that looking is worth while. It costs an octet for each place, of which there are two to four for each key that
-/// may be kept. Once a quarter of the places were newly marked the table is made anew from what is kept then.
+/// A name has a place in a table, by its hash behind the seed, so that nobody can pick names that
+/// share a place. The place of a name is marked with the first such entry that is put, and stays
+/// marked when that goes, and two names may share a place: a mark says only that looking is worth
+/// while. It costs an octet for each place, of which there are two to four for each key that may be
+/// kept. Once a quarter of the places were newly marked the table is made anew from what is kept
+/// then.
 ///
 /// Contracts see the marks.
 #[derive(Debug, Drop)]
 pub(crate) struct NegativeFilter {
-    /// Whether something may be kept beside the sets of the names that have this place.
+    /// Whether NXDOMAIN or a failure may be cached of the names that have this place.
     marks: Vec<bool>,
     /// How many places were marked since the table was last made.
     marked: usize,
@@ -34,7 +37,8 @@ impl Model for NegativeFilter {
 }
 
 impl NegativeFilter {
-    /// A table of so many places, of which none is marked. Where they are a power of two, each name may have any of them.
+    /// A table of so many places, of which none is marked. Where they are a power of two, each name
+    /// may have any of them.
     pub(crate) fn new(alloc: Global, places: usize) -> Result<NegativeFilter, AllocError>
         requires { 0 < places }
     {
@@ -44,14 +48,14 @@ impl NegativeFilter {
         })
     }
 
-    /// Whether something may be kept beside the sets of the names that have a hash.
+    /// Whether NXDOMAIN or a failure may be cached of the names that have a hash.
     pub(crate) fn may_hold(&self, hash: u64) -> bool
         ensures { result ≡ is_marked self.now hash }
     {
         self.marks[place_of(self.marks.len(), hash)]
     }
 
-    /// Marks the names that have a hash, where a key of such a name is beside the sets.
+    /// Marks the names that have a hash, where a key of such a name is of a negative slot.
     pub(crate) fn note(&mut self, hash: u64, key: &Key)
         ensures own { is_negative_slot key.now.slot ≡ true → is_marked self.new hash ≡ true }
         ensures others { (other : ℕ) → is_marked self.old other ≡ true → is_marked self.new other ≡ true }
@@ -93,7 +97,7 @@ impl NegativeFilter {
     }
 }
 
-/// Whether a slot is beside the sets.
+/// Whether a slot is for NXDOMAIN or a failure, and not for an RRset or NODATA.
 pub(crate) fn is_negative_slot(slot: Slot) -> bool
     ensures { result ≡ is_negative_slot slot }
 {

@@ -1,13 +1,13 @@
 // SPDX-License-Identifier: MIT
 ghost use Rattle.std.specs.Prelude.{◌≡◌, [], true, IfOk};
-ghost use Rattle.std.specs.Option.{option_map};
 ghost use Rattle.rrc_cache.specs.OpeningTail.{left_of, HasCome, HasGivenWay, HasMoved, IsPut};
 
-use rrc_history::{Entry, EntryList, Snapshot};
+use rrc_history::{EntryList, Snapshot};
 use rrc_name::Shared;
 use std::alloc::{AllocError, Global};
 
-/// What became of the entries with which a chapter began.
+/// The entries with which a chapter began, less those that moved since: they stand behind all
+/// others, in the order in which the chapter began with them.
 #[derive(Debug, Drop)]
 pub(crate) struct OpeningTail {
     opening: Shared<Snapshot>,
@@ -43,8 +43,9 @@ pub(crate) fn left(alloc: Global, tail: &Option<OpeningTail>) -> Result<EntryLis
     }
 }
 
-/// Notes that the entry of a number was touched or removed. Where as many moved as the chapter began with, or memory is refused, they
-/// are followed no more: then a closing costs no more than what moved.
+/// Notes that the entry of a number was touched or removed. Where as many moved as the chapter
+/// began with, or memory is refused, there is no tail any more: then a closing costs no more than
+/// what moved.
 pub(crate) fn note_move(tail: &mut Option<OpeningTail>, number: u64)
     ensures { HasMoved number tail.old tail.new }
 {
@@ -84,16 +85,6 @@ fn step_over(tail: &mut Option<OpeningTail>, number: u64) -> bool
         }
         Some(_) => false,
         None => true,
-    }
-}
-
-/// The number of what a key held, if anything.
-pub(crate) fn number_of(held: &Option<Entry>) -> Option<u64>
-    ensures { result ≡ option_map (λ entry. entry.number) held.now }
-{
-    match held {
-        Some(entry) => Some(entry.number),
-        None => None,
     }
 }
 

@@ -15,7 +15,7 @@ use std::alloc::Global;
 use std::marker::Model;
 use std::mem;
 
-/// The number that no event has any more, and no chapter that is closed.
+/// No event has this number or a greater one, and no chapter that is closed.
 pub(crate) const NUMBER_LIMIT: u64 = 1 << 62;
 
 /// The seed of a part that is given none, so that tests and replays take the same time twice.
@@ -123,7 +123,8 @@ impl Part {
         &self.snapshot
     }
 
-    /// How many keys the part holds. Those that are fully expired and not yet swept are counted too.
+    /// How many keys the part holds. Those that are fully expired and not yet swept are counted
+    /// too.
     pub fn len(&self) -> usize
         ensures keys { HoldsKeys self.now result }
         ensures few { result ≤ self.now.snapshot.rules.capacity }
@@ -149,8 +150,9 @@ impl Part {
         self.lean.held(key)
     }
 
-    /// A moment before which no key is fully expired, or `None` where the part holds none: the earliest at which a sweep may find something,
-    /// though not each such sweep does. It takes no memory.
+    /// A moment before which no key is fully expired, or `None` where the part holds none: the
+    /// earliest at which a sweep may find something, though not each such sweep does. It takes no
+    /// memory.
     pub fn next_expiry(&self) -> Option<u64>
         ensures none { IfNone result (HoldsNothing self.now) }
         ensures some { IfSome result (λ time. NoneDiesBefore self.now time) }
@@ -208,8 +210,8 @@ impl Part {
         Ok(reply)
     }
 
-    /// Removes the fully expired keys, and appends one event that lists them in the order of keys. It answers how many there were.
-    /// The refusals are those of `offer`.
+    /// Removes the fully expired keys, and appends one event that lists them in the order of keys.
+    /// It answers how many there were. The refusals are those of `offer`.
     pub fn sweep(&mut self, tag: Tag, moment: u64) -> Result<usize, Refusal>
         ensures ok { IfOk result (WritesSweep self.old self.new tag moment) }
         ensures err { OnErr result (self.new ≡ self.old) }

@@ -35,7 +35,7 @@ pub(crate) fn expired_keys(
     Ok(keys)
 }
 
-/// Removes the entries of keys, and lets the expiries go that told of them. It takes no memory.
+/// Removes the entries of keys, and lets the expiries that were due go. It takes no memory.
 pub(crate) fn remove(store: &mut Store, keys: &[Key])
     ensures { store.new ≡ record store.old { entries = staying (λ key. is_among key keys.now) store.old.entries } }
 {
@@ -46,7 +46,8 @@ pub(crate) fn remove(store: &mut Store, keys: &[Key])
     requeue(store, keys.len());
 }
 
-/// Lets the expiries go that were due, after so many keys were removed.
+/// Lets the expiries go that were due, after so many keys were removed. Where a key holds an entry
+/// still, one goes back at the present expiry of that.
 fn requeue(store: &mut Store, removed: usize)
     ensures { store.new ≡ store.old }
 {

@@ -1,36 +1,34 @@
 -- SPDX-License-Identifier: MIT
-use Rattle.std.proofs.Common.{◌≡◌, ℕ, List, ap, sym, ◌∙◌}
+use Rattle.std.proofs.Common.{◌≡◌, ℕ, List, ap, sym, subst, ◌∙◌}
 use Rattle.std.proofs.lemmas.Result.{IfOk-weaker}
 use Rattle.rrc_name.specs.Key.{KeyOf}
 use Rattle.rrc_history.specs.declared.snapshot.Entry.{Entry}
 use Rattle.rrc_history.specs.Past.{is_among}
 use Rattle.rrc_history.specs.Entries.{AreApart, keys_of_dead}
 use Rattle.rrc_history.specs.lemmas.SweepLaws.{keys_of_dead-found}
-use Rattle.rrc_cache.specs.NegativeFilter.{filter_of}
 use Rattle.rrc_cache.specs.declared.expiry_queue.Expiry.{Expiry}
 use Rattle.rrc_cache.specs.ExpiryQueue.{AreQueued, ExpiryQueueOf, expired_among}
-use Rattle.rrc_cache.specs.Pairs.{entries_in, StoreOf}
-use Rattle.rrc_cache.proofs.Paired.{apart_in}
+use Rattle.rrc_cache.specs.Pairs.{EntriesOf, StoreOf}
 use Rattle.rrc_cache.proofs.Stored.{same_store}
 use Rattle.rrc_cache.proofs.Timed.{due_swept, same_queued}
 use Rattle.rrc_cache.proofs.store.Store.find_expired.Goals as goal
 
 pub invariant_of-self : goal.invariant_of-self
-invariant_of-self c =
-    (same_store c.self.inside.stale c.self.inside.cache.map (filter_of c.self.inside.cache.seeded c.self.inside.filter) c.self.inside.queue c.find_due.new.self c.find_due.ensures.same c.self.invariant.0, c.self.invariant.1)
+invariant_of-self c = same_store c.self.inside.stale c.self.inside.filtered.entries c.self.inside.queue c.find_due.new.self c.find_due.ensures.same c.self.invariant
 
 pub returns-clause-expired : goal.returns-clause-expired
 returns-clause-expired c =
     let stale : ℕ = c.self.inside.stale in
     let queue : ExpiryQueueOf = c.find_due.new.self in
-    let entries : List Entry = entries_in c.self.inside.cache.map.entries in
-    let are : AreQueued stale entries queue = same_queued stale entries c.self.inside.queue queue c.find_due.ensures.same c.self.invariant.0.queued in
-    let apart : AreApart entries = apart_in c.self.inside.cache.map.entries c.self.invariant.0.own c.len.ensures.valid.0 in
-    let listed : (key : KeyOf) → is_among key (expired_among stale c.args.moment entries c.due.result.now) ≡ is_among key (keys_of_dead c.args.self.now.stale c.args.moment c.args.self.now.entries) = λ key.
-    ap (λ (ds : List Expiry). is_among key (expired_among stale c.args.moment entries ds)) c.due.ensures
+    let entries : List Entry = c.self.inside.filtered.entries in
+    let are : AreQueued stale entries queue = same_queued stale entries c.self.inside.queue queue c.find_due.ensures.same c.self.invariant.queued in
+    let apart : AreApart entries = subst (λ (map : EntriesOf). AreApart map.entries) c.map.ensures c.len.ensures.apart in
+    let listed : (key : KeyOf) → is_among key (expired_among stale c.args.moment c.map-2.result.now.entries c.due.result.now) ≡ is_among key (keys_of_dead c.args.self.now.stale c.args.moment c.args.self.now.entries) = λ key.
+    ap (λ (map : EntriesOf). is_among key (expired_among stale c.args.moment map.entries c.due.result.now)) c.map-2.ensures
+    ∙ (ap (λ (expiries : List Expiry). is_among key (expired_among stale c.args.moment entries expiries)) c.due.ensures
     ∙ (due_swept stale c.args.moment entries queue are c.requires c.in_ok-find_due.ensures.ok key
     ∙ (sym (keys_of_dead-found stale c.args.moment key entries apart)
-    ∙ ap (λ (store : StoreOf). is_among key (keys_of_dead store.stale c.args.moment store.entries)) c.self.view_is)) in
-    IfOk-weaker c.expired_among.result (λ keys. keys.items ≡ expired_among stale c.args.moment entries c.due.result.now)
+    ∙ ap (λ (store : StoreOf). is_among key (keys_of_dead store.stale c.args.moment store.entries)) c.self.view_is))) in
+    IfOk-weaker c.expired_among.result (λ keys. keys.items ≡ expired_among stale c.args.moment c.map-2.result.now.entries c.due.result.now)
     (λ keys. (key : KeyOf) → is_among key keys.items ≡ is_among key (keys_of_dead c.args.self.now.stale c.args.moment c.args.self.now.entries))
     (λ keys is key. ap (is_among key) is ∙ listed key) c.expired_among.ensures

@@ -1,0 +1,18 @@
+-- SPDX-License-Identifier: MIT
+use Rattle.std.proofs.Common.{List, refl, ap, sym, subst}
+use Rattle.rrc_name.specs.Key.{KeyOf}
+use Rattle.rrc_name.specs.KeyRef.{key_of}
+use Rattle.rrc_history.specs.declared.snapshot.Entry.{Entry}
+use Rattle.rrc_history.specs.Past.{entry_at}
+use Rattle.rrc_cache.specs.OpeningTail.{EndsWithTail, HasGivenWay}
+use Rattle.rrc_cache.specs.Pairs.{EntriesOf}
+use Rattle.rrc_cache.proofs.Tails.{given_way}
+use Rattle.rrc_cache.proofs.chapter_entries.ChapterEntries.remove.Goals as goal
+
+pub invariant_of-self : goal.invariant_of-self
+invariant_of-self c =
+    let key : KeyOf = key_of c.args.key in
+    let entries : List Entry = c.self.inside.map.entries in
+    subst (EndsWithTail c.note_gone.new.tail) (sym (ap (λ (map : EntriesOf). map.entries) c.remove-gone.ensures.entries))
+    (given_way key entries (entry_at key entries) c.self.inside.tail c.note_gone.new.tail c.len.ensures.apart refl
+    (subst (λ number. HasGivenWay number c.self.inside.tail c.note_gone.new.tail) c.remove-gone.ensures.number c.note_gone.ensures) c.self.invariant)

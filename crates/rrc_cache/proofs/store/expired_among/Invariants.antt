@@ -1,9 +1,0 @@
--- SPDX-License-Identifier: MIT
--- the keys so far are those of the expiries so far
-use Rattle.std.proofs.Common.{◌≡◌, take}
-use Rattle.rrc_cache.specs.ExpiryQueue.{expired_among}
-use Rattle.rrc_cache.specs.Pairs.{entries_in}
-use Rattle.rrc_cache.proofs.store.expired_among.Given as goal
-
-abbrev pub invariant-loop-expiry : goal.invariant-loop-expiry
-invariant-loop-expiry l = l.keys.items ≡ expired_among l.stale l.moment (entries_in l.cache.map.entries) (take l.expiry-index l.queue)

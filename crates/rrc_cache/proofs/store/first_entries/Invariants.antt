@@ -1,8 +1,0 @@
--- SPDX-License-Identifier: MIT
--- what came stands in front of what is to come, and is no more than is wanted
-use Rattle.std.proofs.Common.{◌≡◌, ◌≤◌, ◌++◌, length}
-use Rattle.rrc_cache.specs.Keyed.{hashed_entries}
-use Rattle.rrc_cache.proofs.store.first_entries.Given as goal
-
-abbrev pub invariant-loop-entry : goal.invariant-loop-entry
-invariant-loop-entry l = (hashed_entries l.cache.entries ≡ l.first.items ++ hashed_entries l.entry-iterator) × (length l.first.items ≤ l.count)

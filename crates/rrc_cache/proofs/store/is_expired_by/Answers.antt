@@ -1,6 +1,0 @@
--- SPDX-License-Identifier: MIT
-use Rattle.std.proofs.Common.{rules}
-use Rattle.rrc_cache.proofs.store.is_expired_by.Goals as goal
-
-pub returns-in-Some : goal.returns-in-Some
-returns-in-Some c = search rules fits 100
