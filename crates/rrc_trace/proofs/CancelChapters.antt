@@ -15,7 +15,7 @@ use Rattle.rrc_trace.proofs.CancelLemmas.{Cancels, pair, tail-of, head-of, strip
 use Rattle.rrc_trace.proofs.CancelFields.{numbers}
 use Rattle.rrc_trace.proofs.CancelEvents.{entries, events}
 
-rules-same : (r o : Rules) → r.capacity ≡ o.capacity → r.chapter ≡ o.chapter → r.stale ≡ o.stale → r ≡ o
+pub rules-same : (r o : Rules) → r.capacity ≡ o.capacity → r.chapter ≡ o.chapter → r.stale ≡ o.stale → r ≡ o
 rules-same r o capacity chapter stale =
     λ i. record {
       capacity = capacity i;
@@ -28,47 +28,47 @@ rules-same r o capacity chapter stale =
       stale_within = is_prop→PathP (λ j. stale j ≤ 604800) (λ j. le_prop) r.stale_within o.stale_within i;
     }
 
-abbrev HeadTuple : Type 0
+abbrev pub HeadTuple : Type 0
 HeadTuple = ℕ × (ℕ × (ℕ × (ℕ × ℕ)))
 
-abbrev head_fields : HeadTuple → List ℕ
+abbrev pub head_fields : HeadTuple → List ℕ
 head_fields p = decimal p.0 ++ (32 ∷ (decimal p.1.0 ++ (32 ∷ (decimal p.1.1.0 ++ (32 ∷ (decimal p.1.1.1.0 ++ (32 ∷ decimal p.1.1.1.1)))))))
 
-heads : Cancels 32 head_fields
+pub heads : Cancels 32 head_fields
     (λ (p : HeadTuple). IsNumber p.0 × (IsNumber p.1.0 × (IsNumber p.1.1.0 × (IsNumber p.1.1.1.0 × IsNumber p.1.1.1.1))))
 heads =
     pair 32 decimal IsNumber _ _ numbers (pair 32 decimal IsNumber _ _ numbers (pair 32 decimal IsNumber _ _ numbers (pair 32 decimal IsNumber decimal IsNumber numbers numbers)))
 
-abbrev head_tuple : WrittenOf → HeadTuple
+abbrev pub head_tuple : WrittenOf → HeadTuple
 head_tuple c = (c.number, (c.first, (c.rules.capacity, (c.rules.chapter, c.rules.stale))))
 
-abbrev HoldsHead : HeadTuple → Type 0
+abbrev pub HoldsHead : HeadTuple → Type 0
 HoldsHead p = IsNumber p.0 × (IsNumber p.1.0 × (IsNumber p.1.1.0 × (IsNumber p.1.1.1.0 × IsNumber p.1.1.1.1)))
 
-holds-head : (c : WrittenOf) → HoldsChapter c → HoldsHead (head_tuple c)
+pub holds-head : (c : WrittenOf) → HoldsChapter c → HoldsHead (head_tuple c)
 holds-head c held =
     (held.number, (held.first, (omega (arith, c.rules.capacity_within), (omega (arith, c.rules.chapter_within), omega (arith, c.rules.stale_within)))))
 
 abbrev with_lf : List ℕ → List ℕ
 with_lf line = line ++ 10 ∷ []
 
-abbrev entry_lines : List Entry → List ℕ
+abbrev pub entry_lines : List Entry → List ℕ
 entry_lines es = text_of_lines (map entry_text es)
 
-abbrev event_lines : List Event → List ℕ
+abbrev pub event_lines : List Event → List ℕ
 event_lines es = text_of_lines (map event_text es)
 
 -- octets end, or do not begin with an octet
-abbrev Other : ℕ → List ℕ → Type 0
+abbrev pub Other : ℕ → List ℕ → Type 0
 Other octet [] = Unit {0}
 Other octet (first ∷ octets) = first ≡ octet → ⊥
 
 -- octets end, or begin with a chapter
-abbrev Next : List ℕ → Type 0
+abbrev pub Next : List ℕ → Type 0
 Next [] = Unit {0}
 Next (first ∷ octets) = first ≡ 99
 
-not-other : (octet : ℕ) (x r : List ℕ) → Other octet r → r ≡ octet ∷ x → ⊥
+pub not-other : (octet : ℕ) (x r : List ℕ) → Other octet r → r ≡ octet ∷ x → ⊥
 not-other octet x [] other e = absurd cc
 not-other octet x (first ∷ r) other e = other (head-of e)
 
@@ -76,7 +76,7 @@ not-next : (octet : ℕ) (x r : List ℕ) → Next r → (octet ≡ 99 → ⊥) 
 not-next octet x [] next other e = absurd cc
 not-next octet x (first ∷ r) next other e = other (sym (head-of e) ∙ next)
 
-no-event : (event : Event) (z r : List ℕ) → Next r → r ≡ event_text event ++ z → ⊥
+pub no-event : (event : Event) (z r : List ℕ) → Next r → r ≡ event_text event ++ z → ⊥
 no-event (Offered o t f v) z r next e = not-next 111 _ r next (λ h. absurd (omega (arith, h))) e
 no-event (Asked t q y) z r next e = not-next 97 _ r next (λ h. absurd (omega (arith, h))) e
 no-event (Swept t m g) z r next e = not-next 115 _ r next (λ h. absurd (omega (arith, h))) e
@@ -88,7 +88,7 @@ no-entry (Offered o t f v ∷ events) r next = λ h. absurd (omega (arith, h))
 no-entry (Asked t q y ∷ events) r next = λ h. absurd (omega (arith, h))
 no-entry (Swept t m g ∷ events) r next = λ h. absurd (omega (arith, h))
 
-line-split : (line more r : List ℕ) → (with_lf line ++ more) ++ r ≡ line ++ (10 ∷ (more ++ r))
+pub line-split : (line more r : List ℕ) → (with_lf line ++ more) ++ r ≡ line ++ (10 ∷ (more ++ r))
 line-split line more r = append_assoc (with_lf line) more r ∙ append_assoc line (10 ∷ []) (more ++ r)
 
 all-entries : (xs ys : List Entry) (r s : List ℕ) → AllByRecursion HoldsEntry xs → AllByRecursion HoldsEntry ys → Other 101 r → Other 101 s
@@ -116,10 +116,10 @@ all-events (x ∷ xs) (y ∷ ys) r s px py nr ns e =
     ((λ i. one.0 i ∷ rest.0 i), rest.1)
 
 -- what stands behind the head of a chapter
-abbrev behind_head : WrittenOf → List ℕ → List ℕ
+abbrev pub behind_head : WrittenOf → List ℕ → List ℕ
 behind_head c r = entry_lines c.entries ++ (event_lines c.events ++ r)
 
-chapter-split : (c : WrittenOf) (r : List ℕ) → chapter_text c ++ r ≡ head_text c.number c.first c.rules ++ (10 ∷ behind_head c r)
+pub chapter-split : (c : WrittenOf) (r : List ℕ) → chapter_text c ++ r ≡ head_text c.number c.first c.rules ++ (10 ∷ behind_head c r)
 chapter-split c r =
     let head = head_text c.number c.first c.rules in
     let lines = text_of_lines (map entry_text c.entries ++ map event_text c.events) in
@@ -127,11 +127,11 @@ chapter-split c r =
     ap (λ l. l ++ r) (flat_map-append with_lf (map entry_text c.entries) (map event_text c.events)) ∙ append_assoc (entry_lines c.entries) (event_lines c.events) r in
     line-split head lines r ∙ ap (λ m. head ++ (10 ∷ m)) apart
 
-next-chapters : (chapters : List WrittenOf) → Next (archive_text chapters)
+pub next-chapters : (chapters : List WrittenOf) → Next (archive_text chapters)
 next-chapters [] = tt
 next-chapters (chapter ∷ chapters) = refl
 
-one-chapter : (c d : WrittenOf) (r s : List ℕ) → HoldsChapter c → HoldsChapter d → Next r → Next s → chapter_text c ++ r ≡ chapter_text d ++ s
+pub one-chapter : (c d : WrittenOf) (r s : List ℕ) → HoldsChapter c → HoldsChapter d → Next r → Next s → chapter_text c ++ r ≡ chapter_text d ++ s
     → (c ≡ d) × (r ≡ s)
 one-chapter c d r s pc pd nr ns e =
     let split : head_fields (head_tuple c) ++ (10 ∷ behind_head c r) ≡ head_fields (head_tuple d) ++ (10 ∷ behind_head d s) =

@@ -26,7 +26,7 @@ use Rattle.rrc_trace.proofs.CancelLemmas.{Above, Stops, Cancels, field, lower, p
 digit-above : (c : ℕ) → digit_value c < 10 → 47 < c
 digit-above c h = grind (arith, nat_tests)
 
-above-digits : (digits : List ℕ) → AllDigits 10 digits → Above 47 digits
+pub above-digits : (digits : List ℕ) → AllDigits 10 digits → Above 47 digits
 above-digits [] all = tt
 above-digits (c ∷ digits) all = (digit-above c all.0, above-digits digits all.1)
 
@@ -36,7 +36,7 @@ decimals =
     (λ n h. above-digits (decimal n) (decimal_is_IsNumeral n h).0.1)
     (λ n h. ap Some (decimal_is_IsNumeral n h).1)
 
-above-append : (t : ℕ) (x y : List ℕ) → Above t x → Above t y → Above t (x ++ y)
+pub above-append : (t : ℕ) (x y : List ℕ) → Above t x → Above t y → Above t (x ++ y)
 above-append t [] y ax ay = ay
 above-append t (octet ∷ x) y ax ay = (ax.0, above-append t x y ax.1 ay)
 
@@ -56,7 +56,7 @@ dotted-above : (labels : List (List ℕ)) → Above 32 (dotted labels)
 dotted-above [] = tt
 dotted-above (label ∷ labels) = above-append 32 (flat_map spelling_of label) (46 ∷ dotted labels) (label-above label) (omega arith, dotted-above labels)
 
-name-above : (labels : List (List ℕ)) → Above 32 (Rattle.rrc_name.specs.Text.text_of_labels labels)
+pub name-above : (labels : List (List ℕ)) → Above 32 (Rattle.rrc_name.specs.Text.text_of_labels labels)
 name-above [] = (omega arith, tt)
 name-above (label ∷ labels) = dotted-above (label ∷ labels)
 
@@ -78,7 +78,7 @@ hex-above (octet ∷ octets) bytes =
     let small : octet < 256 = bytes 0 in
     (digit-at lower_digits (octet / 16) (search arith) (omega arith), (digit-at lower_digits (octet % 16) (search arith) (omega arith), hex-above octets (λ i. bytes (suc i))))
 
-item-above : (item : List ℕ) → IsBytes item → Above 44 (item_text item)
+pub item-above : (item : List ℕ) → IsBytes item → Above 44 (item_text item)
 item-above [] bytes = (omega arith, tt)
 item-above (octet ∷ octets) bytes = hex-above (octet ∷ octets) bytes
 
@@ -92,7 +92,7 @@ hex-read a b x octets is = by (a == 45) refl
     by true dash = rw (dash, long, is) refl
     by false dash = rw (dash, long, is) refl
 
-item-read : (item : List ℕ) → IsBytes item → octets_of (item_text item) ≡ Some item
+pub item-read : (item : List ℕ) → IsBytes item → octets_of (item_text item) ≡ Some item
 unfolding encode_with
 item-read [] bytes = refl
 item-read (octet ∷ octets) bytes =
@@ -102,7 +102,7 @@ item-read (octet ∷ octets) bytes =
 pub one_item : Cancels 44 item_text IsBytes
 one_item = field 44 item_text IsBytes octets_of item-above item-read
 
-item-some : (item : List ℕ) → 0 < length (item_text item)
+pub item-some : (item : List ℕ) → 0 < length (item_text item)
 unfolding encode_with
 item-some [] = omega arith
 item-some (octet ∷ octets) = omega arith

@@ -8,10 +8,10 @@ use Rattle.std.proofs.lemmas.Str.{digit_value_digit, IsUtf8-from_ascii}
 use Rattle.std.specs.Str.{IsUtf8}
 use Rattle.std.proofs.lemmas.Str.Parse.{digit_from_value}
 use Rattle.std.proofs.lemmas.Str.Ascii.{IsAscii-nil, IsAscii-cons}
-use Rattle.rrc_trace.specs.Numbers.{number_behind, number_of, at_most}
+use Rattle.rrc_trace.specs.Numbers.{number_behind, number_of}
 use Rattle.rrc_trace.specs.ArchiveFields.{count_of}
 use Rattle.rrc_trace.proofs.SaidLemmas.{said_last}
-use Rattle.rrc_trace.proofs.SpelledLemmas.{digit-value, value-digit, within-is, IsWithin, at_most-says}
+use Rattle.rrc_trace.proofs.SpelledLemmas.{digit-value, value-digit, within-is, at_most-says}
 
 digit-ascii : (digit : ℕ) → digit_value digit < 10 → is_ascii_digit digit ≡ true
 digit-ascii digit small =

@@ -54,7 +54,7 @@ front-cut (octet ∷ octets) = by (octet == 32) refl (front-cut octets)
         subst (λ (cut : List ℕ × List ℕ). IsCutApart (octet ∷ octets) cut.0 cut.1) (sym (front-more octet octets other))
         (record { unspaced = (λ e. eqb-false octet 32 other e, rest.unspaced); apart = rest.apart; whole = ap (λ (o : List ℕ). octet ∷ o) rest.whole })
 
-front-of : (field behind : List ℕ) → AllByRecursion (λ octet. octet ≢ 32) field → StandsApart behind → field_in_front (field ++ behind) ≡ (field, behind)
+pub front-of : (field behind : List ℕ) → AllByRecursion (λ octet. octet ≢ 32) field → StandsApart behind → field_in_front (field ++ behind) ≡ (field, behind)
 front-of [] behind unspaced (inl none) = subst (λ (o : List ℕ). field_in_front o ≡ ([], o)) (sym none) refl
 front-of [] behind unspaced (inr more) = subst (λ (o : List ℕ). field_in_front o ≡ ([], o)) (sym more.1) (front-space 32 more.0 refl)
 front-of (octet ∷ field) behind unspaced apart =
@@ -77,7 +77,7 @@ field_at-space octet octets is =
     by None = refl
     by (Some place) = refl
 
-field_at-here : (octet : ℕ) (octets : List ℕ) → (octet == 32) ≡ false → field_at (octet ∷ octets) ≡ Some (field_in_front (octet ∷ octets))
+pub field_at-here : (octet : ℕ) (octets : List ℕ) → (octet == 32) ≡ false → field_at (octet ∷ octets) ≡ Some (field_in_front (octet ∷ octets))
 field_at-here octet octets other =
     ap (field_from (octet ∷ octets)) (unspaced-cons octet octets ∙ ap (λ space. cond (not space) (Some 0) (option_map suc (first_unspaced octets))) other)
 
@@ -121,7 +121,7 @@ field_at-behind : (spaces octets : List ℕ) → AreSpaces spaces → field_at (
 field_at-behind [] octets are = refl
 field_at-behind (octet ∷ spaces) octets are = field_at-space octet (spaces ++ octets) (eq-eqb octet 32 are.0) ∙ field_at-behind spaces octets are.1
 
-field_at-of : (spaces field behind : List ℕ) → AreSpaces spaces → IsField field → StandsApart behind → field_at (spaces ++ (field ++ behind)) ≡ Some (field, behind)
+pub field_at-of : (spaces field behind : List ℕ) → AreSpaces spaces → IsField field → StandsApart behind → field_at (spaces ++ (field ++ behind)) ≡ Some (field, behind)
 field_at-of spaces [] behind are is_field apart = absurd (omega (arith, is_field.some))
 field_at-of spaces (octet ∷ field) behind are is_field apart =
     field_at-behind spaces (octet ∷ field ++ behind) are
@@ -132,12 +132,12 @@ is_some-suc : (place : Option ℕ) → is_some (option_map suc place) ≡ is_som
 is_some-suc None = refl
 is_some-suc (Some place) = refl
 
-has_field-space : (octet : ℕ) (octets : List ℕ) → (octet == 32) ≡ true → has_field (octet ∷ octets) ≡ has_field octets
+pub has_field-space : (octet : ℕ) (octets : List ℕ) → (octet == 32) ≡ true → has_field (octet ∷ octets) ≡ has_field octets
 has_field-space octet octets is =
     ap is_some (unspaced-cons octet octets ∙ ap (λ space. cond (not space) (Some 0) (option_map suc (first_unspaced octets))) is)
     ∙ is_some-suc (first_unspaced octets)
 
-has_field-here : (octet : ℕ) (octets : List ℕ) → (octet == 32) ≡ false → has_field (octet ∷ octets) ≡ true
+pub has_field-here : (octet : ℕ) (octets : List ℕ) → (octet == 32) ≡ false → has_field (octet ∷ octets) ≡ true
 has_field-here octet octets other =
     ap is_some (unspaced-cons octet octets ∙ ap (λ space. cond (not space) (Some 0) (option_map suc (first_unspaced octets))) other)
 
@@ -149,7 +149,7 @@ spaces-only (octet ∷ octets) none = by (octet == 32) refl (spaces-only octets)
     by true is later = (eqb-true octet 32 is, later (sym (has_field-space octet octets is) ∙ none))
     by false other later = let never : true ≡ false = sym (has_field-here octet octets other) ∙ none in absurd cc
 
-no_field-in : (spaces : List ℕ) → AreSpaces spaces → has_field spaces ≡ false
+pub no_field-in : (spaces : List ℕ) → AreSpaces spaces → has_field spaces ≡ false
 no_field-in [] are = refl
 no_field-in (octet ∷ spaces) are = has_field-space octet spaces (eq-eqb octet 32 are.0) ∙ no_field-in spaces are.1
 

@@ -4,6 +4,7 @@ use Rattle.std.proofs.Common.{◌≡◌, ℕ, suc, zero, ◌+◌, ◌<◌, ◌�
 use Rattle.std.proofs.lemmas.Grind.{common_steps}
 use Rattle.std.proofs.lemmas.List.Sums.{count_by_more_no, count_by_more_yes, count_by-le-length}
 use Rattle.std.proofs.lemmas.List.Quantifiers.{position-Some}
+use Rattle.rrc_trace.proofs.CutLemmas.{cut_at}
 use Rattle.rrc_trace.specs.ArchiveLines.{is_lf, line_count, IsCutBehindLf}
 
 -- no LF stands before a place
@@ -20,4 +21,4 @@ cut_behind octets place found =
     let first = position-Some is_lf octets place 0 found in
     let before : line_count (take place octets) ≡ 0 = none-before octets place (omega (arith, first.0)) first.2 in
     let one : line_count (take (place + 1) octets) ≡ 1 = count_by_more_yes is_lf octets place 0 first.0 first.1 ∙ ap (λ n. n + 1) before in
-    record { whole = grind (arith, common_steps); one = one; some = omega (arith, one, count_by-le-length is_lf (take (place + 1) octets)) }
+    record { whole = grind (arith, common_steps); cut = cut_at octets place found; one = one; some = omega (arith, one, count_by-le-length is_lf (take (place + 1) octets)) }

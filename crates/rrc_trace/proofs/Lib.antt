@@ -30,3 +30,8 @@ pub mod HeldLemmas
 pub mod ArchiveLemmas
 pub mod CountLemmas
 pub mod WrittenLemmas
+pub mod ReadFields
+pub mod ReadEvents
+pub mod ReadLines
+pub mod FitsLemmas
+pub mod GoesOnLemmas

@@ -155,25 +155,25 @@ slash_from octet octets is = cond is (Some 0) (option_map suc (slash_in octets))
 slash-cons : (octet : ℕ) (octets : List ℕ) → slash_in (octet ∷ octets) ≡ slash_from octet octets (octet == 47)
 slash-cons octet octets = position-cons (λ other. other == 47) octet octets
 
-slash-none : (octets : List ℕ) → AllByRecursion (λ octet. octet ≢ 47) octets → slash_in octets ≡ None
+pub slash-none : (octets : List ℕ) → AllByRecursion (λ octet. octet ≢ 47) octets → slash_in octets ≡ None
 slash-none [] none = refl
 slash-none (octet ∷ octets) none =
     slash-cons octet octets ∙ (ap (slash_from octet octets) (ne_eqb octet 47 none.0) ∙ ap (option_map suc) (slash-none octets none.1))
 
-slash-behind : (front behind : List ℕ) → AllByRecursion (λ octet. octet ≢ 47) front → slash_in (front ++ 47 ∷ behind) ≡ Some (length front)
+pub slash-behind : (front behind : List ℕ) → AllByRecursion (λ octet. octet ≢ 47) front → slash_in (front ++ 47 ∷ behind) ≡ Some (length front)
 slash-behind [] behind none = slash-cons 47 behind
 slash-behind (octet ∷ front) behind none =
     slash-cons octet (front ++ 47 ∷ behind)
     ∙ (ap (slash_from octet (front ++ 47 ∷ behind)) (ne_eqb octet 47 none.0) ∙ ap (option_map suc) (slash-behind front behind none.1))
 
-take-front : (front behind : List ℕ) → take (length front) (front ++ behind) ≡ front
+pub take-front : (front behind : List ℕ) → take (length front) (front ++ behind) ≡ front
 take-front [] behind = refl
 take-front (octet ∷ front) behind = ap (λ octets. octet ∷ octets) (take-front front behind)
 
 one_more : (n : ℕ) → suc (n + 1) ≡ suc n + 1
 one_more n = omega arith
 
-drop-front : (front behind : List ℕ) (octet : ℕ) → drop (length front + 1) (front ++ octet ∷ behind) ≡ behind
+pub drop-front : (front behind : List ℕ) (octet : ℕ) → drop (length front + 1) (front ++ octet ∷ behind) ≡ behind
 drop-front [] behind octet = refl
 drop-front (first ∷ front) behind octet =
     ap (λ (n : ℕ). drop n (first ∷ (front ++ octet ∷ behind))) (sym (one_more (length front))) ∙ drop-front front behind octet
@@ -268,13 +268,13 @@ trust-says field trust is =
     let within = at_most-says 4 (number_of field) number.0 number.1.0 in
     subst (SpellsNumber field) (rank-says number.0 trust number.1.1) (number-spells field number.0 within.is)
 
-rank-ranked : (trust : Trust) → rank (rank_of_trust trust) ≡ Some trust
+pub rank-ranked : (trust : Trust) → rank (rank_of_trust trust) ≡ Some trust
 rank-ranked Additional = refl
 rank-ranked NonAuthoritativeAnswer = refl
 rank-ranked Authority = refl
 rank-ranked AuthoritativeAnswer = refl
 
-rank-small : (trust : Trust) → rank_of_trust trust ≤ 4
+pub rank-small : (trust : Trust) → rank_of_trust trust ≤ 4
 rank-small Additional = omega arith
 rank-small NonAuthoritativeAnswer = omega arith
 rank-small Authority = omega arith

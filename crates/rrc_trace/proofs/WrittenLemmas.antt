@@ -10,7 +10,7 @@ use Rattle.rrc_trace.specs.Items.{is_comma, cut_round, cut_at_comma}
 use Rattle.rrc_trace.specs.ArchiveFields.{with_written, written_behind, data_of, with_key, keys_behind, keys_of}
 use Rattle.rrc_trace.specs.declared.read.line_fault.LineFault.{LineFault}
 use Rattle.rrc_trace.specs.declared.read.line_fault.LineFault.TheVariants.{NotOne, Memory}
-use Rattle.rrc_trace.proofs.ItemLemmas.{split_at_comma, split_uncut}
+use Rattle.rrc_trace.proofs.ItemLemmas.{split_at_comma}
 
 -- behind a comma there are fewer octets
 pub fewer : (octets piece more : List ℕ) → cut_at_comma octets ≡ Some (piece, more) → length more < length octets

@@ -1,10 +1,11 @@
 -- SPDX-License-Identifier: MIT
 -- How an archive is read, line by line: which line is told where octets are none, and what private
 -- contracts say.
-use Rattle.std.specs.Prelude.{◌≡◌, ◌==◌, ◌≤◌, ℕ, Bool, List, ◌++◌, length}
+use Rattle.std.specs.Prelude.{◌≡◌, ◌==◌, ◌≤◌, ℕ, Bool, true, List, ◌++◌, length}
 use Rattle.std.specs.List.{count_by}
 use Rattle.rrc_trace.specs.Archive.{WrittenOf, archive_text, head_text, entry_text, event_text}
 use Rattle.rrc_trace.specs.ArchiveLaw.{IsNumber, HoldsEntry, HoldsEvent}
+use Rattle.rrc_trace.specs.Pieces.{IsCut}
 use Rattle.rrc_trace.specs.declared.archive.ArchiveFault.{ArchiveFault}
 use Rattle.rrc_trace.specs.declared.archive.ArchiveFault.TheVariants.{BadLine, Memory}
 use Rattle.rrc_trace.specs.declared.read.said.Said.{Said}
@@ -45,5 +46,6 @@ HoldsSaid (said.Event event) = HoldsEvent event
 -- the first line of octets, with its LF, and the octets behind it
 pub record IsCutBehindLf (octets line behind : List ℕ) : Type 0 where
   pub whole : octets ≡ line ++ behind
+  pub cut : IsCut true line
   pub one : line_count line ≡ 1
   pub some : 1 ≤ length line

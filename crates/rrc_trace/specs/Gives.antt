@@ -14,3 +14,15 @@ abbrev pub Gives : {X Y : Type 0} → (X → Y) → Result X LineFault → Optio
 Gives view (Ok answer) said = said ≡ Some (view answer)
 Gives view (Err NotOne) said = said ≡ None
 Gives view (Err Memory) said = Unit {0}
+
+-- the answer, seen by a view, is what the octets say: where they say what no answer is, there is none
+abbrev pub Tells : {X Y : Type 0} → (X → Y) → Result X LineFault → Option Y → Type 0
+Tells view (Ok answer) said = said ≡ Some (view answer)
+Tells {X} view (Err NotOne) said = (answer : X) → said ≡ Some (view answer) → ⊥
+Tells view (Err Memory) said = Unit {0}
+
+-- a fact of octets that were refused
+abbrev pub IfNotOne : {X : Type 0} → Result X LineFault → Type 0 → Type 0
+IfNotOne (Ok answer) fact = Unit {0}
+IfNotOne (Err NotOne) fact = fact
+IfNotOne (Err Memory) fact = Unit {0}

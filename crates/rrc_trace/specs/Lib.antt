@@ -17,6 +17,9 @@ pub mod Archive
 pub mod ArchiveFields
 pub mod ArchiveLines
 pub mod ArchiveLaw
+pub mod ArchiveFits
+pub mod ArchiveSaid
+pub mod ArchiveFaults
 pub mod Writer
 pub mod Output
 pub mod Faults

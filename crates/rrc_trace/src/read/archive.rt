@@ -1,9 +1,12 @@
 // SPDX-License-Identifier: MIT
-ghost use Rattle.std.specs.Prelude.{◌≡◌, ◌++◌, ◌==◌, ◌<◌, length, position, IfOk, IfErr, IfSome, OnOk};
+ghost use Rattle.std.specs.Prelude.{◌≡◌, ◌++◌, ◌-◌, take, length, IfOk, IfErr, MatchOption, OnOk};
 ghost use Rattle.rrc_trace.specs.Archive.{archive_text};
+ghost use Rattle.rrc_trace.specs.ArchiveFaults.{TellsNoArchive, TellsFirstLine};
 ghost use Rattle.rrc_trace.specs.ArchiveFields.{entry_of};
-ghost use Rattle.rrc_trace.specs.Gives.{Gives};
+ghost use Rattle.rrc_trace.specs.ArchiveSaid.{told_by, head_of, said_of, GoesOnNowhere};
+ghost use Rattle.rrc_trace.specs.Gives.{Gives, Tells, IfNotOne};
 ghost use Rattle.rrc_trace.specs.ArchiveLaw.{OneArchive, IsOnlyArchive, HoldsEntry, HoldsChapter};
+ghost use Rattle.rrc_trace.specs.Pieces.{IsUnended};
 ghost use Rattle.std.specs.List.{AllByRecursion};
 ghost use Rattle.rrc_trace.specs.ArchiveLines.{HoldsSaid, IsFaultOfArchive, IsCutBehindLf};
 
@@ -21,8 +24,10 @@ use rrc_history::{Entry, Rules};
 use std::alloc::Global;
 
 /// What a line says whose first word was `chapter`.
+#[tactic(auto, unfolding(crate::specs::ArchiveSaid::head_of))]
 fn head_in(octets: &[u8]) -> Result<Said, LineFault>
     ensures held { IfOk result HoldsSaid }
+    ensures exact { Tells told_by result (head_of octets.now) }
 {
     let (number, rest) = count_at(octets)?;
     let (first, rest) = count_at(rest)?;
@@ -58,8 +63,10 @@ fn entry_in(alloc: Global, octets: &[u8]) -> Result<Entry, LineFault>
 }
 
 /// What the fields of a line without its LF say. Whether there are more of them is not looked at.
+#[tactic(auto, unfolding(crate::specs::ArchiveSaid::said_of))]
 fn said_in(alloc: Global, octets: &[u8]) -> Result<Said, LineFault>
     ensures held { IfOk result HoldsSaid }
+    ensures exact { Tells told_by result (said_of octets.now) }
 {
     let (word, rest) = field_at(octets)?;
     if word == b"chapter".as_slice() {
@@ -77,6 +84,13 @@ fn said_in(alloc: Global, octets: &[u8]) -> Result<Said, LineFault>
     }
 }
 
+/// The octets of a line before its LF.
+fn without_lf(line: &[u8]) -> &[u8]
+    ensures { result.now ≡ take (length line.now - 1) line.now }
+{
+    &line[..line.len().saturating_sub(1)]
+}
+
 /// Puts what a line with its LF tells behind what those before it told. What its fields say is
 /// written again: of all lines whose fields say the same, this has to be the one that is written.
 fn add_line(
@@ -88,17 +102,18 @@ fn add_line(
     requires { AllByRecursion HoldsChapter chapters.old }
     ensures held { OnOk result (AllByRecursion HoldsChapter chapters.new) }
     ensures text { OnOk result (archive_text chapters.new ≡ archive_text chapters.old ++ line.now) }
+    ensures refused { IfNotOne result (GoesOnNowhere chapters.old line.now) }
 {
-    let said = said_in(alloc, &line[..line.len().saturating_sub(1)])?;
+    let said = said_in(alloc, without_lf(line))?;
     if !said.is_written_as(alloc, buffer, line)? {
         return Err(LineFault::NotOne);
     }
     chapters.add(alloc, said)
 }
 
-/// The first line with its LF, and the octets behind it.
+/// The first line with its LF, and the octets behind it. `None` where there is no LF.
 fn cut_behind_lf(octets: &[u8]) -> Option<(&[u8], &[u8])>
-    ensures { IfSome result (λ cut. IsCutBehindLf octets.now cut.0.now cut.1.now) }
+    ensures { MatchOption result (IsUnended octets.now) (λ cut. IsCutBehindLf octets.now cut.0.now cut.1.now) }
 {
     let end = first_lf(octets)?;
     Some(octets.split_at(end + 1))
@@ -107,12 +122,15 @@ fn cut_behind_lf(octets: &[u8]) -> Option<(&[u8], &[u8])>
 /// The chapters that an archive tells. Octets are one where they are just what is written of these
 /// chapters, octet for octet.
 ///
-/// `BadLine` tells the first line at which they are none: the lines before it are an archive.
-/// `Memory` comes at will. The time goes with the octets, and so does the memory.
+/// `BadLine` tells the first line at which they are none: the lines before it are an archive, and
+/// with that line none goes on, whatever is behind it. So each archive is read, but for want of
+/// memory. `Memory` comes at will. The time goes with the octets, and so does the memory.
 pub fn read_archive(alloc: Global, octets: &[u8]) -> Result<Vec<WrittenChapter>, ArchiveFault>
     ensures ok { IfOk result (λ chapters. octets.now ≡ archive_text chapters.items) }
     ensures only { IfOk result (λ chapters. IsOnlyArchive octets.now chapters.items) }
     ensures line { IfErr result (IsFaultOfArchive octets.now) }
+    ensures none { IfErr result (TellsNoArchive octets.now) }
+    ensures first { IfErr result (TellsFirstLine octets.now) }
 {
     let mut chapters = Chapters::new(alloc);
     let mut buffer = Vec::new(alloc);

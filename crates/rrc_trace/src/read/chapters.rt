@@ -3,6 +3,8 @@ ghost use Rattle.std.specs.Prelude.{◌≡◌, ◌∷◌, ◌++◌, [], List, If
 ghost use Rattle.rrc_trace.specs.Archive.{WrittenOf, chapter_text, archive_text, entry_text, event_text};
 ghost use Rattle.rrc_trace.specs.ArchiveLaw.{HoldsEntry, HoldsEvent, HoldsChapter};
 ghost use Rattle.rrc_trace.specs.ArchiveLines.{said_text, HoldsSaid};
+ghost use Rattle.rrc_trace.specs.ArchiveSaid.{MayFollow};
+ghost use Rattle.rrc_trace.specs.Gives.{IfNotOne};
 ghost use Rattle.std.specs.List.{AllByRecursion};
 ghost use Rattle.std.specs.Option.{option_to_list};
 
@@ -16,19 +18,21 @@ use std::marker::Model;
 /// Chapters, of which the last one is not complete. Contracts see the list of them.
 #[derive(Drop)]
 pub(crate) struct Chapters {
-    /// Those before the last one.
+    /// Those before the last one. Without a last one there are none.
     before: Vec<WrittenChapter>,
     last: Option<WrittenChapter>,
 }
 
 impl Model for Chapters {
-    ghost use Rattle.std.specs.Prelude.{List, ◌++◌};
+    ghost use Rattle.std.specs.Prelude.{◌≡◌, List, [], ◌++◌, None};
     ghost use Rattle.std.specs.Option.{option_to_list};
     ghost use Rattle.rrc_trace.specs.Archive.{WrittenOf};
 
     ghost Value = { List WrittenOf };
 
     ghost view = { λ c. c.before.items ++ option_to_list c.last };
+
+    ghost invariant = { λ c. c.last ≡ None → c.before.items ≡ [] };
 }
 
 /// Puts an entry behind the others. None comes behind an event.
@@ -37,6 +41,7 @@ fn add_entry(chapter: &mut WrittenChapter, entry: Entry) -> Result<(), LineFault
     requires entry { HoldsEntry entry }
     ensures held { OnOk result (HoldsChapter chapter.new) }
     ensures text { OnOk result (chapter_text chapter.new ≡ chapter_text chapter.old ++ (entry_text entry ++ 10 ∷ [])) }
+    ensures refused { IfNotOne result (chapter.old.events ≡ [] → ⊥) }
 {
     if !chapter.events.is_empty() {
         return Err(LineFault::NotOne);
@@ -51,6 +56,7 @@ fn add_event(chapter: &mut WrittenChapter, event: Event) -> Result<(), LineFault
     requires event { HoldsEvent event }
     ensures held { OnOk result (HoldsChapter chapter.new) }
     ensures text { OnOk result (chapter_text chapter.new ≡ chapter_text chapter.old ++ (event_text event ++ 10 ∷ [])) }
+    ensures refused { IfNotOne result ⊥ }
 {
     chapter.events.push(event)?;
     Ok(())
@@ -84,6 +90,7 @@ impl Chapters {
         requires said { HoldsSaid said }
         ensures held { OnOk result (AllByRecursion HoldsChapter self.new) }
         ensures text { OnOk result (archive_text self.new ≡ archive_text self.old ++ (said_text said ++ 10 ∷ [])) }
+        ensures refused { IfNotOne result (MayFollow self.old said → ⊥) }
     {
         match said {
             Said::Chapter {

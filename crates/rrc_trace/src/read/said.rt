@@ -1,7 +1,8 @@
 // SPDX-License-Identifier: MIT
-ghost use Rattle.std.specs.Prelude.{◌≡◌, ◌∷◌, ◌++◌, [], IsTrue, IfOk};
+ghost use Rattle.std.specs.Prelude.{◌≡◌, ◌↔◌, ◌∷◌, ◌++◌, [], IsTrue, IfOk};
 ghost use Rattle.rrc_trace.specs.Archive.{line_text};
 ghost use Rattle.rrc_trace.specs.ArchiveLines.{said_text};
+ghost use Rattle.rrc_trace.specs.Gives.{IfNotOne};
 
 use crate::archive::ArchiveLine;
 use crate::read::line_fault::LineFault;
@@ -49,7 +50,8 @@ impl Said {
         buffer: &mut Vec<u8>,
         line: &[u8],
     ) -> Result<bool, LineFault>
-        ensures { IfOk result (λ is. IsTrue is → line.now ≡ said_text self.now ++ 10 ∷ []) }
+        ensures spelled { IfOk result (λ is. IsTrue is ↔ (line.now ≡ said_text self.now ++ 10 ∷ [])) }
+        ensures memory { IfNotOne result ⊥ }
     {
         buffer.clear();
         match write_archive_line(alloc, buffer, self.line()) {

@@ -1,7 +1,11 @@
 -- SPDX-License-Identifier: MIT
 use Rattle.std.proofs.Common.{sym, ◌∙◌}
+use Rattle.rrc_trace.proofs.CutLemmas.{uncut}
 use Rattle.rrc_trace.proofs.LfLemmas.{cut_behind}
 use Rattle.rrc_trace.proofs.read.archive.cut_behind_lf.Goals as goal
+
+pub returns-in_err-end : goal.returns-in_err-end
+returns-in_err-end c = rw c.from_residual.ensures (uncut c.args.octets.now (sym c.first_lf.ensures.place ∙ c.in_err-end.was))
 
 pub returns : goal.returns
 returns c =

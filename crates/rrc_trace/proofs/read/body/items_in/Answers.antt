@@ -1,5 +1,5 @@
 -- SPDX-License-Identifier: MIT
-use Rattle.std.proofs.Common.{arith, sym, ◌∙◌, []}
+use Rattle.std.proofs.Common.{arith, sym, []}
 use Rattle.std.specs.List.{slice_split}
 use Rattle.std.proofs.lemmas.Result.{err_from_is_err_and}
 use Rattle.rrc_trace.specs.Items.{is_comma}
