@@ -32,7 +32,7 @@ pub record FitsKey (key : KeyOf) : Type 0 where
   pub slot : FitsSlot key.slot
   pub class : key.class < 2 ^ 16
 
--- a set lives so many seconds, in 32 bits (RFC 1035 4.1.3), and has one record at least (RFC 2181 5)
+-- a set lives so many seconds, in 32 bits (RFC 1035 4.1.3), and has a record at least (RFC 2181 5)
 pub record FitsSet (left : ℕ) (owner : List ℕ) (items : List (List ℕ)) : Type 0 where
   pub lives : left < 2 ^ 32
   pub name : IsWireForm owner

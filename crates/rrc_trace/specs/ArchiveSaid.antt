@@ -65,7 +65,8 @@ pub record IsLast (chapters : List WrittenOf) (last : WrittenOf) : Type 0 where
   pub before : List WrittenOf
   pub whole : chapters ≡ before ++ last ∷ []
 
--- what may stand behind chapters: a chapter, an event of the last one, or an entry of it that has no event
+-- what may stand behind chapters: a chapter, an event of the last one, or an entry of it where it
+-- has no event
 abbrev pub MayFollow : List WrittenOf → Said → Type 0
 MayFollow chapters (said.Chapter number first rules) = Unit {0}
 MayFollow chapters (said.Entry held) = (last : WrittenOf) × (IsLast chapters last × (last.events ≡ []))

@@ -15,7 +15,7 @@ Gives view (Ok answer) said = said ≡ Some (view answer)
 Gives view (Err NotOne) said = said ≡ None
 Gives view (Err Memory) said = Unit {0}
 
--- the answer, seen by a view, is what the octets say: where they say what no answer is, there is none
+-- the answer, seen by a view, is what the octets say; none where they say what no answer is
 abbrev pub Tells : {X Y : Type 0} → (X → Y) → Result X LineFault → Option Y → Type 0
 Tells view (Ok answer) said = said ≡ Some (view answer)
 Tells {X} view (Err NotOne) said = (answer : X) → said ≡ Some (view answer) → ⊥

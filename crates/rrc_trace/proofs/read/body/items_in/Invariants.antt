@@ -1,5 +1,6 @@
 -- SPDX-License-Identifier: MIT
--- the items so far are octets, the pieces that are left say with them what all of them say, and there is an octet left for each round
+-- the items so far are octets, the pieces that are left say with them what all of them say, and
+-- there is an octet left for each round
 use Rattle.std.proofs.Common.{◌≡◌, ◌≤◌, ◌+◌, length}
 use Rattle.std.specs.List.{slice_split}
 use Rattle.rrc_trace.specs.ArchiveLaw.{HoldsItems}
