@@ -11,7 +11,7 @@ ghost use Rattle.rrc_replay.specs.Archives.{TellsHistory, TellsCounted, IsWhyNoH
 use crate::unlawful::{Reason, why_unlawful};
 use rrc_cache::{ChapterFault, NotRestored, restored_chapter};
 use rrc_history::{
-    ChainFault, Chapter, Entry, EntryList, Rules, Snapshot, SnapshotFault, Whole, chain,
+    ChainFault, Chapter, Entry, EntryList, NoSnapshot, Rules, Snapshot, SnapshotFault, Whole, chain,
 };
 use rrc_name::Shared;
 use rrc_trace::{ArchiveFault, WrittenChapter, read_archive};
@@ -167,8 +167,8 @@ fn restored_one(
 }
 
 /// What a chapter behind others begins with. It shares the closing of the one before it where that
-/// is the same, so that the entries of the first chapter alone are tested as a snapshot's, whose
-/// time goes with the square of their number.
+/// is the same, so that of a legal history the entries of the first chapter alone are tested as a
+/// snapshot's.
 fn opening(
     alloc: Global,
     before: &[Chapter],
@@ -249,12 +249,13 @@ fn new_opening(
     ensures ok { IfOk result (λ snapshot. snapshot ≡ record { rules = rules; first = first; entries = entries.items }) }
     ensures err { IfErr result (IsNoOpening place rules first entries.items) }
 {
-    match Snapshot::new(rules, first, entries) {
+    match Snapshot::new_by_trees(alloc, rules, first, entries) {
         Ok(snapshot) => Ok(Shared::new(alloc, snapshot)?),
-        Err(fault) => Err(HistoryFault::BadEntry {
+        Err(NoSnapshot::Fault(fault)) => Err(HistoryFault::BadEntry {
             chapter: place,
             fault,
         }),
+        Err(NoSnapshot::Memory) => Err(HistoryFault::Memory),
     }
 }
 
