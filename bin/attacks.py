@@ -1,11 +1,13 @@
 # SPDX-License-Identifier: MIT
 """What hostile servers and clients send: messages that cost much for their size, and names that
-have one hash under a hasher with a known number. SECURITY.md tells what they cost."""
+have one hash under a hasher with a known number; and what a hostile archive may begin with.
+SECURITY.md tells what they cost."""
 import itertools
 import random
 import string
 
 from dns import A, CNAME, MINFO, TXT, pointer, question, record, response, wire
+from names import to_text
 
 RP, PX = 17, 26
 # Of a message (RFC 1035 section 4.2.2), and of what pointers reach (section 4.1.4).
@@ -192,3 +194,16 @@ def puts_and_asks(number, picked):
     puts = [f"put 0 {name} 1 4 86400 c0000201\n" for name in names]
     asks = [f"ask 1 {name} 1 answer none\n" for name in names]
     return "".join(puts + asks)
+
+
+# ---- Archives (docs/FORMATS.md).
+
+
+def openings(keys, end):
+    """Two chapters of no events, each of which begins with so many entries, put in no order of
+    their names. The second has them in another order, so it does not go on from the first."""
+    names = (to_text(label(number * 40_507 % 36**4, 4) + end) for number in range(keys))
+    entries = [f"entry {number} 0 {name} 1 set 4 60 {name} 00000000\n"
+               for number, name in enumerate(names)]
+    heads = [f"chapter {number} {keys} {keys} 1 0\n" for number in (1, 2)]
+    return "".join([heads[0], *entries, heads[1], *reversed(entries)])
