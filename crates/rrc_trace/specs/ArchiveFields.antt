@@ -51,6 +51,7 @@ slot_cut field (Some place) = do
   class ← word_of (drop (place + 1) field)
   Some (slot, class)
 
+-- a slot and its class
 abbrev pub slot_and_class_of : List ℕ → Option (Slot × ℕ)
 slot_and_class_of field = slot_cut field (slash_in field)
 
@@ -82,18 +83,21 @@ source_at octets = do
   owner ← said_at name_of ttl.1
   Some (trust.0, ttl.0, owner.0, owner.1)
 
+-- a set
 unfoldable pub positive_at : List ℕ → Option (Body × List ℕ)
 positive_at octets = do
   source ← source_at octets
   items ← said_at data_of source.3
   Some (Positive source.0 source.1 source.2 items.0, items.1)
 
+-- that a name or a type does not exist
 unfoldable pub negative_at : List ℕ → Option (Body × List ℕ)
 negative_at octets = do
   source ← source_at octets
   soa ← said_at octets_of source.3
   Some (Negative source.0 source.1 source.2 soa.0, soa.1)
 
+-- that asking failed
 unfoldable pub failure_at : List ℕ → Option (Body × List ℕ)
 failure_at octets = do
   ttl ← said_at ttl_of octets
@@ -143,6 +147,7 @@ reply_as word octets =
     else if bytes_eq word (codes "miss") then miss_of octets
     else None
 
+-- the reply to the end of a line
 unfoldable pub reply_of : List ℕ → Option Reply
 reply_of octets = field_at octets >>= λ word. reply_as word.0 word.1
 
@@ -154,6 +159,7 @@ tag_at octets = do
   moment ← said_at count_of place.1
   Some (record { line = line.0; place = place.0 }, moment.0, moment.1)
 
+-- what became of an offer
 abbrev pub outcome_of : List ℕ → Option Outcome
 outcome_of word =
     if bytes_eq word (codes "kept") then Some Kept
@@ -172,6 +178,7 @@ offer_at moment octets = do
 unfoldable pub evicted_of : List ℕ → Option (Option KeyOf)
 evicted_of octets = if has_field octets then key_at octets >>= (λ key. Some (Some key.0)) else Some None
 
+-- the event of an offer, behind its word
 unfoldable pub offered_of : List ℕ → Option Event
 offered_of octets = do
   tag ← tag_at octets
@@ -180,6 +187,7 @@ offered_of octets = do
   evicted ← evicted_of outcome.1
   Some (Offered outcome.0 tag.0 offer.0 evicted)
 
+-- the event of an ask, behind its word: its name is folded, however it is spelled
 unfoldable pub asked_of : List ℕ → Option Event
 asked_of octets = do
   tag ← tag_at octets
@@ -211,12 +219,14 @@ keys_behind (suc most) keys octets =
 abbrev pub keys_of : List ℕ → Option (List KeyOf)
 keys_of octets = keys_behind (length octets) [] octets
 
+-- the event of a sweep, behind its word
 unfoldable pub swept_of : List ℕ → Option Event
 swept_of octets = do
   tag ← tag_at octets
   gone ← keys_of tag.2
   Some (Swept tag.0 tag.1 gone)
 
+-- an entry, behind its word
 unfoldable pub entry_of : List ℕ → Option Entry
 entry_of octets = do
   number ← said_at count_of octets

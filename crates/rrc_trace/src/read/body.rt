@@ -1,5 +1,5 @@
 // SPDX-License-Identifier: MIT
-ghost use Rattle.std.specs.Prelude.{◌≡◌, ◌∷◌, ◌++◌, [], Some, IfOk, OnOk};
+ghost use Rattle.std.specs.Prelude.{IfOk, OnOk};
 ghost use Rattle.hex.specs.Hex.{IsBytes};
 ghost use Rattle.rrc_name.specs.Wire.{IsWireForm};
 ghost use Rattle.rrc_trace.specs.ArchiveFields.{with_written, data_of, source_at, positive_at, negative_at, failure_at, body_at};

@@ -1,5 +1,5 @@
 // SPDX-License-Identifier: MIT
-ghost use Rattle.std.specs.Prelude.{◌≡◌, ◌∷◌, ◌++◌, [], Some, IfOk, OnOk};
+ghost use Rattle.std.specs.Prelude.{IfOk, OnOk};
 ghost use Rattle.std.specs.List.{AllByRecursion};
 ghost use Rattle.rrc_trace.specs.ArchiveFields.{tag_at, outcome_of, offer_at, evicted_of, offered_of, asked_of, with_key, keys_of, swept_of};
 ghost use Rattle.rrc_trace.specs.ArchiveLaw.{IsNumber, HoldsKey, HoldsTag, HoldsOffer, HoldsEvicted, HoldsEvent};
