@@ -1,7 +1,7 @@
 -- SPDX-License-Identifier: MIT
 -- What a map of keys with their hashes does is what a map of the keys would do.
 use Rattle.std.proofs.Common.{◌≡◌, ℕ, zero, suc, ◌-◌, List, [], ◌∷◌, length, take, Bool, true, false, ◌&&◌, Option, Some, None, refl, sym, ap, subst, ◌∙◌, arith}
-use Rattle.std.specs.Prelude.{cond, nat_eq, IfSome, IsSome, Result, Ok, Err, OnOk, OnErr}
+use Rattle.std.specs.Prelude.{cond, is_some, nat_eq, IfSome, IsSome, Result, Ok, Err, OnOk, OnErr}
 use Rattle.std.specs.Cmp.{nat_eq_equiv}
 use Rattle.std.specs.List.{AllByRecursion, IsDistinct, slice_get}
 use Rattle.std.specs.Option.{option_map, option_map_or}
@@ -16,6 +16,7 @@ use Rattle.rrc_history.specs.Past.{entry_at}
 use Rattle.rrc_history.specs.lemmas.EntryLaws.{entry_at-key}
 use Rattle.rrc_cache.specs.declared.hashed.HashedKey.{HashedKey}
 use Rattle.rrc_cache.specs.declared.seeded.Seeded.{Seeded}
+use Rattle.rrc_cache.specs.KeyedLaws.{hashed_eq-same}
 use Rattle.rrc_cache.specs.Keyed.{AreHashed, IsHashed, KeyedOf, hashed_eq, hashed_entries, name_hash, plain, plain_pair}
 use Rattle.rrc_cache.specs.Pairs.{entries_in, AreOwn}
 use Rattle.rrc_cache.proofs.Paired.{found_in_pairs, written_put}
@@ -195,6 +196,31 @@ hashed_put seeded cache wanted entry own are = by (lookup_entry (hashed_eq wante
     by None is = (own, hashed_taken seeded (cache.cap - 1) cache.entries are)
     by (Some pair) is =
         (hashed_found seeded (hashed_eq wanted) cache.entries pair are is, hashed_removed seeded (hashed_eq wanted) cache.entries are)
+
+-- ---- a hash that may be another name's
+
+module _ (test : HashedKey → Bool) where
+  none_entry : (pairs : List (HashedKey × Entry)) → is_some (lookup test pairs) ≡ false → lookup_entry test pairs ≡ None
+  none_entry [] none = refl
+  none_entry (pair ∷ pairs) none = by (test pair.0) refl (none_entry pairs)
+    where
+      by : (b : Bool) → test pair.0 ≡ b → (is_some (lookup test pairs) ≡ false → lookup_entry test pairs ≡ None) → lookup_entry test (pair ∷ pairs) ≡ None
+      by true at rest = let no : true ≡ false = rw at at none in absurd cc
+      by false at rest = let others : lookup_entry test pairs ≡ None = rest (rw at at none) in rw at others
+
+  -- a test that finds nothing moves nothing
+  pub unmoved : (pairs : List (HashedKey × Entry)) → is_some (lookup test pairs) ≡ false → lru.promoted test pairs ≡ pairs
+  unmoved pairs none = ap (λ found. option_map_or (λ p. p ∷ remove_entry test pairs) found pairs) (none_entry pairs none)
+
+-- a hash that finds a key is that of its name
+pub hint_found : (seeded : Seeded) (wanted : HashedKey) (pairs : List (HashedKey × Entry)) → AreHashed seeded pairs
+    → is_some (lookup (hashed_eq wanted) pairs) ≡ true → IsHashed seeded wanted
+hint_found seeded wanted [] are some = absurd cc
+hint_found seeded wanted (pair ∷ pairs) are some = by (hashed_eq wanted pair.0) refl (hint_found seeded wanted pairs are.1)
+  where
+    by : (b : Bool) → hashed_eq wanted pair.0 ≡ b → (is_some (lookup (hashed_eq wanted) pairs) ≡ true → IsHashed seeded wanted) → IsHashed seeded wanted
+    by true at rest = subst (IsHashed seeded) (sym (hashed_eq-same wanted pair.0 at)) are.0
+    by false at rest = rest (rw at at some)
 
 -- ---- what a map shows of itself
 

@@ -98,12 +98,12 @@ pub(crate) fn compare(
     (answered.is(reply), slot_of(answering))
 }
 
-/// Moves the entry that gave an answer to the front. It takes no memory.
-pub(crate) fn touch(store: &mut Store, hash: u64, ask: AskRef<'_>, slot: Option<Slot>)
-    requires { hash ≡ name_hash store.old.seeded (ask_in ask).name }
+/// Moves the entry that gave an answer to the front. It takes no memory. The hint is as a rule the
+/// hash of the ask's name (`Store::promote`).
+pub(crate) fn touch(store: &mut Store, hint: u64, ask: AskRef<'_>, slot: Option<Slot>)
     ensures { store.new ≡ record store.old { entries = answered_from (option_map (key_at (ask_in ask.entry)) slot) store.old.entries } }
 {
     if let Some(slot) = slot {
-        store.promote(hash, ask.key_at(slot));
+        store.promote(hint, ask.key_at(slot));
     }
 }

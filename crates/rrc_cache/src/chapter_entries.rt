@@ -96,14 +96,14 @@ impl ChapterEntries {
         Ok(())
     }
 
-    /// Moves the entry of a key to the front.
-    pub(crate) fn promote(&mut self, hash: u64, key: KeyRef<'_>)
-        requires { hash ≡ name_hash self.old.seeded (key_of key).name }
+    /// Moves the entry of a key to the front. `hint` is the hash of its
+    /// name as a rule, which then is not hashed again.
+    pub(crate) fn promote(&mut self, hint: u64, key: KeyRef<'_>)
         ensures { self.new ≡ record self.old { entries = promoted (key_of key.entry) self.old.entries } }
     {
         // The length is read for what it tells: no two entries have the same key.
         let _ = self.map.len();
-        let moved = self.map.promote(hash, key);
+        let moved = self.map.promote(hint, key);
         opening_tail::note_gone(&mut self.tail, moved);
     }
 

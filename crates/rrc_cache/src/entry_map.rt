@@ -134,15 +134,15 @@ impl EntryMap {
         Ok(())
     }
 
-    /// Moves the entry of a key to the front, and answers its number, if there is one.
-    pub(crate) fn promote(&mut self, hash: u64, key: KeyRef<'_>) -> Option<u64>
-        requires { hash ≡ name_hash self.old.seeded (key_of key).name }
+    /// Moves the entry of a key to the front, and answers its number, if there is one. Where the hint is
+    /// the hash of its name, that is not hashed again.
+    pub(crate) fn promote(&mut self, hint: u64, key: KeyRef<'_>) -> Option<u64>
         ensures number { result ≡ option_map (λ entry. entry.number) (entry_at (key_of key.entry) self.old.entries) }
         ensures entries { self.new ≡ record self.old { entries = promoted (key_of key.entry) self.old.entries } }
     {
         // The length is read for what it tells: no two entries have the same key.
         let _ = self.holdings.len();
-        promote(&mut self.holdings, hash, key)
+        promote(&mut self.holdings, hint, key)
     }
 
     /// Removes the entry of a key, and answers its number, if there was one.
@@ -170,13 +170,12 @@ impl EntryMap {
 }
 
 /// Moves the entry of a key to the front, and answers its number, if there is one.
-fn promote(holdings: &mut Holdings, hash: u64, key: KeyRef<'_>) -> Option<u64>
-    requires { hash ≡ name_hash holdings.old.seeded (key_of key).name }
+fn promote(holdings: &mut Holdings, hint: u64, key: KeyRef<'_>) -> Option<u64>
     ensures map { holdings.new.map ≡ lru_cache (lru_promoted (key_eq (key_of key.entry)) holdings.old.map.entries) holdings.old.map.cap }
     ensures seeded { holdings.new.seeded ≡ holdings.old.seeded }
     ensures number { result ≡ option_map (λ entry. entry.number) (lookup (key_eq (key_of key.entry)) holdings.old.map.entries) }
 {
-    if !holdings.promote(hash, key) {
+    if !holdings.promote(hint, key) {
         return None;
     }
     match holdings.peek_mru() {

@@ -105,12 +105,12 @@ impl FilteredEntries {
         Ok(())
     }
 
-    /// Moves the entry of a key to the front.
-    pub(crate) fn promote(&mut self, hash: u64, key: KeyRef<'_>)
-        requires { hash ≡ name_hash self.old.seeded (key_of key).name }
+    /// Moves the entry of a key to the front. `hint` is the hash of its
+    /// name as a rule, which then is not hashed again.
+    pub(crate) fn promote(&mut self, hint: u64, key: KeyRef<'_>)
         ensures { self.new ≡ record self.old { entries = promoted (key_of key.entry) self.old.entries } }
     {
-        self.chapter.promote(hash, key);
+        self.chapter.promote(hint, key);
     }
 
     /// Removes the entry of a key.

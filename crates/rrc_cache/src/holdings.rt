@@ -112,14 +112,14 @@ impl Holdings {
         self.keyed.peek_mru()
     }
 
-    /// Moves the entry of a key to the front, and answers whether there is one.
-    pub(crate) fn promote(&mut self, hash: u64, key: KeyRef<'_>) -> bool
-        requires { hash ≡ name_hash self.old.seeded (key_of key).name }
+    /// Moves the entry of a key to the front, and answers whether there is one. Where the hint is
+    /// the hash of its name, that is not hashed again.
+    pub(crate) fn promote(&mut self, hint: u64, key: KeyRef<'_>) -> bool
         ensures value { result ≡ is_some (lookup (key_eq (key_of key.entry)) self.old.map.entries) }
         ensures entries { self.new.map ≡ lru_cache (promoted (key_eq (key_of key.entry)) self.old.map.entries) self.old.map.cap }
         ensures seeded { self.new.seeded ≡ self.old.seeded }
     {
-        self.keyed.promote(hash, key)
+        self.keyed.promote(hint, key)
     }
 
     /// Removes the entry of a key, and answers it.

@@ -105,14 +105,29 @@ impl Keyed {
         }
     }
 
-    /// Moves the entry of a key to the front, and answers whether there is one.
-    pub(crate) fn promote(&mut self, hash: u64, key: KeyRef<'_>) -> bool
+    /// Moves the entry of a key to the front, whose name has the hash, and returns whether there is
+    /// one.
+    fn promote_hashed(&mut self, hash: u64, key: KeyRef<'_>) -> bool
         requires { hash ≡ name_hash self.old.seeded (key_of key).name }
         ensures value { result ≡ is_some (lookup (key_eq (key_of key.entry)) self.old.map.entries) }
         ensures entries { self.new.map ≡ lru_cache (promoted (key_eq (key_of key.entry)) self.old.map.entries) self.old.map.cap }
         ensures seeded { self.new.seeded ≡ self.old.seeded }
     {
         self.cache.promote(HashedRef { hash, key })
+    }
+
+    /// Moves the entry of a key to the front, and returns whether there is one. Where the hint is
+    /// the hash of the key's name, that is not hashed again.
+    pub(crate) fn promote(&mut self, hint: u64, key: KeyRef<'_>) -> bool
+        ensures value { result ≡ is_some (lookup (key_eq (key_of key.entry)) self.old.map.entries) }
+        ensures entries { self.new.map ≡ lru_cache (promoted (key_eq (key_of key.entry)) self.old.map.entries) self.old.map.cap }
+        ensures seeded { self.new.seeded ≡ self.old.seeded }
+    {
+        if self.cache.promote(HashedRef { hash: hint, key }) {
+            return true;
+        }
+        let hash = self.hash_of(key.name);
+        self.promote_hashed(hash, key)
     }
 
     /// Removes the entry of a key, and answers it.

@@ -2,6 +2,7 @@
 ghost use Rattle.std.specs.Prelude.{◌≡◌, ◌<◌, ◌≤◌, ◌^◌, ◌↔◌, [], IsTrue, IfOk, IfErr, IfSome, IfNone, OnErr, Err};
 
 use crate::history::{History, StepRef};
+use crate::pick::Pick;
 use crate::part::{KNOWN_SEED, NUMBER_LIMIT};
 use crate::refusal::Refusal;
 use crate::seeded::Seeded;
@@ -10,7 +11,7 @@ use crate::{ahead, answer, entries, judge, sweep};
 use rrc_history::{
     Ask, AskRef, Held, LAST_MOMENT, Offer, Outcome, Reply, ReplyRef, Rules, Snapshot, Tag,
 };
-use rrc_name::{Key, KeyRef, Shared, Slot};
+use rrc_name::{Key, KeyRef, Shared};
 use std::alloc::{AllocError, Global};
 use std::fmt::{self, Debug, Formatter, Write};
 use std::marker::Model;
@@ -216,16 +217,16 @@ impl LeanPart {
         ensures err { OnErr result (self.new ≡ self.old) }
         ensures due { IsLeanDue self.old ask.now.moment result }
     {
-        let (reply, slot) = self.judge(ask.as_ref())?;
+        let (reply, pick) = self.judge(ask.as_ref())?;
         let reply = reply.to_owned()?;
-        self.note_asked(tag, ask.as_ref(), slot);
+        self.note_asked(tag, ask.as_ref(), pick);
         Ok(reply)
     }
 
-    /// The first half of `ask`, which takes no memory: the reply, as it is kept, and the slot of
-    /// the entry that gives it, to be handed to `note_asked`. It touches nothing. The refusals are
+    /// The first half of `ask`, which takes no memory: the reply, as it is kept, and which entry
+    /// gives it, to be handed to `note_asked`. It touches nothing. The refusals are
     /// those of `offer`, without `Memory`.
-    pub fn judge(&self, ask: AskRef<'_>) -> Result<(ReplyRef<'_>, Option<Slot>), Refusal>
+    pub fn judge(&self, ask: AskRef<'_>) -> Result<(ReplyRef<'_>, Pick), Refusal>
         ensures reply { IfOk result (λ judged. reply_in judged.0 ≡ reply_to self.now.snapshot (past_of self.now) (ask_in ask.entry)) }
         ensures pick { IfOk result (λ judged. IsPick self.now (ask_in ask.entry) judged.1) }
         ensures due { IsLeanDue self.now (ask_in ask.entry).moment result }
@@ -234,19 +235,19 @@ impl LeanPart {
         self.admit(ask.moment)?;
         let hash = self.store.hash_of(ask.name);
         let (reply, answering) = judge::judge(&self.store, hash, ask, self.rules.stale);
-        Ok((reply, answer::slot_of(answering)))
+        let slot = answer::slot_of(answering);
+        Ok((reply, Pick { slot, hash }))
     }
 
-    /// The second half of `ask`, for an ask that `judge` answered just before, with the slot that
+    /// The second half of `ask`, for an ask that `judge` answered just before, with the entry that
     /// it told: it moves that entry to the front, and the history has one more event, which tells
     /// the ask and its reply. It takes no memory and refuses nothing.
-    pub fn note_asked(&mut self, tag: Tag, ask: AskRef<'_>, slot: Option<Slot>)
+    pub fn note_asked(&mut self, tag: Tag, ask: AskRef<'_>, pick: Pick)
         requires open { IsLeanOpen self.old (ask_in ask).moment }
-        requires pick { IsPick self.old (ask_in ask) slot }
+        requires pick { IsPick self.old (ask_in ask) pick }
         ensures { WritesAsk self.old self.new tag (ask_in ask.entry) (reply_to self.old.snapshot (past_of self.old) (ask_in ask.entry)) }
     {
-        let hash = self.store.hash_of(ask.name);
-        answer::touch(&mut self.store, hash, ask, slot);
+        answer::touch(&mut self.store, pick.hash, ask, pick.slot);
         self.history = self.history.then(&StepRef::Asked { tag, ask });
         self.next += 1;
     }
@@ -280,15 +281,15 @@ impl LeanPart {
     }
 
     /// What `judge` tells, whatever the ask's moment is: the reply, the ask, as its event is to keep
-    /// them, and the slot.
-    pub(crate) fn answer(&self, ask: &Ask) -> Result<(Reply, Ask, Option<Slot>), AllocError>
+    /// them, and which entry answers.
+    pub(crate) fn answer(&self, ask: &Ask) -> Result<(Reply, Ask, Pick), AllocError>
         ensures reply { IfOk result (λ told. told.0 ≡ reply_to self.now.snapshot (past_of self.now) ask.now) }
         ensures asked { IfOk result (λ told. told.1 ≡ ask.now) }
         ensures pick { IfOk result (λ told. IsPick self.now ask.now told.2) }
     {
         let hash = self.store.hash_of(ask.name.as_ref());
         let (reply, asked, slot) = answer::answer(&self.store, hash, ask, self.rules.stale)?;
-        Ok((reply, asked, slot))
+        Ok((reply, asked, Pick { slot, hash }))
     }
 
     /// Ends the chapter with what the part holds, and begins the next one with it. It answers that

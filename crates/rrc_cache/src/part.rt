@@ -203,9 +203,9 @@ impl Part {
     {
         self.admit(ask.moment)?;
         self.events.reserve(1)?;
-        let (reply, asked, slot) = self.lean.answer(ask)?;
+        let (reply, asked, pick) = self.lean.answer(ask)?;
         let event = answer::event_of(tag, asked, &reply)?;
-        self.lean.note_asked(tag, ask.as_ref(), slot);
+        self.lean.note_asked(tag, ask.as_ref(), pick);
         self.events.push_reserved(event);
         Ok(reply)
     }

@@ -243,12 +243,12 @@ impl Store {
         }
     }
 
-    /// Moves the entry of a key to the front.
-    pub(crate) fn promote(&mut self, hash: u64, key: KeyRef<'_>)
-        requires { hash ≡ name_hash self.old.seeded (key_of key).name }
+    /// Moves the entry of a key to the front. `hint` is the hash of its
+    /// name as a rule, which then is not hashed again.
+    pub(crate) fn promote(&mut self, hint: u64, key: KeyRef<'_>)
         ensures { self.new ≡ record self.old { entries = promoted (key_of key.entry) self.old.entries } }
     {
-        self.filtered.promote(hash, key);
+        self.filtered.promote(hint, key);
     }
 
     /// Removes the entry of a key.

@@ -7,9 +7,9 @@ ghost use Rattle.rrc_share.specs.Switches.{HandsOut, IsSwitchDue, Starts, Stops,
 use crate::calls::{on_shelf_ask, on_shelf_checkpoint, on_shelf_offer, on_shelf_sweep};
 use crate::shelf::Shelf;
 use crate::state::ShelfState;
-use rrc_cache::{LeanPart, Part, Refusal};
+use rrc_cache::{LeanPart, Part, Pick, Refusal};
 use rrc_history::{Ask, AskRef, Chapter, Held, Offer, Outcome, Reply, ReplyRef, Tag};
-use rrc_name::{KeyRef, Slot};
+use rrc_name::KeyRef;
 use std::alloc::Global;
 use std::marker::Model;
 use thiserror::Error;
@@ -201,7 +201,7 @@ impl CacheShelf {
 
     /// The first half of `ask` while nothing is recorded (`LeanPart::judge`): the reply, as it is
     /// kept, and the slot for `note_asked`. It takes no memory and touches nothing.
-    pub fn judge(&self, ask: AskRef<'_>) -> Result<(ReplyRef<'_>, Option<Slot>), Refusal>
+    pub fn judge(&self, ask: AskRef<'_>) -> Result<(ReplyRef<'_>, Pick), Refusal>
         requires { self.now.records ≡ false }
         ensures reply { IfOk result (λ judged. reply_in judged.0 ≡ reply_of self.now.shelf (ask_in ask.entry)) }
         ensures pick { IfOk result (λ judged. IsPick self.now.shelf.part (ask_in ask.entry) judged.1) }
@@ -216,15 +216,15 @@ impl CacheShelf {
 
     /// The second half of `ask` while nothing is recorded (`LeanPart::note_asked`), for an ask that
     /// `judge` answered just before, with its slot. It takes no memory and refuses nothing.
-    pub fn note_asked(&mut self, tag: Tag, ask: AskRef<'_>, slot: Option<Slot>)
+    pub fn note_asked(&mut self, tag: Tag, ask: AskRef<'_>, pick: Pick)
         requires lean { self.old.records ≡ false }
         requires open { IsLeanOpen self.old.shelf.part (ask_in ask).moment }
-        requires pick { IsPick self.old.shelf.part (ask_in ask) slot }
+        requires pick { IsPick self.old.shelf.part (ask_in ask) pick }
         ensures records { self.new.records ≡ false }
         ensures written { NotesAsk self.old.shelf self.new.shelf tag (ask_in ask.entry) }
     {
         match &mut self.state {
-            ShelfState::Lean(part) => part.note_asked(tag, ask, slot),
+            ShelfState::Lean(part) => part.note_asked(tag, ask, pick),
             ShelfState::Recorded(_) => unreachable!(),
         }
     }

@@ -7,13 +7,10 @@ use Rattle.lru.specs.LruCache.{LruCache}
 use Rattle.rrc_history.specs.declared.snapshot.Entry.{Entry}
 use Rattle.rrc_history.specs.Entries.{promoted}
 use Rattle.rrc_history.specs.Past.{entry_at}
-use Rattle.rrc_cache.specs.Keyed.{name_hash}
 use Rattle.rrc_cache.specs.Pairs.{entries_in, EntriesOf}
 use Rattle.rrc_cache.proofs.Paired.{apart_in, edited, found_in_pairs, promoted_in, own_promoted}
 use Rattle.rrc_cache.proofs.entry_map.EntryMap.promote.Goals as goal
 
-pub promote-requires : goal.promote-requires
-promote-requires c = c.requires ∙ ap (λ (map : EntriesOf). name_hash map.seeded (key_of c.args.key).name) (sym c.self.view_is)
 
 pub invariant_of-self : goal.invariant_of-self
 invariant_of-self c = record {

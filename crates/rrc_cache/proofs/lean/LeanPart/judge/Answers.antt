@@ -9,7 +9,7 @@ use Rattle.rrc_cache.proofs.lean.LeanPart.judge.Goals as goal
 
 pub returns-clause-pick : goal.returns-clause-pick
 returns-clause-pick c =
-    let P : PartOf → Type 0 = λ part. IsPick part (ask_in c.args.ask) c.slot_of.result in
+    let P : PartOf → Type 0 = λ part. IsPick part (ask_in c.args.ask) c.slot_of-slot.result in
     subst P c.self.view_is
     (picked c.self.inside.history.part c.self.inside.rules c.self.inside.store.entries (ask_in c.args.ask) (reply_in c.judge.result.0) (option_map held_in c.judge.result.1)
-    c.slot_of.result c.self.invariant.ruled c.self.invariant.leaves.contents c.judge.ensures.reply c.judge.ensures.answering c.slot_of.ensures)
+    c.slot_of-slot.result c.self.invariant.ruled c.self.invariant.leaves.contents c.judge.ensures.reply c.judge.ensures.answering c.slot_of-slot.ensures)
