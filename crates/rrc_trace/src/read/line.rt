@@ -1,5 +1,5 @@
 // SPDX-License-Identifier: MIT
-ghost use Rattle.std.specs.Prelude.{◌≡◌, option_map};
+ghost use Rattle.std.specs.Prelude.{◌≡◌, option_map, IfOk, IfErr};
 ghost use Rattle.rrc_trace.specs.Gives.{Gives};
 ghost use Rattle.rrc_trace.specs.Lines.{question_at, kept_of, put_of, manner_of, ask_of, fail_of, response_of, sent_of, fetch_of, sweep_of, ended, line_of, before_last, without_cr, bounded, line_of_piece};
 
@@ -13,7 +13,7 @@ use crate::read::number::{moment_at, rtype_at, trust_at, ttl_at};
 use crate::read::octets::{fetched_at, message_at};
 use crate::read::word::{Form, form_at, mode_at, purpose_at};
 use rrc_history::{Ask, Mode, Purpose, Trust};
-use rrc_name::{Name, Octets, RdataList, Shared};
+use rrc_name::{Name, Octets, RdataList, Sequence, Shared};
 use std::alloc::Global;
 
 /// The most octets of a line, its LF not counted.
@@ -34,6 +34,15 @@ fn question_at<'a>(
     Ok((moment, name, kind, rest))
 }
 
+/// The rdata of a put, for all who keep them.
+fn shared(alloc: Global, items: Sequence<Octets>) -> Result<Shared<RdataList>, LineFault>
+    ensures ok { IfOk result (λ shared. shared ≡ items) }
+    ensures memory { IfErr result (λ fault. fault ≡ LineFault.Memory) }
+{
+    let items = RdataList::from_vec(items.into_vec());
+    Ok(Shared::new(alloc, items)?)
+}
+
 /// What a put says behind its type, to its end: its trust, its time to live and its data.
 #[tactic(auto, unfolding(crate::specs::Lines::kept_of))]
 fn kept_in(
@@ -49,8 +58,7 @@ fn kept_in(
     if has_field(rest) {
         return Err(LineFault::NotOne);
     }
-    let items = RdataList::from_vec(items.into_vec());
-    Ok((trust, ttl, Shared::new(alloc, items)?))
+    Ok((trust, ttl, shared(alloc, items)?))
 }
 
 /// The line whose first word was `put`.

@@ -19,9 +19,9 @@ pub returns-then-has_field : goal.returns-then-has_field
 unfolding kept_of
 returns-then-has_field c = search rules fits 100
 
-pub returns-in_err-new : goal.returns-in_err-new
+pub returns-in_err-shared : goal.returns-in_err-shared
 unfolding kept_of
-returns-in_err-new c = search rules fits 100
+returns-in_err-shared c = search rules fits 100
 
 pub returns : goal.returns
 unfolding kept_of
