@@ -78,7 +78,10 @@ fn is_hit(kind: Kind, parts: &mut [Part], picked: &PickedAsk) -> Option<bool> {
     let part = parts.get_mut(picked.part)?;
     match kind {
         Kind::Room => Some(part.has_room()),
-        Kind::Would => Some(!matches!(part.would_answer(picked.ask.as_ref()), ReplyRef::Miss { .. })),
+        Kind::Would => Some(!matches!(
+            part.would_answer(picked.ask.as_ref()),
+            ReplyRef::Miss { .. }
+        )),
         _ => answered(part.ask(TAG, &picked.ask)),
     }
 }

@@ -13,11 +13,11 @@ use Rattle.rrc_history.specs.declared.event.Reply.{Reply}
 use Rattle.rrc_history.specs.Asked.{AskOf}
 use Rattle.rrc_history.specs.Entries.{found_among}
 use Rattle.rrc_history.specs.Judged.{answering, key_in, reply_by}
-use Rattle.rrc_history.specs.Past.{held, number_after, found, reply_to, AreContents}
+use Rattle.rrc_history.specs.Past.{held, number_after, found, reply_to, AreContents, moment_of}
 use Rattle.rrc_history.specs.Right.{IsLegal}
 use Rattle.rrc_history.specs.lemmas.AskLaws.{found-contents}
 use Rattle.rrc_history.specs.lemmas.LawsHold.{laws_hold}
-use Rattle.rrc_cache.specs.Calls.{Leaves, Writes, moment_of}
+use Rattle.rrc_cache.specs.Calls.{Leaves, Writes}
 use Rattle.rrc_cache.specs.Lean.{HoldsLean, IsLeanOpen, IsPick, begun_with, first_chapter, with_event}
 use Rattle.rrc_cache.specs.Pairs.{StoreOf}
 use Rattle.rrc_cache.specs.Part.{PartOf, past_of, Adds}

@@ -8,11 +8,11 @@ use Rattle.rrc_history.specs.declared.snapshot.Snapshot.{Snapshot}
 use Rattle.rrc_history.specs.Asked.{AskOf}
 use Rattle.rrc_history.specs.Fits.{OfferOf}
 use Rattle.rrc_history.specs.Lives.{LAST_MOMENT}
-use Rattle.rrc_history.specs.Past.{number_after}
+use Rattle.rrc_history.specs.Past.{number_after, moment_of}
 use Rattle.rrc_history.specs.Right.{IsRight}
 use Rattle.rrc_history.specs.WholeLaws.{IsSameCall}
 use Rattle.rrc_history.specs.lemmas.OneHistory.{one_event}
-use Rattle.rrc_cache.specs.Calls.{Leaves, Writes, IsMadeAgain, moment_of}
+use Rattle.rrc_cache.specs.Calls.{Leaves, Writes, IsMadeAgain}
 use Rattle.rrc_cache.proofs.Leaving.{offer_leaves}
 use Rattle.rrc_cache.proofs.Answering.{ask_leaves}
 use Rattle.rrc_cache.proofs.Sweeping.{sweep_leaves}

@@ -24,12 +24,6 @@ pub record Leaves (snapshot : Snapshot) (past : List Event) (entries : List Entr
   pub contents : AreContents snapshot past entries
   pub kept : AreSound snapshot.rules.capacity (number_after snapshot past) entries
 
--- the moment of an event's call
-abbrev pub moment_of : Event → ℕ
-moment_of (Offered outcome tag offer evicted) = offer.moment
-moment_of (Asked tag ask reply) = ask.moment
-moment_of (Swept tag moment gone) = moment
-
 -- a call on entries wrote this event, of a number, and left those
 abbrev pub Writes : Rules → ℕ → List Entry → Event → List Entry → Type 0
 Writes rules number before (Offered outcome tag offer evicted) after =

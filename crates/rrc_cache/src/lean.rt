@@ -2,14 +2,15 @@
 ghost use Rattle.std.specs.Prelude.{◌≡◌, ◌<◌, ◌≤◌, ◌^◌, ◌↔◌, [], IsTrue, IfOk, IfErr, IfSome, IfNone, OnErr, Err};
 
 use crate::history::{History, StepRef};
+use crate::part::KNOWN_SEED;
 use crate::pick::Pick;
-use crate::part::{KNOWN_SEED, NUMBER_LIMIT};
 use crate::refusal::Refusal;
 use crate::seeded::Seeded;
 use crate::store::Store;
 use crate::{ahead, answer, entries, judge, sweep};
 use rrc_history::{
-    Ask, AskRef, Held, LAST_MOMENT, Offer, Outcome, Reply, ReplyRef, Rules, Snapshot, Tag,
+    Ask, AskRef, Held, LAST_MOMENT, NUMBER_LIMIT, Offer, Outcome, Reply, ReplyRef, Rules, Snapshot,
+    Tag,
 };
 use rrc_name::{Key, KeyRef, Shared};
 use std::alloc::{AllocError, Global};

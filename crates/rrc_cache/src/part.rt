@@ -15,9 +15,6 @@ use std::alloc::Global;
 use std::marker::Model;
 use std::mem;
 
-/// No event has this number or a greater one, and no chapter that is closed.
-pub(crate) const NUMBER_LIMIT: u64 = 1 << 62;
-
 /// The seed of a part that is given none, so that tests and replays take the same time twice.
 pub(crate) const KNOWN_SEED: [u8; 16] = [0; 16];
 

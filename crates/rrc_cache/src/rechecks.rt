@@ -2,9 +2,10 @@
 ghost use Rattle.std.specs.Prelude.{◌≡◌, ◌∷◌, ◌&&◌, ◌≤◌, reverse, true, false, IfOk, IfErr, OnOk};
 ghost use Rattle.rrc_history.specs.Auditing.{outcome_eq};
 ghost use Rattle.rrc_history.specs.Lives.{LAST_MOMENT};
+ghost use Rattle.rrc_history.specs.Past.{moment_of};
 ghost use Rattle.rrc_history.specs.Right.{IsLegal, IsRight};
 ghost use Rattle.rrc_history.specs.Sound.{AreSound};
-ghost use Rattle.rrc_cache.specs.Calls.{Leaves, IsMadeAgain, evicted_eq, moment_of};
+ghost use Rattle.rrc_cache.specs.Calls.{Leaves, IsMadeAgain, evicted_eq};
 ghost use Rattle.rrc_cache.specs.Rechecks.{IsFault};
 
 use crate::part::KNOWN_SEED;
@@ -99,22 +100,11 @@ pub(crate) fn is_right(
     if u128::from(snapshot.first) + past.len() as u128 >= 1 << 62 {
         return Ok(false);
     }
-    if moment_of(event) > LAST_MOMENT {
+    if event.moment() > LAST_MOMENT {
         return Ok(false);
     }
     let number = snapshot.first + past.len() as u64;
     is_made_again(alloc, store, snapshot.rules(), number, event)
-}
-
-/// The moment of an event's call.
-fn moment_of(event: &Event) -> u64
-    ensures { result ≡ moment_of event.now }
-{
-    match event {
-        Event::Offered { offer, .. } => offer.moment,
-        Event::Asked { ask, .. } => ask.moment,
-        Event::Swept { moment, .. } => *moment,
-    }
 }
 
 /// Makes the call of an event again, and answers whether that writes just this event.

@@ -89,9 +89,15 @@ fn held_by(alloc: Global, part: &Part, event: &Event) -> Result<Vec<Entry>, Allo
             push_held(&mut entries, part.held(KeyRef::of(&offer.key)))?;
         }
         Event::Asked { ask, .. } => {
-            push_held(&mut entries, part.held(ask.as_ref().key_at(Slot::Set(ask.rtype))))?;
+            push_held(
+                &mut entries,
+                part.held(ask.as_ref().key_at(Slot::Set(ask.rtype))),
+            )?;
             push_held(&mut entries, part.held(ask.as_ref().key_at(Slot::Nx)))?;
-            push_held(&mut entries, part.held(ask.as_ref().key_at(Slot::Failed(ask.rtype))))?;
+            push_held(
+                &mut entries,
+                part.held(ask.as_ref().key_at(Slot::Failed(ask.rtype))),
+            )?;
         }
         Event::Swept { .. } => {}
     }

@@ -69,10 +69,7 @@ fn items_in(alloc: Global, field: &[u8]) -> Result<Sequence<Octets>, LineFault>
 }
 
 /// The data of a set, and the octets behind them.
-pub(crate) fn data_at(
-    alloc: Global,
-    octets: &[u8],
-) -> Result<(Shared<RdataList>, &[u8]), LineFault>
+pub(crate) fn data_at(alloc: Global, octets: &[u8]) -> Result<(Shared<RdataList>, &[u8]), LineFault>
     ensures held { IfOk result (λ found. HoldsItems found.0) }
     ensures exact { Gives (λ found. (found.0, found.1.now)) result (said_at data_of octets.now) }
 {

@@ -6,9 +6,9 @@ use Rattle.rrc_history.specs.declared.event.Event.{Event}
 use Rattle.rrc_history.specs.declared.rules.Rules.{Rules}
 use Rattle.rrc_history.specs.declared.snapshot.Snapshot.{Snapshot}
 use Rattle.rrc_history.specs.Lives.{LAST_MOMENT}
-use Rattle.rrc_history.specs.Past.{number_after}
+use Rattle.rrc_history.specs.Past.{number_after, moment_of}
 use Rattle.rrc_history.specs.Right.{IsRight}
-use Rattle.rrc_cache.specs.Calls.{Leaves, IsMadeAgain, moment_of}
+use Rattle.rrc_cache.specs.Calls.{Leaves, IsMadeAgain}
 use Rattle.rrc_cache.proofs.Written.{same_leaves, other_wrong}
 use Rattle.rrc_cache.proofs.rechecks.is_right.Goals as goal
 
@@ -23,7 +23,7 @@ below : (c : goal.After-is_made_again) → number_after c.args.snapshot.now (rev
 below c = omega (arith, first-of c, c.if-from-past.false, c.from.ensures)
 
 timely : (c : goal.After-is_made_again) → moment_of c.args.event.now ≤ LAST_MOMENT
-timely c = omega (arith, c.if-moment_of-gt-LAST_MOMENT.false, c.moment_of.ensures)
+timely c = omega (arith, c.if-moment-gt-LAST_MOMENT.false, c.moment.ensures)
 
 -- the call is made again by the rules of the snapshot, with the number of the event
 again : (c : goal.After-is_made_again)

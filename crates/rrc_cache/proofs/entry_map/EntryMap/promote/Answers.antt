@@ -11,7 +11,6 @@ use Rattle.rrc_cache.specs.Pairs.{entries_in, EntriesOf}
 use Rattle.rrc_cache.proofs.Paired.{apart_in, edited, found_in_pairs, promoted_in, own_promoted}
 use Rattle.rrc_cache.proofs.entry_map.EntryMap.promote.Goals as goal
 
-
 pub invariant_of-self : goal.invariant_of-self
 invariant_of-self c = record {
   own = rw c.promote.ensures.map (own_promoted (key_eq (key_of c.args.key)) c.self.inside.holdings.map.entries c.self.invariant.own);
