@@ -14,7 +14,7 @@ use Rattle.rrc_history.specs.Lives.{LAST_MOMENT}
 use Rattle.rrc_c.specs.Refusals.{Because, IfHeld, IsDoneOrMemory, NoteDue, Then, WriteDue}
 use Rattle.rrc_c.specs.Shelves.{CanWriteBy, IsSpentBy}
 use Rattle.rrc_c.specs.Statuses.{number_of, number_of_call, refused_as}
-use Rattle.rrc_c.specs.Told.{data_text, AreNarrow, AreTellable}
+use Rattle.rrc_c.specs.ReplyRecord.{data_text, AreNarrow, AreTellable}
 use Rattle.rrc_c.specs.declared.status.Status.{Status}
 use Rattle.rrc_c.specs.declared.status.Status.TheVariants.{HistoryFull, MomentTooLarge}
 use Rattle.rrc_c.proofs.Filling.{narrow_next}

@@ -12,8 +12,8 @@ use Rattle.rrc_history.specs.declared.event.Reply.{Reply}
 use Rattle.rrc_cache.specs.Part.{past_of}
 use Rattle.rrc_share.specs.CacheShelf.{CacheShelfOf}
 use Rattle.rrc_c.specs.Shelves.{MakesAsk}
-use Rattle.rrc_c.specs.Told.{told_of, text_of, IsFilled}
-use Rattle.rrc_c.specs.declared.told.Told.{Told}
+use Rattle.rrc_c.specs.ReplyRecord.{told_of, text_of, IsFilled}
+use Rattle.rrc_c.specs.declared.reply_record.ReplyRecord.{ReplyRecord}
 
 -- the purpose of a number: 0 anything, 1 to answer a question
 abbrev pub purpose_of : ℕ → Purpose
@@ -37,54 +37,54 @@ abbrev pub reply_of : CacheShelfOf → AskOf → Reply
 reply_of shelf ask = reply_to shelf.shelf.part.snapshot (past_of shelf.shelf.part) ask
 
 -- the record and the buffer tell a reply
-pub record TellsReply (told : Told) (before after : List ℕ) (reply : Reply) : Type 0 where
+pub record TellsReply (told : ReplyRecord) (before after : List ℕ) (reply : Reply) : Type 0 where
   pub record_is : told ≡ told_of reply
   pub buffer_is : IsFilled before (text_of reply) after
 
 -- the record tells a reply whose octets are more than the buffer has, which is as it was
-pub record TellsSizeOf (told : Told) (before after : List ℕ) (reply : Reply) : Type 0 where
+pub record TellsSizeOf (told : ReplyRecord) (before after : List ℕ) (reply : Reply) : Type 0 where
   pub record_is : told ≡ told_of reply
   pub small : length before < length (text_of reply)
   pub untouched : after ≡ before
 
 -- a reply was told, for which the buffer has room, or where that is too small only its size
-abbrev pub TellsOr : Bool → Reply → Told → List ℕ → List ℕ → Type 0
+abbrev pub TellsOr : Bool → Reply → ReplyRecord → List ℕ → List ℕ → Type 0
 TellsOr true reply told before after = (length (text_of reply) ≤ length before) × TellsReply told before after reply
 TellsOr false reply told before after = TellsSizeOf told before after reply
 
 -- one event was written, the question with its answer, which is what is told
-pub record Answers (ask : AskOf) (line : ℕ) (told : Told) (before after : List ℕ) (old new : CacheShelfOf) : Type 0 where
+pub record Answers (ask : AskOf) (line : ℕ) (told : ReplyRecord) (before after : List ℕ) (old new : CacheShelfOf) : Type 0 where
   pub reply : Reply
   pub made : MakesAsk old new (record { line = line; place = 0 }) ask reply
   pub tells : TellsReply told before after reply
 
 -- nothing was written, and the reply that the shelf has is told
-pub record Shows (ask : AskOf) (told : Told) (before after : List ℕ) (old new : CacheShelfOf) : Type 0 where
+pub record Shows (ask : AskOf) (told : ReplyRecord) (before after : List ℕ) (old new : CacheShelfOf) : Type 0 where
   pub kept : new ≡ old
   pub tells : TellsReply told before after (reply_of old ask)
 
 -- nothing was written, and the record tells a reply whose octets are more than the buffer has
-pub record TellsSize (ask : AskOf) (told : Told) (buffer : List ℕ) (old new : CacheShelfOf) : Type 0 where
+pub record TellsSize (ask : AskOf) (told : ReplyRecord) (buffer : List ℕ) (old new : CacheShelfOf) : Type 0 where
   pub kept : new ≡ old
   pub record_is : told ≡ told_of (reply_of old ask)
   pub small : length buffer < length (text_of (reply_of old ask))
 
 -- the buffer is as it was
-pub record TellsSizeAlone (ask : AskOf) (told : Told) (before after : List ℕ) (old new : CacheShelfOf) : Type 0 where
+pub record TellsSizeAlone (ask : AskOf) (told : ReplyRecord) (before after : List ℕ) (old new : CacheShelfOf) : Type 0 where
   pub size : TellsSize ask told before old new
   pub untouched : after ≡ before
 
 -- a question was answered, or where the buffer is too small only the size told
-abbrev pub AnswersOr : Bool → AskOf → ℕ → Told → List ℕ → List ℕ → CacheShelfOf → CacheShelfOf → Type 0
+abbrev pub AnswersOr : Bool → AskOf → ℕ → ReplyRecord → List ℕ → List ℕ → CacheShelfOf → CacheShelfOf → Type 0
 AnswersOr true ask line told before after old new = Answers ask line told before after old new
 AnswersOr false ask line told before after old new = TellsSizeAlone ask told before after old new
 
 -- the reply that there is was told, or where the buffer is too small only its size
-abbrev pub ShowsOr : Bool → AskOf → Told → List ℕ → List ℕ → CacheShelfOf → CacheShelfOf → Type 0
+abbrev pub ShowsOr : Bool → AskOf → ReplyRecord → List ℕ → List ℕ → CacheShelfOf → CacheShelfOf → Type 0
 ShowsOr true ask told before after old new = Shows ask told before after old new
 ShowsOr false ask told before after old new = TellsSizeAlone ask told before after old new
 
 -- nothing was told
-pub record TellsNothing (told : Told) (before : List ℕ) (told_after : Told) (after : List ℕ) : Type 0 where
+pub record TellsNothing (told : ReplyRecord) (before : List ℕ) (told_after : ReplyRecord) (after : List ℕ) : Type 0 where
   pub record_kept : told_after ≡ told
   pub buffer_kept : after ≡ before

@@ -7,7 +7,7 @@ use Rattle.rrc_share.specs.Shelf.{AreBefore}
 use Rattle.rrc_share.specs.Switches.{Stops}
 use Rattle.rrc_trace.specs.Archive.{lines_of, written_of}
 use Rattle.rrc_c.specs.Refusals.{IsDoneOrMemory, OutOfMemory, RecordDueBy}
-use Rattle.rrc_c.specs.Told.{IsFilled}
+use Rattle.rrc_c.specs.ReplyRecord.{IsFilled}
 use Rattle.rrc_c.specs.declared.chapter_lines.Line.{Line}
 
 -- ---- leaving a shelf

@@ -16,7 +16,7 @@ use Rattle.rrc_sets.specs.Limits.{LimitsAre}
 use Rattle.rrc_sets.specs.Message.{Brings}
 use Rattle.rrc_sets.specs.declared.limits.Limits.{Limits}
 use Rattle.rrc_c.specs.Shelves.{IsLeftAs, MakesOffer}
-use Rattle.rrc_c.specs.Told.{data_text}
+use Rattle.rrc_c.specs.ReplyRecord.{data_text}
 use Rattle.rrc_c.specs.Refusals.{OffersRefused, WriteDue}
 use Rattle.rrc_c.specs.declared.counts.Counts.{Counts}
 use Rattle.rrc_c.specs.declared.counts.Bounds.{Bounds}

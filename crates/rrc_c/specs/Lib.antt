@@ -5,7 +5,7 @@ pub mod Statuses
 pub mod Shelves
 pub mod Handles
 pub mod NewShelf
-pub mod Told
+pub mod ReplyRecord
 pub mod Asks
 pub mod Refusals
 pub mod Parts

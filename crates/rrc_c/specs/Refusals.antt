@@ -19,7 +19,7 @@ use Rattle.rrc_share.specs.CacheShelf.{CacheShelfOf}
 use Rattle.rrc_c.specs.Asks.{asked, reply_of, AreChoices}
 use Rattle.rrc_c.specs.Shelves.{CanWriteBy, IsSpentBy}
 use Rattle.rrc_c.specs.Statuses.{number_of}
-use Rattle.rrc_c.specs.Told.{data_of, data_text, datum, text_of, AreTellable}
+use Rattle.rrc_c.specs.ReplyRecord.{data_of, data_text, datum, text_of, AreTellable}
 use Rattle.rrc_c.specs.declared.counts.Bounds.{Bounds}
 use Rattle.rrc_c.specs.declared.status.Status.{Status}
 use Rattle.rrc_c.specs.declared.status.Status.TheVariants.{Memory, HistoryFull, MomentTooLarge, BadRules, BadSeed, BadLimits, BadName, BadMessage, BadChoice, BadType, BadData, WrongBody, WideAnswer}

@@ -4,14 +4,14 @@ ghost use Rattle.rrc_c.specs.Asks.{asked, reply_of, TellsNothing, AnswersOr, Sho
 ghost use Rattle.rrc_c.specs.Refusals.{AnswerDue, AskDue, IsQuestion, NameRefused, NoteDue, PeekDue, TellingThen, WriteDue};
 ghost use Rattle.rrc_c.specs.Shelves.{IsLeftAs, MakesAsk};
 ghost use Rattle.rrc_c.specs.Statuses.{number_of, number_of_call, number_of_reply};
-ghost use Rattle.rrc_c.specs.Told.{data_of, AreTellable};
+ghost use Rattle.rrc_c.specs.ReplyRecord.{data_of, AreTellable};
 ghost use Rattle.rrc_history.specs.Views.{ask_in, reply_in};
 ghost use Rattle.rrc_name.specs.Wire.{IsWireForm};
 
 use crate::question::question_of;
+use crate::reply_record::{ReplyRecord, data_of, lent, owner_of, told_of};
 use crate::status::Status;
 use crate::text::fill;
-use crate::told::{Told, data_of, lent, owner_of, told_of};
 use rrc_history::{Ask, AskRef, Reply, ReplyRef, Tag};
 use rrc_name::{Name, WireNameFault};
 use rrc_share::CacheShelf;
@@ -31,7 +31,7 @@ pub(crate) fn name_of(alloc: Global, octets: &[u8]) -> Result<Name, Status>
 }
 
 /// Whether a buffer has as many octets as a reply takes.
-fn has_room(buffer: &[u8], told: &Told) -> bool
+fn has_room(buffer: &[u8], told: &ReplyRecord) -> bool
     ensures { IsTrue result ↔ (told.now.owner_size + told.now.data_size ≤ length buffer.now) }
 {
     let room = buffer.len() as u64;
@@ -40,7 +40,7 @@ fn has_room(buffer: &[u8], told: &Told) -> bool
 
 /// Tells a reply, and writes it to a buffer, where that has room for it; false is answered where it
 /// has not, and `None` where no record can tell the reply.
-fn tell(reply: ReplyRef<'_>, told: &mut Told, buffer: &mut [u8]) -> Option<bool>
+fn tell(reply: ReplyRef<'_>, told: &mut ReplyRecord, buffer: &mut [u8]) -> Option<bool>
     ensures some { IfSome result (λ fits. TellsOr fits (reply_in reply.entry) told.new buffer.old buffer.new) }
     ensures tellable { IfSome result (λ fits. AreTellable (data_of (reply_in reply.entry))) }
     ensures none { IfNone result (AreTellable (data_of (reply_in reply.entry)) → ⊥) }
@@ -59,7 +59,7 @@ fn tell(reply: ReplyRef<'_>, told: &mut Told, buffer: &mut [u8]) -> Option<bool>
 fn show(
     shelf: &CacheShelf,
     ask: AskRef<'_>,
-    told: &mut Told,
+    told: &mut ReplyRecord,
     buffer: &mut [u8],
 ) -> Result<bool, Status>
     ensures ok { IfOk result (λ fits. ShowsOr fits (ask_in ask.entry) told.new buffer.old buffer.new shelf.now shelf.now) }
@@ -88,7 +88,7 @@ fn answer_sized(
     shelf: &mut CacheShelf,
     ask: &Ask,
     line: u64,
-    told: &mut Told,
+    told: &mut ReplyRecord,
     buffer: &mut [u8],
 ) -> Result<bool, Status>
     ensures ok { IfOk result (λ fits. AnswersOr fits ask.now line told.new buffer.old buffer.new shelf.old shelf.new) }
@@ -114,7 +114,7 @@ fn refuse(
     shelf: &CacheShelf,
     ask: AskRef<'_>,
     status: Status,
-    told: &mut Told,
+    told: &mut ReplyRecord,
     buffer: &[u8],
 ) -> Result<bool, Status>
     requires { NoteDue shelf.now (ask_in ask).moment (number_of status) }
@@ -138,7 +138,7 @@ fn answer_lean(
     shelf: &mut CacheShelf,
     ask: AskRef<'_>,
     line: u64,
-    told: &mut Told,
+    told: &mut ReplyRecord,
     buffer: &mut [u8],
 ) -> Result<bool, Status>
     requires { shelf.old.records ≡ false }
@@ -167,7 +167,7 @@ fn answer(
     shelf: &mut CacheShelf,
     ask: AskRef<'_>,
     line: u64,
-    told: &mut Told,
+    told: &mut ReplyRecord,
     buffer: &mut [u8],
 ) -> Result<bool, Status>
     ensures ok { IfOk result (λ fits. AnswersOr fits (ask_in ask.entry) line told.new buffer.old buffer.new shelf.old shelf.new) }
@@ -193,7 +193,7 @@ pub(crate) fn ask_shelf(
     purpose: u32,
     mode: u32,
     line: u64,
-    told: &mut Told,
+    told: &mut ReplyRecord,
     buffer: &mut [u8],
 ) -> Result<bool, Status>
     ensures ok { IfOk result (λ fits. AnswersOr fits (asked name.now rtype class moment purpose mode) line told.new buffer.old buffer.new shelf.old shelf.new) }
@@ -215,7 +215,7 @@ pub(crate) fn peek_at_shelf(
     moment: u64,
     purpose: u32,
     mode: u32,
-    told: &mut Told,
+    told: &mut ReplyRecord,
     buffer: &mut [u8],
 ) -> Result<bool, Status>
     ensures ok { IfOk result (λ fits. ShowsOr fits (asked name.now rtype class moment purpose mode) told.new buffer.old buffer.new shelf.now shelf.now) }

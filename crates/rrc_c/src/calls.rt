@@ -16,9 +16,9 @@ use crate::counts::{Bounds, Counts};
 use crate::handle::Handle;
 use crate::intake::{offer_message, offer_part, take_failure, take_negative, take_set};
 use crate::lookup::stored_in;
+use crate::reply_record::ReplyRecord;
 use crate::status::{NO_SHELF, SMALL_BUFFER, Status};
 use crate::stored::Stored;
-use crate::told::Told;
 use crate::upkeep::{
     chapters_of, drop_chapters, events_of, expiry_of, fault_in, part_in, record, release, sweep,
 };
@@ -48,7 +48,7 @@ pub extern "C" fn rrc_ask(
     purpose: u32,
     mode: u32,
     line: u64,
-    told: &mut Told,
+    told: &mut ReplyRecord,
     buffer: &mut [u8],
 ) -> u32
     ensures none { TellsNone handle.old.seal.shelf result }
@@ -81,7 +81,7 @@ pub extern "C" fn rrc_peek(
     moment: u64,
     purpose: u32,
     mode: u32,
-    told: &mut Told,
+    told: &mut ReplyRecord,
     buffer: &mut [u8],
 ) -> u32
     ensures none { TellsNone handle.old.seal.shelf result }

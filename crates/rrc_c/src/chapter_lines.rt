@@ -5,7 +5,7 @@ ghost use Rattle.rrc_trace.specs.Archive.{line_text};
 ghost use Rattle.rrc_c.specs.Chapters.{line_at, LineDue, TellsLine};
 ghost use Rattle.rrc_c.specs.Refusals.{OutOfMemory};
 ghost use Rattle.rrc_c.specs.Statuses.{number_of, OnDone, OnRefused};
-ghost use Rattle.rrc_c.specs.Told.{IsFilled};
+ghost use Rattle.rrc_c.specs.ReplyRecord.{IsFilled};
 
 use crate::status::{NO_LINE, Status};
 use crate::text::put;

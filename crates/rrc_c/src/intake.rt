@@ -1,7 +1,7 @@
 // SPDX-License-Identifier: MIT
 ghost use Rattle.std.specs.Prelude.{◌≡◌, ◌≤◌, ◌<◌, ◌+◌, ◌^◌, ◌++◌, ℕ, [], length, true, false, IfOk, IfErr, OnOk, OnErr};
 ghost use Rattle.std.specs.List.{AllByRecursion};
-ghost use Rattle.rrc_c.specs.Told.{datum, data_text};
+ghost use Rattle.rrc_c.specs.ReplyRecord.{datum, data_text};
 ghost use Rattle.rrc_c.specs.Intake.{trust_of, denied, denial_offer, failure_offer, outcome_number, count_more, counts_of, AreAt, AreOffered, IsSetOffer, TakesOne, TakesAll, TakesFirst, TakesMessage, TakesSet, TakesSome, total};
 ghost use Rattle.rrc_c.specs.PartIntake.{lying_in, IsPart, TakesPart, TakesSomeOfPart};
 ghost use Rattle.rrc_c.specs.Refusals.{AreLimits, AreData, Because, DataRefused, DatumRefused, DenialDue, DenialRefused, FailureDue, FailureRefused, IsCutOff, IsDenial, IsFailure, IsSeed, IsSet, MessageRefused, OffersRefused, SetDue, SetRefused, WriteDue, denies_kept};

@@ -3,8 +3,8 @@
 use Rattle.std.specs.Prelude.{ℕ, zero, suc, ◌+◌, List, [], ◌∷◌}
 use Rattle.rrc_collate.specs.declared.script.Call.{Call}
 use Rattle.rrc_collate.specs.declared.script.Operation.{Operation}
-use Rattle.rrc_collate.specs.declared.operations.Held.{Held}
-use Rattle.rrc_collate.specs.declared.operations.Held.TheVariants.{Alone, Listed, Everywhere}
+use Rattle.rrc_collate.specs.declared.operations.Form.{Form}
+use Rattle.rrc_collate.specs.declared.operations.Form.TheVariants.{Alone, Listed, Everywhere}
 use Rattle.rrc_collate.specs.declared.operations.OperationRef.{OperationRef}
 
 -- a call on each of so many parts, the first of which has this number
@@ -13,7 +13,7 @@ everywhere call part zero = []
 everywhere call part (suc count) =
     record { part = part; call = call } ∷ everywhere call (part + 1) count
 
-abbrev pub operations_of : Held → List Operation
+abbrev pub operations_of : Form → List Operation
 operations_of (Alone operation) = operation ∷ []
 operations_of (Listed operations) = operations.items
 operations_of (Everywhere parts call) = everywhere call 0 parts

@@ -6,9 +6,9 @@ use crate::script::{Call, Operation};
 use std::alloc::Global;
 use std::marker::Model;
 
-/// How operations are held: one alone, and one call on each part, in the value itself.
+/// In which form operations are held: one alone, and one call on each part, in the value itself.
 #[derive(Debug, Drop)]
-pub(crate) enum Held {
+pub(crate) enum Form {
     Alone(Operation),
     Listed(Vec<Operation>),
     /// This call on each of so many parts, in order of the parts.
@@ -27,7 +27,7 @@ pub struct OperationRef<'a> {
 /// one alone, none, and the same call on each part take no memory.
 #[derive(Debug, Drop)]
 pub struct Operations {
-    held: Held,
+    held: Form,
 }
 
 impl Model for Operations {
@@ -55,7 +55,7 @@ impl Operations {
         ensures { result ≡ [] }
     {
         Operations {
-            held: Held::Listed(Vec::new(alloc)),
+            held: Form::Listed(Vec::new(alloc)),
         }
     }
 
@@ -64,7 +64,7 @@ impl Operations {
         ensures { result ≡ operation ∷ [] }
     {
         Operations {
-            held: Held::Alone(operation),
+            held: Form::Alone(operation),
         }
     }
 
@@ -73,7 +73,7 @@ impl Operations {
         ensures { result ≡ operations.items }
     {
         Operations {
-            held: Held::Listed(operations),
+            held: Form::Listed(operations),
         }
     }
 
@@ -82,7 +82,7 @@ impl Operations {
         ensures { result ≡ everywhere call 0 parts }
     {
         Operations {
-            held: Held::Everywhere { parts, call },
+            held: Form::Everywhere { parts, call },
         }
     }
 
@@ -91,9 +91,9 @@ impl Operations {
         ensures { result ≡ length self.now }
     {
         match &self.held {
-            Held::Alone(_) => 1,
-            Held::Listed(operations) => operations.len(),
-            Held::Everywhere { parts, .. } => *parts,
+            Form::Alone(_) => 1,
+            Form::Listed(operations) => operations.len(),
+            Form::Everywhere { parts, .. } => *parts,
         }
     }
 
@@ -103,9 +103,9 @@ impl Operations {
         ensures { slice_get self.now place ≡ Some (lent_operation result) }
     {
         match &self.held {
-            Held::Alone(operation) => lent(operation),
-            Held::Listed(operations) => lent(&operations[place]),
-            Held::Everywhere { call, .. } => OperationRef { part: place, call },
+            Form::Alone(operation) => lent(operation),
+            Form::Listed(operations) => lent(&operations[place]),
+            Form::Everywhere { call, .. } => OperationRef { part: place, call },
         }
     }
 }

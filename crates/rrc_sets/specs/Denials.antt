@@ -16,7 +16,7 @@ use Rattle.rrc_history.specs.Fits.{OfferOf}
 use Rattle.rrc_sets.specs.declared.limits.Limits.{Limits}
 use Rattle.rrc_sets.specs.declared.rank.Section.TheVariants.{Answer}
 use Rattle.rrc_sets.specs.Life.{life}
-use Rattle.rrc_sets.specs.Ranks.{rank_of}
+use Rattle.rrc_sets.specs.Ranks.{section_rank}
 use Rattle.rrc_sets.specs.Aliases.{is_of, final_name}
 
 -- NXDOMAIN: the answer has no record of the final name (RFC 2308 2.1)
@@ -49,7 +49,7 @@ negative_life limits soa = min (min (life soa.ttl limits) (life (minimum_of soa.
 -- that a name does not exist or has no such type, as a SOA record says; an alias on the way is ranked as another owner is (ours)
 abbrev pub denial : Message → Limits → List ℕ → Rr → Body
 denial message limits name soa =
-    Negative (rank_of Answer message.aa (same_name name message.question.name)) (negative_life limits soa) soa.owner soa.rdata
+    Negative (section_rank Answer message.aa (same_name name message.question.name)) (negative_life limits soa) soa.owner soa.rdata
 
 infixl 10 ◌>>=◌
 abbrev ◌>>=◌ : {A B : Type 0} → Option A → (A → Option B) → Option B

@@ -15,7 +15,7 @@ use Rattle.rrc_sets.specs.declared.limits.Limits.{Limits}
 use Rattle.rrc_sets.specs.declared.rank.Section.{Section}
 use Rattle.rrc_sets.specs.declared.rank.Section.TheVariants.{Answer, Authority, Additional}
 use Rattle.rrc_sets.specs.Life.{set_life}
-use Rattle.rrc_sets.specs.Ranks.{rank_of}
+use Rattle.rrc_sets.specs.Ranks.{section_rank}
 use Rattle.rrc_sets.specs.Sets.{SetOf, sets_of}
 use Rattle.rrc_sets.specs.Denials.{negative_offer}
 use Rattle.rrc_sets.specs.Classes.{in_own_class}
@@ -25,7 +25,7 @@ abbrev pub living_offer : Section → Message → ℕ → SetOf → ℕ → Offe
 living_offer section message moment set ttl =
     record {
       key = record { name = folded set.owner; class = set.class; slot = slots.Set set.rtype };
-      body = Positive (rank_of section message.aa (same_name set.owner message.question.name)) ttl set.owner set.items;
+      body = Positive (section_rank section message.aa (same_name set.owner message.question.name)) ttl set.owner set.items;
       moment = moment;
     }
 

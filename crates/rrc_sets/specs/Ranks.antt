@@ -7,10 +7,10 @@ use Rattle.rrc_sets.specs.declared.rank.Section.{Section}
 use Rattle.rrc_sets.specs.declared.rank.Section.TheVariants as sections
 
 -- the rank of a set by its section, whether the reply is authoritative, and whether its owner was asked for
-abbrev pub rank_of : Section → Bool → Bool → Trust
-rank_of sections.Answer true true = ranks.AuthoritativeAnswer
-rank_of sections.Answer true false = ranks.NonAuthoritativeAnswer
-rank_of sections.Answer false asked = ranks.NonAuthoritativeAnswer
-rank_of sections.Authority true asked = ranks.Authority
-rank_of sections.Authority false asked = ranks.Additional
-rank_of sections.Additional aa asked = ranks.Additional
+abbrev pub section_rank : Section → Bool → Bool → Trust
+section_rank sections.Answer true true = ranks.AuthoritativeAnswer
+section_rank sections.Answer true false = ranks.NonAuthoritativeAnswer
+section_rank sections.Answer false asked = ranks.NonAuthoritativeAnswer
+section_rank sections.Authority true asked = ranks.Authority
+section_rank sections.Authority false asked = ranks.Additional
+section_rank sections.Additional aa asked = ranks.Additional

@@ -10,7 +10,7 @@ ghost use Rattle.rrc_sets.specs.Kept.{IsOfRecords};
 
 use crate::alias::{final_name, is_of};
 use crate::limits::Limits;
-use crate::rank::{Section, rank_of};
+use crate::rank::{Section, section_rank};
 use crate::times::life;
 use byteorder::{BigEndian, ByteOrder};
 use rrc_history::{Body, Offer};
@@ -115,7 +115,7 @@ fn denial(message: &Message, limits: &Limits, name: &Name, soa: &Rr) -> Result<B
     Ok(Body::Negative {
         soa_owner: soa.owner.clone()?,
         soa: Shared::new(soa.rdata.alloc(), soa.rdata.clone()?)?,
-        trust: rank_of(Section::Answer, message.aa, asked),
+        trust: section_rank(Section::Answer, message.aa, asked),
         ttl: negative_life(soa, limits),
     })
 }

@@ -1,6 +1,6 @@
 // SPDX-License-Identifier: MIT
 ghost use Rattle.std.specs.Prelude.{◌≡◌};
-ghost use Rattle.rrc_sets.specs.Ranks.{rank_of};
+ghost use Rattle.rrc_sets.specs.Ranks.{section_rank};
 
 use rrc_history::Trust;
 
@@ -14,8 +14,8 @@ pub(crate) enum Section {
 
 /// How far a set of a section is trusted (RFC 2181 section 5.4.1), by whether the reply is
 /// authoritative, and whether the set's owner is the name that was asked for.
-pub(crate) fn rank_of(section: Section, aa: bool, asked: bool) -> Trust
-    ensures { result ≡ rank_of section aa asked }
+pub(crate) fn section_rank(section: Section, aa: bool, asked: bool) -> Trust
+    ensures { result ≡ section_rank section aa asked }
 {
     match section {
         Section::Answer if aa && asked => Trust::AuthoritativeAnswer,

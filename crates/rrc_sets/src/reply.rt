@@ -10,7 +10,7 @@ use crate::class::{has_one_class, in_own_class};
 use crate::denial::negative_offer;
 use crate::fault::SetsFault;
 use crate::limits::Limits;
-use crate::rank::{Section, rank_of};
+use crate::rank::{Section, section_rank};
 use crate::section::sets_of;
 use crate::set::Set;
 use crate::times::set_life;
@@ -51,7 +51,7 @@ fn set_offer(
     let body = Body::Positive {
         owner: set.owner,
         items: Shared::new(alloc, RdataList::from_vec(set.items.into_vec()))?,
-        trust: rank_of(section, message.aa, asked),
+        trust: section_rank(section, message.aa, asked),
         ttl,
     };
     Ok(Some(Offer { key, body, moment }))

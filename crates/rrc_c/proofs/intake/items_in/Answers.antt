@@ -2,7 +2,7 @@
 use Rattle.std.proofs.Common.{◌++◌, sym, ap, subst, ◌∙◌}
 use Rattle.std.specs.List.{AllByRecursion}
 use Rattle.rrc_wire.specs.Plain.{IsPlain}
-use Rattle.rrc_c.specs.Told.{datum}
+use Rattle.rrc_c.specs.ReplyRecord.{datum}
 use Rattle.rrc_c.proofs.Filling.{moved}
 use Rattle.rrc_c.proofs.Refusing.{all_more}
 use Rattle.rrc_c.proofs.intake.items_in.Goals as goal

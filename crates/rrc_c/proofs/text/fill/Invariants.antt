@@ -1,6 +1,6 @@
 -- SPDX-License-Identifier: MIT
 use Rattle.std.proofs.Common.{◌≡◌, ◌++◌, length, take}
-use Rattle.rrc_c.specs.Told.{data_text, IsFilled}
+use Rattle.rrc_c.specs.ReplyRecord.{data_text, IsFilled}
 use Rattle.rrc_c.proofs.text.fill.Given as goal
 
 abbrev pub invariant-loop-octets : goal.invariant-loop-octets

@@ -1,6 +1,6 @@
 -- SPDX-License-Identifier: MIT
 use Rattle.std.proofs.Common.{◌≡◌, ◌+◌, ◌^◌, ◌<◌, length, drop}
-use Rattle.rrc_c.specs.Told.{data_text, AreNarrow}
+use Rattle.rrc_c.specs.ReplyRecord.{data_text, AreNarrow}
 use Rattle.rrc_c.proofs.text.size_of_data.Given as goal
 
 abbrev pub invariant-loop-octets : goal.invariant-loop-octets

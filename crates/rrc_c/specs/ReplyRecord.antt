@@ -3,7 +3,7 @@
 use Rattle.std.specs.Prelude.{◌≡◌, ℕ, ◌/◌, ◌%◌, ◌^◌, ◌<◌, ◌≤◌, List, [], ◌∷◌, ◌++◌, length, drop, None, Some}
 use Rattle.rrc_history.specs.declared.event.Reply.{Reply}
 use Rattle.rrc_history.specs.declared.event.Reply.TheVariants.{Fresh, Stale, NoData, NxDomain, Miss}
-use Rattle.rrc_c.specs.declared.told.Told.{Told}
+use Rattle.rrc_c.specs.declared.reply_record.ReplyRecord.{ReplyRecord}
 
 -- a datum behind its length, of 16 bits, the high octet first
 abbrev pub datum : List ℕ → List ℕ
@@ -61,7 +61,7 @@ abbrev pub text_of : Reply → List ℕ
 text_of reply = owner_of reply ++ data_text (data_of reply)
 
 -- the record of a reply
-abbrev pub told_of : Reply → Told
+abbrev pub told_of : Reply → ReplyRecord
 told_of reply = record { kind = kind_of reply; left = left_of reply; retry_from = retry_of reply; owner_size = length (owner_of reply); data_size = length (data_text (data_of reply)) }
 
 -- a buffer begins with these octets, and is behind them as it was

@@ -1,6 +1,6 @@
 // SPDX-License-Identifier: MIT
 ghost use Rattle.std.specs.Prelude.{◌≡◌, IfSome, IfNone};
-ghost use Rattle.rrc_c.specs.Told.{owner_of, data_of, kind_of, left_of, retry_of, told_of, AreTellable};
+ghost use Rattle.rrc_c.specs.ReplyRecord.{owner_of, data_of, kind_of, left_of, retry_of, told_of, AreTellable};
 ghost use Rattle.rrc_history.specs.Views.{reply_in};
 
 use crate::text::size_of_data;
@@ -11,7 +11,7 @@ use std::slice;
 /// What a reply is, and how many octets of the buffer it takes: those of the owner and behind them those of the data.
 #[repr(C)]
 #[derive(Clone, Copy, Debug)]
-pub struct Told {
+pub struct ReplyRecord {
     /// 1 fresh, 2 stale, 3 no data, 4 no such name, 5 nothing, 6 nothing since asking has lately failed.
     pub kind: u32,
     /// For how many seconds the reply holds.
@@ -126,13 +126,13 @@ fn retry_of(reply: ReplyRef<'_>) -> u64
 }
 
 /// The record of a reply, where each of its data has as many octets as its length can tell, and all can be counted.
-pub(crate) fn told_of(reply: ReplyRef<'_>) -> Option<Told>
+pub(crate) fn told_of(reply: ReplyRef<'_>) -> Option<ReplyRecord>
     ensures told { IfSome result (λ told. told ≡ told_of (reply_in reply.entry)) }
     ensures some { IfSome result (λ told. AreTellable (data_of (reply_in reply.entry))) }
     ensures none { IfNone result (AreTellable (data_of (reply_in reply.entry)) → ⊥) }
 {
     let data_size = size_of_data(data_of(reply))? as u64;
-    Some(Told {
+    Some(ReplyRecord {
         kind: kind_of(reply),
         left: left_of(reply),
         retry_from: retry_of(reply),
