@@ -94,6 +94,16 @@ fn items_in(alloc: Global, rtype: u16, octets: &[u8]) -> Result<Sequence<Octets>
     Ok(items)
 }
 
+/// The same data, as a body keeps them.
+fn rdata_in(alloc: Global, rtype: u16, octets: &[u8]) -> Result<RdataList, Status>
+    ensures stand { IfOk result (λ items. data_text items ≡ octets.now) }
+    ensures plain { IfOk result (AllByRecursion (IsPlain rtype)) }
+    ensures refused { IfErr result (λ status. DataRefused rtype octets.now (number_of status)) }
+{
+    let items = items_in(alloc, rtype, octets)?;
+    Ok(RdataList::from_vec(items.into_vec()))
+}
+
 /// An offer, where the body fits the key.
 fn offer_of(key: Key, body: Body, moment: u64) -> Result<Offer, Status>
     ensures offer { IfOk result (λ offer. offer ≡ record { key = key; body = body; moment = moment }) }
@@ -129,10 +139,9 @@ fn set_offer(
     }
     let owner = name_of(alloc, owner)?;
     let key = Key::of(&owner, class, Slot::Set(rtype))?;
-    let items = RdataList::from_vec(items_in(alloc, rtype, octets)?.into_vec());
     let body = Body::Positive {
         owner,
-        items: Shared::new(alloc, items)?,
+        items: Shared::new(alloc, rdata_in(alloc, rtype, octets)?)?,
         trust: trust_of(trust),
         ttl,
     };
