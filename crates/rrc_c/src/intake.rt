@@ -4,7 +4,7 @@ ghost use Rattle.std.specs.List.{AllByRecursion};
 ghost use Rattle.rrc_c.specs.ReplyRecord.{datum, data_text};
 ghost use Rattle.rrc_c.specs.Intake.{trust_of, denied, denial_offer, failure_offer, outcome_number, count_more, counts_of, AreAt, AreOffered, IsSetOffer, TakesOne, TakesAll, TakesFirst, TakesMessage, TakesSet, TakesSome, total};
 ghost use Rattle.rrc_c.specs.PartIntake.{lying_in, IsPart, TakesPart, TakesSomeOfPart};
-ghost use Rattle.rrc_c.specs.Refusals.{AreLimits, AreData, Because, DataRefused, DatumRefused, DenialDue, DenialRefused, FailureDue, FailureRefused, IsCutOff, IsDenial, IsFailure, IsSeed, IsSet, MessageRefused, OffersRefused, SetDue, SetRefused, WriteDue, denies_kept};
+ghost use Rattle.rrc_c.specs.Refusals.{AreLimits, AreData, Because, DataRefused, DatumRefused, DenialDue, DenialRefused, FailureDue, FailureRefused, IsCutOff, IsDenial, IsFailure, IsSeed, IsSet, MessageRefused, OffersRefused, SetDue, SetRefused, WriteDue, denies_kept, IsTrust, IsNoTrust};
 ghost use Rattle.rrc_c.specs.Shelves.{IsLeftAs};
 ghost use Rattle.rrc_c.specs.Statuses.{number_of, number_of_call};
 ghost use Rattle.rrc_history.specs.Fits.{fits};
@@ -116,6 +116,17 @@ fn offer_of(key: Key, body: Body, moment: u64) -> Result<Offer, Status>
     }
 }
 
+/// Whether a number is that of a trust.
+fn check_trust(trust: u32) -> Result<(), Status>
+    ensures fit { OnOk result (IsTrust trust) }
+    ensures refused { IfErr result (λ status. Because Status.BadChoice (IsNoTrust trust) (number_of status)) }
+{
+    if !(1..=4).contains(&trust) {
+        return Err(Status::BadChoice);
+    }
+    Ok(())
+}
+
 /// The offer of a set.
 fn set_offer(
     alloc: Global,
@@ -131,9 +142,7 @@ fn set_offer(
     ensures fit { OnOk result (IsSet owner.now rtype class trust ttl octets.now) }
     ensures refused { IfErr result (λ status. SetRefused owner.now rtype class trust ttl octets.now (number_of status)) }
 {
-    if !(1..=4).contains(&trust) {
-        return Err(Status::BadChoice);
-    }
+    check_trust(trust)?;
     if !is_kept(rtype, class) {
         return Err(Status::BadType);
     }
