@@ -80,8 +80,8 @@ def test_descriptors_that_run_out():
 
 @once
 def test_memory_that_is_refused():
-    """Where memory is used up, what is cached is answered, and the rest is SERVFAIL; where the
-    system refuses all of it, all is."""
+    """Where memory is used up, or the system refuses all of it, what is cached is answered, and the
+    rest is SERVFAIL."""
     environment = {**os.environ, "LD_PRELOAD": str(BUILD / "refusals.so")}
     with Forwarder(server := Server(plain()), program="forwarder", options=("-q", "-t", "1"),
                    environment=environment) as it:
@@ -99,9 +99,11 @@ def test_memory_that_is_refused():
                 same(it.ask(f"a{n + 200}.example").rcode, SERVFAIL, "what is not")
         refuse("refused")
         for n in range(50):
-            reply = it.ask(f"a{n * 3}.example")
+            same(it.ask(f"a{n}.example").data(), [address(n)],
+                 "what is cached, with no memory at all")
+            reply = it.ask(f"a{n + 50}.example")
             same((reply.rcode, reply.counts), (SERVFAIL, [0, 0, 0]),
-                 "any question with no memory at all")
+                 "what is not, with no memory at all")
         same(exchange(it.port, query("a1.example")[:-1]).rcode, FORMERR, "what is no query")
         refuse("there again")
         same(it.ask("a1.example").data(), [address(1)], "what is cached, with memory again")
