@@ -73,7 +73,7 @@ class Entry(NamedTuple):
     def is_unexpired(self, at):
         return self.age(at) < self.body.ttl
 
-    def is_dead(self, at, stale):
+    def is_fully_expired(self, at, stale):
         """Whether it answers nothing at this moment or later: a set may be stale for a time."""
         return self.age(at) >= self.body.ttl + (stale if self.body.kind == "positive" else 0)
 
@@ -214,15 +214,15 @@ class Part:
             if entry.body.kind == "positive":
                 return "fresh", left
             return "nxdomain" if entry.key.slot == "nx" else "nodata", left
-        may_be_stale = entry.body.kind == "positive" and not entry.is_dead(at, self.stale)
+        may_be_stale = entry.body.kind == "positive" and not entry.is_fully_expired(at, self.stale)
         if may_be_stale and (mode == "now" or mode == "failed" and failed):
             return "stale", STALE_SECONDS
         return "miss", 0
 
     def sweep(self, at):
-        """The dead entries, which a sweep removes."""
+        """The fully expired entries, which a sweep removes."""
         self.number += 1
-        dead = [it for it in self.held.values() if it.is_dead(at, self.stale)]
-        for entry in dead:
+        expired = [it for it in self.held.values() if it.is_fully_expired(at, self.stale)]
+        for entry in expired:
             del self.held[entry.key]
-        return dead
+        return expired

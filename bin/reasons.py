@@ -262,12 +262,12 @@ class Story:
         entry = reply.governing
         if entry.body.kind == "negative":
             return "Miss: negative answers are never stale (ours)."
-        if entry.is_dead(at, self.stale):
-            return (f"Miss: that is past the stale limit of {seconds(self.stale)}, so it was good"
+        if entry.is_fully_expired(at, self.stale):
+            return (f"Miss: that is past max-stale, {seconds(self.stale)}, so it was good"
                     f" until {entry.at + entry.body.ttl + self.stale - 1} (RFC 8767 section 4).")
         if reply.word == "stale":
-            cause = "asking failed not long ago" if mode == "failed" else "the mode is now"
-            return (f"Stale: it is within the stale limit of {seconds(self.stale)} and {cause}, so"
+            cause = "a failure is recent" if mode == "failed" else "the mode is now"
+            return (f"Stale: it is within max-stale, {seconds(self.stale)}, and {cause}, so"
                     f" it answers for {STALE_SECONDS} seconds ({STALENESS}).")
         if mode == "none":
             return "Miss: in the mode none no stale answer will do (RFC 8767 section 4)."
@@ -332,8 +332,8 @@ class Story:
 
     def tell_sweep(self, line, words, calls):
         for place, told in enumerate(calls):
-            yield (f"Part {place}: of its keys that are dead at {line.at}, past their time and for"
-                   f" sets past the stale limit, it has {len(told.answer)} (RFC 8767 section 4).")
+            yield (f"Part {place}: of its keys that are fully expired at {line.at}, RRsets past"
+                   f" max-stale too, it has {len(told.answer)} (RFC 8767 section 4).")
             yield from (f"Removed is {self.stored(it)}." for it in told.answer[:SHOWN_MOST])
             if len(told.answer) > SHOWN_MOST:
                 yield f"And {len(told.answer) - SHOWN_MOST:,} more."

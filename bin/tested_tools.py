@@ -184,12 +184,12 @@ WHY = [
      ["expired at 160, 0 seconds before 160", "Miss: in the mode none no stale answer"]),
     ([PUT, "ask 160 a.example. 1 answer failed"], 1, [], ["Miss:", "after a recent failure alone"]),
     ([PUT, "fail 165 a.example. 1", "ask 170 a.example. 1 answer failed"], 2, [],
-     ["Stale: it is within the stale limit of 86,400 seconds and asking failed", "line 1 stored at"
+     ["Stale: it is within max-stale, 86,400 seconds, and a failure is recent", "line 1 stored at"
       " 165", "RFC 8767 sections 4 and 5"]),
     ([PUT, "fail 165 a.example. 1", "ask 170 a.example. 1 answer none"], 2, [],
      ["it may be tried again from 195 on"]),
     ([PUT, "ask 170 a.example. 1 answer now"], 1, ["--stale=10"],
-     ["past the stale limit of 10 seconds", "good until 169"]),
+     ["past max-stale, 10 seconds", "good until 169"]),
     (["put 100 a.example. 1 1 60 c0000201", "ask 110 a.example. 1 answer now"], 1, [],
      ["Miss: it is glue, and glue answers no question (RFC 2181 section 5.4.1)"]),
     ([PUT, "put 110 b.example. 1 4 60 c0000201", "ask 111 a.example. 1 any none"], 1,
@@ -217,7 +217,7 @@ WHY = [
     (["fetch 100 a.example. 1 example. -"], 0, [],
      ["No message came", "the failure of a.example. A"]),
     ([PUT, "put 100 b.example. 1 4 900000 c0000202", "sweep 86560"], 2, [],
-     ["past the stale limit, it has 1 ", "that line 0 stored"]),
+     ["RRsets past max-stale too, it has 1 ", "that line 0 stored"]),
     (["checkpoint"], 0, [], ["no event"]),
 ]
 
@@ -318,7 +318,7 @@ def test_what_if_counts_a_fetch_as_an_ask():
              "ask 110 a.example. 1 any none"]
     with tempfile.TemporaryDirectory() as folder:
         result = json.loads(what_if(trace_file(folder, lines), "--json", "--capacity=4"))[0]
-    # fetched and held: missed; hit: fresh; and at the sweep all is dead, so the ask is missed
+    # fetched and held: missed; hit: fresh; and at the sweep all is fully expired, so the ask is missed
     if counted(result)[1][:4] != (1, 0, 0, 3):
         yield f"{result}"
 

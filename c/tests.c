@@ -958,7 +958,7 @@ static void test_keys(void)
     EXPECT(rrcache_drop_chapters(&shelf, &number) == RRCACHE_DONE && number == 1
            && keys(&shelf) == 3);
 
-    /* A ttl of 0 clears the key; what is dead is counted until it is swept. */
+    /* A ttl of 0 clears the key; what is fully expired is counted until it is swept. */
     EXPECT(offer_address(&shelf, THIRD, sizeof THIRD, 4, 0) == RRCACHE_CLEARED
            && keys(&shelf) == 3);
     EXPECT(offer_address(&shelf, NAME, sizeof NAME, 4, 0) == RRCACHE_CLEARED && keys(&shelf) == 2);
@@ -1028,7 +1028,7 @@ static void test_octets_of_keys(void)
     EXPECT(offer_address(&shelf, NAME, sizeof NAME, 4, 60) == RRCACHE_KEPT
            && octets_of_keys(&shelf) == 78 + 15);
 
-    /* What is dead is counted until it is swept. */
+    /* What is fully expired is counted until it is swept. */
     EXPECT(rrcache_sweep(&shelf, FIRST + 30, 1, &number) == RRCACHE_DONE && number == 1
            && octets_of_keys(&shelf) == 78);
     EXPECT(rrcache_sweep(&shelf, FIRST + 60, 1, &number) == RRCACHE_DONE && number == 1

@@ -116,8 +116,8 @@
    - So a clock that is set back lengthens the life of all that is kept by as much. What had
      expired, and was not yet replaced, cleared, evicted or swept, may answer again, and keeps out
      what is trusted less. A clock that is set forward lets data expire early, and a sweep then
-     removes for good what is dead by it. Take a clock that nobody sets, as CLOCK_MONOTONIC of
-     POSIX.
+     removes for good what is fully expired by it. Take a clock that nobody sets, as CLOCK_MONOTONIC
+     of POSIX.
    - Which of two events came later goes by the order of the calls, and never by their moments.
 
    The history and its chapters
@@ -949,9 +949,9 @@ static inline enum rrcache_status rrcache_sweep(struct rrcache_shelf *shelf, uin
     return (enum rrcache_status)rrc_sweep(shelf, moment, line, removed);
 }
 
-/* Tells a moment before which no key of the shelf is dead, so that no sweep before it removes one;
-   a sweep at it may remove none. It is 2^64 - 1 where the shelf holds no key. No event is
-   written. */
+/* Tells a moment before which no key of the shelf is fully expired, so that no sweep before it
+   removes one; a sweep at it may remove none. It is 2^64 - 1 where the shelf holds no key. No event
+   is written. */
 static inline enum rrcache_status rrcache_next_expiry(struct rrcache_shelf *shelf, uint64_t *moment)
 {
     if (shelf == NULL || moment == NULL || rrcache_holds(shelf, moment, sizeof *moment))
@@ -961,10 +961,10 @@ static inline enum rrcache_status rrcache_next_expiry(struct rrcache_shelf *shel
 
 /* Sweeps in steps, so that no call is long: at each moment up to this one that
    `rrcache_next_expiry` tells, from the earliest on, until `most` keys or more are removed, or
-   `most` sweeps made. It tells how many keys were removed, and whether no key is left that is dead
-   at this moment. Each step is a sweep of its own, which is one event, and may remove no key. Keys
-   that die in one second go in one step. What the steps before a refusal removed stays removed, and
-   is told. */
+   `most` sweeps made. It tells how many keys were removed, and whether no key is left that is fully
+   expired at this moment. Each step is a sweep of its own, which is one event, and may remove no
+   key. Keys that expire fully in one second go in one step. What the steps before a refusal removed
+   stays removed, and is told. */
 static inline enum rrcache_status rrcache_sweep_some(struct rrcache_shelf *shelf, uint64_t moment,
                                                      uint64_t most, uint64_t line,
                                                      uint64_t *removed, bool *is_done)
@@ -1113,10 +1113,10 @@ static inline enum rrcache_status rrcache_free_chapters(struct rrcache_chapters 
     return (enum rrcache_status)rrc_free_chapters(chapters);
 }
 
-/* Tells how many keys the shelf holds, those that are dead and not yet swept with them, how many
-   events of the open chapter are recorded, how many chapters are closed, both 0 while nothing is
-   recorded, and how many octets the keys have. A key is a name and a class with a type, with no
-   type where the name does not exist, or with a type that asking failed for.
+/* Tells how many keys the shelf holds, those that are fully expired and not yet swept with them,
+   how many events of the open chapter are recorded, how many chapters are closed, both 0 while
+   nothing is recorded, and how many octets the keys have. A key is a name and a class with a type,
+   with no type where the name does not exist, or with a type that asking failed for.
 
    Its octets are those of its name, of a set those of its owner and of the data of its records, and
    RRCACHE_RECORD_OCTETS for each record, of a negative answer those of the SOA record's owner and

@@ -2,17 +2,14 @@
 #include "cache.h"
 
 #include <pthread.h>
-#include <stdlib.h>
 #include <string.h>
 #include <unistd.h>
 
 #include "counters.h"
 
 enum { SHELVES = PARTS, SHELF_KEYS = 4096, SHELF_EVENTS = 4096, STALE_LIMIT = 86400 };
-/* What a look at a name of one thread may take where memory is refused, for a while. */
-enum { RESERVE = 65536 };
 /* What `ask` answers beside `enum rrcache_kind`. */
-enum { NO_MEMORY = 0, TOO_LARGE = RRCACHE_MISS_FAILED + 1 };
+enum { TOO_LARGE = RRCACHE_MISS_FAILED + 1 };
 
 struct shelf {
     pthread_mutex_t lock;
@@ -31,8 +28,6 @@ struct walk {
     struct question at; /* the name that was reached */
     size_t place;       /* of that name in the reply */
     enum rrcache_mode mode;
-    bool only_looks;   /* no event is to be written */
-    bool lacks_memory; /* it was refused */
     bool is_stale, has_failed;
 };
 
@@ -40,7 +35,6 @@ static const struct rrcache_limits LIMITS = {TTL_CAP, 10800, FAILURE_SECONDS};
 static const uint8_t ROOT[1] = {0}; /* upstreams are trusted for every name */
 static struct shelf shelves[SHELVES];
 static struct rrcache_parts parts = {.count = SHELVES};
-static _Thread_local void *reserve;
 
 static uint64_t moment(void)
 {
@@ -67,16 +61,9 @@ void free_cache(void)
         rrcache_free(&shelf->cache);
 }
 
-void leave_cache(void)
-{
-    free(reserve);
-    reserve = NULL;
-}
-
 /* ---- Looking up. */
 
-/* Asks the shelf of a name for a type. Where memory is refused the shelf is asked for nothing but
-   the reply, which touches no key. */
+/* Asks the shelf of a name for a type. A shelf that records no history takes no memory for it. */
 static enum rrcache_status ask_shelf(struct shelf *shelf, const struct question *at, uint16_t type,
                                      const struct walk *walk, struct found *found)
 {
@@ -89,20 +76,15 @@ static enum rrcache_status ask_shelf(struct shelf *shelf, const struct question 
         .purpose = RRCACHE_QUESTION,
         .mode = walk->mode,
     };
-    enum rrcache_status status = RRCACHE_MEMORY;
     pthread_mutex_lock(&shelf->lock);
-    if (!walk->only_looks)
-        status = rrcache_ask(&shelf->cache, &query, shelf->calls++, &found->told, found->octets,
-                             sizeof found->octets);
-    if (status == RRCACHE_MEMORY)
-        status =
-            rrcache_peek(&shelf->cache, &query, &found->told, found->octets, sizeof found->octets);
+    enum rrcache_status status = rrcache_ask(&shelf->cache, &query, shelf->calls++, &found->told,
+                                             found->octets, sizeof found->octets);
     pthread_mutex_unlock(&shelf->lock);
     return status;
 }
 
-/* What the cache says of a name and a type: one of `enum rrcache_kind`, or NO_MEMORY, or TOO_LARGE
-   where the set has no room in what is found. */
+/* What the cache says of a name and a type: one of `enum rrcache_kind`, or TOO_LARGE where the set
+   has no room in what is found. */
 static uint32_t ask(const struct question *at, uint16_t type, const struct walk *walk,
                     struct found *found)
 {
@@ -110,8 +92,6 @@ static uint32_t ask(const struct question *at, uint16_t type, const struct walk 
     enum rrcache_status status = rrcache_part_of(at->name, at->size, &parts, &part);
     if (status == RRCACHE_DONE)
         status = ask_shelf(&shelves[part], at, type, walk, found);
-    if (status == RRCACHE_MEMORY)
-        return NO_MEMORY;
     if (status == RRCACHE_SMALL)
         return TOO_LARGE;
     return status == RRCACHE_DONE ? found->told.kind
@@ -210,10 +190,9 @@ static void note_failure(struct walk *walk, uint32_t kind)
             walk->has_failed || kind == RRCACHE_STALE ? RRCACHE_STALE_NOW : RRCACHE_NO_STALE;
 }
 
-static enum outcome end_nowhere(struct walk *walk, uint32_t kind)
+static enum outcome end_nowhere(const struct walk *walk, uint32_t kind)
 {
-    walk->lacks_memory = kind == NO_MEMORY;
-    if (kind == NO_MEMORY || kind == TOO_LARGE)
+    if (kind == TOO_LARGE)
         return IS_REFUSED;
     return walk->has_failed ? HAS_FAILED : IS_MISSING;
 }
@@ -238,28 +217,11 @@ static enum outcome walk_on(struct walk *walk, struct reply *reply)
     return IS_REFUSED;
 }
 
-/* Looks up once, with an event for each name or with none; tells whether memory was refused. */
-static bool look_once(const struct question *question, enum rrcache_mode mode, bool only_looks,
-                      struct reply *reply, enum outcome *outcome)
-{
-    struct walk walk = {.at = *question, .place = HEADER, .mode = mode, .only_looks = only_looks};
-    begin_reply(reply, question);
-    *outcome = walk_on(&walk, reply);
-    return walk.lacks_memory;
-}
-
-/* Where memory is refused, the thread's reserve is freed, and taken again behind the look: what a
-   look takes it gives back. */
 enum outcome look_up(const struct question *question, enum rrcache_mode mode, struct reply *reply)
 {
-    enum outcome outcome;
-    if (reserve == NULL)
-        reserve = malloc(RESERVE);
-    if (look_once(question, mode, false, reply, &outcome) && reserve != NULL) {
-        free(reserve);
-        look_once(question, mode, true, reply, &outcome);
-        reserve = malloc(RESERVE);
-    }
+    struct walk walk = {.at = *question, .place = HEADER, .mode = mode};
+    begin_reply(reply, question);
+    enum outcome outcome = walk_on(&walk, reply);
     if (reply->is_cut) /* it fits in no message */
         refuse(reply, question, SERVFAIL);
     return outcome;

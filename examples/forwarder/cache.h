@@ -19,7 +19,7 @@ enum outcome {
     IS_STALE,
     IS_MISSING, /* nothing: it is to be asked for upstream */
     HAS_FAILED, /* nothing, and asking for it has lately failed */
-    IS_REFUSED  /* nothing that can be told: no memory, aliases with no end, or too large a set */
+    IS_REFUSED  /* nothing that can be told: aliases with no end, or too large a set */
 };
 
 static inline bool is_found(enum outcome outcome)
@@ -37,9 +37,6 @@ static inline enum counter counter_of(enum outcome outcome)
 bool make_cache(void);
 void free_cache(void);
 
-/* Gives back what the cache keeps for a thread: each calls this at its end. */
-void leave_cache(void);
-
 /* Answers a question from the cache: the aliases of its name, and what is at their end. The mode is
    one of `enum rrcache_mode`. The reply is complete where something was found. */
 enum outcome look_up(const struct question *question, enum rrcache_mode mode, struct reply *reply);
@@ -53,8 +50,8 @@ bool keep(const struct question *question, const uint8_t *message, size_t size,
 /* Remembers for FAILURE_SECONDS that nothing came of asking (RFC 2308 section 7). */
 void remember_failure(const struct question *question);
 
-/* Removes dead keys, and counts the others, of each shelf and of all. The shelves record no
-   history, which nobody audits here. */
+/* Removes fully expired keys, and counts the others, of each shelf and of all. The shelves record
+   no history, which nobody audits here. */
 void sweep(void);
 
 #endif

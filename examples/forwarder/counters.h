@@ -24,7 +24,7 @@ enum counter {
     DISPLACED,   /* fetches that gave way to others */
     CONNECTIONS, /* of clients */
     OCTETS,      /* sent to clients */
-    SWEPT,       /* keys that were dead */
+    SWEPT,       /* keys that were fully expired */
     KEYS,        /* that are held, at the last sweep */
     HELD,        /* the octets of these keys, as rrcache_sizes tells them */
     COUNTERS

@@ -143,7 +143,6 @@ static void *work(void *argument)
         for (size_t i = 0; i < connections; i++)
             take_messages(worker, i);
     }
-    leave_cache();
     return NULL;
 }
 
@@ -296,7 +295,6 @@ int main(int argc, char **argv)
     keep_house(&signals, &options);
     stop(started);
     print_counters();
-    leave_cache();
     free_cache();
     return 0;
 }

@@ -181,16 +181,16 @@ class Shelf:
         return told("rrc_sweep", c_uint64, self._handle, moment, line)
 
     def next_expiry(self) -> int | None:
-        """A moment before which no key is dead, so that no sweep before it removes one; a sweep at
-        it may remove none. It is None where the shelf holds no key."""
+        """A moment before which no key is fully expired, so that no sweep before it removes one; a
+        sweep at it may remove none. It is None where the shelf holds no key."""
         moment = told("rrc_next_expiry", c_uint64, self._handle)
         return None if moment == 2 ** 64 - 1 else moment
 
     def sweep_some(self, moment: int, most: int, line: int = 0) -> tuple[int, bool]:
         """Sweeps in steps, at each moment up to this one that `next_expiry` tells, from the
         earliest on, until `most` keys or more are removed, or `most` sweeps made. It tells how many
-        keys were removed, and whether none is left that is dead. Where a step is refused that is
-        raised, and what the steps before it removed stays removed."""
+        keys were removed, and whether none is left that is fully expired. Where a step is refused
+        that is raised, and what the steps before it removed stays removed."""
         removed = 0
         for _ in range(most):
             due = self.next_expiry()
