@@ -3,9 +3,9 @@
    about, at each call that can answer it, and what a refusal leaves. Two statuses are not met:
    RRCACHE_HISTORY_FULL asks for 2^62 events, and RRCACHE_WIDE for a datum that no call takes.
 
-   The last line is 'N passed, M failed'. Where the program is linked with --wrap for malloc, calloc,
-   realloc and free, each allocation is refused in turn as well, and those of calls that only look are
-   counted: there are none. */
+   The last line is 'N passed, M failed'. Where the program is linked with --wrap for malloc,
+   calloc, realloc and free, each allocation is refused in turn as well, and those of calls that
+   only look are counted: there are none. */
 #include "rrcache.h"
 
 #include <stdio.h>
@@ -2487,8 +2487,8 @@ static bool look(struct rrcache_shelf *shelf, const uint8_t *kept, const uint8_t
 #undef TOLD
 }
 
-/* What only looks takes no memory, however long the name is and whatever its case; an ask takes some
-   where it is recorded. */
+/* What only looks takes no memory, however long the name is and whatever its case; an ask takes
+   some where it is recorded. */
 static void test_looks_take_no_memory(void)
 {
     static const size_t SIZES[] = {3, 40, LONGEST};
