@@ -2476,7 +2476,7 @@ static bool look(struct rrcache_shelf *shelf, const uint8_t *kept, const uint8_t
     uint64_t part = PARTS;
     uint8_t buffer[LONGEST + sizeof ADDRESS];
 #define TOLD(call) ((call) == RRCACHE_DONE ? (int)told.kind : -1)
-#define OF(name) QUERY(name, size, A, RRCACHE_IN, FIRST, RRCACHE_QUESTION, RRCACHE_NO_STALE)
+#define OF(name)   QUERY(name, size, A, RRCACHE_IN, FIRST, RRCACHE_QUESTION, RRCACHE_NO_STALE)
     return TOLD(rrcache_ask(shelf, OF(kept), 1, &told, buffer, sizeof buffer)) == RRCACHE_FRESH
            && TOLD(rrcache_ask(shelf, OF(other), 1, &told, buffer, sizeof buffer)) == RRCACHE_MISS
            && TOLD(rrcache_peek(shelf, OF(kept), &told, buffer, sizeof buffer)) == RRCACHE_FRESH
