@@ -13,7 +13,7 @@ use crate::reply_record::{ReplyRecord, data_of, lent, owner_of, told_of};
 use crate::status::Status;
 use crate::text::fill;
 use rrc_history::{Ask, AskRef, Reply, ReplyRef, Tag};
-use rrc_name::{Name, WireNameFault};
+use rrc_name::{Name, NameBuffer, WireNameFault};
 use rrc_share::CacheShelf;
 use std::alloc::Global;
 
@@ -202,8 +202,9 @@ pub(crate) fn ask_shelf(
     ensures fit { OnOk result (IsQuestion name.now purpose mode) }
     ensures due { AskDue name.now rtype class moment purpose mode (length buffer.old) shelf.old (number_of_reply result) }
 {
-    let question = question_of(name, rtype, class, moment, purpose, mode)?;
-    answer(alloc, shelf, question.as_ref(), line, told, buffer)
+    let mut name_buffer = NameBuffer::new();
+    let ask = question_of(&mut name_buffer, name, rtype, class, moment, purpose, mode)?;
+    answer(alloc, shelf, ask, line, told, buffer)
 }
 
 /// Tells C what a shelf would answer to what it asks. It takes no memory.
@@ -223,6 +224,7 @@ pub(crate) fn peek_at_shelf(
     ensures fit { OnOk result (IsQuestion name.now purpose mode) }
     ensures due { PeekDue name.now rtype class moment purpose mode (length buffer.old) shelf.now (number_of_reply result) }
 {
-    let question = question_of(name, rtype, class, moment, purpose, mode)?;
-    show(shelf, question.as_ref(), told, buffer)
+    let mut name_buffer = NameBuffer::new();
+    let ask = question_of(&mut name_buffer, name, rtype, class, moment, purpose, mode)?;
+    show(shelf, ask, told, buffer)
 }

@@ -1,5 +1,5 @@
 // SPDX-License-Identifier: MIT
-ghost use Rattle.std.specs.Prelude.{◌≡◌, ◌≤◌, ◌<◌, ◌+◌, ◌^◌, ◌++◌, ℕ, [], length, true, false, IfOk, IfErr, OnOk, OnErr};
+ghost use Rattle.std.specs.Prelude.{◌≡◌, ◌≤◌, ◌<◌, ◌+◌, ◌^◌, ◌++◌, ℕ, [], length, true, false, IfOk, IfErr, IfSome, OnOk, OnErr};
 ghost use Rattle.std.specs.List.{AllByRecursion};
 ghost use Rattle.rrc_c.specs.ReplyRecord.{datum, data_text};
 ghost use Rattle.rrc_c.specs.Intake.{trust_of, denied, denial_offer, failure_offer, outcome_number, count_more, counts_of, AreAt, AreOffered, IsSetOffer, TakesOne, TakesAll, TakesFirst, TakesMessage, TakesSet, TakesSome, total};
@@ -78,6 +78,17 @@ fn first_datum(octets: &[u8]) -> Result<(&[u8], &[u8]), Status>
     }
 }
 
+/// The one datum that some octets are, behind its length. Most RRsets have one record, whose rdata
+/// are kept with no vector round them.
+fn only_datum(octets: &[u8]) -> Option<&[u8]>
+    ensures { IfSome result (λ only. octets.now ≡ datum only.now) }
+{
+    match first_datum(octets) {
+        Ok((datum, behind)) if behind.is_empty() => Some(datum),
+        _ => None,
+    }
+}
+
 /// The data that stand in some octets, each behind its length.
 fn items_in(alloc: Global, rtype: u16, octets: &[u8]) -> Result<Sequence<Octets>, Status>
     ensures stand { IfOk result (λ items. data_text items ≡ octets.now) }
@@ -100,6 +111,9 @@ fn rdata_in(alloc: Global, rtype: u16, octets: &[u8]) -> Result<RdataList, Statu
     ensures plain { IfOk result (AllByRecursion (IsPlain rtype)) }
     ensures refused { IfErr result (λ status. DataRefused rtype octets.now (number_of status)) }
 {
+    if let Some(datum) = only_datum(octets) {
+        return Ok(RdataList::one(data_in(alloc, rtype, datum)?));
+    }
     let items = items_in(alloc, rtype, octets)?;
     Ok(RdataList::from_vec(items.into_vec()))
 }

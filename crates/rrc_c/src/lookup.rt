@@ -11,7 +11,7 @@ use crate::question::folded_name_of;
 use crate::status::Status;
 use crate::stored::Stored;
 use rrc_history::{Body, Held, Trust};
-use rrc_name::{KeyRef, Slot};
+use rrc_name::{KeyRef, NameBuffer, Slot};
 use rrc_share::CacheShelf;
 
 fn rank(trust: Trust) -> u32
@@ -58,9 +58,9 @@ pub(crate) fn stored_in(
     ensures value { IfOk result (λ stored. stored ≡ stored_in shelf.now name.now rtype class) }
     ensures due { StoredDue name.now (number_of_call result) }
 {
-    let name = folded_name_of(name)?;
+    let mut buffer = NameBuffer::new();
     let key = KeyRef {
-        name: name.as_ref(),
+        name: folded_name_of(&mut buffer, name)?,
         class,
         slot: Slot::Set(rtype),
     };

@@ -14,6 +14,7 @@ use crate::question::folded_name_of;
 use crate::status::Status;
 use core::mem::replace_with;
 use rrc_history::Tag;
+use rrc_name::NameBuffer;
 use rrc_share::{CacheShelf, NotSwitched};
 use rrc_wire::{WireFault, read_message};
 use std::alloc::Global;
@@ -121,8 +122,9 @@ pub(crate) fn part_in(name: &[u8], parts: u64, seed: &[u8]) -> Result<u64, Statu
     ensures due { PartDue name.now parts seed.now (number_of_call result) }
 {
     let seed = check_division(parts, seed)?;
-    let name = folded_name_of(name)?;
-    Ok(keyed_part_of(name.as_ref(), &seed, parts as usize) as u64)
+    let mut buffer = NameBuffer::new();
+    let name = folded_name_of(&mut buffer, name)?;
+    Ok(keyed_part_of(name, &seed, parts as usize) as u64)
 }
 
 /// The law of the octets that `rrc_sizes` tells: where no entry has more than some number, they are

@@ -4,12 +4,12 @@
 
 pub mod classless;
 mod fault;
-mod folded_name;
 mod key;
 mod key_ref;
 mod label;
 mod laws;
 mod name;
+mod name_buffer;
 mod name_ref;
 mod octets;
 mod order;
@@ -23,12 +23,12 @@ mod text;
 mod wire;
 
 pub use fault::{NameFault, WireNameFault};
-pub use folded_name::FoldedName;
 pub use key::Key;
 pub use key_ref::KeyRef;
 pub use label::first_label;
 pub use laws::{one_name_or_fault, one_wire_form_or_fault, reading_undoes_printing};
 pub use name::Name;
+pub use name_buffer::NameBuffer;
 pub use name_ref::NameRef;
 pub use octets::Octets;
 pub use parts::part_of;

@@ -1,6 +1,6 @@
 // SPDX-License-Identifier: MIT
 use super::name;
-use rrc_name::{FoldedName, Name, WireNameFault};
+use rrc_name::{Name, NameBuffer, WireNameFault};
 use std::alloc::Global;
 use std::cmp::Ordering;
 use std::process::Abort;
@@ -93,8 +93,8 @@ fn a_folded_name_is_shared(rt: HostRuntime) {
 /// Whether octets are read into the stack as the folded name of a wire form, which is lent, and
 /// whether the name that is made of it is the same.
 fn is_lent(rt: &impl Abort, alloc: Global, octets: &[u8], low: &[u8]) -> bool {
-    let name = FoldedName::from_wire(octets).expect(rt, "no name");
-    let lent = name.as_ref();
+    let mut buffer = NameBuffer::new();
+    let lent = buffer.fold(octets).expect(rt, "no name");
     let own = lent.to_owned(alloc).expect(rt, "no name of its own");
     lent.as_slice() == low && own.as_ref() == lent
 }
@@ -106,8 +106,23 @@ fn a_folded_name_is_read_into_the_stack(rt: HostRuntime) {
     assert!(rt; is_lent(&rt, rt.alloc(), octets, low));
 }
 
+/// Whether a buffer that held a name holds another that is read into it, and nothing of the first.
+fn is_read_anew(rt: &impl Abort, first: &[u8], second: &[u8]) -> bool {
+    let mut buffer = NameBuffer::new();
+    let _ = buffer.fold(first).expect(rt, "no first name");
+    buffer.fold(second).expect(rt, "no second name").as_slice() == second
+}
+
+#[test]
+fn a_buffer_takes_one_name_after_another(rt: HostRuntime) {
+    let (long, short) = (b"\x03www\x07example\0".as_slice(), b"\x01a\0".as_slice());
+    assert!(rt; is_read_anew(&rt, long, short));
+    assert!(rt; is_read_anew(&rt, short, long));
+}
+
 fn fault_of(octets: &[u8]) -> Option<WireNameFault> {
-    match FoldedName::from_wire(octets) {
+    let mut buffer = NameBuffer::new();
+    match buffer.fold(octets) {
         Ok(_name) => None,
         Err(fault) => Some(fault),
     }
