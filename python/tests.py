@@ -4,8 +4,6 @@ refuses, how names in data are read, what of a response is relevant, the example
 many threads, the package once it is installed, archives, and the rows that it can be told, each of
 whose lines is compared with the row's report, and whose history with that of the Python model.
 """
-import importlib
-import importlib.util
 import io
 import itertools
 import os
@@ -416,12 +414,21 @@ def test_aliases_are_followed_by_python():
         same([it.kind for it in cache.follow("x0.example", CNAME, 110)], [rrcache.Kind.FRESH], "CNAME")
 
 
+def installing_python():
+    """A Python with what pip needs to install from a folder: this one, or Debian's own."""
+    for python in (sys.executable, "/usr/bin/python3"):
+        words = [python, "-c", "import importlib.util, sys; sys.exit(not all(map("
+                 "importlib.util.find_spec, ('pip', 'setuptools', 'wheel'))))"]
+        if os.path.exists(python) and subprocess.run(words, capture_output=True).returncode == 0:
+            return python
+    raise Skipped("no Python here has pip, setuptools and wheel: apt-get install python3-pip"
+                  " python3-setuptools python3-wheel")
+
+
 def test_an_installed_python_package():
-    for name in ("pip", "setuptools", "wheel"):
-        if importlib.util.find_spec(name) is None:
-            raise Skipped(f"this Python has no {name}: apt-get install python3-{name}")
+    python = installing_python()
     with tempfile.TemporaryDirectory() as folder:
-        words = [sys.executable, "-m", "pip", "install", "--quiet", "--no-index", "--no-deps",
+        words = [python, "-m", "pip", "install", "--quiet", "--no-index", "--no-deps",
                  "--no-build-isolation", "--disable-pip-version-check", "--target", folder,
                  str(copied(folder))]
         made = subprocess.run(words, capture_output=True, text=True)
@@ -429,7 +436,7 @@ def test_an_installed_python_package():
         around = {**os.environ, "PYTHONPATH": folder,
                   "RRCACHE_LIBRARY": str(TOP / "build" / "librrcache.so")}
         code = "import rrcache; print(rrcache.__file__, *rrcache.library_version())"
-        told = subprocess.run([sys.executable, "-c", code], cwd=folder, env=around,
+        told = subprocess.run([python, "-c", code], cwd=folder, env=around,
                               capture_output=True, text=True)
         same(told.stdout.split(), [f"{folder}/rrcache/__init__.py", *VERSION.split(".")], told.stderr)
 
