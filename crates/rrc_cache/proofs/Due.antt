@@ -1,6 +1,7 @@
 -- SPDX-License-Identifier: MIT
 -- Expiries that move: which of them come by a time is told alike.
 use Rattle.std.proofs.Common.{◌≡◌, List, [], ◌∷◌, ◌++◌, Bool, true, false, ◌||◌, Result, Ok, Err, OnOk, refl, sym, ap, ◌∙◌}
+use Rattle.std.specs.Prelude.{if◌then◌else◌}
 use Rattle.std.specs.Result.{IsOk}
 use Rattle.std.specs.List.{list_any}
 use Rattle.std.specs.List.Sorted.{IsPermutation}
@@ -63,6 +64,11 @@ any_taken test expiry waiting before due is =
     shuffled false true false = refl
     shuffled false false true = refl
     shuffled false false false = refl
+
+-- one more, where expiries are kept
+pub kept_or : (kept one is other : Bool) → kept ≡ true → (if kept then one || is else other) ≡ (one || (if kept then is else other))
+kept_or true one is other at = refl
+kept_or false one is other at = absurd cc
 
 -- what stands at an `Ok`, where there is one
 pub at_ok : {X E : Type 0} (result : Result X E) (P : Type 0) → IsOk result → OnOk result P → P

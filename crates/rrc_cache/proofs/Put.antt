@@ -43,7 +43,7 @@ module _ (map new : LruCache KeyOf Entry) (key : KeyOf) (entry : Entry) (own_map
 
 -- an expiry that is added queues the entry, and what had another has it still
 module _ (stale : ℕ) (entries : List Entry) (queue added : ExpiryQueueOf) (entry : Entry) (are : AreQueued stale entries queue) (expiry : Expiry)
-    (adds : (key : KeyOf) (time : ℕ) → expires_by added key time ≡ (is_by key time expiry || expires_by queue key time)) where
+    (adds : (key : KeyOf) (time : ℕ) → (is_by key time expiry || expires_by queue key time) ≡ true → expires_by added key time ≡ true) where
   also : (a b : Bool) → b ≡ true → (a || b) ≡ true
   also true b h = refl
   also false b h = h
@@ -54,5 +54,5 @@ module _ (stale : ℕ) (entries : List Entry) (queue added : ExpiryQueueOf) (ent
       let here : is_by entry.key expires expiry ≡ true =
       ap (λ k. is_by entry.key expires (record { time = expiry.time; key = k })) own
       ∙ (ap (λ t. is_by entry.key expires (record { time = t; key = entry.key })) timed ∙ is_by-own entry.key expires) in
-      put_queued stale entries queue are entry added (λ key time is. adds key time ∙ also (is_by key time expiry) (expires_by queue key time) is)
-      (adds entry.key expires ∙ ap (λ b. b || expires_by queue entry.key expires) here)
+      put_queued stale entries queue are entry added (λ key time is. adds key time (also (is_by key time expiry) (expires_by queue key time) is))
+      (adds entry.key expires (ap (λ b. b || expires_by queue entry.key expires) here))

@@ -57,13 +57,13 @@ module _ (stale : ℕ) (entries : List Entry) (queue taken : ExpiryQueueOf) (exp
   -- or whose key holds an entry, of which there is the expiry
   pub held_store : (key : KeyOf) (entry : Entry) (time : ℕ) (added : ExpiryQueueOf) → key ≡ expiry.key → entry_at key entries ≡ Some entry
       → time ≡ full_expiry_of stale entry
-      → ((k : KeyOf) (t : ℕ) → expires_by added k t ≡ (is_by k t (record { time = time; key = key }) || expires_by taken k t)) → IsStore stale entries added
+      → ((k : KeyOf) (t : ℕ) → (is_by k t (record { time = time; key = key }) || expires_by taken k t) ≡ true → expires_by added k t ≡ true) → IsStore stale entries added
   held_store key entry time added own found timed adds =
       queued_store stale entries queue added store
       (requeued stale entries queue store.queued expiry added (Some entry)
       (ap (λ k. entry_at k entries) (sym own) ∙ found)
-      (λ k t other is. adds k t ∙ also (is_by k t (record { time = time; key = key })) (expires_by taken k t) (others_stay k t other is))
-      (adds entry.key expires ∙ ap (λ b. b || expires_by taken entry.key expires) here))
+      (λ k t other is. adds k t (also (is_by k t (record { time = time; key = key })) (expires_by taken k t) (others_stay k t other is)))
+      (adds entry.key expires (ap (λ b. b || expires_by taken entry.key expires) here)))
     where
       expires : ℕ
       expires = full_expiry_of stale entry

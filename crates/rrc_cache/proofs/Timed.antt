@@ -87,14 +87,34 @@ any_of_key key time (first ∷ expiries) is = by (key_eq key first.key) refl (an
         either (key_eq key first.key) (list_any (λ expiry. key_eq key expiry.key) expiries)
         (rest (sym (ap (λ b. (b && nat_le first.time time) || list_any (is_by key time) expiries) at) ∙ is))
 
-expires_by-later : (queue : ExpiryQueueOf) (key : KeyOf) (early late : ℕ) → early ≤ late → expires_by queue key early ≡ true → expires_by queue key late ≡ true
-expires_by-later queue key early late le is = by (list_any (is_by key early) queue.waiting) refl
+-- where expiries are kept, or not
+pub of_kept : (kept is other : Bool) → kept ≡ true → (if kept then is else other) ≡ true → is ≡ true
+of_kept kept is other at so = sym (ap (λ k. if k then is else other) at) ∙ so
+
+pub where_kept : (kept is other : Bool) → kept ≡ true → is ≡ true → (if kept then is else other) ≡ true
+where_kept kept is other at so = ap (λ k. if k then is else other) at ∙ so
+
+if_kept : (kept is so other others : Bool) → (is ≡ true → so ≡ true) → (other ≡ true → others ≡ true) → (if kept then is else other) ≡ true
+    → (if kept then so else others) ≡ true
+if_kept true is so other others goes go at = goes at
+if_kept false is so other others goes go at = go at
+
+-- one that comes by a time, of those that wait or are due, comes by a later one
+any_later : (key : KeyOf) (early late : ℕ) (waiting due : List Expiry) → early ≤ late → (list_any (is_by key early) waiting || list_any (is_by key early) due) ≡ true
+    → (list_any (is_by key late) waiting || list_any (is_by key late) due) ≡ true
+any_later key early late waiting due le is = by (list_any (is_by key early) waiting) refl
   where
-    by : (b : Bool) → list_any (is_by key early) queue.waiting ≡ b → expires_by queue key late ≡ true
-    by true at = ap (λ b. b || list_any (is_by key late) queue.due) (any-later key early late queue.waiting le at)
+    by : (b : Bool) → list_any (is_by key early) waiting ≡ b → (list_any (is_by key late) waiting || list_any (is_by key late) due) ≡ true
+    by true at = ap (λ b. b || list_any (is_by key late) due) (any-later key early late waiting le at)
     by false at =
-        either (list_any (is_by key late) queue.waiting) (list_any (is_by key late) queue.due)
-        (any-later key early late queue.due le (sym (ap (λ b. b || list_any (is_by key early) queue.due) at) ∙ is))
+        either (list_any (is_by key late) waiting) (list_any (is_by key late) due)
+        (any-later key early late due le (sym (ap (λ b. b || list_any (is_by key early) due) at) ∙ is))
+
+expires_by-later : (queue : ExpiryQueueOf) (key : KeyOf) (early late : ℕ) → early ≤ late → expires_by queue key early ≡ true → expires_by queue key late ≡ true
+expires_by-later queue key early late le =
+    if_kept queue.kept (list_any (is_by key early) queue.waiting || list_any (is_by key early) queue.due)
+    (list_any (is_by key late) queue.waiting || list_any (is_by key late) queue.due) (nat_le queue.soonest early) (nat_le queue.soonest late)
+    (any_later key early late queue.waiting queue.due le) (λ is. le-leb queue.soonest late (omega (arith, le, leb-true queue.soonest early is)))
 
 -- ---- what is found
 
@@ -207,13 +227,15 @@ module _ (stale : ℕ) (entries : List Entry) (queue : ExpiryQueueOf) (are : Are
           (are key)
 
   -- where none that waits is due, what is fully expired has an expiry among the due
-  pub among_due : (moment : ℕ) (key : KeyOf) (entry : Entry) → AllByRecursion (λ expiry. moment < expiry.time) queue.waiting → entry_at key entries ≡ Some entry
-      → full_expiry_of stale entry ≤ moment → list_any (λ expiry. key_eq key expiry.key) queue.due ≡ true
-  among_due moment key entry waits is dead =
+  pub among_due : (moment : ℕ) (key : KeyOf) (entry : Entry) → queue.kept ≡ true → AllByRecursion (λ expiry. moment < expiry.time) queue.waiting
+      → entry_at key entries ≡ Some entry → full_expiry_of stale entry ≤ moment → list_any (λ expiry. key_eq key expiry.key) queue.due ≡ true
+  among_due moment key entry kept waits is dead =
       let own : key ≡ entry.key = entry_at-key key entries entry is in
       let expires : expires_by queue entry.key (full_expiry_of stale entry) ≡ true = subst (IsQueued stale queue) is (are key) in
       let due : list_any (is_by entry.key (full_expiry_of stale entry)) queue.due ≡ true =
-      sym (ap (λ b. b || list_any (is_by entry.key (full_expiry_of stale entry)) queue.due) (none_early queue.waiting waits)) ∙ expires in
+      sym (ap (λ b. b || list_any (is_by entry.key (full_expiry_of stale entry)) queue.due) (none_early queue.waiting waits))
+      ∙ of_kept queue.kept (list_any (is_by entry.key (full_expiry_of stale entry)) queue.waiting || list_any (is_by entry.key (full_expiry_of stale entry)) queue.due)
+      (nat_le queue.soonest (full_expiry_of stale entry)) kept expires in
       ap (λ k. list_any (λ expiry. key_eq k expiry.key) queue.due) own ∙ any_of_key entry.key (full_expiry_of stale entry) queue.due due
     where
       none_early : (ds : List Expiry) → AllByRecursion (λ expiry. moment < expiry.time) ds → list_any (is_by entry.key (full_expiry_of stale entry)) ds ≡ false
@@ -251,10 +273,10 @@ among_expired stale moment entries key (first ∷ expiries) =
     by false at false same rest = rw at (rest ∙ sym (ap (λ b. swept && (b || rest_any)) same))
 
 -- where none that waits is due, the keys of the due that hold something fully expired are all that do
-pub due_swept : (stale moment : ℕ) (entries : List Entry) (queue : ExpiryQueueOf) → AreQueued stale entries queue → moment ≤ LAST_MOMENT
+pub due_swept : (stale moment : ℕ) (entries : List Entry) (queue : ExpiryQueueOf) → AreQueued stale entries queue → moment ≤ LAST_MOMENT → queue.kept ≡ true
     → AllByRecursion (λ expiry. moment < expiry.time) queue.waiting
     → (key : KeyOf) → is_among key (expired_among stale moment entries queue.due) ≡ is_swept stale (entry_at key entries) moment
-due_swept stale moment entries queue are timely waits key = among_expired stale moment entries key queue.due ∙ by (entry_at key entries) refl
+due_swept stale moment entries queue are timely kept waits key = among_expired stale moment entries key queue.due ∙ by (entry_at key entries) refl
   where
     by : (found : Option Entry) → entry_at key entries ≡ found
         → (is_swept stale (entry_at key entries) moment && list_any (λ expiry. key_eq key expiry.key) queue.due) ≡ is_swept stale (entry_at key entries) moment
@@ -270,7 +292,7 @@ due_swept stale moment entries queue are timely waits key = among_expired stale 
         dead true at =
             let le : full_expiry_of stale entry ≤ moment = leb-true (full_expiry_of stale entry) moment (expired_from stale moment entry timely ∙ at) in
             and_from (is_swept stale (entry_at key entries) moment) (list_any (λ expiry. key_eq key expiry.key) queue.due) (swept ∙ at)
-            (among_due stale entries queue are moment key entry waits is le)
+            (among_due stale entries queue are moment key entry kept waits is le)
             ∙ sym (swept ∙ at)
 
 -- ---- before the first expiry
@@ -281,16 +303,42 @@ none_by key time first (expiry ∷ expiries) all less =
     ap (λ b. b || list_any (is_by key time) expiries) (and_right (key_eq key expiry.key) (nat_le expiry.time time) (lt-leb expiry.time time (omega (arith, all.0, less))))
     ∙ none_by key time first expiries all.1 less
 
-expires_none : (key : KeyOf) (time first : ℕ) (queue : ExpiryQueueOf) → queue.due ≡ [] → AllByRecursion (λ expiry. first ≤ expiry.time) queue.waiting → time < first → expires_by queue key time ≡ false
-expires_none key time first queue none all less =
-    ap (λ b. b || list_any (is_by key time) queue.due) (none_by key time first queue.waiting all less)
-    ∙ ap (λ (ds : List Expiry). list_any (is_by key time) ds) none
+min-left : (a b time : ℕ) → nat_le a time ≡ true → nat_le (min a b) time ≡ true
+min-left a b time is = grind (arith, nat_tests)
 
-module _ (stale : ℕ) (entries : List Entry) (queue : ExpiryQueueOf) (are : AreQueued stale entries queue) (none : queue.due ≡ []) where
-  -- no entry is fully expired before the first of the expiries
-  pub none_before : (first : ℕ) → AllByRecursion (λ expiry. first ≤ expiry.time) queue.waiting
+min-right : (a b time : ℕ) → nat_le b time ≡ true → nat_le (min a b) time ≡ true
+min-right a b time is = grind (arith, nat_tests)
+
+-- one more, where none are kept
+pub sooner : (key : KeyOf) (time soonest now : ℕ) (expiry : Expiry) (kept is : Bool) → kept ≡ false → now ≡ min soonest expiry.time
+    → (is_by key time expiry || (if kept then is else nat_le soonest time)) ≡ true → (if kept then is else nat_le now time) ≡ true
+sooner key time soonest now expiry kept is at least so =
+    ap (λ k. if k then is else nat_le now time) at ∙ (ap (λ t. nat_le t time) least ∙ by (is_by key time expiry) refl)
+  where
+    by : (b : Bool) → is_by key time expiry ≡ b → nat_le (min soonest expiry.time) time ≡ true
+    by true one = min-right soonest expiry.time time (and_parts (key_eq key expiry.key) (nat_le expiry.time time) one).1
+    by false one =
+        min-left soonest expiry.time time
+        (ap (λ k. if k then is else nat_le soonest time) (sym at) ∙ (ap (λ b. b || (if kept then is else nat_le soonest time)) (sym one) ∙ so))
+
+-- before the soonest, where none are kept, and before the first that waits, where they are, none comes
+pub soonest_none : (key : KeyOf) (time : ℕ) (queue : ExpiryQueueOf) → queue.kept ≡ false → time < queue.soonest → expires_by queue key time ≡ false
+soonest_none key time queue at less =
+    ap (λ k. if k then list_any (is_by key time) queue.waiting || list_any (is_by key time) queue.due else nat_le queue.soonest time) at
+    ∙ lt-leb queue.soonest time less
+
+pub expires_none : (key : KeyOf) (time first : ℕ) (queue : ExpiryQueueOf) → queue.kept ≡ true → queue.due ≡ [] → AllByRecursion (λ expiry. first ≤ expiry.time) queue.waiting
+    → time < first → expires_by queue key time ≡ false
+expires_none key time first queue kept none all less =
+    ap (λ k. if k then list_any (is_by key time) queue.waiting || list_any (is_by key time) queue.due else nat_le queue.soonest time) kept
+    ∙ (ap (λ b. b || list_any (is_by key time) queue.due) (none_by key time first queue.waiting all less)
+    ∙ ap (λ (ds : List Expiry). list_any (is_by key time) ds) none)
+
+module _ (stale : ℕ) (entries : List Entry) (queue : ExpiryQueueOf) (are : AreQueued stale entries queue) where
+  -- no entry is fully expired before a moment before which no expiry comes
+  pub none_before : (first : ℕ) → ((key : KeyOf) (time : ℕ) → time < first → expires_by queue key time ≡ false)
       → (key : KeyOf) (moment : ℕ) → moment < first → moment ≤ LAST_MOMENT → is_swept stale (entry_at key entries) moment ≡ false
-  none_before first all key moment less timely = by (entry_at key entries) refl
+  none_before first never key moment less timely = by (entry_at key entries) refl
     where
       by : (found : Option Entry) → entry_at key entries ≡ found → is_swept stale found moment ≡ false
       by None is = refl
@@ -302,7 +350,7 @@ module _ (stale : ℕ) (entries : List Entry) (queue : ExpiryQueueOf) (are : Are
               let le : full_expiry_of stale entry ≤ moment = leb-true (full_expiry_of stale entry) moment (expired_from stale moment entry timely ∙ at) in
               let has : expires_by queue entry.key (full_expiry_of stale entry) ≡ true = subst (IsQueued stale queue) is (are key) in
               let some : expires_by queue entry.key moment ≡ true = expires_by-later queue entry.key (full_expiry_of stale entry) moment le has in
-              let not : expires_by queue entry.key moment ≡ false = expires_none entry.key moment first queue none all less in
+              let not : expires_by queue entry.key moment ≡ false = never entry.key moment less in
               absurd cc
 
 -- ---- all entries

@@ -1,6 +1,6 @@
 -- SPDX-License-Identifier: MIT
 -- The queue of full expiry: when entries may be fully expired.
-use Rattle.std.specs.Prelude.{◌≡◌, ℕ, List, Bool, false, true, ◌&&◌, ◌||◌, nat_le, Option, Some, None, map, filter}
+use Rattle.std.specs.Prelude.{◌≡◌, ℕ, List, Bool, false, true, ◌&&◌, ◌||◌, nat_le, Option, Some, None, map, filter, if◌then◌else◌}
 use Rattle.std.specs.declared.cmp.Ordering.{Ordering}
 use Rattle.std.specs.Ordering.{nat_cmp}
 use Rattle.std.specs.List.{list_any}
@@ -25,9 +25,12 @@ expiries_of stale entries = map (λ entry. expiry_of stale entry) entries
 abbrev pub expiry_order : Expiry → Expiry → Ordering
 expiry_order a b = nat_cmp b.time a.time
 
--- the expiries that wait for their time and those whose time came, and for how many more there is
+-- whether expiries are kept, as they are from the first sweep on, and the soonest of those that came
+-- before; those that wait for their time and those whose time came, and for how many more there is
 -- room
 pub record ExpiryQueueOf : Type 0 where
+  pub kept : Bool
+  pub soonest : ℕ
   pub waiting : List Expiry
   pub due : List Expiry
   pub room : ℕ
@@ -36,9 +39,11 @@ pub record ExpiryQueueOf : Type 0 where
 abbrev pub is_by : KeyOf → ℕ → Expiry → Bool
 is_by key time expiry = key_eq key expiry.key && nat_le expiry.time time
 
--- whether the key has an expiry at this time or before
+-- whether the key has an expiry at this time or before; where none are kept, from the soonest on any
+-- key may have one
 abbrev pub expires_by : ExpiryQueueOf → KeyOf → ℕ → Bool
-expires_by queue key time = list_any (is_by key time) queue.waiting || list_any (is_by key time) queue.due
+expires_by queue key time =
+    if queue.kept then list_any (is_by key time) queue.waiting || list_any (is_by key time) queue.due else nat_le queue.soonest time
 
 -- the same expiries, wherever they stand
 abbrev pub HasSameExpiries : ExpiryQueueOf → ExpiryQueueOf → Type 0

@@ -1,17 +1,18 @@
 // SPDX-License-Identifier: MIT
 //! Which expiries the entries of a store have, and under which of them something is fully expired.
-ghost use Rattle.std.specs.Prelude.{◌≡◌, ℕ, ◌<◌, ◌≤◌, Some, None, nat_le, false, if◌then◌else◌, IfOk, IfSome, IfNone};
+ghost use Rattle.std.specs.Prelude.{◌≡◌, ℕ, ◌<◌, ◌≤◌, Some, None, nat_le, false, true, if◌then◌else◌, IfOk, IfSome, IfNone, OnOk};
+ghost use Rattle.std.specs.List.{AllByRecursion};
 ghost use Rattle.rrc_name.specs.Key.{KeyOf};
 ghost use Rattle.rrc_name.specs.KeyRef.{key_of};
 ghost use Rattle.rrc_history.specs.Entries.{keys_of_dead};
 ghost use Rattle.rrc_history.specs.Lives.{LAST_MOMENT};
 ghost use Rattle.rrc_history.specs.Past.{entry_at, is_among};
 ghost use Rattle.rrc_history.specs.Right.{is_swept};
-ghost use Rattle.rrc_cache.specs.ExpiryQueue.{expired_among, expiries_of, is_expired_by};
+ghost use Rattle.rrc_cache.specs.ExpiryQueue.{AreQueued, expired_among, expiries_of, is_expired_by};
 ghost use Rattle.rrc_cache.specs.Keyed.{hashed_entries};
 
 use crate::entry_map::EntryMap;
-use crate::expiry_queue::{Expiry, full_expiry_of};
+use crate::expiry_queue::{Expiry, ExpiryQueue, full_expiry_of};
 use crate::hashed::HashedKey;
 use crate::replaced::Replaced;
 use crate::store::Store;
@@ -27,6 +28,12 @@ impl Store {
         ensures none { IfNone result ((key : KeyOf) → entry_at key self.now.entries ≡ None) }
         ensures some { IfSome result (λ time. (key : KeyOf) (moment : ℕ) → moment < time → moment ≤ LAST_MOMENT → is_swept self.now.stale (entry_at key self.now.entries) moment ≡ false) }
     {
+        if self.len() == 0 {
+            return None;
+        }
+        if !self.queue.is_kept() {
+            return Some(self.queue.soonest());
+        }
         // A sweep that was refused memory may have left expiries that it found due.
         if !self.queue.due().is_empty() {
             return Some(0);
@@ -35,7 +42,7 @@ impl Store {
     }
 
     /// The keys of the fully expired entries, some perhaps more than once. It looks at the expiries
-    /// that came since the last time, however many entries there are.
+    /// that came since the last time, however many entries there are, but the first time at all.
     pub(crate) fn find_expired(
         &mut self,
         alloc: Global,
@@ -47,7 +54,7 @@ impl Store {
     {
         // The length is read for what it tells: no two entries have the same key.
         let _ = self.filtered.map().len();
-        self.queue.find_due(moment)?;
+        find_due(&mut self.queue, self.filtered.map(), self.stale, moment)?;
         expired_among(
             alloc,
             self.filtered.map(),
@@ -92,6 +99,35 @@ impl Store {
         }
         due
     }
+}
+
+/// Keeps expiries from now on, those of all entries first, where none were kept.
+fn keep_expiries(queue: &mut ExpiryQueue, map: &EntryMap, stale: u64) -> Result<(), AllocError>
+    requires { stale ≤ 604800 }
+    ensures kept { OnOk result (queue.new.kept ≡ true) }
+    ensures queued { AreQueued stale map.now.entries queue.old → AreQueued stale map.now.entries queue.new }
+{
+    if !queue.is_kept() {
+        let alloc = map.allocator();
+        *queue = ExpiryQueue::of(alloc, expiries_of(alloc, map.held(), stale)?);
+    }
+    Ok(())
+}
+
+/// Finds the expiries that are due at a moment, those of all entries where none were kept.
+fn find_due(
+    queue: &mut ExpiryQueue,
+    map: &EntryMap,
+    stale: u64,
+    moment: u64,
+) -> Result<(), AllocError>
+    requires { stale ≤ 604800 }
+    ensures kept { OnOk result (queue.new.kept ≡ true) }
+    ensures waiting { OnOk result (AllByRecursion (λ expiry. moment < expiry.time) queue.new.waiting) }
+    ensures queued { AreQueued stale map.now.entries queue.old → AreQueued stale map.now.entries queue.new }
+{
+    keep_expiries(queue, map, stale)?;
+    queue.find_due(moment)
 }
 
 /// The expiry that is to wait for a key's new entry, which expires at a time: none where the

@@ -108,17 +108,21 @@ impl Ord for Expiry {
     }
 }
 
-/// Expiries of keys, by time. Each entry has one that is no later than its own, and there may be
+/// Expiries of keys, by time. Until the first sweep none are kept but the soonest time, so that who
+/// never sweeps pays nothing for them. From then on each entry has one that is no later than its own, and there may be
 /// others: of keys that hold nothing any more, and of entries that others replaced. So most puts
 /// change nothing here, and no removal does. A sweep takes out the expiries that came, in the
 /// logarithm of their number each, looks their keys up to see whether what is kept there is fully
 /// expired, and puts one back of each key that holds something still: it pays for what it removes,
 /// and once for each put that queued or outlived an expiry.
 ///
-/// Contracts see the expiries that wait for their time, those that a sweep found due, and for how
-/// many more there is room.
+/// Contracts see whether expiries are kept, the soonest of those that came before they were, those
+/// that wait for their time, those that a sweep found due, and for how many more there is room.
 #[derive(Debug, Drop)]
 pub(crate) struct ExpiryQueue {
+    is_kept: bool,
+    /// No entry expires sooner while no expiries are kept.
+    soonest: u64,
     waiting: BinaryHeap<Expiry>,
     /// Empty between sweeps, unless memory was refused in the midst of one.
     due: Vec<Expiry>,
@@ -131,7 +135,7 @@ impl Model for ExpiryQueue {
 
     ghost Value = { ExpiryQueueOf };
 
-    ghost view = { λ d. record { waiting = heap_items d.waiting; due = d.due.items; room = heap_capacity d.waiting - heap_len d.waiting } };
+    ghost view = { λ d. record { kept = d.is_kept; soonest = d.soonest; waiting = heap_items d.waiting; due = d.due.items; room = heap_capacity d.waiting - heap_len d.waiting } };
 
     ghost invariant = { λ d. IsHeap expiry_order (heap_items d.waiting) };
 }
@@ -139,25 +143,37 @@ impl Model for ExpiryQueue {
 impl ExpiryQueue {
     ghost use Rattle.rrc_cache.specs.ExpiryQueue.{expires_by, is_expired_by, HasSameExpiries};
 
-    /// No expiries.
+    /// No expiries, and none are kept.
     pub(crate) fn new(alloc: Global) -> ExpiryQueue
-        ensures waiting { result.waiting ≡ [] }
+        ensures kept { result.kept ≡ false }
         ensures due { result.due ≡ [] }
     {
         ExpiryQueue {
+            is_kept: false,
+            soonest: u64::MAX,
             waiting: BinaryHeap::new(alloc),
             due: Vec::new(alloc),
         }
     }
 
-    /// These expiries.
+    /// These expiries, and what is added to them is kept.
     pub(crate) fn of(alloc: Global, queue: Vec<Expiry>) -> ExpiryQueue
-        ensures { (key : KeyOf) (time : ℕ) → expires_by result key time ≡ list_any (is_by key time) queue.items }
+        ensures kept { result.kept ≡ true }
+        ensures expiries { (key : KeyOf) (time : ℕ) → expires_by result key time ≡ list_any (is_by key time) queue.items }
     {
         ExpiryQueue {
+            is_kept: true,
+            soonest: 0,
             waiting: BinaryHeap::from(queue),
             due: Vec::new(alloc),
         }
+    }
+
+    /// Whether expiries are kept.
+    pub(crate) fn is_kept(&self) -> bool
+        ensures { result ≡ self.now.kept }
+    {
+        self.is_kept
     }
 
     /// Whether there are far more than so many entries need.
@@ -173,10 +189,31 @@ impl ExpiryQueue {
         self.waiting.reserve(1)
     }
 
+    /// The soonest time of the expiries that came before any were kept.
+    pub(crate) fn soonest(&self) -> u64
+        ensures { result ≡ self.now.soonest }
+    {
+        self.soonest
+    }
+
     /// Adds an expiry, for which there is room.
     pub(crate) fn add(&mut self, expiry: Expiry)
         requires { 0 < self.old.room }
-        ensures { (key : KeyOf) (time : ℕ) → expires_by self.new key time ≡ (is_by key time expiry || expires_by self.old key time) }
+        ensures { (key : KeyOf) (time : ℕ) → (is_by key time expiry || expires_by self.old key time) ≡ true → expires_by self.new key time ≡ true }
+    {
+        if self.is_kept {
+            self.push(expiry);
+        } else {
+            self.soonest = self.soonest.min(expiry.time);
+        }
+    }
+
+    /// Adds an expiry to those that wait, for which there is room.
+    fn push(&mut self, expiry: Expiry)
+        requires { 0 < self.old.room }
+        ensures kept { self.new.kept ≡ self.old.kept }
+        ensures soonest { self.new.soonest ≡ self.old.soonest }
+        ensures one_more { (key : KeyOf) (time : ℕ) → (list_any (is_by key time) self.new.waiting || list_any (is_by key time) self.new.due) ≡ (is_by key time expiry || (list_any (is_by key time) self.old.waiting || list_any (is_by key time) self.old.due)) }
     {
         let _ = self.waiting.push(expiry);
     }
@@ -185,6 +222,7 @@ impl ExpiryQueue {
     /// found.
     pub(crate) fn find_due(&mut self, moment: u64) -> Result<(), AllocError>
         ensures ok { OnOk result (AllByRecursion (λ expiry. moment < expiry.time) self.new.waiting) }
+        ensures kept { self.new.kept ≡ self.old.kept }
         ensures same { HasSameExpiries self.new self.old }
     {
         while self.is_due(moment) {
@@ -207,6 +245,9 @@ impl ExpiryQueue {
         ensures room { IfSome result (λ expiry. 0 < self.new.room) }
         ensures none { IfNone result (HasSameExpiries self.new self.old) }
     {
+        if !self.is_kept {
+            return None;
+        }
         match self.waiting.reserve(1) {
             Ok(()) => {
                 let last = self.due.pop();
@@ -232,7 +273,7 @@ impl ExpiryQueue {
         ensures { result ≡ true → (key : KeyOf) (time : ℕ) → is_by key time expiry.now ≡ true → expires_by self.now key time ≡ true }
     {
         match self.due.as_slice().last() {
-            Some(last) => is_before(last, expiry),
+            Some(last) => self.is_kept && is_before(last, expiry),
             None => false,
         }
     }
@@ -263,6 +304,7 @@ impl ExpiryQueue {
     fn move_first(&mut self) -> Result<(), AllocError>
         requires { 0 < length self.old.waiting }
         ensures less { OnOk result (length self.new.waiting < length self.old.waiting) }
+        ensures kept { self.new.kept ≡ self.old.kept }
         ensures same { HasSameExpiries self.new self.old }
     {
         self.due.reserve(1)?;

@@ -16,5 +16,5 @@ invariant_of-self c =
     let held : hashed_entries c.held.result.now.entries ≡ entries = c.held.ensures ∙ ap (λ (map : EntriesOf). map.entries) c.map-map.ensures in
     queued_store c.self.inside.stale entries c.self.inside.queue c.of.result c.self.invariant
     (all_queued c.self.inside.stale entries c.of.result
-    (λ key time. c.of.ensures key time ∙ (ap (λ (expiries : List Expiry). list_any (is_by key time) expiries) c.in-Ok.ensures
+    (λ key time. c.of.ensures.expiries key time ∙ (ap (λ (expiries : List Expiry). list_any (is_by key time) expiries) c.in-Ok.ensures
     ∙ ap (λ (es : List Entry). list_any (is_by key time) (expiries_of c.self.inside.stale es)) held)))
