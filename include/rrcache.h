@@ -939,8 +939,10 @@ rrcache_ask_alias(struct rrcache_shelf *shelf, const struct rrcache_query *query
 }
 
 /* Removes the keys that can answer no more at a moment, which is one event, and tells how many they
-   were. A key by which a name does not exist keeps an older set of the name from being told as
-   stale, also after its own time; once it is removed, that set may be told again. */
+   were. The first sweep of a shelf looks at all its keys, a later one at those that may have
+   expired since. Who leaves the shelf to evictions need not sweep. A key by which a name does not
+   exist keeps an older set of the name from being told as stale, also after its own time; once it
+   is removed, that set may be told again. */
 static inline enum rrcache_status rrcache_sweep(struct rrcache_shelf *shelf, uint64_t moment,
                                                 uint64_t line, uint64_t *removed)
 {
@@ -950,8 +952,8 @@ static inline enum rrcache_status rrcache_sweep(struct rrcache_shelf *shelf, uin
 }
 
 /* Tells a moment before which no key of the shelf is fully expired, so that no sweep before it
-   removes one; a sweep at it may remove none. It is 2^64 - 1 where the shelf holds no key. No event
-   is written. */
+   removes one; a sweep at it may remove none. Before the first sweep it is the soonest of all keys
+   that were kept. It is 2^64 - 1 where the shelf holds no key. No event is written. */
 static inline enum rrcache_status rrcache_next_expiry(struct rrcache_shelf *shelf, uint64_t *moment)
 {
     if (shelf == NULL || moment == NULL || rrcache_holds(shelf, moment, sizeof *moment))
