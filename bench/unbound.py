@@ -7,7 +7,8 @@ build/unbound (apt-get with lists of its own; nothing is installed), builds it (
 libssl-dev and libexpat1-dev), and compiles bench/beside against both. The two run in turn on
 NAMES names with one A record each, in random order, in 64 shards with room for twice the names:
 asks that hit and copy, one name that is always asked, puts that replace, and puts that evict in a
-cache with no room. Each ratio is that of the medians of RUNS runs; ratios count, since machines
+cache with no room. The locks of rrcache's shards are mutexes, and spin locks, as unbound's are, in
+runs of their own. Each ratio is that of the medians of RUNS runs; ratios count, since machines
 differ. `--write` writes them to docs/PERFORMANCE.md.
 """
 import argparse
@@ -75,9 +76,11 @@ def compiled():
         sys.exit("build the library first: bin/build-c")
     unbound = built()
     words = ["cc", "-O2", "-pthread", f"-I{BESIDE}", BESIDE / "work.c"]
-    programs = {it: BUILD / f"beside_{it}" for it in ("rrcache", "unbound")}
-    subprocess.run([*words, "-Wall", "-Wextra", f"-I{TOP / 'include'}", BESIDE / "rrcache.c",
-                    BUILD / "librrcache.a", "-o", programs["rrcache"]], check=True)
+    programs = {it: BUILD / f"beside_{it}" for it in ("rrcache", "spinning", "unbound")}
+    for name, flags in (("rrcache", []), ("spinning", ["-DSPINS"])):
+        subprocess.run([*words, *flags, "-Wall", "-Wextra", f"-I{TOP / 'include'}",
+                        BESIDE / "rrcache.c", BUILD / "librrcache.a", "-o", programs[name]],
+                       check=True)
     subprocess.run([*words, f"-I{unbound}", BESIDE / "unbound.c", unbound / ".libs" / "libunbound.a",
                     "-lssl", "-lcrypto", "-o", programs["unbound"]], check=True)
     return programs
@@ -92,29 +95,30 @@ def run(program, threads, kind, args, preload):
     return took / calls, processor / calls
 
 
-def ratios(programs, threads, kind, args, preload):
+def ratios(programs, which, threads, kind, args, preload):
     """The medians of both, and of rrcache the share of unbound's rate and of its time."""
-    found = {name: [] for name in programs}
+    beside = {"rrcache": programs[which], "unbound": programs["unbound"]}
+    found = {name: [] for name in beside}
     for _ in range(args.runs):
-        for name, program in programs.items():
+        for name, program in beside.items():
             found[name].append(undisturbed(run, program, threads, kind, args, preload))
     took, processor = ({name: statistics.median(it[place] for it in each)
                         for name, each in found.items()} for place in (0, 1))
     rate = took["unbound"] / took["rrcache"]
     time = processor["rrcache"] / processor["unbound"]
-    print(f"{kind}, {threads} threads{', jemalloc' if preload else ''}: "
+    print(f"{which}: {kind}, {threads} threads{', jemalloc' if preload else ''}: "
           f"{processor['rrcache']:.0f} and {processor['unbound']:.0f} ns of processor time a call "
           f"({time:.2f}), rate {rate:.2f} of unbound's", flush=True)
     return time, rate
 
 
-def table(programs, args, preload):
+def table(programs, which, args, preload):
     head = "| What | " + " | ".join(
         f"time, {it} threads | rate, {it} threads" for it in args.threads) + " |"
     lines = [head.replace(" 1 threads", " 1 thread"), "|---|" + "---|---|" * len(args.threads)]
     for kind, title in KINDS.items():
         cells = [f"{time:.2f} | {rate:.2f}" for time, rate in (
-            ratios(programs, threads, kind, args, preload) for threads in args.threads)]
+            ratios(programs, which, threads, kind, args, preload) for threads in args.threads)]
         lines.append(f"| {title} | " + " | ".join(cells) + " |")
     return "\n".join(lines)
 
@@ -129,9 +133,10 @@ def main():
     args = parser.parse_args()
     programs = compiled()
     jemalloc = next(Path("/usr/lib").glob("*/libjemalloc.so.2"), None)
-    tables = {"With glibc's malloc": table(programs, args, None)}
+    tables = {"With mutexes and glibc's malloc": table(programs, "rrcache", args, None),
+              "With spin locks, as unbound's are": table(programs, "spinning", args, None)}
     if jemalloc:
-        tables["With jemalloc"] = table(programs, args, str(jemalloc))
+        tables["With mutexes and jemalloc"] = table(programs, "rrcache", args, str(jemalloc))
     text = textwrap.fill(
         f"Written by `bench/unbound.py --write`: {args.names:,} names with one A record each, 64 "
         f"shards, {args.calls:,} calls a run, medians of {args.runs} runs of each in turn, on "

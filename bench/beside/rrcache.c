@@ -1,30 +1,48 @@
 /* SPDX-License-Identifier: MIT */
 /* rrcache under bench/beside/work.c: 64 shelves, each with a lock, that record no history. A lock
-   is held for a fraction of a microsecond, so who waits for one spins a while first, as unbound's
-   locks have him do. */
+   is a mutex that spins a while before it sleeps; with SPINS defined it is a spin lock, as
+   unbound's are. */
 #define _GNU_SOURCE
 #include <pthread.h>
 
 #include "rrcache.h"
 #include "work.h"
 
+#ifdef SPINS
+typedef pthread_spinlock_t lock;
+#define TAKE pthread_spin_lock
+#define GIVE pthread_spin_unlock
+#else
+typedef pthread_mutex_t lock;
+#define TAKE pthread_mutex_lock
+#define GIVE pthread_mutex_unlock
+#endif
+
 struct shelf {
-    pthread_mutex_t lock;
+    lock lock;
     struct rrcache_shelf cache;
     char apart[64]; /* so that two locks lie on two lines of the processor's cache */
 };
 
 static struct shelf shelves[SHARDS];
 
+static bool make_lock(lock *made)
+{
+#ifdef SPINS
+    return pthread_spin_init(made, PTHREAD_PROCESS_PRIVATE) == 0;
+#else
+    pthread_mutexattr_t spins;
+    return pthread_mutexattr_init(&spins) == 0
+           && pthread_mutexattr_settype(&spins, PTHREAD_MUTEX_ADAPTIVE_NP) == 0
+           && pthread_mutex_init(made, &spins) == 0;
+#endif
+}
+
 void make_cache(size_t sets)
 {
     static const uint8_t seed[16] = {7};
-    pthread_mutexattr_t spins;
-    if (pthread_mutexattr_init(&spins) != 0
-        || pthread_mutexattr_settype(&spins, PTHREAD_MUTEX_ADAPTIVE_NP) != 0)
-        fail("no locks that spin");
     for (struct shelf *shelf = shelves; shelf < shelves + SHARDS; shelf++)
-        if (pthread_mutex_init(&shelf->lock, &spins) != 0
+        if (!make_lock(&shelf->lock)
             || rrcache_make(&shelf->cache, sets / SHARDS, 4096, 0, seed) != RRCACHE_DONE)
             fail("no shelf");
 }
@@ -61,10 +79,10 @@ void put(void *thread, const struct name *name, unsigned turn)
     uint32_t outcome;
     struct shelf *shelf = shelf_of(name);
     (void)thread;
-    pthread_mutex_lock(&shelf->lock);
+    TAKE(&shelf->lock);
     if (rrcache_offer_set(&shelf->cache, &set, 0, &outcome) != RRCACHE_DONE)
         fail("a put was refused");
-    pthread_mutex_unlock(&shelf->lock);
+    GIVE(&shelf->lock);
 }
 
 bool ask(void *thread, const struct name *name)
@@ -81,9 +99,9 @@ bool ask(void *thread, const struct name *name)
     uint8_t buffer[512];
     struct shelf *shelf = shelf_of(name);
     (void)thread;
-    pthread_mutex_lock(&shelf->lock);
+    TAKE(&shelf->lock);
     if (rrcache_ask(&shelf->cache, &query, 0, &told, buffer, sizeof buffer) != RRCACHE_DONE)
         fail("an ask was refused");
-    pthread_mutex_unlock(&shelf->lock);
+    GIVE(&shelf->lock);
     return told.kind == RRCACHE_FRESH;
 }
