@@ -42,7 +42,8 @@ impl Store {
     }
 
     /// The keys of the fully expired entries, some perhaps more than once. It looks at the expiries
-    /// that came since the last time, however many entries there are, but the first time at all.
+    /// that came since the last time, however many entries there are, and the first time at each
+    /// entry.
     pub(crate) fn find_expired(
         &mut self,
         alloc: Global,

@@ -109,12 +109,12 @@ impl Ord for Expiry {
 }
 
 /// Expiries of keys, by time. Until the first sweep none are kept but the soonest time, so that who
-/// never sweeps pays nothing for them. From then on each entry has one that is no later than its own, and there may be
-/// others: of keys that hold nothing any more, and of entries that others replaced. So most puts
-/// change nothing here, and no removal does. A sweep takes out the expiries that came, in the
-/// logarithm of their number each, looks their keys up to see whether what is kept there is fully
-/// expired, and puts one back of each key that holds something still: it pays for what it removes,
-/// and once for each put that queued or outlived an expiry.
+/// never sweeps pays nothing for them. From then on each entry has one that is no later than its
+/// own, and there may be others: of keys that hold nothing any more, and of entries that others
+/// replaced. So most puts change nothing here, and no removal does. A sweep takes out the expiries
+/// that came, in the logarithm of their number each, looks their keys up to see whether what is
+/// kept there is fully expired, and puts one back of each key that holds something still: it pays
+/// for what it removes, and once for each put that queued or outlived an expiry.
 ///
 /// Contracts see whether expiries are kept, the soonest of those that came before they were, those
 /// that wait for their time, those that a sweep found due, and for how many more there is room.
