@@ -4,15 +4,13 @@
 
 use crate::inputs::{PickedAsk, PickedOffer, put_tenth};
 use crate::numbers::Numbers;
+use crate::part::{CachePart, TAG, is_answer};
 use crate::task::Kind;
-use rrc_cache::{Part, Refusal, ReplyRef, recheck};
-use rrc_history::{Event, Outcome, Reply, Tag, audit};
+use rrc_cache::{Part, Refusal, recheck};
+use rrc_history::{Event, Outcome, Reply, audit};
 use rrc_share::{Shelf, on_shelf_ask, on_shelf_checkpoint};
 use std::alloc::Global;
 use std::time::{CpuClock, Duration};
-
-/// The tag of each event, which tells nothing here.
-pub const TAG: Tag = Tag { line: 0, place: 0 };
 
 /// After how many asks a shelf's chapter is closed and let go.
 const ASKS_OF_A_CHAPTER: u32 = 4096;
@@ -68,25 +66,28 @@ fn since<R: CpuClock>(rt: &R, before: Option<Duration>) -> Option<Duration> {
 /// Whether a reply is an answer. `None` where the ask was refused.
 pub fn answered(reply: Result<Reply, Refusal>) -> Option<bool> {
     match reply {
-        Ok(reply) => Some(!matches!(reply, Reply::Miss { .. })),
+        Ok(reply) => Some(is_answer(&reply)),
         Err(_) => None,
     }
 }
 
 /// Whether a part answers a question, would answer it, or has room for the event.
-fn is_hit(kind: Kind, parts: &mut [Part], picked: &PickedAsk) -> Option<bool> {
+fn is_hit(kind: Kind, parts: &mut [CachePart], picked: &PickedAsk) -> Option<bool> {
     let part = parts.get_mut(picked.part)?;
     match kind {
         Kind::Room => Some(part.has_room()),
-        Kind::Would => Some(!matches!(
-            part.would_answer(picked.ask.as_ref()),
-            ReplyRef::Miss { .. }
-        )),
-        _ => answered(part.ask(TAG, &picked.ask)),
+        Kind::Would => Some(part.would_answer(&picked.ask)),
+        Kind::Ask => part.ask(&picked.ask),
+        _ => part.lend(&picked.ask),
     }
 }
 
-pub fn ask_all<R: CpuClock>(rt: &R, kind: Kind, parts: &mut [Part], asks: &[PickedAsk]) -> Done {
+pub fn ask_all<R: CpuClock>(
+    rt: &R,
+    kind: Kind,
+    parts: &mut [CachePart],
+    asks: &[PickedAsk],
+) -> Done {
     let mut counts = NONE;
     let before = clock(rt);
     for picked in asks {
@@ -121,14 +122,14 @@ pub fn ask_shelf<R: CpuClock>(rt: &R, shelf: &mut Shelf, asks: &[PickedAsk], cal
 }
 
 /// Whether a part keeps an offer.
-fn is_kept(parts: &mut [Part], picked: PickedOffer) -> bool {
+fn is_kept(parts: &mut [CachePart], picked: PickedOffer) -> bool {
     match parts.get_mut(picked.part) {
-        Some(part) => matches!(part.offer(TAG, picked.offer), Ok(Outcome::Kept)),
+        Some(part) => matches!(part.offer(picked.offer), Some(Outcome::Kept)),
         None => false,
     }
 }
 
-pub fn offer_all<R: CpuClock>(rt: &R, parts: &mut [Part], offers: Vec<PickedOffer>) -> Done {
+pub fn offer_all<R: CpuClock>(rt: &R, parts: &mut [CachePart], offers: Vec<PickedOffer>) -> Done {
     let mut counts = NONE;
     let before = clock(rt);
     for picked in offers {
@@ -136,7 +137,9 @@ pub fn offer_all<R: CpuClock>(rt: &R, parts: &mut [Part], offers: Vec<PickedOffe
     }
     let time = since(rt, before);
     for part in parts.iter() {
-        counts.evicted = counts.evicted.wrapping_add(evicted_in(part.events()));
+        if let Some(part) = part.recorded() {
+            counts.evicted = counts.evicted.wrapping_add(evicted_in(part.events()));
+        }
     }
     Done { counts, time }
 }
@@ -158,8 +161,8 @@ fn evicted_in(events: &[Event]) -> u64 {
 }
 
 /// Sweeps the only part, and answers how many keys that removed.
-fn sweep(parts: &mut [Part], moment: u64) -> Option<usize> {
-    parts.first_mut()?.sweep(TAG, moment).ok()
+fn sweep(parts: &mut [CachePart], moment: u64) -> Option<usize> {
+    parts.first_mut()?.sweep(moment)
 }
 
 /// So often puts a tenth of the part's keys for one second, and sweeps when they are dead. The time
@@ -167,7 +170,7 @@ fn sweep(parts: &mut [Part], moment: u64) -> Option<usize> {
 pub fn sweep_all<R: CpuClock>(
     rt: &R,
     alloc: Global,
-    parts: &mut [Part],
+    parts: &mut [CachePart],
     keys: u32,
     calls: u32,
 ) -> Option<Done> {
@@ -210,8 +213,13 @@ fn is_legal(alloc: Global, kind: Kind, part: &Part) -> bool {
 }
 
 /// Finds the only part's history legal.
-pub fn audit_all<R: CpuClock>(rt: &R, alloc: Global, kind: Kind, parts: &[Part]) -> Option<Done> {
-    let part = parts.first()?;
+pub fn audit_all<R: CpuClock>(
+    rt: &R,
+    alloc: Global,
+    kind: Kind,
+    parts: &[CachePart],
+) -> Option<Done> {
+    let part = parts.first()?.recorded()?;
     let before = clock(rt);
     if !is_legal(alloc, kind, part) {
         return None;

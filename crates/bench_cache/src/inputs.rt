@@ -2,12 +2,12 @@
 // What is asked and offered, each made before the time is taken, for the addresses of
 // `www{n % 7}.zone{n}.example.` for numbers n. `None` is that memory was refused, or a call.
 
-use crate::calls::{TAG, answered};
 use crate::numbers::Numbers;
+use crate::part::CachePart;
 use crate::task::Task;
-use rrc_cache::Part;
 use rrc_history::{Ask, Body, Mode, Offer, Purpose, Rules, Trust};
 use rrc_name::{Key, Name, Octets, RdataList, Shared, Slot};
+use rrc_share::Recording;
 use std::alloc::Global;
 
 /// How many events the chapter has room for.
@@ -135,26 +135,32 @@ pub fn add_each(alloc: Global, below: u32, parts: u32, asks: &mut Vec<PickedAsk>
 }
 
 /// Adds parts that hold nothing, and have room for so many keys each.
-pub fn add_parts(alloc: Global, count: u32, keys: u32, parts: &mut Vec<Part>) -> Option<()> {
+pub fn add_parts(
+    alloc: Global,
+    count: u32,
+    keys: u32,
+    recording: Recording,
+    parts: &mut Vec<CachePart>,
+) -> Option<()> {
     let rules = Rules::new(u64::from(keys), CHAPTER, 0)?;
     for _ in 0..count {
-        let part = Part::new(alloc, rules).ok()?;
+        let part = CachePart::new(alloc, rules, recording)?;
         parts.push(part).ok()?;
     }
     Some(())
 }
 
 /// Puts the address of a number into its part.
-fn put(alloc: Global, parts: &mut [Part], number: u64, moment: u64, ttl: u32) -> Option<()> {
+fn put(alloc: Global, parts: &mut [CachePart], number: u64, moment: u64, ttl: u32) -> Option<()> {
     let count = parts.len() as u64;
     let part = parts.get_mut(part_of(number, count))?;
     let offer = numbered(alloc, number, moment, ttl)?;
-    part.offer(TAG, offer).ok()?;
+    part.offer(offer)?;
     Some(())
 }
 
 /// Puts the addresses of the numbers below one.
-pub fn fill(alloc: Global, parts: &mut [Part], below: u64) -> Option<()> {
+pub fn fill(alloc: Global, parts: &mut [CachePart], below: u64) -> Option<()> {
     for number in 0..below {
         put(alloc, parts, number, 0, TTL)?;
     }
@@ -162,7 +168,7 @@ pub fn fill(alloc: Global, parts: &mut [Part], below: u64) -> Option<()> {
 }
 
 /// Puts each tenth of the only part's keys for one second.
-pub fn put_tenth(alloc: Global, parts: &mut [Part], keys: u32, moment: u64) -> Option<()> {
+pub fn put_tenth(alloc: Global, parts: &mut [CachePart], keys: u32, moment: u64) -> Option<()> {
     for tenth in 0..keys / 10 {
         put(alloc, parts, u64::from(tenth) * 10, moment, 1)?;
     }
@@ -170,15 +176,15 @@ pub fn put_tenth(alloc: Global, parts: &mut [Part], keys: u32, moment: u64) -> O
 }
 
 /// Asks the only part for the address of a number.
-fn ask_for(alloc: Global, parts: &mut [Part], number: u64) -> Option<bool> {
+fn ask_for(alloc: Global, parts: &mut [CachePart], number: u64) -> Option<bool> {
     let part = parts.first_mut()?;
     let ask = ask(alloc, number)?;
-    answered(part.ask(TAG, &ask))
+    part.ask(&ask)
 }
 
 /// So many events in the only part, of as many keys as it may hold and half as many more: a put,
 /// then two asks, by turns.
-pub fn write(alloc: Global, parts: &mut [Part], keys: u32, events: u32) -> Option<()> {
+pub fn write(alloc: Global, parts: &mut [CachePart], keys: u32, events: u32) -> Option<()> {
     let mut numbers = Numbers::of(0);
     let names = u64::from(keys) + u64::from(keys / 2);
     for place in 0..events {

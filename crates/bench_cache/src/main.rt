@@ -1,31 +1,36 @@
 // SPDX-License-Identifier: MIT
 //! Calls parts of the cache many times and prints what it counted, and on standard error the
 //! nanoseconds of processor time that the calls took, for a script that compares: `bench_cache TASK
-//! KEYS CALLS [PARTS]`, where TASK is `hit`, `shelf`, `miss`, `would`, `room`, `replace`, `evict`,
-//! `sweep`, `load`, `audit` or `recheck`. KEYS is how many each part holds. A call of `shelf` is an
-//! ask of a shelf that lets a chapter go after each 4,096; of `sweep`, one of one part, after a
-//! tenth of its keys died; of `load`, one load from a random place of 8 MiB. `audit` and `recheck`
-//! find each once that the history of CALLS puts and asks of a part that may hold KEYS keys is
-//! legal.
+//! KEYS CALLS [PARTS]`, where TASK is `hit`, `ask`, `shelf`, `miss`, `would`, `room`, `replace`,
+//! `evict`, `sweep`, `load`, `audit` or `recheck`. KEYS is how many each part holds. A call of
+//! `ask` is one that hits, whose reply the caller owns; of `shelf`, an ask of a shelf that lets a
+//! chapter go after each 4,096; of `sweep`, one of one part, after a tenth of its keys expired; of
+//! `load`, one load from a random place of 8 MiB. `audit` and `recheck` find each once that the
+//! history of CALLS puts and asks of a part that may hold KEYS keys is legal.
 //!
 //! `bench_cache shared TASK THREADS PARTS CALLS` calls a shared cache by several threads at once,
 //! each of which makes CALLS, and prints on standard error the nanoseconds that passed. TASK is
 //! `hit`, which asks for names that are held, `put`, which replaces what is held, `mix`, which is
 //! nine asks to one put, `hot`, which asks for one name alone, or `lent`, which is `hit` by one
 //! thread on parts with no lock. Without arguments it does a few of each.
+//!
+//! With `lean` before these words the parts record nothing: then `hit` and `miss` are asks in two
+//! halves, which take no memory, what is evicted is not counted, and there is no `shelf`, no
+//! `audit` and no `recheck`.
 #![tactic(auto)]
 
 mod calls;
 mod inputs;
 mod numbers;
+mod part;
 mod shared;
 mod task;
 
 use crate::calls::{Counts, Done, ask_all, ask_shelf, audit_all, load_all, offer_all, sweep_all};
 use crate::inputs::{PickedAsk, add_asks, add_each, add_offers, add_parts, fill, places, write};
+use crate::part::CachePart;
 use crate::task::{KINDS, Kind, Task, kind_of};
-use rrc_cache::Part;
-use rrc_share::Shelf;
+use rrc_share::{Recording, Shelf};
 use std::alloc::Global;
 use std::env;
 use std::rt::Env;
@@ -34,9 +39,9 @@ use std::thread::Threads;
 use std::time::{Clock, CpuClock};
 
 const FAILED: &str =
-    "it takes TASK KEYS CALLS [PARTS] or shared TASK THREADS PARTS CALLS, or memory was refused";
+    "it takes [lean] TASK KEYS CALLS [PARTS] or [lean] shared TASK THREADS PARTS CALLS, or memory was refused";
 
-fn asked<R: CpuClock>(rt: &R, alloc: Global, task: &Task<'_>, parts: &mut [Part]) -> Option<Done> {
+fn asked<R: CpuClock>(rt: &R, alloc: Global, task: &Task<'_>, parts: &mut [CachePart]) -> Option<Done> {
     let mut asks = Vec::new(alloc);
     add_asks(alloc, task, &mut asks)?;
     Some(ask_all(rt, task.kind, parts, asks.as_slice()))
@@ -47,10 +52,12 @@ fn on_shelf<R: CpuClock>(
     rt: &R,
     alloc: Global,
     asks: &[PickedAsk],
-    parts: &mut Vec<Part>,
+    parts: &mut Vec<CachePart>,
     calls: u32,
 ) -> Option<Done> {
-    let part = parts.pop()?;
+    let CachePart::Recording(part) = parts.pop()? else {
+        return None;
+    };
     let mut shelf = Shelf::new(alloc, part);
     Some(ask_shelf(rt, &mut shelf, asks, calls))
 }
@@ -59,7 +66,7 @@ fn shelved<R: CpuClock>(
     rt: &R,
     alloc: Global,
     task: &Task<'_>,
-    parts: &mut Vec<Part>,
+    parts: &mut Vec<CachePart>,
 ) -> Option<Done> {
     let mut asks = Vec::new(alloc);
     add_each(alloc, task.keys, 1, &mut asks)?;
@@ -71,7 +78,7 @@ fn offered<R: CpuClock>(
     rt: &R,
     alloc: Global,
     task: &Task<'_>,
-    parts: &mut [Part],
+    parts: &mut [CachePart],
 ) -> Option<Done> {
     let mut offers = Vec::new(alloc);
     add_offers(alloc, task, &mut offers)?;
@@ -83,9 +90,15 @@ fn on_parts<R: CpuClock>(
     rt: &R,
     alloc: Global,
     task: &Task<'_>,
-    parts: &mut Vec<Part>,
+    parts: &mut Vec<CachePart>,
 ) -> Option<Done> {
-    add_parts(alloc, task.parts_called(), task.keys, parts)?;
+    add_parts(
+        alloc,
+        task.parts_called(),
+        task.keys,
+        task.recording,
+        parts,
+    )?;
     match task.kind {
         Kind::Audit | Kind::Recheck => write(alloc, parts.as_mut_slice(), task.keys, task.calls)?,
         _ => fill(alloc, parts.as_mut_slice(), task.held())?,
@@ -147,6 +160,7 @@ where
         let task = Task {
             name,
             kind,
+            recording: Recording::On,
             keys: 16,
             threads: 2,
             parts: 2,
@@ -171,33 +185,43 @@ fn number(words: &[String], place: usize) -> Option<u32> {
 }
 
 /// The task of the words `TASK KEYS CALLS [PARTS]`.
-fn lone_task(words: &[String]) -> Option<Task<'_>> {
-    let name = word(words, 1);
+fn lone_task(words: &[String], recording: Recording) -> Option<Task<'_>> {
+    let name = word(words, 0);
     Some(Task {
         name,
         kind: kind_of(name, false)?,
-        keys: number(words, 2)?,
+        recording,
+        keys: number(words, 1)?,
         threads: 1,
-        parts: if words.len() > 4 {
-            number(words, 4)?
+        parts: if words.len() > 3 {
+            number(words, 3)?
         } else {
             1
         },
-        calls: number(words, 3)?,
+        calls: number(words, 2)?,
     })
 }
 
 /// The task of the words `shared TASK THREADS PARTS CALLS`.
-fn shared_task(words: &[String]) -> Option<Task<'_>> {
-    let name = word(words, 2);
+fn shared_task(words: &[String], recording: Recording) -> Option<Task<'_>> {
+    let name = word(words, 1);
     Some(Task {
         name,
         kind: kind_of(name, true)?,
+        recording,
         keys: 0,
-        threads: number(words, 3)?,
-        parts: number(words, 4)?,
-        calls: number(words, 5)?,
+        threads: number(words, 2)?,
+        parts: number(words, 3)?,
+        calls: number(words, 4)?,
     })
+}
+
+/// The task of the words behind the program's name and `lean`.
+fn task_of(words: &[String], recording: Recording) -> Option<Task<'_>> {
+    match word(words, 0) {
+        "shared" => shared_task(words, recording),
+        _ => lone_task(words, recording),
+    }
 }
 
 /// Does what the words tell.
@@ -207,8 +231,8 @@ where
 {
     match word(words, 1) {
         "" => report_each(rt),
-        "shared" => report(rt, &shared_task(words)?),
-        _ => report(rt, &lone_task(words)?),
+        "lean" => report(rt, &task_of(words.get(2..)?, Recording::Off)?),
+        _ => report(rt, &task_of(words.get(1..)?, Recording::On)?),
     }
 }
 

@@ -1,13 +1,13 @@
 // SPDX-License-Identifier: MIT
 // Calls a shared cache by several threads at once, or parts that no lock guards by one.
 
-use crate::calls::{Counts, Done, NONE, TAG, answered};
+use crate::calls::{Counts, Done, NONE, answered};
 use crate::inputs::{CHAPTER, PickedAsk, TTL, add_each, add_parts, fill, numbered, offer};
 use crate::numbers::Numbers;
+use crate::part::{CachePart, TAG};
 use crate::task::{Kind, NAMES, Task};
-use rrc_cache::Part;
 use rrc_history::{Offer, Outcome, Rules};
-use rrc_share::{Recording, SharedCache};
+use rrc_share::SharedCache;
 use std::alloc::Global;
 use std::sync::Wait;
 use std::thread::{Threads, map_vec};
@@ -40,15 +40,15 @@ fn call_all<R: Wait>(rt: &R, cache: &SharedCache, turns: Vec<Turn<'_>>) -> u64 {
 }
 
 /// Asks a part that no lock guards, and answers whether it got an answer.
-fn is_hit(parts: &mut [Part], picked: &PickedAsk) -> bool {
+fn is_hit(parts: &mut [CachePart], picked: &PickedAsk) -> bool {
     match parts.get_mut(picked.part) {
-        Some(part) => answered(part.ask(TAG, &picked.ask)).unwrap_or(false),
+        Some(part) => part.ask(&picked.ask).unwrap_or(false),
         None => false,
     }
 }
 
 /// Makes the asks on parts that no lock guards, and answers how many got an answer.
-fn call_lent(parts: &mut [Part], turns: &[Turn<'_>]) -> u64 {
+fn call_lent(parts: &mut [CachePart], turns: &[Turn<'_>]) -> u64 {
     let mut served = 0_u64;
     for turn in turns {
         if let Turn::Ask(picked) = turn {
@@ -178,7 +178,7 @@ fn shared<R: Threads + Wait + Sync + Clock>(
         return None;
     }
     let rules = Rules::new(u64::from(NAMES), CHAPTER, 0)?;
-    let cache = SharedCache::new(alloc, task.parts as usize, rules, Recording::On).ok()?;
+    let cache = SharedCache::new(alloc, task.parts as usize, rules, task.recording).ok()?;
     on_cache(rt, alloc, task, asks, &cache)
 }
 
@@ -188,9 +188,9 @@ fn on_lent<R: Clock>(
     alloc: Global,
     task: &Task<'_>,
     turns: &[Turn<'_>],
-    parts: &mut Vec<Part>,
+    parts: &mut Vec<CachePart>,
 ) -> Option<Done> {
-    add_parts(alloc, task.parts, NAMES, parts)?;
+    add_parts(alloc, task.parts, NAMES, task.recording, parts)?;
     fill(alloc, parts.as_mut_slice(), u64::from(NAMES))?;
     let before = Instant::now(rt).ok()?;
     let served = call_lent(parts.as_mut_slice(), turns);

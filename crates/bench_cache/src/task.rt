@@ -2,6 +2,7 @@
 // What is called, and how often.
 
 use crate::numbers::Numbers;
+use rrc_share::Recording;
 
 /// How many names a shared cache holds an address of.
 pub const NAMES: u32 = 65_536;
@@ -10,6 +11,7 @@ pub const NAMES: u32 = 65_536;
 #[derive(Clone, Copy)]
 pub enum Kind {
     Hit,
+    Ask,
     Shelf,
     Miss,
     Would,
@@ -34,8 +36,9 @@ impl Kind {
 }
 
 /// Each kind by its name, and how often it is called where no argument tells.
-pub static KINDS: [(&str, Kind, u32); 16] = [
+pub static KINDS: [(&str, Kind, u32); 17] = [
     ("hit", Kind::Hit, 1000),
+    ("ask", Kind::Ask, 1000),
     ("shelf", Kind::Shelf, 1000),
     ("miss", Kind::Miss, 1000),
     ("would", Kind::Would, 1000),
@@ -68,6 +71,8 @@ pub fn kind_of(wanted: &str, is_shared: bool) -> Option<Kind> {
 pub struct Task<'a> {
     pub name: &'a str,
     pub kind: Kind,
+    /// Whether the parts record their histories.
+    pub recording: Recording,
     pub keys: u32,
     pub threads: u32,
     pub parts: u32,
