@@ -18,7 +18,7 @@ enum outcome {
     IS_NEGATIVE, /* that the name, or its data of the type, do not exist */
     IS_STALE,
     IS_MISSING, /* nothing: it is to be asked for upstream */
-    HAS_FAILED, /* nothing, and asking for it has lately failed */
+    HAS_FAILED, /* nothing, and asking for it has failed recently */
     IS_REFUSED  /* nothing that can be told: aliases with no end, or too large a set */
 };
 

@@ -165,8 +165,8 @@ fn sweep(parts: &mut [CachePart], moment: u64) -> Option<usize> {
     parts.first_mut()?.sweep(moment)
 }
 
-/// So often puts a tenth of the part's keys for one second, and sweeps when they are dead. The time
-/// is that of the sweeps.
+/// So often puts a tenth of the part's keys for one second, and sweeps when they are fully expired.
+/// The time is that of the sweeps.
 pub fn sweep_all<R: CpuClock>(
     rt: &R,
     alloc: Global,

@@ -19,7 +19,7 @@ use Rattle.rrc_c.specs.declared.reply_record.ReplyRecord.{ReplyRecord}
 abbrev pub purpose_of : ℕ → Purpose
 purpose_of number = if number == 0 then Any else Answer
 
--- the mode of a number: 0 nothing stale, 1 stale where asking has lately failed, 2 stale at once
+-- the mode of a number: 0 nothing stale, 1 stale where asking has failed recently, 2 stale at once
 abbrev pub mode_of : ℕ → Mode
 mode_of number = if number == 0 then NoStale else (if number == 1 then Failed else Now)
 

@@ -1,7 +1,7 @@
 -- SPDX-License-Identifier: MIT
 -- What C is told of octets, and of what a shelf holds.
 use Rattle.std.specs.Prelude.{◌≡◌, ℕ, ◌⊎◌, List}
-use Rattle.rrc_cache.specs.Expiry.{NoneDiesBefore}
+use Rattle.rrc_cache.specs.Expiry.{NoneFullyExpiresBefore}
 use Rattle.rrc_cache.specs.Sizes.{HoldsKeys, HoldsOctets}
 use Rattle.rrc_share.specs.CacheShelf.{CacheShelfOf, lean_shelf}
 use Rattle.rrc_wire.specs.Fault.{number_of}
@@ -37,10 +37,10 @@ pub record TellsSizes (keys events chapters octets : ℕ) (old new : CacheShelfO
   pub chapters_are : chapters ≡ recorded_chapters old.records old.shelf
   pub octets_are : HoldsOctets old.shelf.part octets
 
--- no key of the shelf is dead before a moment
+-- no key of the shelf is fully expired before a moment
 pub record TellsExpiry (moment : ℕ) (old new : CacheShelfOf) : Type 0 where
   pub kept : new ≡ old
-  pub before : NoneDiesBefore old.shelf.part moment
+  pub before : NoneFullyExpiresBefore old.shelf.part moment
 
 -- the closed chapters were dropped, and as many of them are told, of which there are none where
 -- nothing is recorded

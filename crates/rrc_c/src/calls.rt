@@ -300,7 +300,7 @@ pub extern "C" fn rrc_offer_failure(
     number_of_u32(done, outcome)
 }
 
-/// Removes the keys that are dead at a moment, which is one event, and tells how many.
+/// Removes the keys that are fully expired at a moment, which is one event, and tells how many.
 #[unsafe(no_mangle)]
 pub extern "C" fn rrc_sweep(
     alloc: Global,
@@ -374,8 +374,8 @@ pub extern "C" fn rrc_drop_chapters(alloc: Global, handle: &mut Handle, dropped:
     0
 }
 
-/// Tells a moment before which no key of a shelf is dead: the earliest at which a sweep may remove one, or 2^64 - 1 where the shelf
-/// holds no key.
+/// Tells a moment before which no key of a shelf is fully expired: the earliest at which a sweep
+/// may remove one, or 2^64 - 1 where the shelf holds no key.
 #[unsafe(no_mangle)]
 pub extern "C" fn rrc_next_expiry(alloc: Global, handle: &mut Handle, moment: &mut u64) -> u32
     ensures none { TellsNone handle.old.seal.shelf result }

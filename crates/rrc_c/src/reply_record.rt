@@ -12,7 +12,8 @@ use std::slice;
 #[repr(C)]
 #[derive(Clone, Copy, Debug)]
 pub struct ReplyRecord {
-    /// 1 fresh, 2 stale, 3 no data, 4 no such name, 5 nothing, 6 nothing since asking has lately failed.
+    /// 1 fresh, 2 stale, 3 no data, 4 no such name, 5 nothing, 6 nothing since asking has failed
+    /// recently.
     pub kind: u32,
     /// For how many seconds the reply holds.
     pub left: u32,

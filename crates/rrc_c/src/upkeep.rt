@@ -1,6 +1,6 @@
 // SPDX-License-Identifier: MIT
 ghost use Rattle.std.specs.Prelude.{◌≡◌, ◌≤◌, ◌<◌, true, false, IfOk, IfErr, OnOk, OnErr};
-ghost use Rattle.rrc_cache.specs.Expiry.{NoneDiesBefore};
+ghost use Rattle.rrc_cache.specs.Expiry.{NoneFullyExpiresBefore};
 ghost use Rattle.rrc_c.specs.Bounds.{AreBounded};
 ghost use Rattle.rrc_c.specs.Fed.{AreBoundedAtAnySize, FedAreBounded};
 ghost use Rattle.rrc_c.specs.Upkeep.{DropsChapters, TellsFault};
@@ -93,9 +93,9 @@ pub(crate) fn drop_chapters(shelf: &mut CacheShelf) -> u64
     dropped
 }
 
-/// A moment before which no key of a shelf is dead.
+/// A moment before which no key of a shelf is fully expired.
 pub(crate) fn expiry_of(shelf: &CacheShelf) -> u64
-    ensures { NoneDiesBefore shelf.now.shelf.part result }
+    ensures { NoneFullyExpiresBefore shelf.now.shelf.part result }
 {
     match shelf.next_expiry() {
         Some(moment) => moment,

@@ -17,7 +17,7 @@ use Rattle.rrc_history.specs.Right.{IsRight, is_swept}
 use Rattle.rrc_history.specs.Entries.{staying, goes, AreApart, living}
 use Rattle.rrc_history.specs.lemmas.OfferLaws.{length-staying_le}
 use Rattle.rrc_history.specs.lemmas.Apart.{falls_apart}
-use Rattle.rrc_history.specs.lemmas.SweepLaws.{keys_of_dead-found, living-staying, sweep_contents}
+use Rattle.rrc_history.specs.lemmas.SweepLaws.{fully_expired_keys-found, living-staying, sweep_contents}
 use Rattle.rrc_history.specs.Lives.{LAST_MOMENT}
 use Rattle.rrc_cache.specs.Calls.{Leaves}
 use Rattle.rrc_cache.specs.Taken.{AreExpiredKeys}
@@ -85,13 +85,13 @@ sweep_leaves snapshot past entries tag moment gone kept leaves below timely expi
     let stale : ℕ = snapshot.rules.stale in
     let out : KeyOf → Bool = λ key. is_among key gone in
     let apart : AreApart entries = falls_apart snapshot past (number_after snapshot past) entries leaves.contents.falling in
-    let listed : (key : KeyOf) → is_among key gone ≡ is_swept stale (entry_at key entries) moment = λ key. expired.expired key ∙ keys_of_dead-found stale moment key entries apart in
+    let listed : (key : KeyOf) → is_among key gone ≡ is_swept stale (entry_at key entries) moment = λ key. expired.expired key ∙ fully_expired_keys-found stale moment key entries apart in
     let right : IsRight snapshot past event = record {
       numbered = below;
       right = record {
         timely = timely;
         sorted = expired.sorted;
-        dead = λ key. listed key ∙ ap (λ found. is_swept stale found moment) (leaves.contents.agree key);
+        expired = λ key. listed key ∙ ap (λ found. is_swept stale found moment) (leaves.contents.agree key);
       };
     } in
     let lives : staying out entries ≡ living stale moment entries = sym (living-staying stale moment out entries apart listed) in

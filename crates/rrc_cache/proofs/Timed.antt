@@ -8,7 +8,7 @@ use Rattle.std.proofs.lemmas.Bool.Decides.{nat_tests}
 use Rattle.rrc_name.specs.Key.{KeyOf, key_eq}
 use Rattle.rrc_name.specs.lemmas.KeyLaws.{key_eq-laws, key_eq-same}
 use Rattle.rrc_history.specs.declared.snapshot.Entry.{Entry}
-use Rattle.rrc_history.specs.Lives.{LAST_MOMENT, is_dead, span}
+use Rattle.rrc_history.specs.Lives.{LAST_MOMENT, is_fully_expired, span}
 use Rattle.rrc_history.specs.Past.{entry_at, is_among}
 use Rattle.rrc_history.specs.Right.{is_swept}
 use Rattle.rrc_history.specs.Entries.{goes, in_front, promoted, staying}
@@ -23,11 +23,11 @@ over_by : (since span moment : ℕ) → (span == 0) ≡ false → moment ≤ 2 ^
 over_by since span moment some timely = grind (arith, nat_tests)
 
 -- an entry is fully expired from its expiry on
-pub expired_from : (stale moment : ℕ) (entry : Entry) → moment ≤ LAST_MOMENT → nat_le (full_expiry_of stale entry) moment ≡ is_dead stale entry moment
+pub expired_from : (stale moment : ℕ) (entry : Entry) → moment ≤ LAST_MOMENT → nat_le (full_expiry_of stale entry) moment ≡ is_fully_expired stale entry moment
 expired_from stale moment entry timely = by (span stale entry.body == 0) refl
   where
     by : (none : Bool) → (span stale entry.body == 0) ≡ none
-        → nat_le (if none then 0 else min (entry.moment + span stale entry.body) (2 ^ 64 - 1)) moment ≡ is_dead stale entry moment
+        → nat_le (if none then 0 else min (entry.moment + span stale entry.body) (2 ^ 64 - 1)) moment ≡ is_fully_expired stale entry moment
     by true is = grind (arith, nat_tests)
     by false is = over_by entry.moment (span stale entry.body) moment is timely
 
@@ -281,12 +281,12 @@ due_swept stale moment entries queue are timely kept waits key = among_expired s
     by : (found : Option Entry) → entry_at key entries ≡ found
         → (is_swept stale (entry_at key entries) moment && list_any (λ expiry. key_eq key expiry.key) queue.due) ≡ is_swept stale (entry_at key entries) moment
     by None is = rw is refl
-    by (Some entry) is = dead (is_dead stale entry moment) refl
+    by (Some entry) is = dead (is_fully_expired stale entry moment) refl
       where
-        swept : is_swept stale (entry_at key entries) moment ≡ is_dead stale entry moment
+        swept : is_swept stale (entry_at key entries) moment ≡ is_fully_expired stale entry moment
         swept = ap (λ f. is_swept stale f moment) is
 
-        dead : (b : Bool) → is_dead stale entry moment ≡ b
+        dead : (b : Bool) → is_fully_expired stale entry moment ≡ b
             → (is_swept stale (entry_at key entries) moment && list_any (λ expiry. key_eq key expiry.key) queue.due) ≡ is_swept stale (entry_at key entries) moment
         dead false at = and_left (is_swept stale (entry_at key entries) moment) (list_any (λ expiry. key_eq key expiry.key) queue.due) (swept ∙ at) ∙ sym (swept ∙ at)
         dead true at =
@@ -342,9 +342,9 @@ module _ (stale : ℕ) (entries : List Entry) (queue : ExpiryQueueOf) (are : Are
     where
       by : (found : Option Entry) → entry_at key entries ≡ found → is_swept stale found moment ≡ false
       by None is = refl
-      by (Some entry) is = dead (is_dead stale entry moment) refl
+      by (Some entry) is = dead (is_fully_expired stale entry moment) refl
         where
-          dead : (b : Bool) → is_dead stale entry moment ≡ b → is_dead stale entry moment ≡ false
+          dead : (b : Bool) → is_fully_expired stale entry moment ≡ b → is_fully_expired stale entry moment ≡ false
           dead false at = at
           dead true at =
               let le : full_expiry_of stale entry ≤ moment = leb-true (full_expiry_of stale entry) moment (expired_from stale moment entry timely ∙ at) in

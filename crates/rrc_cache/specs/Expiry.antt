@@ -12,7 +12,7 @@ abbrev pub HoldsNothing : PartOf → Type 0
 HoldsNothing part = (key : KeyOf) → held part.snapshot (past_of part) key ≡ None
 
 -- nothing that a key holds is fully expired before this moment
-abbrev pub NoneDiesBefore : PartOf → ℕ → Type 0
-NoneDiesBefore part time =
+abbrev pub NoneFullyExpiresBefore : PartOf → ℕ → Type 0
+NoneFullyExpiresBefore part time =
     (key : KeyOf) (moment : ℕ) → moment < time → moment ≤ LAST_MOMENT
     → is_swept part.snapshot.rules.stale (held part.snapshot (past_of part) key) moment ≡ false

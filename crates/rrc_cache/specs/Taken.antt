@@ -12,7 +12,7 @@ use Rattle.rrc_history.specs.Fits.{OfferOf}
 use Rattle.rrc_history.specs.Asked.{AskOf}
 use Rattle.rrc_history.specs.declared.event.Reply.{Reply}
 use Rattle.rrc_history.specs.Auditing.{reply_eq}
-use Rattle.rrc_history.specs.Entries.{found_among, goes, kept_after, keys_of_dead, staying}
+use Rattle.rrc_history.specs.Entries.{found_among, goes, kept_after, fully_expired_keys, staying}
 use Rattle.rrc_history.specs.Judged.{verdict, reply_by, answering, key_in}
 use Rattle.rrc_history.specs.Past.{entry_at, is_among, key_at}
 use Rattle.rrc_history.specs.Right.{evicted_by}
@@ -54,4 +54,4 @@ pub record IsCompared (stale : ℕ) (ask : AskOf) (entries : List Entry) (reply 
 -- the keys of the fully expired entries, in the order of keys
 pub record AreExpiredKeys (stale moment : ℕ) (entries : List Entry) (keys : List KeyOf) : Type 0 where
   pub sorted : IsStrictlySortedBy key_order keys
-  pub expired : (key : KeyOf) → is_among key keys ≡ is_among key (keys_of_dead stale moment entries)
+  pub expired : (key : KeyOf) → is_among key keys ≡ is_among key (fully_expired_keys stale moment entries)

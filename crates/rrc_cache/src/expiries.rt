@@ -4,7 +4,7 @@ ghost use Rattle.std.specs.Prelude.{◌≡◌, ℕ, ◌<◌, ◌≤◌, Some, No
 ghost use Rattle.std.specs.List.{AllByRecursion};
 ghost use Rattle.rrc_name.specs.Key.{KeyOf};
 ghost use Rattle.rrc_name.specs.KeyRef.{key_of};
-ghost use Rattle.rrc_history.specs.Entries.{keys_of_dead};
+ghost use Rattle.rrc_history.specs.Entries.{fully_expired_keys};
 ghost use Rattle.rrc_history.specs.Lives.{LAST_MOMENT};
 ghost use Rattle.rrc_history.specs.Past.{entry_at, is_among};
 ghost use Rattle.rrc_history.specs.Right.{is_swept};
@@ -50,7 +50,7 @@ impl Store {
         moment: u64,
     ) -> Result<Vec<Key>, AllocError>
         requires { moment ≤ LAST_MOMENT }
-        ensures expired { IfOk result (λ keys. (key : KeyOf) → is_among key keys.items ≡ is_among key (keys_of_dead self.old.stale moment self.old.entries)) }
+        ensures expired { IfOk result (λ keys. (key : KeyOf) → is_among key keys.items ≡ is_among key (fully_expired_keys self.old.stale moment self.old.entries)) }
         ensures same { self.new ≡ self.old }
     {
         // The length is read for what it tells: no two entries have the same key.

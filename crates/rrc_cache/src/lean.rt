@@ -50,7 +50,7 @@ impl LeanPart {
     ghost use Rattle.rrc_history.specs.Views.{ask_in, held_in, reply_in};
     ghost use Rattle.rrc_name.specs.KeyRef.{key_of};
     ghost use Rattle.std.specs.Option.{option_map};
-    ghost use Rattle.rrc_cache.specs.Expiry.{HoldsNothing, NoneDiesBefore};
+    ghost use Rattle.rrc_cache.specs.Expiry.{HoldsNothing, NoneFullyExpiresBefore};
     ghost use Rattle.rrc_cache.specs.Lean.{begun_with, IsLeanDue, IsLeanOpen, IsLeanSound, IsPick, IsRestoreDue, Shuts};
     ghost use Rattle.rrc_cache.specs.Part.{past_of, next_number, Adds, IsCloseDue, IsOfMoments, WritesOffer, WritesAsk, WritesSweep};
     ghost use Rattle.rrc_cache.specs.Sizes.{HoldsKeys, HoldsOctets};
@@ -147,7 +147,7 @@ impl LeanPart {
     /// memory.
     pub fn next_expiry(&self) -> Option<u64>
         ensures none { IfNone result (HoldsNothing self.now) }
-        ensures some { IfSome result (λ time. NoneDiesBefore self.now time) }
+        ensures some { IfSome result (λ time. NoneFullyExpiresBefore self.now time) }
     {
         self.store.next_expiry()
     }

@@ -44,7 +44,7 @@ impl Part {
     ghost use Rattle.rrc_cache.specs.Lean.{begun_with, IsRestoreDue};
     ghost use Rattle.rrc_cache.specs.Part.{past_of, Closes, HasRoom, IsCloseDue, IsDue, IsOfMoments, IsSound, WritesOffer, WritesAsk, WritesSweep};
     ghost use Rattle.rrc_cache.specs.Sizes.{HoldsKeys, HoldsOctets};
-    ghost use Rattle.rrc_cache.specs.Expiry.{HoldsNothing, NoneDiesBefore};
+    ghost use Rattle.rrc_cache.specs.Expiry.{HoldsNothing, NoneFullyExpiresBefore};
     ghost use Rattle.rrc_history.specs.Past.{held, reply_to};
     ghost use Rattle.rrc_history.specs.Views.{ask_in, held_in, reply_in};
     ghost use Rattle.rrc_name.specs.KeyRef.{key_of};
@@ -152,7 +152,7 @@ impl Part {
     /// memory.
     pub fn next_expiry(&self) -> Option<u64>
         ensures none { IfNone result (HoldsNothing self.now) }
-        ensures some { IfSome result (λ time. NoneDiesBefore self.now time) }
+        ensures some { IfSome result (λ time. NoneFullyExpiresBefore self.now time) }
     {
         self.lean.next_expiry()
     }

@@ -10,7 +10,7 @@ use rrc_history::{Ask, Event, Offer, Tag};
 pub enum Call {
     Offer(Offer),
     Ask(Ask),
-    /// The dead keys are to be removed, at this moment.
+    /// The fully expired keys are to be removed, at this moment.
     Sweep(u64),
 }
 

@@ -22,7 +22,7 @@ use Rattle.rrc_history.specs.Past.{held, entry_at, is_among, number_after, reply
 use Rattle.rrc_history.specs.Right.{evicted_by, is_swept, IsRightOffer, IsRightAsk, IsRightSweep, IsRightThen, IsRight, IsLegal}
 use Rattle.rrc_history.specs.Entries.{AreApart, kept_after, found_among, answered_from, living}
 use Rattle.rrc_history.specs.Sound.{AreSound}
-use Rattle.rrc_history.specs.Auditing.{is_there, is_rightly_evicted, are_dead, are_in_order, outcome_eq, reply_eq, is_right_offer, is_right_ask, is_right_sweep, is_right_then, is_right, present_after_offer, present_after, AreHeld}
+use Rattle.rrc_history.specs.Auditing.{is_there, is_rightly_evicted, are_fully_expired, are_in_order, outcome_eq, reply_eq, is_right_offer, is_right_ask, is_right_sweep, is_right_then, is_right, present_after_offer, present_after, AreHeld}
 use Rattle.rrc_history.specs.Audits.{IsFirstBad}
 use Rattle.rrc_history.specs.lemmas.Apart.{falls_apart}
 use Rattle.rrc_history.specs.lemmas.OneHistory.{one_contents}
@@ -32,7 +32,7 @@ use Rattle.rrc_history.specs.lemmas.SweepLaws.{sweep_contents}
 use Rattle.rrc_history.specs.lemmas.Openings.{opening}
 use Rattle.rrc_history.specs.lemmas.ReplyLaws.{outcome_eq-Decides, reply_eq-Decides}
 use Rattle.rrc_history.proofs.Evicting.{evicts_Decides}
-use Rattle.rrc_history.proofs.Removing.{in_order_Decides, dead_Decides}
+use Rattle.rrc_history.proofs.Removing.{in_order_Decides, expired_Decides}
 use Rattle.rrc_history.proofs.Walking.{reverse_more, split_at}
 use Rattle.rrc_history.proofs.Counting.{count-offer, count-answered, count-swept}
 
@@ -109,18 +109,18 @@ sweep_Decides : (snapshot : Snapshot) (events : List Event) (moment : ℕ) (gone
 sweep_Decides snapshot events moment gone = (to, from)
   where
     dead : Bool
-    dead = are_dead snapshot (reverse events) events moment gone
+    dead = are_fully_expired snapshot (reverse events) events moment gone
 
     to : is_right_sweep snapshot (reverse events) events moment gone ≡ true → IsRightSweep snapshot (reverse events) moment gone
     to h =
         let a = and_parts (nat_le moment LAST_MOMENT) (are_in_order gone && dead) h in
         let b = and_parts (are_in_order gone) dead a.1 in
-        record { timely = le_by moment LAST_MOMENT a.0; sorted = (in_order_Decides gone).0 b.0; dead = (dead_Decides snapshot events moment gone).0 b.1 }
+        record { timely = le_by moment LAST_MOMENT a.0; sorted = (in_order_Decides gone).0 b.0; expired = (expired_Decides snapshot events moment gone).0 b.1 }
 
     from : IsRightSweep snapshot (reverse events) moment gone → is_right_sweep snapshot (reverse events) events moment gone ≡ true
     from right =
         and_from (nat_le moment LAST_MOMENT) (are_in_order gone && dead) (by_le moment LAST_MOMENT right.timely)
-        (and_from (are_in_order gone) dead ((in_order_Decides gone).1 right.sorted) ((dead_Decides snapshot events moment gone).1 right.dead))
+        (and_from (are_in_order gone) dead ((in_order_Decides gone).1 right.sorted) ((expired_Decides snapshot events moment gone).1 right.expired))
 
 then_Decides : (snapshot : Snapshot) (events : List Event) (present : ℕ) (event : Event) → AreHeld snapshot (reverse events) present
     → Decides (is_right_then snapshot (reverse events) events present event) (IsRightThen snapshot (reverse events) event)
@@ -205,7 +205,7 @@ sweep_held snapshot past present tag moment gone are right = record {
     apart = falls_apart snapshot past (number_after snapshot past) are.entries are.contents.falling
 
     dead : (key : KeyOf) → is_among key gone ≡ is_swept snapshot.rules.stale (entry_at key are.entries) moment
-    dead key = right.dead key ∙ ap (λ (before : Option Entry). is_swept snapshot.rules.stale before moment) (sym (are.contents.agree key))
+    dead key = right.expired key ∙ ap (λ (before : Option Entry). is_swept snapshot.rules.stale before moment) (sym (are.contents.agree key))
 
     count : length (living snapshot.rules.stale moment are.entries) ≡ length are.entries - length gone
     count = count-swept snapshot.rules.stale moment gone are.entries apart right.sorted dead

@@ -13,11 +13,11 @@ use Rattle.rrc_history.specs.declared.event.Outcome.{Outcome}
 use Rattle.rrc_history.specs.declared.event.Outcome.TheVariants.{Kept, Cleared, LessTrusted}
 use Rattle.rrc_history.specs.declared.snapshot.Entry.{Entry}
 use Rattle.rrc_history.specs.Fits.{OfferOf}
-use Rattle.rrc_history.specs.Lives.{is_dead}
+use Rattle.rrc_history.specs.Lives.{is_fully_expired}
 use Rattle.rrc_history.specs.Past.{entry_at, is_among, last_key}
 use Rattle.rrc_history.specs.Right.{evicted_by, is_swept}
-use Rattle.rrc_history.specs.Entries.{LacksKey, AreApart, staying, goes, kept_after, in_front, answered_from, living, keys_of_dead}
-use Rattle.rrc_history.specs.lemmas.SweepLaws.{keys_of_dead-found}
+use Rattle.rrc_history.specs.Entries.{LacksKey, AreApart, staying, goes, kept_after, in_front, answered_from, living, fully_expired_keys}
+use Rattle.rrc_history.specs.lemmas.SweepLaws.{fully_expired_keys-found}
 use Rattle.rrc_history.specs.Auditing.{is_there, present_after_offer}
 use Rattle.rrc_history.proofs.Evicting.{last_there}
 
@@ -122,34 +122,34 @@ count-answered (Some key) entries apart = by (entry_at key entries) refl
         one_goes (goes key None) key entries apart (itself_goes key entries) (there_of (entry_at key entries) entry is) in
         omega (arith, less)
 
--- ---- the dead go
+-- ---- the fully expired go
 
-dead_and_living : (stale moment : ℕ) (entries : List Entry) → length (living stale moment entries) + length (keys_of_dead stale moment entries) ≡ length entries
-dead_and_living stale moment [] = refl
-dead_and_living stale moment (entry ∷ entries) = by (is_dead stale entry moment) refl (dead_and_living stale moment entries)
+expired_and_living : (stale moment : ℕ) (entries : List Entry) → length (living stale moment entries) + length (fully_expired_keys stale moment entries) ≡ length entries
+expired_and_living stale moment [] = refl
+expired_and_living stale moment (entry ∷ entries) = by (is_fully_expired stale entry moment) refl (expired_and_living stale moment entries)
   where
-    by : (dead : Bool) → is_dead stale entry moment ≡ dead → length (living stale moment entries) + length (keys_of_dead stale moment entries) ≡ length entries
-        → length (living stale moment (entry ∷ entries)) + length (keys_of_dead stale moment (entry ∷ entries)) ≡ length (entry ∷ entries)
+    by : (dead : Bool) → is_fully_expired stale entry moment ≡ dead → length (living stale moment entries) + length (fully_expired_keys stale moment entries) ≡ length entries
+        → length (living stale moment (entry ∷ entries)) + length (fully_expired_keys stale moment (entry ∷ entries)) ≡ length (entry ∷ entries)
     by true is rest = rw (is, filter) (omega (arith, rest))
     by false is rest = rw (is, filter) (omega (arith, rest))
 
-lacks_dead : (stale moment : ℕ) (key : KeyOf) (entries : List Entry) → LacksKey key entries → AllByRecursion (λ k. key_eq key k ≡ false) (keys_of_dead stale moment entries)
-lacks_dead stale moment key [] lacks = tt
-lacks_dead stale moment key (entry ∷ entries) lacks = by (is_dead stale entry moment) refl (lacks_dead stale moment key entries lacks.1)
+lacks_expired : (stale moment : ℕ) (key : KeyOf) (entries : List Entry) → LacksKey key entries → AllByRecursion (λ k. key_eq key k ≡ false) (fully_expired_keys stale moment entries)
+lacks_expired stale moment key [] lacks = tt
+lacks_expired stale moment key (entry ∷ entries) lacks = by (is_fully_expired stale entry moment) refl (lacks_expired stale moment key entries lacks.1)
   where
-    by : (dead : Bool) → is_dead stale entry moment ≡ dead → AllByRecursion (λ k. key_eq key k ≡ false) (keys_of_dead stale moment entries)
-        → AllByRecursion (λ k. key_eq key k ≡ false) (keys_of_dead stale moment (entry ∷ entries))
+    by : (dead : Bool) → is_fully_expired stale entry moment ≡ dead → AllByRecursion (λ k. key_eq key k ≡ false) (fully_expired_keys stale moment entries)
+        → AllByRecursion (λ k. key_eq key k ≡ false) (fully_expired_keys stale moment (entry ∷ entries))
     by true is rest = rw (is, filter) (lacks.0, rest)
     by false is rest = rw (is, filter) rest
 
-dead_apart : (stale moment : ℕ) (entries : List Entry) → AreApart entries → IsDistinct key_eq (keys_of_dead stale moment entries)
+expired_apart : (stale moment : ℕ) (entries : List Entry) → AreApart entries → IsDistinct key_eq (fully_expired_keys stale moment entries)
 unfolding IsDistinct
-dead_apart stale moment [] apart = tt
-dead_apart stale moment (entry ∷ entries) apart = by (is_dead stale entry moment) refl (dead_apart stale moment entries apart.1)
+expired_apart stale moment [] apart = tt
+expired_apart stale moment (entry ∷ entries) apart = by (is_fully_expired stale entry moment) refl (expired_apart stale moment entries apart.1)
   where
-    by : (dead : Bool) → is_dead stale entry moment ≡ dead → IsDistinct key_eq (keys_of_dead stale moment entries)
-        → IsDistinct key_eq (keys_of_dead stale moment (entry ∷ entries))
-    by true is rest = rw (is, filter) (lacks_dead stale moment entry.key entries apart.0, rest)
+    by : (dead : Bool) → is_fully_expired stale entry moment ≡ dead → IsDistinct key_eq (fully_expired_keys stale moment entries)
+        → IsDistinct key_eq (fully_expired_keys stale moment (entry ∷ entries))
+    by true is rest = rw (is, filter) (lacks_expired stale moment entry.key entries apart.0, rest)
     by false is rest = rw (is, filter) rest
 
 less_apart : (key : KeyOf) (keys : List KeyOf) → AllByRecursion (λ k. key_order key k ≡ Less) keys → AllByRecursion (λ k. key_eq key k ≡ false) keys
@@ -165,8 +165,8 @@ sorted_apart (key ∷ keys) sorted = (less_apart key keys sorted.0, sorted_apart
 pub count-swept : (stale moment : ℕ) (gone : List KeyOf) (entries : List Entry) → AreApart entries → IsStrictlySortedBy key_order gone
     → ((key : KeyOf) → is_among key gone ≡ is_swept stale (entry_at key entries) moment) → length (living stale moment entries) ≡ length entries - length gone
 count-swept stale moment gone entries apart sorted dead =
-    let same : length gone ≡ length (keys_of_dead stale moment entries) =
-    length-from_same_keys key_eq-laws gone (keys_of_dead stale moment entries) (sorted_apart gone sorted) (dead_apart stale moment entries apart)
-    (λ key. dead key ∙ sym (keys_of_dead-found stale moment key entries apart)) in
-    let all = dead_and_living stale moment entries in
+    let same : length gone ≡ length (fully_expired_keys stale moment entries) =
+    length-from_same_keys key_eq-laws gone (fully_expired_keys stale moment entries) (sorted_apart gone sorted) (expired_apart stale moment entries apart)
+    (λ key. dead key ∙ sym (fully_expired_keys-found stale moment key entries apart)) in
+    let all = expired_and_living stale moment entries in
     omega (arith, same, all)

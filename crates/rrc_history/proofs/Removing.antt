@@ -14,7 +14,7 @@ use Rattle.rrc_history.specs.declared.event.Event.{Event}
 use Rattle.rrc_history.specs.declared.snapshot.Snapshot.{Snapshot}
 use Rattle.rrc_history.specs.Past.{held, is_among}
 use Rattle.rrc_history.specs.Right.{is_swept}
-use Rattle.rrc_history.specs.Auditing.{is_less, are_ordered, are_in_order, is_left_out, are_dead, is_somewhere}
+use Rattle.rrc_history.specs.Auditing.{is_less, are_ordered, are_in_order, is_left_out, are_fully_expired, is_somewhere}
 use Rattle.rrc_history.proofs.Candidates.{nowhere_held, passes_nowhere}
 
 -- ---- order
@@ -48,7 +48,7 @@ unfolding IsStrictlySortedBy
 in_order_Decides [] = (λ h. tt, λ s. refl)
 in_order_Decides (key ∷ keys) = (λ h. ordered_sorted key keys h, λ s. sorted_ordered key keys s.0 s.1)
 
--- ---- the dead
+-- ---- the fully expired
 
 all_among : (test : KeyOf → Bool) (key : KeyOf) (keys : List KeyOf) → list_all test keys ≡ true → is_among key keys ≡ true → test key ≡ true
 all_among test key [] all among = absurd cc
@@ -76,9 +76,9 @@ false_by : (b : Bool) → not b ≡ true → b ≡ false
 false_by true h = absurd cc
 false_by false h = refl
 
-pub dead_Decides : (snapshot : Snapshot) (events : List Event) (moment : ℕ) (gone : List KeyOf)
-    → Decides (are_dead snapshot (reverse events) events moment gone) ((key : KeyOf) → is_among key gone ≡ is_swept snapshot.rules.stale (held snapshot (reverse events) key) moment)
-dead_Decides snapshot events moment gone = (to, from)
+pub expired_Decides : (snapshot : Snapshot) (events : List Event) (moment : ℕ) (gone : List KeyOf)
+    → Decides (are_fully_expired snapshot (reverse events) events moment gone) ((key : KeyOf) → is_among key gone ≡ is_swept snapshot.rules.stale (held snapshot (reverse events) key) moment)
+expired_Decides snapshot events moment gone = (to, from)
   where
     swept : KeyOf → Bool
     swept key = is_swept snapshot.rules.stale (held snapshot (reverse events) key) moment
@@ -86,7 +86,7 @@ dead_Decides snapshot events moment gone = (to, from)
     test : KeyOf → Bool
     test = is_left_out snapshot (reverse events) moment gone
 
-    to : are_dead snapshot (reverse events) events moment gone ≡ true → (key : KeyOf) → is_among key gone ≡ swept key
+    to : are_fully_expired snapshot (reverse events) events moment gone ≡ true → (key : KeyOf) → is_among key gone ≡ swept key
     to h key = by (is_among key gone) refl (swept key) refl
       where
         parts : (list_all swept gone ≡ true) × (not (is_somewhere test snapshot events) ≡ true)
@@ -101,7 +101,7 @@ dead_Decides snapshot events moment gone = (to, from)
             let bad : false ≡ true = sym (ap (λ before. is_swept snapshot.rules.stale before moment) none) ∙ at in
             absurd cc
 
-    from : ((key : KeyOf) → is_among key gone ≡ swept key) → are_dead snapshot (reverse events) events moment gone ≡ true
+    from : ((key : KeyOf) → is_among key gone ≡ swept key) → are_fully_expired snapshot (reverse events) events moment gone ≡ true
     from agree =
         let none : is_somewhere test snapshot events ≡ false = passes_nowhere test snapshot events fails in
         and_from (list_all swept gone) (not (is_somewhere test snapshot events)) (among_all swept gone (λ key among. sym (agree key) ∙ among)) (ap not none)

@@ -87,13 +87,13 @@ abbrev pub is_rightly_evicted : Snapshot → List Event → List Event → ℕ �
 is_rightly_evicted snapshot past events present outcome held evicted =
     if has_to_evict outcome held (present == snapshot.rules.capacity) then is_victim snapshot past events evicted else not (is_there evicted)
 
--- the key is dead, and is not listed
+-- the key is fully expired, and is not listed
 abbrev pub is_left_out : Snapshot → List Event → ℕ → List KeyOf → KeyOf → Bool
 is_left_out snapshot past moment gone key = is_swept snapshot.rules.stale (held snapshot past key) moment && not (is_among key gone)
 
--- each listed key is dead, and no dead one is left out
-abbrev pub are_dead : Snapshot → List Event → List Event → ℕ → List KeyOf → Bool
-are_dead snapshot past events moment gone =
+-- each listed key is fully expired, and no fully expired one is left out
+abbrev pub are_fully_expired : Snapshot → List Event → List Event → ℕ → List KeyOf → Bool
+are_fully_expired snapshot past events moment gone =
     list_all (λ key. is_swept snapshot.rules.stale (held snapshot past key) moment) gone
     && not (is_somewhere (is_left_out snapshot past moment gone) snapshot events)
 
@@ -130,7 +130,7 @@ abbrev pub is_right_ask : Snapshot → List Event → AskOf → Reply → Bool
 is_right_ask snapshot past ask reply = nat_le ask.moment LAST_MOMENT && reply_eq (reply_to snapshot past ask) reply
 
 abbrev pub is_right_sweep : Snapshot → List Event → List Event → ℕ → List KeyOf → Bool
-is_right_sweep snapshot past events moment gone = nat_le moment LAST_MOMENT && (are_in_order gone && are_dead snapshot past events moment gone)
+is_right_sweep snapshot past events moment gone = nat_le moment LAST_MOMENT && (are_in_order gone && are_fully_expired snapshot past events moment gone)
 
 abbrev pub is_right_then : Snapshot → List Event → List Event → ℕ → Event → Bool
 is_right_then snapshot past events present (Offered outcome tag offer evicted) = is_right_offer snapshot past events present offer outcome evicted

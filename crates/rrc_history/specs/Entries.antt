@@ -9,7 +9,7 @@ use Rattle.rrc_history.specs.declared.event.Outcome.TheVariants.{Kept, Cleared, 
 use Rattle.rrc_history.specs.declared.snapshot.Entry.{Entry}
 use Rattle.rrc_history.specs.Asked.{AskOf}
 use Rattle.rrc_history.specs.Fits.{OfferOf}
-use Rattle.rrc_history.specs.Lives.{is_dead}
+use Rattle.rrc_history.specs.Lives.{is_fully_expired}
 use Rattle.rrc_history.specs.Judged.{Found}
 use Rattle.rrc_history.specs.Past.{entry_at, entry_of, key_at, is_evicted}
 
@@ -64,10 +64,10 @@ answered_from (Some key) entries = promoted key entries
 
 -- ---- sweeps
 
--- the entries that are not dead
+-- the entries that are not fully expired
 abbrev pub living : ℕ → ℕ → List Entry → List Entry
-living stale moment entries = filter (λ entry. not (is_dead stale entry moment)) entries
+living stale moment entries = filter (λ entry. not (is_fully_expired stale entry moment)) entries
 
--- the keys of the dead entries, as these stand
-abbrev pub keys_of_dead : ℕ → ℕ → List Entry → List KeyOf
-keys_of_dead stale moment entries = map (λ entry. entry.key) (filter (λ entry. is_dead stale entry moment) entries)
+-- the keys of the fully expired entries, as these stand
+abbrev pub fully_expired_keys : ℕ → ℕ → List Entry → List KeyOf
+fully_expired_keys stale moment entries = map (λ entry. entry.key) (filter (λ entry. is_fully_expired stale entry moment) entries)

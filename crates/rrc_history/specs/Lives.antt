@@ -41,8 +41,8 @@ span stale (Negative trust ttl soa_owner soa) = ttl
 span stale (Failure ttl) = ttl
 
 -- the entry can answer no more
-abbrev pub is_dead : ℕ → Entry → ℕ → Bool
-is_dead stale entry moment = nat_le (span stale entry.body) (age entry moment)
+abbrev pub is_fully_expired : ℕ → Entry → ℕ → Bool
+is_fully_expired stale entry moment = nat_le (span stale entry.body) (age entry moment)
 
 -- no moment is above 2^40 seconds
 abbrev pub LAST_MOMENT : ℕ

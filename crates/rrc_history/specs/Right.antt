@@ -12,7 +12,7 @@ use Rattle.rrc_history.specs.declared.snapshot.Entry.{Entry}
 use Rattle.rrc_history.specs.declared.snapshot.Snapshot.{Snapshot}
 use Rattle.rrc_history.specs.Asked.{AskOf}
 use Rattle.rrc_history.specs.Fits.{OfferOf}
-use Rattle.rrc_history.specs.Lives.{is_dead, LAST_MOMENT}
+use Rattle.rrc_history.specs.Lives.{is_fully_expired, LAST_MOMENT}
 use Rattle.rrc_history.specs.Judged.{verdict}
 use Rattle.rrc_history.specs.Past.{held, reply_to, number_after, AreContents, victim, is_among}
 
@@ -35,16 +35,16 @@ pub record IsRightAsk (snapshot : Snapshot) (past : List Event) (ask : AskOf) (r
   pub timely : ask.moment ≤ LAST_MOMENT
   pub answered : reply ≡ reply_to snapshot past ask
 
--- the key holds something that is dead
+-- the key holds something that is fully expired
 abbrev pub is_swept : ℕ → Option Entry → ℕ → Bool
 is_swept stale None moment = false
-is_swept stale (Some entry) moment = is_dead stale entry moment
+is_swept stale (Some entry) moment = is_fully_expired stale entry moment
 
--- a sweep removed just the dead keys, and lists them in their order
+-- a sweep removed just the fully expired keys, and lists them in their order
 pub record IsRightSweep (snapshot : Snapshot) (past : List Event) (at : ℕ) (gone : List KeyOf) : Type 0 where
   pub timely : at ≤ LAST_MOMENT
   pub sorted : IsStrictlySortedBy key_order gone
-  pub dead : (key : KeyOf) → is_among key gone ≡ is_swept snapshot.rules.stale (held snapshot past key) at
+  pub expired : (key : KeyOf) → is_among key gone ≡ is_swept snapshot.rules.stale (held snapshot past key) at
 
 -- an event is right after those before it
 abbrev pub IsRightThen : Snapshot → List Event → Event → Type 0

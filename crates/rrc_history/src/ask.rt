@@ -18,7 +18,7 @@ pub enum Purpose {
 pub enum Mode {
     /// It will not, as for a query that asks for no recursion.
     NoStale,
-    /// It will where asking has lately failed.
+    /// It will where asking has failed recently.
     Failed,
     /// It will, since the client has waited long enough.
     Now,

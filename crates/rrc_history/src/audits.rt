@@ -4,7 +4,7 @@ ghost use Rattle.std.specs.List.{list_any, list_all};
 ghost use Rattle.rrc_history.specs.Past.{held};
 ghost use Rattle.rrc_history.specs.Right.{IsLegal, is_swept};
 ghost use Rattle.rrc_history.specs.Audits.{IsFirstBad};
-ghost use Rattle.rrc_history.specs.Auditing.{is_there, is_lower, is_least, is_victim, has_to_evict, is_rightly_evicted, is_left_out, are_dead, are_ordered, are_in_order, outcome_eq, is_right_offer, is_right_ask, is_right_sweep, is_right_then, is_right, present_after_offer, present_after, is_somewhere, is_offered};
+ghost use Rattle.rrc_history.specs.Auditing.{is_there, is_lower, is_least, is_victim, has_to_evict, is_rightly_evicted, is_left_out, are_fully_expired, are_ordered, are_in_order, outcome_eq, is_right_offer, is_right_ask, is_right_sweep, is_right_then, is_right, present_after_offer, present_after, is_somewhere, is_offered};
 
 use crate::ask::Ask;
 use crate::event::{Event, Outcome, Reply};
@@ -96,7 +96,7 @@ fn is_right_sweep(snapshot: &Snapshot, past: &[Event], moment: u64, gone: &[Key]
     requires { snapshot.now.first + length past.now ≤ 2 ^ 62 }
     ensures { result ≡ is_right_sweep snapshot.now (reverse past.now) past.now moment gone.now }
 {
-    moment <= LAST_MOMENT && are_in_order(gone) && are_dead(snapshot, past, moment, gone)
+    moment <= LAST_MOMENT && are_in_order(gone) && are_fully_expired(snapshot, past, moment, gone)
 }
 
 /// Whether an offer evicted what it had to: where it is kept under a new key and as many keys are held as may be, the one that was
@@ -193,7 +193,7 @@ fn is_least(snapshot: &Snapshot, past: &[Event], key: &Key) -> bool
         && !is_lower_somewhere(snapshot, past, past::touch(snapshot, past, key))
 }
 
-/// Whether a key is dead at a moment.
+/// Whether a key is fully expired at a moment.
 fn is_swept(snapshot: &Snapshot, past: &[Event], moment: u64, key: &Key) -> bool
     requires { snapshot.now.first + length past.now ≤ 2 ^ 62 }
     ensures { result ≡ is_swept snapshot.now.rules.stale (held snapshot.now (reverse past.now) key.now) moment }
@@ -201,11 +201,11 @@ fn is_swept(snapshot: &Snapshot, past: &[Event], moment: u64, key: &Key) -> bool
     let rules = snapshot.rules;
     match past::held(snapshot, past, KeyRef::of(key)) {
         None => false,
-        Some(held) => judge::is_dead(held, rules.stale, moment),
+        Some(held) => judge::is_fully_expired(held, rules.stale, moment),
     }
 }
 
-/// Whether a key is dead at a moment and not among the keys.
+/// Whether a key is fully expired at a moment and not among the keys.
 fn is_left_out(snapshot: &Snapshot, past: &[Event], moment: u64, gone: &[Key], key: &Key) -> bool
     requires { snapshot.now.first + length past.now ≤ 2 ^ 62 }
     ensures { result ≡ is_left_out snapshot.now (reverse past.now) moment gone.now key.now }
@@ -213,7 +213,7 @@ fn is_left_out(snapshot: &Snapshot, past: &[Event], moment: u64, gone: &[Key], k
     is_swept(snapshot, past, moment, key) && !past::is_among(KeyRef::of(key), gone)
 }
 
-/// Whether a key of the snapshot is dead and not listed.
+/// Whether a key of the snapshot is fully expired and not listed.
 fn is_left_out_entry(snapshot: &Snapshot, past: &[Event], moment: u64, gone: &[Key]) -> bool
     requires { snapshot.now.first + length past.now ≤ 2 ^ 62 }
     ensures { result ≡ list_any (λ entry. is_left_out snapshot.now (reverse past.now) moment gone.now entry.key) snapshot.now.entries }
@@ -226,7 +226,7 @@ fn is_left_out_entry(snapshot: &Snapshot, past: &[Event], moment: u64, gone: &[K
     false
 }
 
-/// Whether the key that an event offers a body under is dead and not listed.
+/// Whether the key that an event offers a body under is fully expired and not listed.
 fn is_left_out_offer(
     snapshot: &Snapshot,
     past: &[Event],
@@ -243,7 +243,7 @@ fn is_left_out_offer(
     }
 }
 
-/// Whether a key that one of the events offers a body under is dead and not listed.
+/// Whether a key that one of the events offers a body under is fully expired and not listed.
 fn is_left_out_offered(snapshot: &Snapshot, past: &[Event], moment: u64, gone: &[Key]) -> bool
     requires { snapshot.now.first + length past.now ≤ 2 ^ 62 }
     ensures { result ≡ list_any (is_offered (is_left_out snapshot.now (reverse past.now) moment gone.now)) past.now }
@@ -256,7 +256,7 @@ fn is_left_out_offered(snapshot: &Snapshot, past: &[Event], moment: u64, gone: &
     false
 }
 
-/// Whether some key is dead and not listed.
+/// Whether some key is fully expired and not listed.
 fn is_left_out_somewhere(snapshot: &Snapshot, past: &[Event], moment: u64, gone: &[Key]) -> bool
     requires { snapshot.now.first + length past.now ≤ 2 ^ 62 }
     ensures { result ≡ is_somewhere (is_left_out snapshot.now (reverse past.now) moment gone.now) snapshot.now past.now }
@@ -277,10 +277,10 @@ fn are_swept(snapshot: &Snapshot, past: &[Event], moment: u64, gone: &[Key]) -> 
     true
 }
 
-/// Whether keys are the dead ones: each of them is dead, and no dead key is left out.
-fn are_dead(snapshot: &Snapshot, past: &[Event], moment: u64, gone: &[Key]) -> bool
+/// Whether keys are the fully expired ones: each of them is fully expired, and none is left out.
+fn are_fully_expired(snapshot: &Snapshot, past: &[Event], moment: u64, gone: &[Key]) -> bool
     requires { snapshot.now.first + length past.now ≤ 2 ^ 62 }
-    ensures { result ≡ are_dead snapshot.now (reverse past.now) past.now moment gone.now }
+    ensures { result ≡ are_fully_expired snapshot.now (reverse past.now) past.now moment gone.now }
 {
     are_swept(snapshot, past, moment, gone) && !is_left_out_somewhere(snapshot, past, moment, gone)
 }

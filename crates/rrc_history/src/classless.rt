@@ -131,7 +131,7 @@ pub enum Event {
         ask: Ask,
         reply: Reply,
     },
-    /// The dead keys were removed, in the order of keys.
+    /// The fully expired keys were removed, in the order of keys.
     Swept {
         tag: Tag,
         moment: u64,

@@ -40,7 +40,7 @@ pub enum Reply {
     NoData { soa: Soa, left: u32 },
     /// The name does not exist (RFC 2308 section 2.1), for `left` seconds.
     NxDomain { soa: Soa, left: u32 },
-    /// Nothing that will do. Where asking has lately failed, from when on it may be tried again.
+    /// Nothing that will do. Where asking has failed recently, from when on it may be tried again.
     Miss { retry_from: Option<u64> },
 }
 
@@ -65,7 +65,7 @@ pub enum Event {
         ask: Ask,
         reply: Reply,
     },
-    /// The dead keys were removed, in the order of keys.
+    /// The fully expired keys were removed, in the order of keys.
     Swept {
         tag: Tag,
         moment: u64,

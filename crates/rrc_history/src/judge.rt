@@ -1,7 +1,7 @@
 // SPDX-License-Identifier: MIT
 ghost use Rattle.std.specs.Prelude.{◌≡◌, ◌≤◌, IfSome};
 ghost use Rattle.std.specs.Option.{option_map};
-ghost use Rattle.rrc_history.specs.Lives.{ttl_of, rank, rank_of, is_unexpired, is_dead, span, IsTimely};
+ghost use Rattle.rrc_history.specs.Lives.{ttl_of, rank, rank_of, is_unexpired, is_fully_expired, span, IsTimely};
 ghost use Rattle.rrc_history.specs.Judged.{outranks, verdict, later_governs, governing, is_before, recent_failure, may_be_stale, may_serve, reply_of_living_set, reply_of_living_soa, reply_of_entry, reply_of, reply_by, retry_from, key_in, answering};
 ghost use Rattle.rrc_history.specs.declared.event.Reply.TheVariants.{Miss};
 ghost use Rattle.rrc_history.specs.Past.{is_evicted};
@@ -93,9 +93,9 @@ pub fn span(body: &Body, stale: u64) -> u64
 }
 
 /// Whether an entry can answer no more.
-pub(crate) fn is_dead(entry: Held<'_>, stale: u64, moment: u64) -> bool
+pub(crate) fn is_fully_expired(entry: Held<'_>, stale: u64, moment: u64) -> bool
     requires { stale ≤ 604800 }
-    ensures { result ≡ is_dead stale (held_in entry.entry) moment }
+    ensures { result ≡ is_fully_expired stale (held_in entry.entry) moment }
 {
     span(entry.body, stale) <= moment.saturating_sub(entry.moment)
 }

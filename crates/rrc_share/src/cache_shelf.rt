@@ -42,7 +42,7 @@ impl Model for CacheShelf {
 }
 
 impl CacheShelf {
-    ghost use Rattle.rrc_cache.specs.Expiry.{HoldsNothing, NoneDiesBefore};
+    ghost use Rattle.rrc_cache.specs.Expiry.{HoldsNothing, NoneFullyExpiresBefore};
     ghost use Rattle.rrc_cache.specs.Lean.{IsLeanDue, IsLeanOpen, IsPick};
     ghost use Rattle.rrc_cache.specs.Sizes.{HoldsKeys, HoldsOctets};
     ghost use Rattle.rrc_history.specs.Views.{ask_in, held_in, reply_in};
@@ -101,7 +101,8 @@ impl CacheShelf {
         }
     }
 
-    /// How many keys the part holds. Those that are dead and not yet swept are counted too.
+    /// How many keys the part holds. Those that are fully expired and not yet swept are counted
+    /// too.
     pub fn len(&self) -> usize
         ensures keys { HoldsKeys self.now.shelf.part result }
         ensures few { result ≤ self.now.shelf.part.snapshot.rules.capacity }
@@ -132,11 +133,11 @@ impl CacheShelf {
         }
     }
 
-    /// A moment before which no key is dead, or `None` where the part holds none
+    /// A moment before which no key is fully expired, or `None` where the part holds none
     /// (`Part::next_expiry`). It takes no memory.
     pub fn next_expiry(&self) -> Option<u64>
         ensures none { IfNone result (HoldsNothing self.now.shelf.part) }
-        ensures some { IfSome result (λ time. NoneDiesBefore self.now.shelf.part time) }
+        ensures some { IfSome result (λ time. NoneFullyExpiresBefore self.now.shelf.part time) }
     {
         match &self.state {
             ShelfState::Lean(part) => part.next_expiry(),
@@ -185,8 +186,8 @@ impl CacheShelf {
         }
     }
 
-    /// Removes the dead keys, and answers how many there were: `on_shelf_sweep` while it records,
-    /// else `LeanPart::sweep`. The refusals are those of `offer`.
+    /// Removes the fully expired keys, and answers how many there were: `on_shelf_sweep` while it
+    /// records, else `LeanPart::sweep`. The refusals are those of `offer`.
     pub fn sweep(&mut self, tag: Tag, moment: u64) -> Result<usize, Refusal>
         ensures records { self.new.records ≡ self.old.records }
         ensures ok { IfOk result (TakesSweep self.old.records self.old.shelf self.new.shelf tag moment) }

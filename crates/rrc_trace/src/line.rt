@@ -64,7 +64,7 @@ pub enum Line {
     Fail(Failed),
     Response(Response),
     Fetch(Fetch),
-    /// A sweep of what is dead at this moment, in seconds.
+    /// A sweep of what is fully expired at this moment, in seconds.
     Sweep(u64),
     /// The chapter that is open is closed.
     Checkpoint,

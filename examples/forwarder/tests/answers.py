@@ -63,7 +63,7 @@ def test_negative():
         same(it.counters()["negative"], 3, "negative answers from the cache")
 
 
-def test_dead_keys_are_swept():
+def test_fully_expired_keys_are_swept():
     def answer(server, number, question, name, rtype):
         return [message(number, 0x8183, question, authority=[soa(ttl=2)])]
     with Forwarder(server := Server(answer)) as it:

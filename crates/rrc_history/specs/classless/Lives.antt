@@ -13,8 +13,8 @@ abbrev pub is_unexpired : Entry → ℕ → Bool
 is_unexpired entry moment = nat_lt (age entry moment) (ttl_of entry.body)
 
 -- the entry can answer no more
-abbrev pub is_dead : ℕ → Entry → ℕ → Bool
-is_dead stale entry moment = nat_le (span stale entry.body) (age entry moment)
+abbrev pub is_fully_expired : ℕ → Entry → ℕ → Bool
+is_fully_expired stale entry moment = nat_le (span stale entry.body) (age entry moment)
 
 -- the entry's moment is no later
 abbrev pub IsTimely : Entry → Type 0

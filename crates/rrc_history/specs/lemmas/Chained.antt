@@ -253,8 +253,8 @@ right-joined snapshot closing past closes later (Asked tag ask reply) right = re
 right-joined snapshot closing past closes later (Swept tag moment gone) right = record {
   timely = right.timely;
   sorted = right.sorted;
-  dead = λ key.
-      right.dead key
+  expired = λ key.
+      right.expired key
       ∙ (ap (λ (h : Option Entry). is_swept closing.rules.stale h moment) (sym (held-joined snapshot closing past closes key later))
       ∙ ap (λ (r : Rules). is_swept r.stale (held snapshot (later ++ past) key) moment) closes.rules);
 }

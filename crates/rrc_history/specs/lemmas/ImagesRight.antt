@@ -120,9 +120,9 @@ sweep-image : (snapshot : Snapshot) (events : List Classless) (moment : ℕ) (go
 sweep-image snapshot events moment gone is = record {
   timely = is.timely;
   sorted = sorted-image gone is.sorted;
-  dead =
+  expired =
       of_every_key (λ key. is_among key (map image_of_key gone) ≡ is_swept snapshot.rules.stale (held (image_of_snapshot snapshot) (map image_of_event events) key) moment)
-      (λ key. image-is_among key gone ∙ (is.dead key ∙ sym (swept key)))
+      (λ key. image-is_among key gone ∙ (is.expired key ∙ sym (swept key)))
       (λ key other. other-is_among key other gone ∙ sym (ap (λ h. is_swept snapshot.rules.stale h moment) (other-held snapshot events key other)));
 }
   where
@@ -135,8 +135,8 @@ sweep-back : (snapshot : Snapshot) (events : List Classless) (moment : ℕ) (gon
 sweep-back snapshot events moment gone is = record {
   timely = is.timely;
   sorted = sorted-back gone is.sorted;
-  dead = λ key. sym (image-is_among key gone)
-      ∙ (is.dead (image_of_key key)
+  expired = λ key. sym (image-is_among key gone)
+      ∙ (is.expired (image_of_key key)
       ∙ (ap (λ h. is_swept snapshot.rules.stale h moment) (image-held snapshot events key) ∙ image-is_swept snapshot.rules.stale (former.held snapshot events key) moment));
 }
 

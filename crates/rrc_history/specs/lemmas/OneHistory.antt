@@ -208,7 +208,7 @@ one_event snapshot past (Asked tag ask reply) (Asked other_tag other other_reply
     λ i. Asked (same.0 i) (same.1 i) (told i)
 one_event snapshot past (Swept tag moment gone) (Swept other_tag other other_gone) right also same =
     let same_sweep : IsRightSweep snapshot past moment other_gone = subst (λ m. IsRightSweep snapshot past m other_gone) (sym same.1) also in
-    let told : gone ≡ other_gone = same_keys gone other_gone right.sorted same_sweep.sorted (λ key. right.dead key ∙ sym (same_sweep.dead key)) in
+    let told : gone ≡ other_gone = same_keys gone other_gone right.sorted same_sweep.sorted (λ key. right.expired key ∙ sym (same_sweep.expired key)) in
     λ i. Swept (same.0 i) (same.1 i) (told i)
 one_event snapshot past (Offered outcome tag offer evicted) (Asked other_tag other other_reply) right also same = absurd same
 one_event snapshot past (Offered outcome tag offer evicted) (Swept other_tag other other_gone) right also same = absurd same
