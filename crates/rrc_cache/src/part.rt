@@ -2,6 +2,7 @@
 ghost use Rattle.std.specs.Prelude.{◌≡◌, ◌<◌, ◌≤◌, ◌↔◌, ◌++◌, ◌∷◌, [], None, length, IsTrue, IfOk, IfErr, IfSome, IfNone, OnOk, OnErr, Err};
 ghost use Rattle.rrc_cache.specs.Recording.{refused_by, BeginsRecorded};
 
+use crate::given::Given;
 use crate::lean::LeanPart;
 use crate::recording::NotRecorded;
 use crate::refusal::Refusal;
@@ -182,7 +183,7 @@ impl Part {
     {
         self.admit(offer.moment)?;
         self.events.reserve(1)?;
-        let (outcome, evicted) = self.lean.take(tag, &offer)?;
+        let (outcome, evicted) = self.lean.take(tag, Given::Lent(&offer))?;
         self.events.push_reserved(Event::Offered {
             tag,
             offer,

@@ -8,6 +8,7 @@ ghost use Rattle.rrc_history.specs.Sound.{AreSound};
 ghost use Rattle.rrc_cache.specs.Calls.{Leaves, IsMadeAgain, evicted_eq};
 ghost use Rattle.rrc_cache.specs.Rechecks.{IsFault};
 
+use crate::given::Given;
 use crate::part::KNOWN_SEED;
 use crate::seeded::Seeded;
 use crate::store::Store;
@@ -128,7 +129,8 @@ fn is_made_again(
             evicted,
             ..
         } => {
-            let (became, went) = entries::take(store, offer, number, rules.capacity)?;
+            let given = Given::Lent(offer);
+            let (became, went) = entries::take(store, given, number, rules.capacity)?;
             Ok(is_told(became, &went, *outcome, evicted))
         }
         Event::Asked { ask, reply, .. } => {
