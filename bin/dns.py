@@ -7,7 +7,7 @@ which stay as they are: so a pointer is given.
 import re
 import struct
 
-A, NS, CNAME, SOA, PTR, MINFO, TXT, OPT, RRSIG = 1, 2, 5, 6, 12, 14, 16, 41, 46
+A, NS, CNAME, SOA, PTR, MINFO, TXT, OPT, RRSIG, ANY = 1, 2, 5, 6, 12, 14, 16, 41, 46, 255
 IN = 1
 LABEL = re.compile(rb"(?:\\\d{3}|\\.|[^.\\])+", re.DOTALL)
 ESCAPE = re.compile(rb"\\(\d{3}|.)", re.DOTALL)

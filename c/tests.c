@@ -41,7 +41,7 @@ static const uint8_t NO_NAME[] = {3, 'w', 'w'};
 static const struct rrcache_limits LIMITS = {86400, 3600, 30};
 static const uint64_t FIRST = 1000;
 
-enum { A = 1, CNAME = 5, SOA = 6, TXT = 16, OPT = 41, PARTS = 16 };
+enum { A = 1, CNAME = 5, SOA = 6, TXT = 16, OPT = 41, ANY = 255, PARTS = 16 };
 
 /* clang-format off */
 /* A response to www.example A: two addresses of www.example for 300 seconds, authoritative (RFC
@@ -1199,6 +1199,9 @@ static void test_sweep_some(void)
            && events(&shelf) == 3);
     EXPECT(rrcache_sweep_some(&shelf, FIRST + 3659, 10, 1, &removed, &is_done) == RRCACHE_DONE
            && removed == 0 && is_done && events(&shelf) == 3);
+    EXPECT(rrcache_sweep_some(&shelf, ((uint64_t)1 << 40) + 1, 10, 1, &removed, &is_done)
+               == RRCACHE_MOMENT_TOO_LARGE
+           && removed == 0 && !is_done);
     EXPECT(rrcache_sweep_some(&shelf, FIRST + 3690, 0, 1, &removed, &is_done) == RRCACHE_DONE
            && removed == 0 && !is_done && events(&shelf) == 3);
     EXPECT(rrcache_sweep_some(&shelf, FIRST + 3690, 1, 1, &removed, &is_done) == RRCACHE_DONE
@@ -1303,6 +1306,49 @@ static void test_alias(void)
            && is_alias && told.kind == RRCACHE_FRESH);
     EXPECT(ASK_ALIAS(NAME, A, FIRST + 300, RRCACHE_STALE_NOW, sizeof buffer) == RRCACHE_DONE
            && !is_alias && told.kind == RRCACHE_STALE && told.data_size == sizeof ADDRESS);
+    EXPECT(rrcache_free(&shelf) == RRCACHE_DONE);
+
+    /* RFC 1034 section 4.3.2: for a question of type ANY no alias is followed. */
+    EXPECT(make(&shelf) == RRCACHE_DONE);
+    EXPECT(rrcache_offer_message(
+               &shelf, RESPONSE(ALIAS, sizeof ALIAS, ZONE, sizeof ZONE, FIRST, LIMITS), 1, &counts)
+           == RRCACHE_DONE);
+    EXPECT(ASK_ALIAS(NAME, ANY, FIRST, RRCACHE_NO_STALE, sizeof buffer) == RRCACHE_DONE && !is_alias
+           && told.kind == RRCACHE_MISS);
+
+    /* RFC 8767 section 5: after a failure of the question its alias may be stale. */
+    uint32_t outcome;
+    EXPECT(ASK_ALIAS(NAME, A, FIRST + 301, RRCACHE_STALE_IF_FAILED, sizeof buffer) == RRCACHE_DONE
+           && !is_alias && told.kind == RRCACHE_MISS);
+    EXPECT(rrcache_offer_failure(&shelf, FAILURE(NAME, sizeof NAME, A, RRCACHE_IN, 30, FIRST + 301),
+                                 1, &outcome)
+           == RRCACHE_DONE);
+    EXPECT(ASK_ALIAS(NAME, A, FIRST + 302, RRCACHE_STALE_IF_FAILED, sizeof buffer) == RRCACHE_DONE
+           && is_alias && told.kind == RRCACHE_STALE && told.left == 30);
+    EXPECT(ASK_ALIAS(NAME, A, FIRST + 302, RRCACHE_NO_STALE, sizeof buffer) == RRCACHE_DONE
+           && !is_alias && told.kind == RRCACHE_MISS_FAILED);
+    EXPECT(ASK_ALIAS(NAME, TXT, FIRST + 302, RRCACHE_STALE_IF_FAILED, sizeof buffer) == RRCACHE_DONE
+           && !is_alias && told.kind == RRCACHE_MISS);
+    EXPECT(rrcache_free(&shelf) == RRCACHE_DONE);
+
+    /* A CNAME record that is newer than that the name does not exist, and trusted as much. */
+    EXPECT(make(&shelf) == RRCACHE_DONE);
+    EXPECT(rrcache_offer_negative(&shelf,
+                                  NEGATIVE(NAME, sizeof NAME, 0, RRCACHE_IN, RRCACHE_DENIES_NAME,
+                                           RRCACHE_NON_AUTHORITATIVE_ANSWER, 3600, ZONE,
+                                           sizeof ZONE, SOA_DATA, sizeof SOA_DATA, FIRST),
+                                  1, &outcome)
+           == RRCACHE_DONE);
+    EXPECT(ASK_ALIAS(NAME, A, FIRST, RRCACHE_NO_STALE, sizeof buffer) == RRCACHE_DONE && !is_alias
+           && told.kind == RRCACHE_NO_NAME);
+    EXPECT(rrcache_offer_message(
+               &shelf, RESPONSE(ALIAS, sizeof ALIAS, ZONE, sizeof ZONE, FIRST, LIMITS), 1, &counts)
+           == RRCACHE_DONE);
+    EXPECT(ASK_ALIAS(NAME, A, FIRST, RRCACHE_NO_STALE, sizeof buffer) == RRCACHE_DONE && is_alias
+           && told.kind == RRCACHE_FRESH && told.data_size == sizeof target);
+    /* Once that is past its time the name is denied again, if that is not. */
+    EXPECT(ASK_ALIAS(NAME, A, FIRST + 300, RRCACHE_NO_STALE, sizeof buffer) == RRCACHE_DONE
+           && !is_alias && told.kind == RRCACHE_NO_NAME);
     EXPECT(rrcache_free(&shelf) == RRCACHE_DONE);
 #undef ASK_ALIAS
 }

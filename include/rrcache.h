@@ -106,6 +106,13 @@
    - A failure that the shelf holds is still told after such a message, as RRCACHE_MISS_FAILED and
      until its time is over, since nothing later is held. `rrcache_offer_failure` with `ttl` 0 ends
      it.
+   - Nor does such a message touch a set that the shelf holds, which may be told on, also as stale.
+     Where it is an authoritative NOERROR or NXDOMAIN (AA set) that leaves nothing of the question,
+     RFC 8767 section 4 has the data count as refreshed: the resolver then clears the type by
+     `rrcache_offer_set` with `ttl` 0.
+   - A response with an RCODE other than NOERROR and NXDOMAIN offers that asking for the question
+     failed, also where it is FORMERR, NOTIMP or REFUSED. So offer it once no other server, and no
+     try without EDNS, is left: from then on the question is RRCACHE_MISS_FAILED.
    - A message may have more new keys than the shelf has room for, and then evicts some of its own.
 
    Moments
@@ -308,7 +315,8 @@ struct rrcache_told {
     uint32_t kind;       /* enum rrcache_kind */
     uint32_t left;       /* for how many seconds the reply may be used: what is left of its time to
                             live, with RRCACHE_STALE 30 (RFC 8767 section 4), with a miss 0 */
-    uint64_t retry_from; /* with RRCACHE_MISS_FAILED the moment, and else 0 */
+    uint64_t retry_from; /* with RRCACHE_MISS_FAILED the moment from which to try again, and else 0:
+                            with RRCACHE_STALE a peek with RRCACHE_NO_STALE tells it */
     uint64_t owner_size;
     uint64_t data_size;
 };
@@ -760,8 +768,10 @@ static inline enum rrcache_status rrcache_free_offers(struct rrcache_offers *off
 
 /* Offers one set under its owner. With `ttl` 0, RRCACHE_AUTHORITATIVE_ANSWER and any data of the
    type it clears what the shelf holds of the name, type and class, a set or that there are no such
-   data: so a key is flushed. `rrcache_offer_negative` with RRCACHE_DENIES_NAME, the same `trust`
-   and `ttl` 0 flushes that the name does not exist. No call flushes all names below one. */
+   data: so a key is flushed. `rrcache_offer_negative` with RRCACHE_DENIES_NAME, the same `trust`,
+   `ttl` 0 and any SOA record (the root as its owner, 22 octets of 0 as its data, will do) flushes
+   that the name does not exist. No call flushes all names below one. The data of a set are told as
+   they are offered: the caller leaves out repeats (RFC 2181 section 5). */
 static inline enum rrcache_status rrcache_offer_set(struct rrcache_shelf *shelf,
                                                     const struct rrcache_set *set, uint64_t line,
                                                     uint32_t *outcome)
@@ -807,7 +817,8 @@ static inline enum rrcache_status rrcache_offer_negative(struct rrcache_shelf *s
 }
 
 /* Offers that asking for data of a type failed. That is always kept. With `ttl` 0 it ends the
-   failure that the shelf holds, and is told by no ask. */
+   failure that the shelf holds, and is told by no ask. Where the shelf holds none it takes a key
+   all the same, and may evict another: make it only where RRCACHE_MISS_FAILED was told. */
 static inline enum rrcache_status rrcache_offer_failure(struct rrcache_shelf *shelf,
                                                         const struct rrcache_failure *failure,
                                                         uint64_t line, uint32_t *outcome)
@@ -895,11 +906,12 @@ static inline enum rrcache_status rrcache_tell_stored(struct rrcache_shelf *shel
 }
 
 /* Whether the CNAME record of a name is to be told in place of data of a type, by the kinds of both
-   replies: a fresh one where of the type there is stale data alone or nothing, a stale one where
-   there is nothing. */
+   replies: a fresh one where of the type there is stale data alone or nothing, or where the name
+   does not exist, which is older then or trusted less than the record; a stale one where there is
+   nothing. */
 static inline bool rrcache_is_alias_told(uint32_t of_alias, uint32_t of_type)
 {
-    if (of_type == RRCACHE_STALE)
+    if (of_type == RRCACHE_STALE || of_type == RRCACHE_NO_NAME)
         return of_alias == RRCACHE_FRESH;
     return (of_type == RRCACHE_MISS || of_type == RRCACHE_MISS_FAILED)
            && (of_alias == RRCACHE_FRESH || of_alias == RRCACHE_STALE);
@@ -907,9 +919,16 @@ static inline bool rrcache_is_alias_told(uint32_t of_alias, uint32_t of_type)
 
 /* Asks as `rrcache_ask` does, which is one event, for data of the type or for the name's CNAME
    record, and `is_alias` tells which. The record is told where the type has a miss and the record
-   is fresh or stale, and where the type has stale data and the record is fresh. In each other case
-   the reply for the type is told. The resolver then asks for the record's target, under the lock of
-   that name's shelf. `is_alias` is written where RRCACHE_DONE or RRCACHE_SMALL is returned. */
+   is fresh or stale, and where the type has stale data, or the name does not exist, and the record
+   is fresh. In each other case the reply for the type is told, and always for types CNAME and ANY
+   (RFC 1034 section 4.3.2). The resolver then asks for the record's target, under the lock of that
+   name's shelf: the name in the first datum, for a name has one CNAME record (RFC 2181 section
+   10.1). `is_alias` is written where RRCACHE_DONE or RRCACHE_SMALL is returned.
+
+   A failure is one of the name and type that were asked for. So with RRCACHE_STALE_IF_FAILED a
+   record is told as stale where asking for the type has failed recently. Once a name of a chain is
+   told as stale, or with RRCACHE_MISS_FAILED, ask for the names behind it with RRCACHE_STALE_NOW.
+ */
 static inline enum rrcache_status
 rrcache_ask_alias(struct rrcache_shelf *shelf, const struct rrcache_query *query, uint64_t line,
                   struct rrcache_told *told, uint8_t *buffer, size_t buffer_size, bool *is_alias)
@@ -927,11 +946,14 @@ rrcache_ask_alias(struct rrcache_shelf *shelf, const struct rrcache_query *query
     alias = *query;
     alias.rtype = 5; /* CNAME */
     status = rrcache_peek(shelf, query, &of_type, NULL, 0);
+    if (of_type.kind == RRCACHE_MISS_FAILED && alias.mode == RRCACHE_STALE_IF_FAILED)
+        alias.mode = RRCACHE_STALE_NOW;
     if (status == RRCACHE_DONE || status == RRCACHE_SMALL)
         status = rrcache_peek(shelf, &alias, &of_alias, NULL, 0);
     if (status != RRCACHE_DONE && status != RRCACHE_SMALL)
         return status;
-    is_told = query->rtype != alias.rtype && rrcache_is_alias_told(of_alias.kind, of_type.kind);
+    is_told = query->rtype != alias.rtype && query->rtype != 255 /* ANY */
+              && rrcache_is_alias_told(of_alias.kind, of_type.kind);
     status = rrcache_ask(shelf, is_told ? &alias : query, line, told, buffer, buffer_size);
     if (status == RRCACHE_DONE || status == RRCACHE_SMALL)
         *is_alias = is_told;
@@ -941,8 +963,8 @@ rrcache_ask_alias(struct rrcache_shelf *shelf, const struct rrcache_query *query
 /* Removes the keys that can answer no more at a moment, which is one event, and tells how many they
    were. The first sweep of a shelf looks at all its keys, a later one at those that may have
    expired since. Who leaves the shelf to evictions need not sweep. A key by which a name does not
-   exist keeps an older set of the name from being told as stale, also after its own time; once it
-   is removed, that set may be told again. */
+   exist keeps an older set of the name from being told, also after its own time; once it is removed
+   that set may be told again, fresh where its time is not over, else stale. */
 static inline enum rrcache_status rrcache_sweep(struct rrcache_shelf *shelf, uint64_t moment,
                                                 uint64_t line, uint64_t *removed)
 {
@@ -966,7 +988,7 @@ static inline enum rrcache_status rrcache_next_expiry(struct rrcache_shelf *shel
    `most` sweeps made. It tells how many keys were removed, and whether no key is left that is fully
    expired at this moment. Each step is a sweep of its own, which is one event, and may remove no
    key. Keys that expire fully in one second go in one step. What the steps before a refusal removed
-   stays removed, and is told. */
+   stays removed, and is told. A moment above 2^40 is refused before the first step. */
 static inline enum rrcache_status rrcache_sweep_some(struct rrcache_shelf *shelf, uint64_t moment,
                                                      uint64_t most, uint64_t line,
                                                      uint64_t *removed, bool *is_done)
@@ -979,6 +1001,8 @@ static inline enum rrcache_status rrcache_sweep_some(struct rrcache_shelf *shelf
         || rrcache_overlap(removed, sizeof *removed, is_done, sizeof *is_done))
         return RRCACHE_NULL;
     status = rrcache_next_expiry(shelf, &next);
+    if (status == RRCACHE_DONE && moment > (uint64_t)1 << 40)
+        status = RRCACHE_MOMENT_TOO_LARGE;
     for (step = 0; status == RRCACHE_DONE && next <= moment && gone < most && step < most; step++) {
         status = rrcache_sweep(shelf, next, line, &in_step);
         if (status == RRCACHE_DONE) {

@@ -22,7 +22,7 @@ import rrcache
 from archive import Rules, chapters_of, text_of as text_of_chapters
 from audits import BadLine, read_archive
 from changed_archives import bad_texts, lines_drawn, octets_changed, rules_drawn
-from dns import (A, CNAME, NS, OPT, SOA, TXT, message, name_at, pointer, question, record, response,
+from dns import (A, ANY, CNAME, NS, OPT, SOA, TXT, message, name_at, pointer, question, record, response,
                  soa_data, wire)
 from harness import DNAME, NXDOMAIN, SERVFAIL, Skipped, Wrong, address, same, soa, wanted
 from model import part_of
@@ -412,6 +412,25 @@ def test_aliases_are_followed_by_python():
         same([it.kind for it in cache.follow("y.example", A, 110)], [rrcache.Kind.MISS], "no chain")
         same(len(cache.follow("r0.example", A, 110)), 2, "aliases of a ring")
         same([it.kind for it in cache.follow("x0.example", CNAME, 110)], [rrcache.Kind.FRESH], "CNAME")
+        same([it.kind for it in cache.follow("x0.example", ANY, 110)], [rrcache.Kind.MISS], "ANY")
+        # RFC 8767 section 5: after a failure of the question all of its chain may be stale.
+        failed = {"mode": rrcache.Mode.STALE_IF_FAILED}
+        same([it.kind for it in cache.follow("x0.example", A, 170, **failed)], [rrcache.Kind.MISS],
+             "no failure")
+        cache.offer_message(message(8, 0x8182, question("x0.example", A)), "example.", 170)
+        same([it.kind for it in cache.follow("x0.example", A, 171, **failed)],
+             [rrcache.Kind.STALE] * 4, "after a failure")
+
+
+def test_an_alias_newer_than_that_its_name_does_not_exist():
+    with rrcache.Shelf() as shelf:
+        shelf.offer_negative("w", 0, rrcache.Denial.NAME, rrcache.Rank.NON_AUTHORITATIVE_ANSWER,
+                             600, ".", bytes(22), 100)
+        same(shelf.ask_alias("w", A, 101)[0].kind, rrcache.Kind.NO_NAME, "that it does not exist")
+        shelf.offer_set("w", CNAME, rrcache.Rank.NON_AUTHORITATIVE_ANSWER, 60, [wire("t")], 102)
+        reply, is_alias = shelf.ask_alias("w", A, 103)
+        same((reply.kind, reply.left, is_alias), (rrcache.Kind.FRESH, 59, True), "the alias")
+        same(shelf.ask_alias("w", A, 163)[0].kind, rrcache.Kind.NO_NAME, "once it is past its time")
 
 
 def installing_python():

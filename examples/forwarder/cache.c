@@ -98,6 +98,28 @@ static uint32_t ask(const struct question *at, uint16_t type, const struct walk 
                                   : RRCACHE_MISS; /* of a type that is not kept */
 }
 
+/* Whether the cache has a fresh CNAME record of a name that is told not to exist: then that is the
+   older of the two, or is trusted less. */
+static bool has_fresh_alias(const struct question *at)
+{
+    const struct rrcache_query query = {
+        .name = at->name,
+        .name_size = at->size,
+        .rtype = CNAME,
+        .rclass = RRCACHE_IN,
+        .moment = moment(),
+        .purpose = RRCACHE_QUESTION,
+    };
+    struct rrcache_told told = {.kind = RRCACHE_MISS};
+    uint64_t part = 0;
+    if (rrcache_part_of(at->name, at->size, &parts, &part) != RRCACHE_DONE)
+        return false;
+    pthread_mutex_lock(&shelves[part].lock);
+    rrcache_peek(&shelves[part].cache, &query, &told, NULL, 0);
+    pthread_mutex_unlock(&shelves[part].lock);
+    return told.kind == RRCACHE_FRESH;
+}
+
 static bool is_set(uint32_t kind)
 {
     return kind == RRCACHE_FRESH || kind == RRCACHE_STALE;
@@ -205,9 +227,10 @@ static enum outcome walk_on(struct walk *walk, struct reply *reply)
         uint32_t kind = ask(&walk->at, walk->at.type, walk, &found);
         if (step == 0)
             note_failure(walk, kind);
-        if (is_set(kind) || kind == RRCACHE_NO_DATA || kind == RRCACHE_NO_NAME)
+        bool is_denied = kind == RRCACHE_NO_NAME && !(has_alias && has_fresh_alias(&walk->at));
+        if (is_set(kind) || kind == RRCACHE_NO_DATA || is_denied)
             return end_walk(walk, kind, &found, reply);
-        if (has_alias && (kind == RRCACHE_MISS || kind == RRCACHE_MISS_FAILED))
+        if (has_alias && kind != TOO_LARGE)
             kind = ask(&walk->at, CNAME, walk, &found);
         if (!is_set(kind))
             return end_nowhere(walk, kind);

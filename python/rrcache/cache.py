@@ -7,6 +7,7 @@ import threading
 from types import TracebackType
 from typing import Any
 
+from .choices import Kind, Mode
 from .library import part_of
 from .names import to_wire
 from .offers import Offers
@@ -14,7 +15,7 @@ from .replies import Counts, Limits, Query, Reply
 from .shelf import Name, Shelf
 
 
-CNAME, LINKS_MOST = 5, 16
+LINKS_MOST = 16
 
 
 class Cache:
@@ -40,21 +41,25 @@ class Cache:
             return shelf.ask(name, rtype, moment, **more)
 
     def follow(self, name: Name, rtype: int, moment: int, **more: Any) -> list[Reply]:
-        """The reply to a question, or where that is a miss and the name is an alias those along the
-        chain: a CNAME record's for each alias, and last what the chain ends with (RFC 1034 section
-        3.6.2). They are at most 16; those of a chain that has more, or leads back, end with an
-        alias. Each ask is one event."""
+        """The reply to a question, or where the name is an alias those along the chain: a CNAME
+        record's for each alias, and last what the chain ends with (RFC 1034 section 3.6.2). Which of
+        both a name has `Shelf.ask_alias` says. They are at most 16; those of a chain that has more,
+        or leads back, end with an alias. Each is one event."""
         replies: list[Reply] = []
         seen = set()
         while True:
             name = to_wire(name)
-            reply = self.ask(name, rtype, moment, **more)
-            alias = self.ask(name, CNAME, moment, **more) if reply.is_miss else reply
-            if rtype == CNAME or not reply.is_miss or alias.is_miss or alias.is_negative:
-                return [*replies, reply]
-            replies.append(alias)
+            lock, shelf = self._shelves[part_of(name, len(self._shelves), self._seed)]
+            with lock:
+                reply, is_alias = shelf.ask_alias(name, rtype, moment, **more)
+            replies.append(reply)
             seen.add(name.lower())
-            name = alias.data[0]
+            if not is_alias:
+                return replies
+            # A failure is one of the question alone, and the names behind it may be stale then too.
+            if reply.kind is Kind.STALE and more.get("mode") == Mode.STALE_IF_FAILED:
+                more["mode"] = Mode.STALE_NOW
+            name = reply.data[0]
             if len(replies) == LINKS_MOST or name.lower() in seen:
                 return replies
 

@@ -18,6 +18,7 @@ from .refusals import Status, refusal
 from .replies import Counts, Limits, Reply, Sizes, Stored
 
 Name = str | bytes
+CNAME, ANY = 5, 255
 # The octets that most lines of a chapter have at most.
 LINE_ROOM = 4096
 
@@ -156,9 +157,28 @@ class Shelf:
     def ask(self, name: Name, rtype: int, moment: int, purpose: Purpose | int = Purpose.QUESTION,
             mode: Mode | int = Mode.NO_STALE, line: int = 0,
             rclass: Class | int = Class.IN) -> Reply:
-        """Asks, which is one event. It follows no alias: ask for CNAME (5) too."""
+        """Asks, which is one event. It follows no alias: `ask_alias` tells of one."""
         return self._reply("rrc_ask", *sized(to_wire(name)), rtype, rclass, moment, purpose, mode,
                            line)
+
+    def ask_alias(self, name: Name, rtype: int, moment: int,
+                  purpose: Purpose | int = Purpose.QUESTION, mode: Mode | int = Mode.NO_STALE,
+                  line: int = 0, rclass: Class | int = Class.IN) -> tuple[Reply, bool]:
+        """Asks, which is one event, for data of the type or for the name's CNAME record, and tells
+        whether it was the record: a fresh one where of the type there is nothing or stale data
+        alone, or where the name does not exist; a stale one where there is nothing. For the types
+        CNAME and ANY it never is."""
+        alias_mode = mode
+        if rtype not in (CNAME, ANY):
+            kind = self.peek(name, rtype, moment, purpose, mode, rclass).kind
+            if kind is Kind.MISS_FAILED and mode == Mode.STALE_IF_FAILED:
+                alias_mode = Mode.STALE_NOW
+            told_for = {Kind.MISS: (Kind.FRESH, Kind.STALE), Kind.STALE: (Kind.FRESH,),
+                        Kind.MISS_FAILED: (Kind.FRESH, Kind.STALE), Kind.NO_NAME: (Kind.FRESH,)}
+            if kind in told_for and self.peek(name, CNAME, moment, purpose, alias_mode,
+                                              rclass).kind in told_for[kind]:
+                return self.ask(name, CNAME, moment, purpose, alias_mode, line, rclass), True
+        return self.ask(name, rtype, moment, purpose, mode, line, rclass), False
 
     def peek(self, name: Name, rtype: int, moment: int, purpose: Purpose | int = Purpose.QUESTION,
              mode: Mode | int = Mode.NO_STALE, rclass: Class | int = Class.IN) -> Reply:
@@ -177,7 +197,7 @@ class Shelf:
 
     def sweep(self, moment: int, line: int = 0) -> int:
         """Removes the keys that can answer no more, and tells how many. A key by which a name does
-        not exist keeps an older set of the name from being told as stale until it is removed."""
+        not exist keeps an older set of the name from being told until it is removed."""
         return told("rrc_sweep", c_uint64, self._handle, moment, line)
 
     def next_expiry(self) -> int | None:
@@ -190,7 +210,10 @@ class Shelf:
         """Sweeps in steps, at each moment up to this one that `next_expiry` tells, from the
         earliest on, until `most` keys or more are removed, or `most` sweeps made. It tells how many
         keys were removed, and whether none is left that is fully expired. Where a step is refused
-        that is raised, and what the steps before it removed stays removed."""
+        that is raised, and what the steps before it removed stays removed. A moment above 2^40 is
+        refused before the first step."""
+        if moment > 2 ** 40:
+            raise refusal(Status.MOMENT_TOO_LARGE)
         removed = 0
         for _ in range(most):
             due = self.next_expiry()

@@ -141,6 +141,24 @@ def test_aliases():
         same(it.ask("gone.example", CNAME).data(CNAME), ["lost.example"], "the alias itself")
 
 
+def test_an_alias_newer_than_that_its_name_does_not_exist():
+    """Both are as trusted as each other, so the later one counts (RFC 2181 section 5.4.1)."""
+    def answer(server, number, question, name, rtype):
+        if name == "w.example":
+            return [message(number, 0x8183, question, authority=[soa()])]
+        return [message(number, 0x8180, question,
+                        [record("v.example", CNAME, 60, wire("w.example")),
+                         record("w.example", CNAME, 60, wire("t.example")),
+                         record("t.example", A, 60, address(9))])]
+    with Forwarder(server := Server(answer)) as it:
+        same(it.ask("w.example").rcode, NXDOMAIN, "no such name")
+        same(it.ask("v.example").data(), [address(9)], "an answer that goes through that name")
+        for name in ("v.example", "w.example"):
+            reply = it.ask(name)
+            same((reply.rcode, reply.data()), (NOERROR, [address(9)]), f"{name}, from the cache")
+        same((server.times("v.example"), server.times("w.example")), (1, 1), "queries upstream")
+
+
 def test_aliases_in_a_ring():
     """A ring is SERVFAIL, from the first answer on, also where it is not kept."""
     def answer(server, number, question, name, rtype):
