@@ -49,7 +49,7 @@ found_in_pairs key (pair ∷ pairs) own =
     ∙ ap (λ rest. cond (key_eq key pair.1.key) (Some pair.1) rest) (found_in_pairs key pairs own.1)
 
 -- a pair that is found is that of the entry that is found
-pub entry_of_pair : {K : Type 0} (test : K → Bool) (pairs : List (K × Entry)) → lookup test pairs ≡ option_map (λ pair. pair.1) (lookup_entry test pairs)
+pub entry_of_pair : (test : KeyOf → Bool) (pairs : List (KeyOf × Entry)) → lookup test pairs ≡ option_map (λ pair. pair.1) (lookup_entry test pairs)
 entry_of_pair test [] = refl
 entry_of_pair test (pair ∷ pairs) = by (test pair.0) refl (entry_of_pair test pairs)
   where
@@ -164,26 +164,68 @@ displaced_in key entry cache room = by (lookup (key_eq key) cache.entries)
     by None = slice_get_past cache.entries (cache.cap - 1) (omega (arith, room))
     by (Some old) = refl
 
--- the key of the pair that is found passes the test
-found_passes : {K : Type 0} (test : K → Bool) (pairs : List (K × Entry)) (pair : K × Entry) → lookup_entry test pairs ≡ Some pair → test pair.0 ≡ true
-found_passes test [] pair is = absurd cc
-found_passes test (first ∷ pairs) pair is = by (test first.0) refl (found_passes test pairs pair)
+-- the pair that passes a test is found with what was written there
+lookup_entry-written : (test : KeyOf → Bool) (entry : Entry) (pairs : List (KeyOf × Entry))
+    → lookup_entry test (set_value test pairs entry) ≡ option_map (λ pair. (pair.0, entry)) (lookup_entry test pairs)
+lookup_entry-written test entry [] = refl
+lookup_entry-written test entry (pair ∷ pairs) = by (test pair.0) refl (lookup_entry-written test entry pairs)
   where
-    by : (b : Bool) → test first.0 ≡ b → (lookup_entry test pairs ≡ Some pair → test pair.0 ≡ true) → test pair.0 ≡ true
-    by true at rest = let same : first ≡ pair = cc (rw at at is) in ap (λ p. test p.0) (sym same) ∙ at
-    by false at rest = rest (rw at at is)
+    written : List (KeyOf × Entry)
+    written = set_value test pairs entry
 
--- what a key has comes to the front and is written over: that is a put
-pub front_put : {K : Type 0} (eq : K → K → Bool) (key : K) (entry : Entry) (cache : lru.LruCache K Entry) → IsSome (lookup (eq key) cache.entries)
-    → set_value (eq key) (lru.promoted (eq key) cache.entries) entry ≡ lru.put_entries eq cache key entry
-front_put eq key entry cache some = by (lookup_entry (eq key) cache.entries) refl
+    cut : Bool → Option (KeyOf × Entry)
+    cut b = lookup_entry test (cond b ((pair.0, entry) ∷ pairs) (pair ∷ written))
+
+    found : Bool → Option (KeyOf × Entry)
+    found b = option_map (λ p. (p.0, entry)) (cond b (Some pair) (lookup_entry test pairs))
+
+    by : (b : Bool) → test pair.0 ≡ b → lookup_entry test written ≡ option_map (λ p. (p.0, entry)) (lookup_entry test pairs)
+        → lookup_entry test (set_value test (pair ∷ pairs) entry) ≡ option_map (λ p. (p.0, entry)) (lookup_entry test (pair ∷ pairs))
+    by true is rest = ap cut is ∙ (ap (λ b. cond b (Some (pair.0, entry)) (lookup_entry test pairs)) is ∙ sym (ap found is))
+    by false is rest = ap cut is ∙ (ap (λ b. cond b (Some pair) (lookup_entry test written)) is ∙ (rest ∙ sym (ap found is)))
+
+-- and the others stay
+remove_entry-written : (test : KeyOf → Bool) (entry : Entry) (pairs : List (KeyOf × Entry)) → remove_entry test (set_value test pairs entry) ≡ remove_entry test pairs
+remove_entry-written test entry [] = refl
+remove_entry-written test entry (pair ∷ pairs) = by (test pair.0) refl (remove_entry-written test entry pairs)
   where
-    by : (found : Option (_ × Entry)) → lookup_entry (eq key) cache.entries ≡ found
-        → set_value (eq key) (lru.promoted (eq key) cache.entries) entry ≡ lru.put_entries eq cache key entry
+    written : List (KeyOf × Entry)
+    written = set_value test pairs entry
+
+    cut : Bool → List (KeyOf × Entry)
+    cut b = remove_entry test (cond b ((pair.0, entry) ∷ pairs) (pair ∷ written))
+
+    left : Bool → List (KeyOf × Entry)
+    left b = cond b pairs (pair ∷ remove_entry test pairs)
+
+    by : (b : Bool) → test pair.0 ≡ b → remove_entry test written ≡ remove_entry test pairs
+        → remove_entry test (set_value test (pair ∷ pairs) entry) ≡ remove_entry test (pair ∷ pairs)
+    by true is rest = ap cut is ∙ (ap (λ b. cond b pairs ((pair.0, entry) ∷ remove_entry test pairs)) is ∙ sym (ap left is))
+    by false is rest = ap cut is ∙ (ap (λ b. cond b written (pair ∷ remove_entry test written)) is ∙ (ap (λ ps. pair ∷ ps) rest ∙ sym (ap left is)))
+
+-- what is there may be written there
+pub written_same : {K : Type 0} (test : K → Bool) (entry : Entry) (pairs : List (K × Entry)) → lookup test pairs ≡ Some entry → set_value test pairs entry ≡ pairs
+written_same test entry [] is = refl
+written_same test entry (pair ∷ pairs) is = by (test pair.0) refl (written_same test entry pairs)
+  where
+    by : (b : Bool) → test pair.0 ≡ b → (lookup test pairs ≡ Some entry → set_value test pairs entry ≡ pairs) → set_value test (pair ∷ pairs) entry ≡ pair ∷ pairs
+    by true at rest = let same : pair.1 ≡ entry = cc (rw at at is) in rw at (ap (λ e. (pair.0, e) ∷ pairs) (sym same))
+    by false at rest = rw at (ap (λ ps. pair ∷ ps) (rest (rw at at is)))
+
+-- what a key has is written over, and comes to the front: that is a put
+pub written_put : (key : KeyOf) (entry : Entry) (cache : lru.LruCache KeyOf Entry) → IsSome (lookup (key_eq key) cache.entries)
+    → lru.promoted (key_eq key) (set_value (key_eq key) cache.entries entry) ≡ lru.put_entries key_eq cache key entry
+written_put key entry cache some = by (lookup_entry (key_eq key) cache.entries) refl
+  where
+    by : (found : Option (KeyOf × Entry)) → lookup_entry (key_eq key) cache.entries ≡ found
+        → lru.promoted (key_eq key) (set_value (key_eq key) cache.entries entry) ≡ lru.put_entries key_eq cache key entry
     by None is =
-        let none : lookup (eq key) cache.entries ≡ None = entry_of_pair (eq key) cache.entries ∙ ap (option_map (λ p. p.1)) is in
+        let none : lookup (key_eq key) cache.entries ≡ None = entry_of_pair (key_eq key) cache.entries ∙ ap (option_map (λ p. p.1)) is in
         let bad : false ≡ true = subst (λ found. IsSome found) none some in absurd cc
-    by (Some pair) is = rw (is, found_passes (eq key) cache.entries pair is) refl
+    by (Some pair) is =
+        let found : lookup_entry (key_eq key) (set_value (key_eq key) cache.entries entry) ≡ Some (pair.0, entry) =
+        lookup_entry-written (key_eq key) entry cache.entries ∙ ap (option_map (λ p. (p.0, entry))) is in
+        rw (is, found) (ap (λ ps. (pair.0, entry) ∷ ps) (remove_entry-written (key_eq key) entry cache.entries))
 
 -- the pairs after a put
 abbrev put_over : ℕ → KeyOf → Entry → List (KeyOf × Entry) → Option (KeyOf × Entry) → List (KeyOf × Entry)

@@ -19,7 +19,7 @@ use Rattle.rrc_cache.specs.declared.seeded.Seeded.{Seeded}
 use Rattle.rrc_cache.specs.KeyedLaws.{hashed_eq-same}
 use Rattle.rrc_cache.specs.Keyed.{AreHashed, IsHashed, KeyedOf, hashed_eq, hashed_entries, name_hash, plain, plain_pair}
 use Rattle.rrc_cache.specs.Pairs.{entries_in, AreOwn}
-use Rattle.rrc_cache.proofs.Paired.{found_in_pairs}
+use Rattle.rrc_cache.proofs.Paired.{found_in_pairs, written_put}
 
 -- the entries are the same
 pub held_plain : (pairs : List (HashedKey × Entry)) → hashed_entries pairs ≡ entries_in (plain pairs)
@@ -80,6 +80,17 @@ module _ (test : HashedKey → Bool) (alone : KeyOf → Bool) where
       by true rest = refl
       by false rest = ap (λ ps. plain_pair pair ∷ ps) rest
 
+  pub set_plain : (entry : Entry) (pairs : List (HashedKey × Entry)) → Agree test alone pairs → plain (set_value test pairs entry) ≡ set_value alone (plain pairs) entry
+  set_plain entry [] agree = refl
+  set_plain entry (pair ∷ pairs) agree =
+      ap (λ b. plain (cond b ((pair.0, entry) ∷ pairs) (pair ∷ set_value test pairs entry))) agree.0 ∙ by (alone pair.0.key) (set_plain entry pairs agree.1)
+    where
+      by : (b : Bool) → plain (set_value test pairs entry) ≡ set_value alone (plain pairs) entry
+          → plain (cond b ((pair.0, entry) ∷ pairs) (pair ∷ set_value test pairs entry))
+          ≡ cond b ((pair.0.key, entry) ∷ plain pairs) (plain_pair pair ∷ set_value alone (plain pairs) entry)
+      by true rest = refl
+      by false rest = ap (λ ps. plain_pair pair ∷ ps) rest
+
   pub promoted_plain : (pairs : List (HashedKey × Entry)) → Agree test alone pairs → plain (lru.promoted test pairs) ≡ lru.promoted alone (plain pairs)
   promoted_plain pairs agree =
       by (lookup_entry test pairs)
@@ -89,6 +100,15 @@ module _ (test : HashedKey → Bool) (alone : KeyOf → Bool) where
           ≡ option_map_or (λ p. p ∷ remove_entry alone (plain pairs)) (option_map (λ p. plain_pair p) found) (plain pairs)
       by None = refl
       by (Some pair) = ap (λ ps. plain_pair pair ∷ ps) (remove_plain pairs agree)
+
+  -- what a test finds after another value was written there is what it found
+  pub set_agrees : (entry : Entry) (pairs : List (HashedKey × Entry)) → Agree test alone pairs → Agree test alone (set_value test pairs entry)
+  set_agrees entry [] agree = tt
+  set_agrees entry (pair ∷ pairs) agree = by (test pair.0) refl (set_agrees entry pairs agree.1)
+    where
+      by : (b : Bool) → test pair.0 ≡ b → Agree test alone (set_value test pairs entry) → Agree test alone (set_value test (pair ∷ pairs) entry)
+      by true is rest = rw is (agree.0, agree.1)
+      by false is rest = rw is (agree.0, rest)
 
 pub put_plain : (cache : lru.LruCache HashedKey Entry) (wanted : HashedKey) (entry : Entry) → Agree (hashed_eq wanted) (key_eq wanted.key) cache.entries
     → plain (lru.put_entries hashed_eq cache wanted entry) ≡ lru.put_entries key_eq (lru.lru_cache (plain cache.entries) cache.cap) wanted.key entry
@@ -145,6 +165,14 @@ module _ (seeded : Seeded) (test : HashedKey → Bool) where
     where
       by : (b : Bool) → test pair.0 ≡ b → AreHashed seeded (remove_entry test pairs) → AreHashed seeded (remove_entry test (pair ∷ pairs))
       by true is rest = rw is (are.1)
+      by false is rest = rw is (are.0, rest)
+
+  pub hashed_set : (entry : Entry) (pairs : List (HashedKey × Entry)) → AreHashed seeded pairs → AreHashed seeded (set_value test pairs entry)
+  hashed_set entry [] are = tt
+  hashed_set entry (pair ∷ pairs) are = by (test pair.0) refl (hashed_set entry pairs are.1)
+    where
+      by : (b : Bool) → test pair.0 ≡ b → AreHashed seeded (set_value test pairs entry) → AreHashed seeded (set_value test (pair ∷ pairs) entry)
+      by true is rest = rw is (are.0, are.1)
       by false is rest = rw is (are.0, rest)
 
   pub hashed_promoted : (pairs : List (HashedKey × Entry)) → AreHashed seeded pairs → AreHashed seeded (lru.promoted test pairs)
@@ -238,6 +266,19 @@ module _ (seeded : Seeded) (cache : lru.LruCache HashedKey Entry) (now : KeyedOf
   shown_put entry new is =
       ap plain_map is
       ∙ (ap (λ ps. lru.lru_cache ps cache.cap) (put_plain cache wanted entry agrees)
+      ∙ ap (λ (k : KeyedOf). lru.lru_cache (lru.put_entries key_eq k.map key entry) k.map.cap) view)
+
+  -- what is found was written over, and comes to the front: that is a put
+  pub shown_written : (entry : Entry) (new : lru.LruCache HashedKey Entry) → IsSome (lookup (key_eq key) now.map.entries)
+      → new ≡ lru.lru_cache (lru.promoted (hashed_eq wanted) (set_value (hashed_eq wanted) cache.entries entry)) cache.cap
+      → plain_map new ≡ lru.lru_cache (lru.put_entries key_eq now.map key entry) now.map.cap
+  shown_written entry new some is =
+      let held : IsSome (lookup (key_eq key) (plain cache.entries)) = subst (λ (k : KeyedOf). IsSome (lookup (key_eq key) k.map.entries)) (sym view) some in
+      ap plain_map is
+      ∙ (ap (λ ps. lru.lru_cache ps cache.cap)
+      (promoted_plain (hashed_eq wanted) (key_eq key) (set_value (hashed_eq wanted) cache.entries entry) (set_agrees (hashed_eq wanted) (key_eq key) entry cache.entries agrees)
+      ∙ (ap (lru.promoted (key_eq key)) (set_plain (hashed_eq wanted) (key_eq key) entry cache.entries agrees)
+      ∙ written_put key entry (plain_map cache) held))
       ∙ ap (λ (k : KeyedOf). lru.lru_cache (lru.put_entries key_eq k.map key entry) k.map.cap) view)
 
 pub valid_plain : (seeded : Seeded) (cache : lru.LruCache HashedKey Entry) → AreHashed seeded cache.entries → lru.IsValid hashed_eq cache → lru.IsValid key_eq (plain_map cache)

@@ -11,7 +11,7 @@ use Rattle.rrc_cache.specs.Part.{PartOf, past_of}
 -- the history with the event of a call, or in its next chapter; the event of an ask tells the reply
 -- that the history gives it
 abbrev pub after_step : PartOf → StepRef → PartOf
-after_step part (step.Offered tag offer outcome evicted) = with_event part (Offered outcome tag offer.now.offer evicted.now)
+after_step part (step.Offered tag offer outcome evicted) = with_event part (Offered outcome tag offer.now evicted.now)
 after_step part (step.Asked tag ask) = with_event part (Asked tag (ask_in ask) (reply_to part.snapshot (past_of part) (ask_in ask)))
 after_step part (step.Swept tag moment gone) = with_event part (Swept tag moment gone.now)
 after_step part (step.Closed opening) = next_chapter part opening.now

@@ -2,7 +2,7 @@
 ghost use Rattle.std.specs.Prelude.{◌≡◌, ◌-◌, [], ◌∷◌, Some, None, length, take, IfOk, OnOk, OnErr};
 ghost use Rattle.std.specs.Option.{option_map};
 ghost use Rattle.rrc_name.specs.KeyRef.{key_of};
-ghost use Rattle.rrc_history.specs.Past.{entry_at, last_key};
+ghost use Rattle.rrc_history.specs.Past.{entry_at, entry_of, last_key};
 ghost use Rattle.rrc_history.specs.Sound.{AreSound};
 ghost use Rattle.rrc_history.specs.Entries.{goes, promoted, staying};
 ghost use Rattle.rrc_cache.specs.Counted.{counted_octets};
@@ -14,7 +14,7 @@ use crate::opening_tail::{self, OpeningTail};
 use crate::replaced::Replaced;
 use crate::seeded::Seeded;
 use lru::LruCache;
-use rrc_history::{Entry, EntryList, Rules, Snapshot};
+use rrc_history::{Entry, EntryList, Offer, Rules, Snapshot};
 use rrc_name::{Key, KeyRef, Shared};
 use std::alloc::{AllocError, Global};
 use std::marker::Model;
@@ -74,19 +74,26 @@ impl ChapterEntries {
         Ok(old)
     }
 
-    /// Writes an entry over that of its key, of which is told what is replaced, and moves it to the
-    /// front.
-    pub(crate) fn overwrite(&mut self, hash: u64, entry: Entry, replaced: Replaced)
-        requires hash { hash ≡ name_hash self.old.seeded entry.key.name }
-        requires number { option_map (λ held. held.number) (entry_at entry.key self.old.entries) ≡ Some replaced.number }
-        requires octets { option_map counted_octets (entry_at entry.key self.old.entries) ≡ Some replaced.octets }
-        ensures { self.new ≡ record self.old { entries = entry ∷ staying (goes entry.key None) self.old.entries } }
+    /// Writes what an offer stores over the entry of its key, of which is told what is replaced,
+    /// and moves that to the front. An `Err` leaves all as it was.
+    pub(crate) fn overwrite(
+        &mut self,
+        hash: u64,
+        offer: &Offer,
+        number: u64,
+        replaced: Replaced,
+    ) -> Result<(), AllocError>
+        requires hash { hash ≡ name_hash self.old.seeded offer.now.key.name }
+        requires number { option_map (λ entry. entry.number) (entry_at offer.now.key self.old.entries) ≡ Some replaced.number }
+        requires octets { option_map counted_octets (entry_at offer.now.key self.old.entries) ≡ Some replaced.octets }
+        ensures ok { OnOk result (self.new ≡ record self.old { entries = entry_of offer.now number ∷ staying (goes offer.now.key None) self.old.entries }) }
+        ensures err { OnErr result (self.new ≡ self.old) }
     {
         // The length is read for what it tells: no two entries have the same key.
         let _ = self.map.len();
-        let number = entry.number;
-        self.map.overwrite(hash, entry, replaced.octets);
+        self.map.overwrite(hash, offer, number, replaced.octets)?;
         opening_tail::note_put(&mut self.tail, Some(replaced.number), number);
+        Ok(())
     }
 
     /// Moves the entry of a key to the front. `hint` is the hash of its

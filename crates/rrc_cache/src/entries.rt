@@ -1,16 +1,27 @@
 // SPDX-License-Identifier: MIT
 ghost use Rattle.std.specs.Prelude.{◌≡◌, ◌≤◌, length, true, IfOk, OnErr};
 ghost use Rattle.rrc_history.specs.Fits.{fits};
-ghost use Rattle.rrc_cache.specs.Given.{offer_in};
+ghost use Rattle.rrc_history.specs.Past.{entry_of};
 ghost use Rattle.rrc_cache.specs.Keyed.{name_hash};
 ghost use Rattle.rrc_cache.specs.Taken.{IsPlaced, IsTaken};
 
-use crate::given::Given;
 use crate::replaced::Replaced;
 use crate::store::Store;
-use rrc_history::{Entry, Outcome, verdict};
+use rrc_history::{Entry, Offer, Outcome, verdict};
 use rrc_name::{Key, KeyRef};
 use std::alloc::AllocError;
+
+/// What a kept offer stores.
+fn entry_of(offer: &Offer, number: u64) -> Result<Entry, AllocError>
+    ensures { IfOk result (λ entry. entry ≡ entry_of offer.now number) }
+{
+    Ok(Entry {
+        key: offer.key.clone()?,
+        body: offer.body.clone()?,
+        moment: offer.moment,
+        number,
+    })
+}
 
 /// Puts an entry in front, and removes the key touched least recently where there are then more than there may be. An `Err`
 /// leaves the entries as they were.
@@ -37,22 +48,20 @@ fn place(
     }
 }
 
-/// Judges an offer, and changes the entries as its outcome says. Its name is hashed once. An `Err`
-/// leaves them as they were.
+/// Judges an offer, and changes the entries as its outcome says. Its name is hashed once. An `Err` leaves them as they were.
 pub(crate) fn take(
     store: &mut Store,
-    given: Given<'_>,
+    offer: &Offer,
     number: u64,
     capacity: u64,
 ) -> Result<(Outcome, Option<Key>), AllocError>
     requires some { 1 ≤ capacity }
     requires room { length store.old.entries ≤ capacity }
-    ensures ok { IfOk result (λ told. IsTaken capacity number (offer_in given.entry) store.old.entries told.0 told.1 store.new.entries) }
-    ensures fit { fits (offer_in given.entry).key (offer_in given.entry).body ≡ true }
+    ensures ok { IfOk result (λ told. IsTaken capacity number offer.now store.old.entries told.0 told.1 store.new.entries) }
+    ensures fit { fits offer.now.key offer.now.body ≡ true }
     ensures stale { store.new.stale ≡ store.old.stale }
     ensures err { OnErr result (store.new ≡ store.old) }
 {
-    let offer = given.offer();
     let key = KeyRef::of(&offer.key);
     let hash = store.hash_of(key.name);
     let held = store.get(hash, key);
@@ -60,19 +69,15 @@ pub(crate) fn take(
     let evicted = match (outcome, held) {
         (Outcome::Kept, Some(held)) => {
             let replaced = Replaced::of(held, store.stale());
-            store.replace(hash, given.into_entry(number)?, replaced)?;
+            store.replace(hash, offer, number, replaced)?;
             None
         }
-        (Outcome::Kept, None) => place(store, hash, given.into_entry(number)?, capacity)?,
+        (Outcome::Kept, None) => place(store, hash, entry_of(offer, number)?, capacity)?,
         (Outcome::Cleared, _) => {
             store.remove(hash, key);
-            drop(given);
             None
         }
-        (Outcome::LessTrusted, _) => {
-            drop(given);
-            None
-        }
+        (Outcome::LessTrusted, _) => None,
     };
     Ok((outcome, evicted))
 }

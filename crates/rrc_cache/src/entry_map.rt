@@ -7,7 +7,7 @@ ghost use Rattle.rrc_name.specs.Key.{key_eq};
 ghost use Rattle.rrc_name.specs.KeyRef.{key_of};
 ghost use Rattle.rrc_name.specs.NameRef.{name_in};
 ghost use Rattle.rrc_history.specs.Octets.{octets_of};
-ghost use Rattle.rrc_history.specs.Past.{entry_at, last_key};
+ghost use Rattle.rrc_history.specs.Past.{entry_at, entry_of, last_key};
 ghost use Rattle.rrc_history.specs.Entries.{AreApart, goes, promoted, staying};
 ghost use Rattle.rrc_cache.specs.Counted.{counted_octets};
 ghost use Rattle.rrc_cache.specs.Keyed.{hashed_entries, name_hash};
@@ -16,7 +16,7 @@ use crate::hashed::HashedKey;
 use crate::holdings::Holdings;
 use crate::seeded::Seeded;
 use lru::LruCache;
-use rrc_history::Entry;
+use rrc_history::{Entry, Offer};
 use rrc_name::{Key, KeyRef, NameRef};
 use std::alloc::{AllocError, Global};
 use std::marker::Model;
@@ -113,16 +113,25 @@ impl EntryMap {
         Ok(old)
     }
 
-    /// Writes an entry over that of its key, whose octets are told, and moves it to the front.
-    pub(crate) fn overwrite(&mut self, hash: u64, entry: Entry, octets: u64)
-        requires hash { hash ≡ name_hash self.old.seeded entry.key.name }
-        requires held { option_map counted_octets (entry_at entry.key self.old.entries) ≡ Some octets }
-        ensures { self.new ≡ record self.old { entries = entry ∷ staying (goes entry.key None) self.old.entries } }
+    /// Writes what an offer stores over the entry of its key, whose octets are told, and moves that
+    /// to the front. An `Err` leaves all as it was.
+    pub(crate) fn overwrite(
+        &mut self,
+        hash: u64,
+        offer: &Offer,
+        number: u64,
+        octets: u64,
+    ) -> Result<(), AllocError>
+        requires hash { hash ≡ name_hash self.old.seeded offer.now.key.name }
+        requires held { option_map counted_octets (entry_at offer.now.key self.old.entries) ≡ Some octets }
+        ensures ok { OnOk result (self.new ≡ record self.old { entries = entry_of offer.now number ∷ staying (goes offer.now.key None) self.old.entries }) }
+        ensures err { OnErr result (self.new ≡ self.old) }
     {
         // The length is read for what it tells: there is room, and no two entries have the same
         // key.
         let _ = self.holdings.len();
-        self.holdings.overwrite(hash, entry, octets);
+        self.holdings.overwrite(hash, offer, number, octets)?;
+        Ok(())
     }
 
     /// Moves the entry of a key to the front, and answers its number, if there is one. Where the hint is

@@ -1,7 +1,6 @@
 // SPDX-License-Identifier: MIT
 ghost use Rattle.std.specs.Prelude.{◌≡◌};
 ghost use Rattle.std.specs.Borrow.{ftrue};
-ghost use Rattle.rrc_history.specs.Fits.{OfferOf};
 ghost use Rattle.rrc_cache.specs.Part.{PartOf};
 
 use rrc_history::{AskRef, Offer, Outcome, Rules, Snapshot, Tag};
@@ -25,32 +24,13 @@ unsafe impl Send for History {}
 
 unsafe impl Sync for History {}
 
-/// An offer that only proofs remember, once it was moved.
-#[derive(Drop)]
-pub(crate) struct GhostOffer {
-    ghost offer: { OfferOf },
-}
-
-impl Model for GhostOffer {
-    ghost also_owns = { λ _. ftrue };
-}
-
-impl GhostOffer {
-    #[inline(always)]
-    pub(crate) fn of(_offer: &Offer) -> GhostOffer
-        ensures { result.offer ≡ _offer.now }
-    {
-        GhostOffer {}
-    }
-}
-
 /// A step of a history, lent: a call that was made, and what became of it, or that a chapter ends.
 /// What an ask is answered follows from the history.
 #[derive(Clone, Copy, Drop)]
 pub(crate) enum StepRef<'a> {
     Offered {
         tag: Tag,
-        offer: &'a GhostOffer,
+        offer: &'a Offer,
         outcome: Outcome,
         evicted: &'a Option<Key>,
     },

@@ -8,6 +8,7 @@ ghost use Rattle.rrc_name.specs.Key.{key_eq};
 ghost use Rattle.rrc_name.specs.KeyRef.{key_of};
 ghost use Rattle.rrc_name.specs.NameRef.{name_in};
 ghost use Rattle.rrc_history.specs.Octets.{octets_of};
+ghost use Rattle.rrc_history.specs.Past.{entry_of};
 ghost use Rattle.rrc_cache.specs.Counted.{counted_octets, held_octets};
 ghost use Rattle.rrc_cache.specs.Keyed.{hashed_entries, name_hash};
 ghost use Rattle.rrc_cache.specs.Pairs.{entries_in, AreOwn};
@@ -16,7 +17,7 @@ use crate::hashed::HashedKey;
 use crate::keyed::Keyed;
 use crate::seeded::Seeded;
 use lru::LruCache;
-use rrc_history::Entry;
+use rrc_history::{Entry, Offer};
 use rrc_name::{Key, KeyRef, NameRef};
 use std::alloc::{AllocError, Global};
 use std::marker::Model;
@@ -165,17 +166,28 @@ impl Holdings {
         Ok(old)
     }
 
-    /// Writes an entry over that of its key, whose octets are told, and moves it to the front.
-    pub(crate) fn overwrite(&mut self, hash: u64, entry: Entry, replaced: u64)
-        requires hash { hash ≡ name_hash self.old.seeded entry.key.name }
+    /// Writes what an offer stores over the entry of its key, whose octets are told, and moves that
+    /// to the front. An `Err` leaves all as it was.
+    pub(crate) fn overwrite(
+        &mut self,
+        hash: u64,
+        offer: &Offer,
+        number: u64,
+        replaced: u64,
+    ) -> Result<(), AllocError>
+        requires hash { hash ≡ name_hash self.old.seeded offer.now.key.name }
         requires own { AreOwn self.old.map.entries }
-        requires held { option_map counted_octets (lookup (key_eq entry.key) self.old.map.entries) ≡ Some replaced }
-        ensures entries { self.new.map ≡ lru_cache (put_entries key_eq self.old.map entry.key entry) self.old.map.cap }
+        requires held { option_map counted_octets (lookup (key_eq offer.now.key) self.old.map.entries) ≡ Some replaced }
+        ensures ok { OnOk result (self.new.map ≡ lru_cache (put_entries key_eq self.old.map offer.now.key (entry_of offer.now number)) self.old.map.cap) }
         ensures seeded { self.new.seeded ≡ self.old.seeded }
+        ensures err { OnErr result (self.new ≡ self.old) }
     {
-        let octets = self.octets.wrapping_add(octets_of(&entry));
-        self.keyed.overwrite(hash, entry);
+        self.keyed.overwrite(hash, offer, number)?;
+        let octets = self
+            .octets
+            .wrapping_add(offer.body.octets_under(&offer.key));
         self.octets = octets.wrapping_sub(replaced);
+        Ok(())
     }
 }
 

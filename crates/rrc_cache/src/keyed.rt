@@ -7,6 +7,7 @@ ghost use Rattle.lru.specs.LruCache.{IsValid, last_entry, lru_cache, promoted, p
 ghost use Rattle.rrc_name.specs.Key.{key_eq};
 ghost use Rattle.rrc_name.specs.KeyRef.{key_of};
 ghost use Rattle.rrc_name.specs.NameRef.{name_in};
+ghost use Rattle.rrc_history.specs.Past.{entry_of};
 ghost use Rattle.rrc_cache.specs.Keyed.{hashed_eq, hashed_entries, name_hash};
 ghost use Rattle.rrc_cache.specs.Pairs.{entries_in, AreOwn};
 
@@ -14,7 +15,7 @@ use crate::hashed::{HashedKey, HashedRef};
 use crate::overwriting::overwrite;
 use crate::seeded::Seeded;
 use lru::LruCache;
-use rrc_history::Entry;
+use rrc_history::{Entry, Offer};
 use rrc_name::{Key, KeyRef, NameRef};
 use std::alloc::{AllocError, Global};
 use std::marker::Model;
@@ -168,15 +169,22 @@ impl Keyed {
         push(&mut self.cache, HashedKey { hash, key }, entry)
     }
 
-    /// Writes an entry over that of its key, and moves it to the front.
-    pub(crate) fn overwrite(&mut self, hash: u64, entry: Entry)
-        requires hash { hash ≡ name_hash self.old.seeded entry.key.name }
+    /// Writes what an offer stores over the entry of its key, and moves that to the front. An `Err` leaves all as it was.
+    pub(crate) fn overwrite(
+        &mut self,
+        hash: u64,
+        offer: &Offer,
+        number: u64,
+    ) -> Result<(), AllocError>
+        requires hash { hash ≡ name_hash self.old.seeded offer.now.key.name }
         requires own { AreOwn self.old.map.entries }
-        requires held { IsSome (lookup (key_eq entry.key) self.old.map.entries) }
-        ensures entries { self.new.map ≡ lru_cache (put_entries key_eq self.old.map entry.key entry) self.old.map.cap }
+        requires held { IsSome (lookup (key_eq offer.now.key) self.old.map.entries) }
+        ensures ok { OnOk result (self.new.map ≡ lru_cache (put_entries key_eq self.old.map offer.now.key (entry_of offer.now number)) self.old.map.cap) }
         ensures seeded { self.new.seeded ≡ self.old.seeded }
+        ensures err { OnErr result (self.new ≡ self.old) }
     {
-        overwrite(&mut self.cache, hash, entry);
+        let key = KeyRef::of(&offer.key);
+        overwrite(&mut self.cache, HashedRef { hash, key }, offer, number)
     }
 }
 

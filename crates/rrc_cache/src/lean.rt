@@ -1,8 +1,7 @@
 // SPDX-License-Identifier: MIT
 ghost use Rattle.std.specs.Prelude.{◌≡◌, ◌<◌, ◌≤◌, ◌^◌, ◌↔◌, [], IsTrue, IfOk, IfErr, IfSome, IfNone, OnErr, Err};
 
-use crate::given::Given;
-use crate::history::{GhostOffer, History, StepRef};
+use crate::history::{History, StepRef};
 use crate::part::KNOWN_SEED;
 use crate::pick::Pick;
 use crate::refusal::Refusal;
@@ -52,7 +51,6 @@ impl LeanPart {
     ghost use Rattle.rrc_name.specs.KeyRef.{key_of};
     ghost use Rattle.std.specs.Option.{option_map};
     ghost use Rattle.rrc_cache.specs.Expiry.{HoldsNothing, NoneFullyExpiresBefore};
-    ghost use Rattle.rrc_cache.specs.Given.{offer_in};
     ghost use Rattle.rrc_cache.specs.Lean.{begun_with, IsLeanDue, IsLeanOpen, IsLeanSound, IsPick, IsRestoreDue, Shuts};
     ghost use Rattle.rrc_cache.specs.Part.{past_of, next_number, Adds, IsCloseDue, IsOfMoments, WritesOffer, WritesAsk, WritesSweep};
     ghost use Rattle.rrc_cache.specs.Sizes.{HoldsKeys, HoldsOctets};
@@ -181,33 +179,31 @@ impl LeanPart {
         ensures err { OnErr result (self.new ≡ self.old) }
         ensures due { IsLeanDue self.old offer.moment result }
     {
-        let (outcome, _) = self.take(tag, Given::Own(offer))?;
+        let (outcome, _) = self.take(tag, &offer)?;
         Ok(outcome)
     }
 
-    /// What `offer` does, with an offer that its caller may keep. It tells what was evicted too.
+    /// What `offer` does, with an offer that its caller keeps. It tells what was evicted too.
     pub(crate) fn take(
         &mut self,
         tag: Tag,
-        given: Given<'_>,
+        offer: &Offer,
     ) -> Result<(Outcome, Option<Key>), Refusal>
-        ensures ok { IfOk result (λ told. Adds self.old self.new (Offered told.0 tag (offer_in given.entry) told.1)) }
+        ensures ok { IfOk result (λ told. Adds self.old self.new (Offered told.0 tag offer.now told.1)) }
         ensures err { OnErr result (self.new ≡ self.old) }
-        ensures due { IsLeanDue self.old (offer_in given.entry).moment result }
+        ensures due { IsLeanDue self.old offer.now.moment result }
     {
-        let offer = given.offer();
         ahead::load_data(&offer.body);
         self.admit(offer.moment)?;
-        let offered = GhostOffer::of(offer);
         let (outcome, evicted) = entries::take(
             &mut self.store,
-            given,
+            offer,
             self.next,
             self.rules.capacity,
         )?;
         self.history = self.history.then(&StepRef::Offered {
             tag,
-            offer: &offered,
+            offer,
             outcome,
             evicted: &evicted,
         });

@@ -12,7 +12,6 @@ mod entry_map;
 mod expiries;
 mod expiry_queue;
 mod filtered_entries;
-mod given;
 mod hashed;
 mod history;
 mod holdings;

@@ -2,7 +2,6 @@
 ghost use Rattle.std.specs.Prelude.{◌≡◌, ◌<◌, ◌≤◌, ◌↔◌, ◌++◌, ◌∷◌, [], None, length, IsTrue, IfOk, IfErr, IfSome, IfNone, OnOk, OnErr, Err};
 ghost use Rattle.rrc_cache.specs.Recording.{refused_by, BeginsRecorded};
 
-use crate::given::Given;
 use crate::lean::LeanPart;
 use crate::recording::NotRecorded;
 use crate::refusal::Refusal;
@@ -183,7 +182,7 @@ impl Part {
     {
         self.admit(offer.moment)?;
         self.events.reserve(1)?;
-        let (outcome, evicted) = self.lean.take(tag, Given::Lent(&offer))?;
+        let (outcome, evicted) = self.lean.take(tag, &offer)?;
         self.events.push_reserved(Event::Offered {
             tag,
             offer,

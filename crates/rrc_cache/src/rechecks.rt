@@ -8,7 +8,6 @@ ghost use Rattle.rrc_history.specs.Sound.{AreSound};
 ghost use Rattle.rrc_cache.specs.Calls.{Leaves, IsMadeAgain, evicted_eq};
 ghost use Rattle.rrc_cache.specs.Rechecks.{IsFault};
 
-use crate::given::Given;
 use crate::part::KNOWN_SEED;
 use crate::seeded::Seeded;
 use crate::store::Store;
@@ -129,8 +128,7 @@ fn is_made_again(
             evicted,
             ..
         } => {
-            let given = Given::Lent(offer);
-            let (became, went) = entries::take(store, given, number, rules.capacity)?;
+            let (became, went) = entries::take(store, offer, number, rules.capacity)?;
             Ok(is_told(became, &went, *outcome, evicted))
         }
         Event::Asked { ask, reply, .. } => {

@@ -5,7 +5,7 @@ ghost use Rattle.rrc_name.specs.Key.{KeyOf};
 ghost use Rattle.rrc_name.specs.KeyRef.{key_of};
 ghost use Rattle.rrc_name.specs.NameRef.{name_in};
 ghost use Rattle.rrc_history.specs.Octets.{octets_of};
-ghost use Rattle.rrc_history.specs.Past.{entry_at, last_key};
+ghost use Rattle.rrc_history.specs.Past.{entry_at, entry_of, last_key};
 ghost use Rattle.rrc_history.specs.Sound.{AreSound};
 ghost use Rattle.rrc_history.specs.Entries.{AreApart, goes, promoted, staying};
 ghost use Rattle.rrc_history.specs.Views.{held_in};
@@ -16,11 +16,11 @@ ghost use Rattle.rrc_cache.specs.NegativeFilter.{is_negative_slot};
 
 use crate::ahead;
 use crate::expiries::{expiries_of, expiry_if_sooner, is_expired_by};
-use crate::expiry_queue::{Expiry, ExpiryQueue, full_expiry_of};
+use crate::expiry_queue::{Expiry, ExpiryQueue, full_expiry, full_expiry_of};
 use crate::filtered_entries::FilteredEntries;
 use crate::replaced::Replaced;
 use crate::seeded::Seeded;
-use rrc_history::{Entry, Held, Rules, Snapshot};
+use rrc_history::{Entry, Held, Offer, Rules, Snapshot};
 use rrc_name::{Key, KeyRef, NameRef, Shared};
 use std::alloc::{AllocError, Global};
 use std::marker::Model;
@@ -167,21 +167,23 @@ impl Store {
         Ok(())
     }
 
-    /// Puts an entry in front whose key has one, which is written over: of it is told what is
-    /// replaced. The name of its key stays, and that of its set where the new one is spelled alike.
-    /// An `Err` leaves all as it was.
+    /// Puts what an offer stores in front, where its key has an entry, which is written over: of it
+    /// is told what is replaced. The name of its key stays, and that of its set where the offered
+    /// one is spelled alike, so that their owners need not be counted anew. An `Err` leaves all as
+    /// it was.
     pub(crate) fn replace(
         &mut self,
         hash: u64,
-        entry: Entry,
+        offer: &Offer,
+        number: u64,
         replaced: Replaced,
     ) -> Result<(), AllocError>
-        requires hash { hash ≡ name_hash self.old.seeded entry.key.name }
-        requires held { option_map (replaced_of self.old.stale) (entry_at entry.key self.old.entries) ≡ Some replaced }
-        ensures ok { OnOk result (self.new ≡ record self.old { entries = entry ∷ staying (goes entry.key None) self.old.entries }) }
+        requires hash { hash ≡ name_hash self.old.seeded offer.now.key.name }
+        requires held { option_map (replaced_of self.old.stale) (entry_at offer.now.key self.old.entries) ≡ Some replaced }
+        ensures ok { OnOk result (self.new ≡ record self.old { entries = entry_of offer.now number ∷ staying (goes offer.now.key None) self.old.entries }) }
         ensures err { OnErr result (self.new ≡ self.old) }
     {
-        self.replace_queued(hash, entry, replaced)?;
+        self.replace_queued(hash, offer, number, replaced)?;
         self.rebuild_long_queue();
         Ok(())
     }
@@ -220,23 +222,24 @@ impl Store {
         Ok(())
     }
 
-    /// Puts an entry in front whose key has one, and sees to it that an expiry comes no later than
-    /// its own.
+    /// Puts what an offer stores in front, where its key has an entry, and sees to it that an
+    /// expiry comes no later than its own.
     fn replace_queued(
         &mut self,
         hash: u64,
-        entry: Entry,
+        offer: &Offer,
+        number: u64,
         replaced: Replaced,
     ) -> Result<(), AllocError>
-        requires hash { hash ≡ name_hash self.old.seeded entry.key.name }
-        requires held { option_map (replaced_of self.old.stale) (entry_at entry.key self.old.entries) ≡ Some replaced }
-        ensures ok { OnOk result (self.new ≡ record self.old { entries = entry ∷ staying (goes entry.key None) self.old.entries }) }
+        requires hash { hash ≡ name_hash self.old.seeded offer.now.key.name }
+        requires held { option_map (replaced_of self.old.stale) (entry_at offer.now.key self.old.entries) ≡ Some replaced }
+        ensures ok { OnOk result (self.new ≡ record self.old { entries = entry_of offer.now number ∷ staying (goes offer.now.key None) self.old.entries }) }
         ensures err { OnErr result (self.new ≡ self.old) }
     {
-        let time = full_expiry_of(&entry, self.stale);
+        let time = full_expiry(&offer.body, offer.moment, self.stale);
         self.queue.reserve()?;
-        let expiry = expiry_if_sooner(replaced, &entry.key, time)?;
-        self.filtered.overwrite(hash, entry, replaced);
+        let expiry = expiry_if_sooner(replaced, &offer.key, time)?;
+        self.filtered.overwrite(hash, offer, number, replaced)?;
         if let Some(expiry) = expiry {
             self.queue.add(expiry);
         }

@@ -3,7 +3,7 @@ use Rattle.std.proofs.Common.{refl, ap, sym, ◌∙◌, arith}
 use Rattle.std.specs.Option.{option_map}
 use Rattle.rrc_name.specs.Key.{KeyOf}
 use Rattle.rrc_history.specs.declared.snapshot.Entry.{Entry}
-use Rattle.rrc_history.specs.Past.{entry_at}
+use Rattle.rrc_history.specs.Past.{entry_at, entry_of}
 use Rattle.rrc_cache.specs.Counted.{counted_octets}
 use Rattle.rrc_cache.specs.Keyed.{name_hash}
 use Rattle.rrc_cache.specs.Pairs.{entries_in, EntriesOf}
@@ -12,24 +12,24 @@ use Rattle.rrc_cache.proofs.Put.{after, put_map, with_entry}
 use Rattle.rrc_cache.proofs.entry_map.EntryMap.overwrite.Goals as goal
 
 pub overwrite-requires-clause-hash : goal.overwrite-requires-clause-hash
-overwrite-requires-clause-hash c = c.requires.hash ∙ ap (λ (map : EntriesOf). name_hash map.seeded c.args.entry.key.name) (sym c.self.view_is)
+overwrite-requires-clause-hash c = c.requires.hash ∙ ap (λ (map : EntriesOf). name_hash map.seeded c.args.offer.now.key.name) (sym c.self.view_is)
 
 pub overwrite-requires-clause-held : goal.overwrite-requires-clause-held
 overwrite-requires-clause-held c =
-    let key : KeyOf = c.args.entry.key in
+    let key : KeyOf = c.args.offer.now.key in
     ap (option_map counted_octets)
     (found_in_pairs key c.self.inside.holdings.map.entries c.self.invariant.own ∙ ap (λ (map : EntriesOf). entry_at key map.entries) c.self.view_is) ∙ c.requires.held
 
-pub invariant_of-self : goal.invariant_of-self
-invariant_of-self c =
-    let entry : Entry = c.args.entry in
+pub invariant_of-self-2 : goal.invariant_of-self-2
+invariant_of-self-2 c =
+    let entry : Entry = entry_of c.args.offer.now c.args.number in
     put_map c.self.inside.holdings.map c.overwrite.new.self.map entry.key entry c.self.invariant c.len.ensures.valid.0 (omega (arith, c.len.ensures.len, c.len.ensures.fits))
-    refl c.overwrite.ensures.entries
+    refl c.in_ok-overwrite.ensures.ok
 
-pub returns : goal.returns
-returns c =
-    let entry : Entry = c.args.entry in
+pub returns-clause-ok : goal.returns-clause-ok
+returns-clause-ok c =
+    let entry : Entry = entry_of c.args.offer.now c.args.number in
     edited (with_entry entry) c.self.inside.holdings.seeded c.overwrite.new.self.seeded (entries_in c.self.inside.holdings.map.entries) (entries_in c.overwrite.new.self.map.entries) c.args.self.now
     c.overwrite.ensures.seeded
-    (after c.self.inside.holdings.map c.overwrite.new.self.map entry.key entry c.self.invariant c.len.ensures.valid.0 (omega (arith, c.len.ensures.len, c.len.ensures.fits)) refl c.overwrite.ensures.entries)
+    (after c.self.inside.holdings.map c.overwrite.new.self.map entry.key entry c.self.invariant c.len.ensures.valid.0 (omega (arith, c.len.ensures.len, c.len.ensures.fits)) refl c.in_ok-overwrite.ensures.ok)
     c.self.view_is
