@@ -853,9 +853,11 @@ static inline bool rrcache_can_tell(const struct rrcache_shelf *shelf,
 
 /* Asks, which is one event: the reply is told and written to the buffer. Where the buffer is too
    small RRCACHE_SMALL is returned, `told` tells the reply and its sizes, and no event is written. A
-   reply never takes more than 255 octets and those of its data. RRCACHE_SMALL comes before
-   RRCACHE_HISTORY_FULL and RRCACHE_MOMENT_TOO_LARGE, so that the call with room enough may still be
-   refused. It takes no memory while nothing is recorded, and RRCACHE_MEMORY does not come then. */
+   reply never takes more than 255 octets and those of its data. Of what `rrcache_read_response`
+   read 28,551 octets are always enough: an owner of 255, 16,384 of data, and two before each of at
+   most 5,956 data, for which a message has room. RRCACHE_SMALL comes before RRCACHE_HISTORY_FULL
+   and RRCACHE_MOMENT_TOO_LARGE, so that the call with room enough may still be refused. It takes no
+   memory while nothing is recorded, and RRCACHE_MEMORY does not come then. */
 static inline enum rrcache_status rrcache_ask(struct rrcache_shelf *shelf,
                                               const struct rrcache_query *query, uint64_t line,
                                               struct rrcache_told *told, uint8_t *buffer,
