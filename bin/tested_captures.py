@@ -10,6 +10,7 @@ import re
 import subprocess
 import sys
 import tempfile
+import time
 from collections import Counter
 from ipaddress import ip_address
 from pathlib import Path
@@ -388,6 +389,39 @@ def test_ICMP_tells_of_a_failure():
                (NOW + 20, made.udp(CLIENT, RESOLVER, (4000, 53), query("later.", 1)))]
     wanted = ["fail 1 www.example. 1", "ask 20 later. 1"]
     yield from differ(texts(on_ethernet(packets)), wanted, "lines")
+
+
+def refused(at, packet):
+    """An ICMP message that a port is unreachable, of the first octets of a packet (RFC 792)."""
+    return at, made.ip4(SERVER, RESOLVER, 1, b"\3\3" + bytes(6) + packet[:28])
+
+
+def test_a_response_behind_an_ICMP_message_is_offered():
+    """It fails once: at the ICMP message, and neither at another one nor at the time-out."""
+    up = made.udp(RESOLVER, SERVER, (5000, 53), UP)
+    fails = [(NOW, up), refused(NOW + 1, up), refused(NOW + 2, up)]
+    later = NOW + 20, made.udp(CLIENT, RESOLVER, (4000, 53), query("later.", 1))
+    for more, wanted in (
+            ([], []),
+            ([(NOW + 3, made.udp(SERVER, RESOLVER, (53, 5000), ANSWER))], ["response 3 ."])):
+        yield from differ(texts(on_ethernet([*fails, *more, later])),
+                          ["fail 1 www.example. 1", *wanted, "ask 20 later. 1"], "lines")
+
+
+def test_many_ICMP_messages_take_a_few_seconds():
+    """Of queries from a port each, and from one port, of which the first message tells of all."""
+    for ports, unmatched in ((range(2_000, 12_000), 0), ([2_000] * 10_000, 9_999)):
+        ups = [made.udp(RESOLVER, SERVER, (port, 53), query(f"h{number}.", 1, number, 0))
+               for number, port in enumerate(ports)]
+        octets = on_ethernet([(NOW, it) for it in ups] + [refused(NOW + 1, it) for it in ups])
+        begun = time.process_time()
+        lines, counts = lines_of(octets, resolvers=[RESOLVER])
+        spent = time.process_time() - begun
+        yield from differ(lines, [f"fail {NOW + 1} h{it}. 1" for it in range(10_000)], "lines")
+        if counts["ICMP: of no query to a server"] != unmatched:
+            yield f"{dict(counts)}"
+        if spent > 10:
+            yield f"{spent:.1f} seconds"
 
 
 def test_ICMP_for_IPv6_tells_of_a_failure():

@@ -140,7 +140,7 @@ class Traffic:
         self.is_given = bool(resolvers)
         self.aliases = {} if follows_aliases else None
         self.zones, self.timeout = Zones(by_servers), seconds * MICROSECONDS
-        self.pending, self.open = OrderedDict(), {}
+        self.pending, self.open, self.between = OrderedDict(), {}, {}
         self.failed, self.recent, self.order = OrderedDict(), {}, deque()
 
     def lines(self, seen):
@@ -271,6 +271,7 @@ class Traffic:
         self.settle(key)
         self.pending[key] = Pending(it.at, question, zone, is_known)
         self.open.setdefault(question.asked, set()).add(key)
+        self.between.setdefault(key[:2], {})[key] = None
         if len(self.pending) > PENDING_MOST:
             self.settle(next(iter(self.pending)))
             self.counts["query to a server: too many without a response"] += 1
@@ -280,11 +281,21 @@ class Traffic:
         """Awaits a query no longer, and answers it."""
         pending = self.pending.pop(key, None)
         if pending:
-            keys = self.open.get(pending.question.asked, set())
-            keys.discard(key)
+            self.is_last(key, pending.question)
+            keys = self.between.get(key[:2], {})
+            keys.pop(key, None)
             if not keys:
-                self.open.pop(pending.question.asked, None)
+                self.between.pop(key[:2], None)
         return pending
+
+    def is_last(self, key, question):
+        """Gives a query up, and answers whether it was the last of its question."""
+        keys = self.open.get(question.asked, set())
+        was_open = key in keys
+        keys.discard(key)
+        if not keys:
+            self.open.pop(question.asked, None)
+        return was_open and not keys
 
     def response(self, it, question):
         """A server's response, for the zone that it was asked for."""
@@ -353,11 +364,9 @@ class Traffic:
 
     def unanswered(self, key, at):
         """The failure of a question of which the last query is given up."""
-        pending = self.pending.get(key)
-        was_open = pending and key in self.open.get(pending.question.asked, ())
-        if self.settle(key) and was_open and pending.question.asked not in self.open:
-            if not unusable(pending.question):
-                yield self.fail(at, pending.question)
+        question = self.pending[key].question
+        if self.is_last(key, question) and not unusable(question):
+            yield self.fail(at, question)
 
     def expired(self, now):
         """The failures of queries that have timed out."""
@@ -366,10 +375,12 @@ class Traffic:
             if now - oldest.at < self.timeout:
                 return
             yield from self.unanswered(key, oldest.at + self.timeout)
+            self.settle(key)
 
     def unreachable(self, it):
-        """A query that the network says did not come to its server."""
-        keys = [key for key in self.pending if key[:2] == (it.source, it.target)]
+        """The failures of queries that the network says did not come to their server. A response
+        is awaited all the same, since anyone may send such a message; it ends the failure."""
+        keys = self.between.pop((it.source, it.target), {})
         if not keys:
             self.counts["ICMP: of no query to a server"] += 1
         for key in keys:
