@@ -108,6 +108,16 @@ def test_the_resolver_is_guessed_from_one_side_alone():
             yield f"{wanted}: {lines}, {dict(counts)}"
 
 
+def test_a_server_that_is_a_client_too_is_no_resolver():
+    """A server's own host asks the resolver for recursion; the server is asked without it."""
+    said = [(0, CLIENT, RESOLVER, query()), (0, RESOLVER, SERVER, UP),
+            (0, SERVER, RESOLVER, ANSWER), (1, SERVER, RESOLVER, query("later."))]
+    lines, counts = lines_of(talk(*said))
+    wanted = [f"ask {NOW} www.example. 1 answer failed", f"response {NOW} . {ANSWER.hex()}",
+              f"ask {NOW + 1} later. 1 answer failed"]
+    yield from differ(lines, wanted, str(dict(counts)))
+
+
 # ---- the same messages on other ways
 
 
@@ -317,11 +327,11 @@ def test_odd_dnstap_files_are_counted():
 
 def talk(*said):
     """A capture of messages: the seconds, who to whom, and the octets."""
-    ports = {CLIENT: 4000, RESOLVER: 5000}
+    ports = {CLIENT: 4000, RESOLVER: 5000, SERVER: 6000}
     packets = []
     for at, source, target, octets in said:
         is_response = octets[2] & 128
-        pair = (53, ports.get(target, 53)) if is_response else (ports[source], 53)
+        pair = (53, ports[target]) if is_response else (ports[source], 53)
         packets.append((NOW + at, made.udp(source, target, pair, octets)))
     return on_ethernet(packets)
 

@@ -65,15 +65,15 @@ def text(name):
 
 
 def guess(messages, ports):
-    """The addresses of the resolver: those that are asked and ask others, and those that ask others
-    with no wish for recursion."""
+    """The addresses of the resolver: those that are asked for recursion and ask others, and those
+    that ask others with no wish for it."""
     asks, recursive = {}, {}
     for it in messages:
         if isinstance(it, Seen) and it.target.port in ports and not flags_of(it.octets) & QR:
             pair = (it.source.address, it.target.address)
             asks[pair] = asks.get(pair, 0) + 1
             recursive[pair] = recursive.get(pair, 0) + bool(flags_of(it.octets) & RD)
-    found = {source for source, _ in asks} & {target for _, target in asks}
+    found = {source for source, _ in asks} & {pair[1] for pair in asks if recursive[pair]}
     for (source, target), count in asks.items():
         if source not in found and target not in found:
             found.add(target if recursive[source, target] * 2 > count else source)
