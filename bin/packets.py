@@ -286,10 +286,12 @@ class Fragments:
 
 
 class Stream:
-    """One direction of a connection: the next number, octets of a message, segments ahead."""
+    """One direction of a connection: the next number, octets of a message, segments ahead, and the
+    number behind the last octet once a FIN told it."""
 
     def __init__(self, at, next_number):
         self.at, self.next, self.octets, self.ahead = at, next_number, bytearray(), {}
+        self.end = None
 
     def add(self, number, octets):
         """Takes a segment in, and those that it makes next. Answers False where there are too many
@@ -304,6 +306,10 @@ class Stream:
                     self.octets += fresh
                     self.next = it + len(segment) & 0xFFFFFFFF
         return len(self.ahead) <= AHEAD_MOST
+
+    @property
+    def is_over(self):
+        return self.end is not None and self.behind(self.end) <= 0
 
     @property
     def size(self):
@@ -347,8 +353,9 @@ class Streams:
         is_kept = stream.add(number, payload) if payload else True
         yield from list(stream.messages())
         self.size += stream.size - before
-        is_over = tcp.flags & dpkt.tcp.TH_FIN and not stream.ahead
-        if not is_kept or is_over or tcp.flags & dpkt.tcp.TH_RST:
+        if tcp.flags & dpkt.tcp.TH_FIN:
+            stream.end = number + len(payload) & 0xFFFFFFFF
+        if not is_kept or stream.is_over or tcp.flags & dpkt.tcp.TH_RST:
             self.close(key)
         self.forget(at)
 

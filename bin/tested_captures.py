@@ -7,6 +7,7 @@ import json
 import os
 import random
 import re
+import struct
 import subprocess
 import sys
 import tempfile
@@ -157,6 +158,23 @@ def test_messages_over_TCP_are_read_in_any_order_of_segments():
     for seed in (1, 2):
         octets = on_ethernet(made.by_tcp(made.ip_packets(PCAP), seed))
         yield from differ(lines_of(octets)[0], wanted, f"seed {seed}")
+
+
+def test_octets_behind_a_FIN_are_read():
+    """A FIN comes first, and then what stands before it, which was lost and sent again. With the
+    last octet the stream is over; the numbers pass 2**32."""
+    octets = struct.pack(">H", len(query())) + query()
+    for first in (9, 2**32 - 12):
+        def part(flags, start=0, end=0, first=first):
+            return NOW, made.segment(CLIENT, RESOLVER, (4000, 53), first + start, flags,
+                                     octets[start - 1:end])
+        size = len(octets) + 1
+        for parts in ([part(2), part(17, size, size), part(16, 1, size)],
+                      [part(2), part(17, 9, size), part(16, 1, 8)]):
+            capture = Capture(counts := Counter())
+            seen = list(capture.messages(io.BytesIO(on_ethernet(parts))))
+            if [it.octets for it in seen] != [query()] or capture.streams.open or counts:
+                yield f"{first}: {seen}, {len(capture.streams.open)} open, {dict(counts)}"
 
 
 # ---- broken captures
