@@ -410,6 +410,24 @@ def test_aliases_are_followed_where_that_is_asked_for():
         yield from differ(texts(talk(*said), follows_aliases=follows), wanted, str(follows))
 
 
+def test_a_zone_transfer_is_left_out():
+    """Its response has two messages, of which the second has no question (RFC 5936 section 2.2.1).
+    It is no failure either where no response comes."""
+    soa = record("example.", 6, 60, soa_data(".", ".", 1, 2, 3, 4, 5))
+    for rtype in (251, 252):
+        up = (0, RESOLVER, SERVER, query("example.", rtype, 9, 0))
+        parts = [(1, SERVER, RESOLVER, message(9, 0x8400, it, [soa])) for it in
+                 (question("example.", rtype), b"")]
+        for said in ([up, *parts, LATER], [up, LATER]):
+            yield from differ(texts(talk(*said)), ["ask 20 later. 1"], f"type {rtype}")
+            counts = lines_of(talk(*said), resolvers=[RESOLVER])[1]
+            wanted = {"query to a server: a zone transfer": 1}
+            if len(said) > 2:
+                wanted["server's response: of a zone transfer"] = 2
+            if counts != wanted:
+                yield f"type {rtype}: {dict(counts)}"
+
+
 def test_ICMP_tells_of_a_failure():
     inner = made.udp(RESOLVER, SERVER, (5000, 53), UP)[:28]
     packets = [(NOW, made.udp(RESOLVER, SERVER, (5000, 53), UP)),

@@ -15,6 +15,8 @@ from packets import MICROSECONDS, Seen, Unreachable
 from traces import MOMENT_MOST
 
 DS, ADDRESSES = 43, (1, 28)
+# IXFR and AXFR (RFC 1995, RFC 5936).
+TRANSFERS = (251, 252)
 SERVFAIL, RD, QR, AA = 2, 0x0100, 0x8000, 0x0400
 # How many messages are kept until it is guessed who the resolver is.
 GUESSED_FROM = 20_000
@@ -258,7 +260,7 @@ class Traffic:
         return resolver, server, octets[:2]
 
     def query(self, it, question):
-        """A query to a server is awaited."""
+        """A query to a server is awaited; a zone transfer's so that its response is known."""
         if question.flags >> 11 & 15 or not question.name:
             self.counts["query to a server: not a standard one"] += 1
             return
@@ -270,8 +272,11 @@ class Traffic:
         key = self.key(it.source, it.target, it.octets)
         self.settle(key)
         self.pending[key] = Pending(it.at, question, zone, is_known)
-        self.open.setdefault(question.asked, set()).add(key)
         self.between.setdefault(key[:2], {})[key] = None
+        if question.rtype in TRANSFERS:
+            self.counts["query to a server: a zone transfer"] += 1
+        else:
+            self.open.setdefault(question.asked, set()).add(key)
         if len(self.pending) > PENDING_MOST:
             self.settle(next(iter(self.pending)))
             self.counts["query to a server: too many without a response"] += 1
@@ -303,6 +308,10 @@ class Traffic:
         pending = self.pending.get(key)
         if pending is None:
             self.counts["server's response: its query was not seen, or timed out"] += 1
+            return
+        if pending.question.rtype in TRANSFERS:
+            # it may have more messages (RFC 5936 section 2.2)
+            self.counts["server's response: of a zone transfer"] += 1
             return
         if question and question.name and question.asked != pending.question.asked:
             self.counts["server's response: to another question than its query"] += 1
