@@ -437,6 +437,48 @@ def test_ICMP_tells_of_a_failure():
     yield from differ(texts(on_ethernet(packets)), wanted, "lines")
 
 
+def test_an_alias_ends_with_a_negative_answer():
+    """NXDOMAIN, and NODATA with a SOA record or with no NS record (RFC 2308 section 2); neither a
+    referral, nor what is truncated, failed, of another class, or about the CNAME record itself."""
+    www, soa = question("www.example.", 1), record(".", 6, 60, soa_data(".", ".", 1, 2, 3, 4, 5))
+    alias = record("www.example.", 5, 60, wire("web.example."))
+    on = record("web.example.", 5, 60, wire("a."))
+    ns = record("example.", 2, 60, wire("ns.example."))
+    known = ["ask 3 www.example. 5", "ask 3 web.example. 5", "ask 3 a. 1"]
+    for flags, asks, answer, authority, last in (
+            (0x8403, www, [], [soa], known[:0]), (0x8003, www, [], [], known[:0]),
+            (0x8400, www, [], [soa], known[:0]), (0x8400, www, [], [], known[:0]),
+            (0x8400, www, [], [ns, soa], known[:0]), (0x8400, www, [], [ns], known),
+            (0x8600, www, [], [soa], known), (0x8402, www, [], [soa], known),
+            (0x8400, question("www.example.", 5), [], [soa], known),
+            (0x8400, question("www.example.", 255), [], [soa], known),
+            (0x8403, question("www.example.", 1, 3), [], [soa], known),
+            # the alias is there still, and its target is none
+            (0x8403, www, [alias], [soa], ["ask 3 www.example. 5", "ask 3 web.example. 1"])):
+        up = header(9, 0, 1) + asks
+        told = message(9, 0x8400, www, [alias, on])
+        said = [(0, RESOLVER, SERVER, UP), (0, SERVER, RESOLVER, told), (1, RESOLVER, SERVER, up),
+                (1, SERVER, RESOLVER, message(9, flags, asks, answer, authority)),
+                (3, CLIENT, RESOLVER, query())]
+        yield from differ(texts(talk(*said), follows_aliases=True)[2:],
+                          last or ["ask 3 www.example. 1"],
+                          f"{flags:x} {asks.hex()} {len(answer)} {len(authority)}")
+
+
+def test_an_alias_outside_of_the_zone_of_a_negative_answer_stays():
+    """The server of `example.` can't deny the target in another zone (RFC 2181 section 5.4.1)."""
+    www, soa = question("www.example.", 1), record(".", 6, 60, soa_data(".", ".", 1, 2, 3, 4, 5))
+    ns = [record("example.", 2, 60, wire("ns.example."))]
+    alias = [record("www.example.", 5, 60, wire("web.")), record("web.", 5, 60, wire("a."))]
+    said = [(0, RESOLVER, SERVER, UP), (0, SERVER, RESOLVER, message(9, 0x8000, www, alias, ns)),
+            (1, RESOLVER, SERVER, UP),
+            (1, SERVER, RESOLVER, message(9, 0x8403, www, alias[:1], [soa])),
+            (3, CLIENT, RESOLVER, query())]
+    wanted = ["response 0 .", "response 1 example.",
+              "ask 3 www.example. 5", "ask 3 web. 5", "ask 3 a. 1"]
+    yield from differ(texts(talk(*said), follows_aliases=True), wanted, "lines")
+
+
 def refused(at, packet):
     """An ICMP message that a port is unreachable, of the first octets of a packet (RFC 792)."""
     return at, made.ip4(SERVER, RESOLVER, 1, b"\3\3" + bytes(6) + packet[:28])

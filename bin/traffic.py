@@ -8,8 +8,8 @@ from collections import OrderedDict, deque
 from functools import lru_cache
 from typing import NamedTuple
 
-from messages import (ALIASES_MOST, ANY, CNAME, HEADER, IN, NS, QUESTION, SOA, MessageFault,
-                      fields_at, is_kept, name_at, read)
+from messages import (ALIASES_MOST, ANY, CNAME, HEADER, IN, NOERROR, NS, NXDOMAIN, QUESTION, SOA,
+                      MessageFault, fields_at, final_name, is_kept, name_at, read)
 from names import ROOT, ancestors, fold, is_at_or_below, to_text
 from packets import MICROSECONDS, Seen, Unreachable
 from traces import MOMENT_MOST
@@ -128,6 +128,22 @@ def told_zone(message):
         return None
     owners = (it.owner for it in message.sections[1] if it.rtype in (NS, SOA))
     return next((fold(it) for it in owners if is_at_or_below(message.name, it)), None)
+
+
+def no_alias(message):
+    """The name that a negative answer is about, which is no alias; or None (RFC 2308 section 2).
+
+    NS records without a SOA record are a referral, which denies nothing (section 2.2)."""
+    if message.is_truncated or message.opcode or message.rclass != IN:
+        return None
+    if message.rtype in (CNAME, ANY):
+        return None
+    there = {it.rtype for it in message.sections[1]}
+    is_referral = NS in there and SOA not in there
+    if message.rcode != NXDOMAIN and (message.rcode != NOERROR or is_referral):
+        return None
+    led = final_name(message)
+    return led and led[0]
 
 
 # ---- lines
@@ -355,6 +371,9 @@ class Traffic:
                 self.aliases[owner] = record.data
             else:
                 self.aliases.pop(owner, None)
+        name = no_alias(message)
+        if name and is_at_or_below(name, zone):
+            self.aliases.pop(name, None)
 
     # ---- failures
 
