@@ -38,8 +38,11 @@ def lines_of(octets, **options):
     counts = Counter()
     traffic, stream = Traffic(counts, **options), io.BufferedReader(io.BytesIO(octets))
     is_frames = dnstap.is_dnstap(stream.peek(4))
-    found = dnstap.messages(stream, counts) if is_frames else Capture(counts).messages(stream)
-    return list(traffic.lines(found)), counts
+    capture = Capture(counts)
+    found = dnstap.messages(stream, counts) if is_frames else capture.messages(stream)
+    lines = list(traffic.lines(found))
+    capture.end()
+    return lines, counts
 
 
 def told_by_tshark(name):
@@ -426,6 +429,41 @@ def test_a_zone_transfer_is_left_out():
                 wanted["server's response: of a zone transfer"] = 2
             if counts != wanted:
                 yield f"type {rtype}: {dict(counts)}"
+
+
+def test_a_response_that_is_cut_off_is_no_failure():
+    """It is one from the header on, of 12 octets (RFC 1035 section 4.1.1); nothing is offered."""
+    packet = made.udp(SERVER, RESOLVER, (53, 5000), ANSWER)
+    cut = "server's response: cut off, as by the capture's snap length"
+    whole = "packet: cut off, as by the capture's snap length"
+    up = [(NOW, made.udp(RESOLVER, SERVER, (5000, 53), UP)),
+          (NOW, made.udp(RESOLVER, OTHER, (5000, 53), UP))]
+    later = NOW + 20, made.udp(CLIENT, RESOLVER, (4000, 53), query("later.", 1))
+    for size, wanted, reasons in ((28 + 12, [], {cut: 1}), (len(packet) - 1, [], {cut: 1}),
+                                  (28 + 11, ["fail 5 www.example. 1"], {whole: 1})):
+        octets = on_ethernet([*up, (NOW + 1, packet[:size]), later])
+        yield from differ(texts(octets), [*wanted, "ask 20 later. 1"], f"{size} octets")
+        counts = lines_of(octets, resolvers=[RESOLVER])[1]
+        if counts != reasons:
+            yield f"{size} octets: {dict(counts)}"
+    unasked = lines_of(on_ethernet([(NOW, packet[:-1])]), resolvers=[RESOLVER])
+    if unasked != ([], {whole: 1}):
+        yield f"{unasked}"
+
+
+def test_what_is_not_whole_at_the_end_is_counted():
+    """Two datagrams and one connection; that of which all octets are read does not count."""
+    whole = struct.pack(">H", len(query())) + query()
+    packets = [(NOW, made.ip4(CLIENT, RESOLVER, 17, bytes(8), it, 0x2000)) for it in (1, 2)]
+    for port, size in ((4000, len(whole)), (4001, len(whole) - 1)):
+        packets += [(NOW, made.segment(CLIENT, RESOLVER, (port, 53), 9, 2)),
+                    (NOW, made.segment(CLIENT, RESOLVER, (port, 53), 10, 16, whole[:size]))]
+    lines, counts = lines_of(on_ethernet(packets), resolvers=[RESOLVER])
+    yield from differ(lines, [f"ask {NOW} www.example. 1 answer failed"], "lines")
+    wanted = {"packet: fragments of which the rest is not in the capture": 2,
+              "segment: of a TCP message of which the rest is not in the capture": 1}
+    if counts != wanted:
+        yield f"{dict(counts)}"
 
 
 def test_ICMP_tells_of_a_failure():

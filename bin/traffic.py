@@ -11,7 +11,7 @@ from typing import NamedTuple
 from messages import (ALIASES_MOST, ANY, CNAME, HEADER, IN, NOERROR, NS, NXDOMAIN, QUESTION, SOA,
                       MessageFault, fields_at, final_name, is_kept, name_at, read)
 from names import ROOT, ancestors, fold, is_at_or_below, to_text
-from packets import MICROSECONDS, Seen, Unreachable
+from packets import CUT, MICROSECONDS, Cut, Seen, Unreachable
 from traces import MOMENT_MOST
 
 DS, ADDRESSES = 43, (1, 28)
@@ -170,6 +170,8 @@ class Traffic:
             yield from self.expired(it.at)
             if isinstance(it, Unreachable):
                 yield from self.unreachable(it)
+            elif isinstance(it, Cut):
+                self.cut(it)
             elif not self.is_twice(it):
                 yield from self.line(it)
         for _ in self.open.values():
@@ -332,12 +334,25 @@ class Traffic:
         if question and question.name and question.asked != pending.question.asked:
             self.counts["server's response: to another question than its query"] += 1
             return
-        self.settle(key)
-        # what was asked of other servers too has a response now
-        self.open.pop(pending.question.asked, None)
+        self.answer(key, pending)
         self.note(it.at, question, pending)
         zone = self.learnt(it, pending)
         yield f"response {it.at // MICROSECONDS} {text(zone)} {it.octets.hex() or '-'}"
+
+    def answer(self, key, pending):
+        """Awaits a query no longer, nor what was asked of other servers too, and has a response."""
+        self.settle(key)
+        self.open.pop(pending.question.asked, None)
+
+    def cut(self, it):
+        """A response of which the rest is not in the capture: its query has not failed."""
+        key = self.key(it.target, it.source, it.octets)
+        pending = self.pending.get(key)
+        if pending is None:
+            self.counts[CUT] += 1
+        else:
+            self.counts["server's response: cut off, as by the capture's snap length"] += 1
+            self.answer(key, pending)
 
     def note(self, at, question, pending):
         """Notes whether a question has failed just now."""
