@@ -569,6 +569,17 @@ def test_the_same_packet_on_two_interfaces_counts_once():
             yield f"{seconds} seconds apart: {lines}"
 
 
+def test_messages_that_go_backward_in_time_are_counted():
+    """By more than a second, from the latest one of all before."""
+    for times, count in (((10, 5, 9, 8), 2), ((10, 9), 0), ((0, 5, 10), 0)):
+        said = [(it, CLIENT, RESOLVER, query(number=number)) for number, it in enumerate(times)]
+        yield from differ(texts(talk(*said)), [f"ask {it} www.example. 1" for it in times], "lines")
+        counts = lines_of(talk(*said), resolvers=[RESOLVER])[1]
+        told = [counts[it] for it in counts if it.endswith("are the files in order?")]
+        if told != [count] * bool(count) or len(counts) != len(told):
+            yield f"{times}: {dict(counts)}"
+
+
 def test_other_ports_are_of_the_DNS_where_that_is_said():
     octets = on_ethernet([(NOW, made.udp(CLIENT, RESOLVER, (4000, 5300), query()))])
     counts = Counter()

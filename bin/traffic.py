@@ -2,7 +2,7 @@
 """What a resolver's messages are as lines of a trace: asks, responses and failures.
 
 Whoever asks the resolver is a client, and whom it asks is a server. Memory is bounded but for the
-names of zones and of servers.
+zones with the names of their servers, the addresses of all names, and the aliases to be followed.
 """
 from collections import OrderedDict, deque
 from functools import lru_cache
@@ -23,6 +23,7 @@ GUESSED_FROM = 20_000
 PENDING_MOST, FAILED_MOST = 100_000, 100_000
 TWICE_MICROSECONDS, TWICE_MOST = 10_000, 4_096
 REMEMBERED = 30 * MICROSECONDS
+BACKWARD = "used, though more than a second earlier than one before: are the files in order?"
 
 
 class Question(NamedTuple):
@@ -160,6 +161,7 @@ class Traffic:
         self.zones, self.timeout = Zones(by_servers), seconds * MICROSECONDS
         self.pending, self.open, self.between = OrderedDict(), {}, {}
         self.failed, self.recent, self.order = OrderedDict(), {}, deque()
+        self.latest = 0
 
     def lines(self, seen):
         """The lines that messages make."""
@@ -167,6 +169,9 @@ class Traffic:
             if not 0 <= it.at // MICROSECONDS <= MOMENT_MOST:
                 self.counts["message: its time is no moment of a trace"] += 1
                 continue
+            if it.at < self.latest - MICROSECONDS:
+                self.counts[BACKWARD] += 1
+            self.latest = max(self.latest, it.at)
             yield from self.expired(it.at)
             if isinstance(it, Unreachable):
                 yield from self.unreachable(it)
