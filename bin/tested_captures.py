@@ -2,15 +2,18 @@
 """Tests of bin/from-capture, on the capture in captures/ and on made and broken ones.
 
 tshark wrote captures/small.asks and small.responses, unbound the zones in captures/small.dnstap."""
+import fcntl
 import io
 import json
 import os
 import random
 import re
+import signal
 import struct
 import subprocess
 import sys
 import tempfile
+import termios
 import time
 from collections import Counter
 from ipaddress import ip_address
@@ -682,6 +685,53 @@ def test_the_command_writes_the_trace_and_counts_what_it_left():
     few = run("--lines", "3", "--zone-from-servers", "--resolver", "192.0.2.53", PCAP)
     if len(few.stdout.splitlines()) != 3 or "the trace has 3" not in few.stderr:
         yield f"--lines 3: {few.stdout} {few.stderr}"
+
+
+def test_the_command_reads_standard_input():
+    """From a pipe, in which nothing can be sought."""
+    for path in (PCAP, DNSTAP):
+        ran = subprocess.run([sys.executable, TOP / "bin" / "from-capture", "-"], timeout=60,
+                             input=path.read_bytes(), capture_output=True)
+        yield from differ(ran.stdout.decode().splitlines(), lines_of(path.read_bytes())[0],
+                          path.name)
+    ran = run("-", input="")
+    if ran.returncode != 1 or "standard input is no capture" not in ran.stderr or ran.stdout:
+        yield f"status {ran.returncode}: {ran.stderr}"
+
+
+def interrupted(octets, is_read):
+    """What a command says that Ctrl-C ends while it waits for more than these octets: status, lines
+    and errors. Its lines are read, or nobody is there who would read them."""
+    words = [it for address in RESOLVERS for it in ("--resolver", str(ip_address(address)))]
+    ran = subprocess.Popen(
+        [sys.executable, TOP / "bin" / "from-capture", *words, "-"], stdin=subprocess.PIPE,
+        stdout=subprocess.PIPE, stderr=subprocess.PIPE,
+        preexec_fn=lambda: signal.signal(signal.SIGINT, signal.default_int_handler))
+    ran.stdin.write(octets)
+    ran.stdin.flush()
+    left, deadline = bytearray(b"\1" * 4), time.monotonic() + 30
+    while any(left) and time.monotonic() < deadline:
+        fcntl.ioctl(ran.stdin, termios.FIONREAD, left)
+        time.sleep(0.02)
+    if not is_read:
+        ran.stdout.close()
+    ran.send_signal(signal.SIGINT)
+    lines, said = ran.stdout.read() if is_read else b"", ran.stderr.read()
+    for stream in (ran.stdin, ran.stdout, ran.stderr):
+        stream.close()
+    return ran.wait(60), lines.decode().splitlines(keepends=True), said.decode()
+
+
+def test_the_command_ends_by_an_interrupt_without_a_traceback():
+    """With whole lines, and also where whoever read them is gone; what there is to write then is
+    less than is written at once."""
+    for size, is_read in ((30_000, True), (3_000, False)):
+        octets = PCAP.read_bytes()[:size]
+        whole, _ = lines_of(octets, resolvers=RESOLVERS)
+        status, lines, said = interrupted(octets, is_read)
+        if status != 130 or said or is_read and not lines:
+            yield f"status {status}, {len(lines)} lines: {said}"
+        yield from differ(lines, [f"{it}\n" for it in whole[:len(lines)]], "lines")
 
 
 def test_the_command_says_what_is_no_capture():
