@@ -68,11 +68,11 @@ LINKS = {
 def pcap(packets, link=1, order="<", nano=False):
     """A pcap file of packets of a link."""
     magic, units = (0xA1B23C4D, 10**9) if nano else (0xA1B2C3D4, 10**6)
-    made = struct.pack(order + "I2H4I", magic, 2, 4, 0, 0, 262_144, link)
+    made = [struct.pack(order + "I2H4I", magic, 2, 4, 0, 0, 262_144, link)]
     for at, octets in packets:
         fraction = round(at % 1 * 10**6) * (units // 10**6)
-        made += struct.pack(order + "4I", int(at), fraction, len(octets), len(octets)) + octets
-    return made
+        made += struct.pack(order + "4I", int(at), fraction, len(octets), len(octets)), octets
+    return b"".join(made)
 
 
 def pcapng_by_dpkt(packets, link):

@@ -22,6 +22,7 @@ STREAMS_MOST, STREAM_SECONDS, AHEAD_MOST, OCTETS_MOST = 10_000, 120, 64, 64 * 2*
 # What dpkt raises on octets that are not what they should be.
 ODD = (dpkt.UnpackError, struct.error, ValueError, IndexError, KeyError, TypeError, AttributeError)
 UDP, TCP, ICMP, ICMP6 = 17, 6, 1, 58
+CUT = "packet: cut off, as by the capture's snap length"
 
 
 class NoCapture(ValueError):
@@ -53,6 +54,15 @@ class Unreachable(NamedTuple):
     at: int
     source: Peer
     target: Peer
+
+
+class Cut(NamedTuple):
+    """A response that the capture's snap length cut off: its first octets, with the header."""
+
+    at: int
+    source: Peer
+    target: Peer
+    octets: bytes
 
 
 # ---- files
@@ -286,10 +296,12 @@ class Fragments:
 
 
 class Stream:
-    """One direction of a connection: the next number, octets of a message, segments ahead."""
+    """One direction of a connection: the next number, octets of a message, segments ahead, and the
+    number behind the last octet once a FIN told it."""
 
     def __init__(self, at, next_number):
         self.at, self.next, self.octets, self.ahead = at, next_number, bytearray(), {}
+        self.end = None
 
     def add(self, number, octets):
         """Takes a segment in, and those that it makes next. Answers False where there are too many
@@ -304,6 +316,10 @@ class Stream:
                     self.octets += fresh
                     self.next = it + len(segment) & 0xFFFFFFFF
         return len(self.ahead) <= AHEAD_MOST
+
+    @property
+    def is_over(self):
+        return self.end is not None and self.behind(self.end) <= 0
 
     @property
     def size(self):
@@ -347,8 +363,9 @@ class Streams:
         is_kept = stream.add(number, payload) if payload else True
         yield from list(stream.messages())
         self.size += stream.size - before
-        is_over = tcp.flags & dpkt.tcp.TH_FIN and not stream.ahead
-        if not is_kept or is_over or tcp.flags & dpkt.tcp.TH_RST:
+        if tcp.flags & dpkt.tcp.TH_FIN:
+            stream.end = number + len(payload) & 0xFFFFFFFF
+        if not is_kept or stream.is_over or tcp.flags & dpkt.tcp.TH_RST:
             self.close(key)
         self.forget(at)
 
@@ -390,6 +407,16 @@ class Capture:
             except ODD:
                 self.counts["packet: headers that are not what they should be"] += 1
 
+    def end(self):
+        """Counts what is not whole at the end of the last file."""
+        for reason, count in (
+                ("packet: fragments of which the rest is not in the capture",
+                 len(self.fragments.begun)),
+                ("segment: of a TCP message of which the rest is not in the capture",
+                 sum(1 for it in self.streams.open.values() if it.size))):
+            if count:
+                self.counts[reason] += count
+
     def seen(self, at, ip):
         """What a packet brings."""
         whole = self.fragments.whole(at, ip)
@@ -419,10 +446,14 @@ class Capture:
     def datagram(self, at, ip, udp):
         if self.is_elsewhere(udp):
             return
-        if udp.ulen < 8 or len(udp.data) < udp.ulen - 8:
-            self.counts["packet: cut off, as by the capture's snap length"] += 1
-            return
-        yield Seen(at, Peer(ip.src, udp.sport), Peer(ip.dst, udp.dport), udp.data[:udp.ulen - 8])
+        source, target = Peer(ip.src, udp.sport), Peer(ip.dst, udp.dport)
+        size, octets = udp.ulen - 8, udp.data
+        if 0 <= size <= len(octets):
+            yield Seen(at, source, target, octets[:size])
+        elif 12 <= len(octets) < size and octets[2] & 128:
+            yield Cut(at, source, target, octets)
+        else:
+            self.counts[CUT] += 1
 
     def segment(self, at, ip, tcp):
         if self.is_elsewhere(tcp):

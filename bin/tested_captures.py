@@ -2,14 +2,19 @@
 """Tests of bin/from-capture, on the capture in captures/ and on made and broken ones.
 
 tshark wrote captures/small.asks and small.responses, unbound the zones in captures/small.dnstap."""
+import fcntl
 import io
 import json
 import os
 import random
 import re
+import signal
+import struct
 import subprocess
 import sys
 import tempfile
+import termios
+import time
 from collections import Counter
 from ipaddress import ip_address
 from pathlib import Path
@@ -36,8 +41,11 @@ def lines_of(octets, **options):
     counts = Counter()
     traffic, stream = Traffic(counts, **options), io.BufferedReader(io.BytesIO(octets))
     is_frames = dnstap.is_dnstap(stream.peek(4))
-    found = dnstap.messages(stream, counts) if is_frames else Capture(counts).messages(stream)
-    return list(traffic.lines(found)), counts
+    capture = Capture(counts)
+    found = dnstap.messages(stream, counts) if is_frames else capture.messages(stream)
+    lines = list(traffic.lines(found))
+    capture.end()
+    return lines, counts
 
 
 def told_by_tshark(name):
@@ -107,6 +115,16 @@ def test_the_resolver_is_guessed_from_one_side_alone():
             yield f"{wanted}: {lines}, {dict(counts)}"
 
 
+def test_a_server_that_is_a_client_too_is_no_resolver():
+    """A server's own host asks the resolver for recursion; the server is asked without it."""
+    said = [(0, CLIENT, RESOLVER, query()), (0, RESOLVER, SERVER, UP),
+            (0, SERVER, RESOLVER, ANSWER), (1, SERVER, RESOLVER, query("later."))]
+    lines, counts = lines_of(talk(*said))
+    wanted = [f"ask {NOW} www.example. 1 answer failed", f"response {NOW} . {ANSWER.hex()}",
+              f"ask {NOW + 1} later. 1 answer failed"]
+    yield from differ(lines, wanted, str(dict(counts)))
+
+
 # ---- the same messages on other ways
 
 
@@ -146,6 +164,23 @@ def test_messages_over_TCP_are_read_in_any_order_of_segments():
     for seed in (1, 2):
         octets = on_ethernet(made.by_tcp(made.ip_packets(PCAP), seed))
         yield from differ(lines_of(octets)[0], wanted, f"seed {seed}")
+
+
+def test_octets_behind_a_FIN_are_read():
+    """A FIN comes first, and then what stands before it, which was lost and sent again. With the
+    last octet the stream is over; the numbers pass 2**32."""
+    octets = struct.pack(">H", len(query())) + query()
+    for first in (9, 2**32 - 12):
+        def part(flags, start=0, end=0, first=first):
+            return NOW, made.segment(CLIENT, RESOLVER, (4000, 53), first + start, flags,
+                                     octets[start - 1:end])
+        size = len(octets) + 1
+        for parts in ([part(2), part(17, size, size), part(16, 1, size)],
+                      [part(2), part(17, 9, size), part(16, 1, 8)]):
+            capture = Capture(counts := Counter())
+            seen = list(capture.messages(io.BytesIO(on_ethernet(parts))))
+            if [it.octets for it in seen] != [query()] or capture.streams.open or counts:
+                yield f"{first}: {seen}, {len(capture.streams.open)} open, {dict(counts)}"
 
 
 # ---- broken captures
@@ -316,11 +351,11 @@ def test_odd_dnstap_files_are_counted():
 
 def talk(*said):
     """A capture of messages: the seconds, who to whom, and the octets."""
-    ports = {CLIENT: 4000, RESOLVER: 5000}
+    ports = {CLIENT: 4000, RESOLVER: 5000, SERVER: 6000}
     packets = []
     for at, source, target, octets in said:
         is_response = octets[2] & 128
-        pair = (53, ports.get(target, 53)) if is_response else (ports[source], 53)
+        pair = (53, ports[target]) if is_response else (ports[source], 53)
         packets.append((NOW + at, made.udp(source, target, pair, octets)))
     return on_ethernet(packets)
 
@@ -381,6 +416,59 @@ def test_aliases_are_followed_where_that_is_asked_for():
         yield from differ(texts(talk(*said), follows_aliases=follows), wanted, str(follows))
 
 
+def test_a_zone_transfer_is_left_out():
+    """Its response has two messages, of which the second has no question (RFC 5936 section 2.2.1).
+    It is no failure either where no response comes."""
+    soa = record("example.", 6, 60, soa_data(".", ".", 1, 2, 3, 4, 5))
+    for rtype in (251, 252):
+        up = (0, RESOLVER, SERVER, query("example.", rtype, 9, 0))
+        parts = [(1, SERVER, RESOLVER, message(9, 0x8400, it, [soa])) for it in
+                 (question("example.", rtype), b"")]
+        for said in ([up, *parts, LATER], [up, LATER]):
+            yield from differ(texts(talk(*said)), ["ask 20 later. 1"], f"type {rtype}")
+            counts = lines_of(talk(*said), resolvers=[RESOLVER])[1]
+            wanted = {"query to a server: a zone transfer": 1}
+            if len(said) > 2:
+                wanted["server's response: of a zone transfer"] = 2
+            if counts != wanted:
+                yield f"type {rtype}: {dict(counts)}"
+
+
+def test_a_response_that_is_cut_off_is_no_failure():
+    """It is one from the header on, of 12 octets (RFC 1035 section 4.1.1); nothing is offered."""
+    packet = made.udp(SERVER, RESOLVER, (53, 5000), ANSWER)
+    cut = "server's response: cut off, as by the capture's snap length"
+    whole = "packet: cut off, as by the capture's snap length"
+    up = [(NOW, made.udp(RESOLVER, SERVER, (5000, 53), UP)),
+          (NOW, made.udp(RESOLVER, OTHER, (5000, 53), UP))]
+    later = NOW + 20, made.udp(CLIENT, RESOLVER, (4000, 53), query("later.", 1))
+    for size, wanted, reasons in ((28 + 12, [], {cut: 1}), (len(packet) - 1, [], {cut: 1}),
+                                  (28 + 11, ["fail 5 www.example. 1"], {whole: 1})):
+        octets = on_ethernet([*up, (NOW + 1, packet[:size]), later])
+        yield from differ(texts(octets), [*wanted, "ask 20 later. 1"], f"{size} octets")
+        counts = lines_of(octets, resolvers=[RESOLVER])[1]
+        if counts != reasons:
+            yield f"{size} octets: {dict(counts)}"
+    unasked = lines_of(on_ethernet([(NOW, packet[:-1])]), resolvers=[RESOLVER])
+    if unasked != ([], {whole: 1}):
+        yield f"{unasked}"
+
+
+def test_what_is_not_whole_at_the_end_is_counted():
+    """Two datagrams and one connection; that of which all octets are read does not count."""
+    whole = struct.pack(">H", len(query())) + query()
+    packets = [(NOW, made.ip4(CLIENT, RESOLVER, 17, bytes(8), it, 0x2000)) for it in (1, 2)]
+    for port, size in ((4000, len(whole)), (4001, len(whole) - 1)):
+        packets += [(NOW, made.segment(CLIENT, RESOLVER, (port, 53), 9, 2)),
+                    (NOW, made.segment(CLIENT, RESOLVER, (port, 53), 10, 16, whole[:size]))]
+    lines, counts = lines_of(on_ethernet(packets), resolvers=[RESOLVER])
+    yield from differ(lines, [f"ask {NOW} www.example. 1 answer failed"], "lines")
+    wanted = {"packet: fragments of which the rest is not in the capture": 2,
+              "segment: of a TCP message of which the rest is not in the capture": 1}
+    if counts != wanted:
+        yield f"{dict(counts)}"
+
+
 def test_ICMP_tells_of_a_failure():
     inner = made.udp(RESOLVER, SERVER, (5000, 53), UP)[:28]
     packets = [(NOW, made.udp(RESOLVER, SERVER, (5000, 53), UP)),
@@ -388,6 +476,81 @@ def test_ICMP_tells_of_a_failure():
                (NOW + 20, made.udp(CLIENT, RESOLVER, (4000, 53), query("later.", 1)))]
     wanted = ["fail 1 www.example. 1", "ask 20 later. 1"]
     yield from differ(texts(on_ethernet(packets)), wanted, "lines")
+
+
+def test_an_alias_ends_with_a_negative_answer():
+    """NXDOMAIN, and NODATA with a SOA record or with no NS record (RFC 2308 section 2); neither a
+    referral, nor what is truncated, failed, of another class, or about the CNAME record itself."""
+    www, soa = question("www.example.", 1), record(".", 6, 60, soa_data(".", ".", 1, 2, 3, 4, 5))
+    alias = record("www.example.", 5, 60, wire("web.example."))
+    on = record("web.example.", 5, 60, wire("a."))
+    ns = record("example.", 2, 60, wire("ns.example."))
+    known = ["ask 3 www.example. 5", "ask 3 web.example. 5", "ask 3 a. 1"]
+    for flags, asks, answer, authority, last in (
+            (0x8403, www, [], [soa], known[:0]), (0x8003, www, [], [], known[:0]),
+            (0x8400, www, [], [soa], known[:0]), (0x8400, www, [], [], known[:0]),
+            (0x8400, www, [], [ns, soa], known[:0]), (0x8400, www, [], [ns], known),
+            (0x8600, www, [], [soa], known), (0x8402, www, [], [soa], known),
+            (0x8400, question("www.example.", 5), [], [soa], known),
+            (0x8400, question("www.example.", 255), [], [soa], known),
+            (0x8403, question("www.example.", 1, 3), [], [soa], known),
+            # the alias is there still, and its target is none
+            (0x8403, www, [alias], [soa], ["ask 3 www.example. 5", "ask 3 web.example. 1"])):
+        up = header(9, 0, 1) + asks
+        told = message(9, 0x8400, www, [alias, on])
+        said = [(0, RESOLVER, SERVER, UP), (0, SERVER, RESOLVER, told), (1, RESOLVER, SERVER, up),
+                (1, SERVER, RESOLVER, message(9, flags, asks, answer, authority)),
+                (3, CLIENT, RESOLVER, query())]
+        yield from differ(texts(talk(*said), follows_aliases=True)[2:],
+                          last or ["ask 3 www.example. 1"],
+                          f"{flags:x} {asks.hex()} {len(answer)} {len(authority)}")
+
+
+def test_an_alias_outside_of_the_zone_of_a_negative_answer_stays():
+    """The server of `example.` can't deny the target in another zone (RFC 2181 section 5.4.1)."""
+    www, soa = question("www.example.", 1), record(".", 6, 60, soa_data(".", ".", 1, 2, 3, 4, 5))
+    ns = [record("example.", 2, 60, wire("ns.example."))]
+    alias = [record("www.example.", 5, 60, wire("web.")), record("web.", 5, 60, wire("a."))]
+    said = [(0, RESOLVER, SERVER, UP), (0, SERVER, RESOLVER, message(9, 0x8000, www, alias, ns)),
+            (1, RESOLVER, SERVER, UP),
+            (1, SERVER, RESOLVER, message(9, 0x8403, www, alias[:1], [soa])),
+            (3, CLIENT, RESOLVER, query())]
+    wanted = ["response 0 .", "response 1 example.",
+              "ask 3 www.example. 5", "ask 3 web. 5", "ask 3 a. 1"]
+    yield from differ(texts(talk(*said), follows_aliases=True), wanted, "lines")
+
+
+def refused(at, packet):
+    """An ICMP message that a port is unreachable, of the first octets of a packet (RFC 792)."""
+    return at, made.ip4(SERVER, RESOLVER, 1, b"\3\3" + bytes(6) + packet[:28])
+
+
+def test_a_response_behind_an_ICMP_message_is_offered():
+    """It fails once: at the ICMP message, and neither at another one nor at the time-out."""
+    up = made.udp(RESOLVER, SERVER, (5000, 53), UP)
+    fails = [(NOW, up), refused(NOW + 1, up), refused(NOW + 2, up)]
+    later = NOW + 20, made.udp(CLIENT, RESOLVER, (4000, 53), query("later.", 1))
+    for more, wanted in (
+            ([], []),
+            ([(NOW + 3, made.udp(SERVER, RESOLVER, (53, 5000), ANSWER))], ["response 3 ."])):
+        yield from differ(texts(on_ethernet([*fails, *more, later])),
+                          ["fail 1 www.example. 1", *wanted, "ask 20 later. 1"], "lines")
+
+
+def test_many_ICMP_messages_take_a_few_seconds():
+    """Of queries from a port each, and from one port, of which the first message tells of all."""
+    for ports, unmatched in ((range(2_000, 12_000), 0), ([2_000] * 10_000, 9_999)):
+        ups = [made.udp(RESOLVER, SERVER, (port, 53), query(f"h{number}.", 1, number, 0))
+               for number, port in enumerate(ports)]
+        octets = on_ethernet([(NOW, it) for it in ups] + [refused(NOW + 1, it) for it in ups])
+        begun = time.process_time()
+        lines, counts = lines_of(octets, resolvers=[RESOLVER])
+        spent = time.process_time() - begun
+        yield from differ(lines, [f"fail {NOW + 1} h{it}. 1" for it in range(10_000)], "lines")
+        if counts["ICMP: of no query to a server"] != unmatched:
+            yield f"{dict(counts)}"
+        if spent > 10:
+            yield f"{spent:.1f} seconds"
 
 
 def test_ICMP_for_IPv6_tells_of_a_failure():
@@ -407,6 +570,17 @@ def test_the_same_packet_on_two_interfaces_counts_once():
         lines, _ = lines_of(octets, resolvers=[RESOLVER])
         if len(lines) != count:
             yield f"{seconds} seconds apart: {lines}"
+
+
+def test_messages_that_go_backward_in_time_are_counted():
+    """By more than a second, from the latest one of all before."""
+    for times, count in (((10, 5, 9, 8), 2), ((10, 9), 0), ((0, 5, 10), 0)):
+        said = [(it, CLIENT, RESOLVER, query(number=number)) for number, it in enumerate(times)]
+        yield from differ(texts(talk(*said)), [f"ask {it} www.example. 1" for it in times], "lines")
+        counts = lines_of(talk(*said), resolvers=[RESOLVER])[1]
+        told = [counts[it] for it in counts if it.endswith("are the files in order?")]
+        if told != [count] * bool(count) or len(counts) != len(told):
+            yield f"{times}: {dict(counts)}"
 
 
 def test_other_ports_are_of_the_DNS_where_that_is_said():
@@ -511,6 +685,53 @@ def test_the_command_writes_the_trace_and_counts_what_it_left():
     few = run("--lines", "3", "--zone-from-servers", "--resolver", "192.0.2.53", PCAP)
     if len(few.stdout.splitlines()) != 3 or "the trace has 3" not in few.stderr:
         yield f"--lines 3: {few.stdout} {few.stderr}"
+
+
+def test_the_command_reads_standard_input():
+    """From a pipe, in which nothing can be sought."""
+    for path in (PCAP, DNSTAP):
+        ran = subprocess.run([sys.executable, TOP / "bin" / "from-capture", "-"], timeout=60,
+                             input=path.read_bytes(), capture_output=True)
+        yield from differ(ran.stdout.decode().splitlines(), lines_of(path.read_bytes())[0],
+                          path.name)
+    ran = run("-", input="")
+    if ran.returncode != 1 or "standard input is no capture" not in ran.stderr or ran.stdout:
+        yield f"status {ran.returncode}: {ran.stderr}"
+
+
+def interrupted(octets, is_read):
+    """What a command says that Ctrl-C ends while it waits for more than these octets: status, lines
+    and errors. Its lines are read, or nobody is there who would read them."""
+    words = [it for address in RESOLVERS for it in ("--resolver", str(ip_address(address)))]
+    ran = subprocess.Popen(
+        [sys.executable, TOP / "bin" / "from-capture", *words, "-"], stdin=subprocess.PIPE,
+        stdout=subprocess.PIPE, stderr=subprocess.PIPE,
+        preexec_fn=lambda: signal.signal(signal.SIGINT, signal.default_int_handler))
+    ran.stdin.write(octets)
+    ran.stdin.flush()
+    left, deadline = bytearray(b"\1" * 4), time.monotonic() + 30
+    while any(left) and time.monotonic() < deadline:
+        fcntl.ioctl(ran.stdin, termios.FIONREAD, left)
+        time.sleep(0.02)
+    if not is_read:
+        ran.stdout.close()
+    ran.send_signal(signal.SIGINT)
+    lines, said = ran.stdout.read() if is_read else b"", ran.stderr.read()
+    for stream in (ran.stdin, ran.stdout, ran.stderr):
+        stream.close()
+    return ran.wait(60), lines.decode().splitlines(keepends=True), said.decode()
+
+
+def test_the_command_ends_by_an_interrupt_without_a_traceback():
+    """With whole lines, and also where whoever read them is gone; what there is to write then is
+    less than is written at once."""
+    for size, is_read in ((30_000, True), (3_000, False)):
+        octets = PCAP.read_bytes()[:size]
+        whole, _ = lines_of(octets, resolvers=RESOLVERS)
+        status, lines, said = interrupted(octets, is_read)
+        if status != 130 or said or is_read and not lines:
+            yield f"status {status}, {len(lines)} lines: {said}"
+        yield from differ(lines, [f"{it}\n" for it in whole[:len(lines)]], "lines")
 
 
 def test_the_command_says_what_is_no_capture():

@@ -2,25 +2,28 @@
 """What a resolver's messages are as lines of a trace: asks, responses and failures.
 
 Whoever asks the resolver is a client, and whom it asks is a server. Memory is bounded but for the
-names of zones and of servers.
+zones with the names of their servers, the addresses of all names, and the aliases to be followed.
 """
 from collections import OrderedDict, deque
 from functools import lru_cache
 from typing import NamedTuple
 
-from messages import (ALIASES_MOST, ANY, CNAME, HEADER, IN, NS, QUESTION, SOA, MessageFault,
-                      fields_at, is_kept, name_at, read)
+from messages import (ALIASES_MOST, ANY, CNAME, HEADER, IN, NOERROR, NS, NXDOMAIN, QUESTION, SOA,
+                      MessageFault, fields_at, final_name, is_kept, name_at, read)
 from names import ROOT, ancestors, fold, is_at_or_below, to_text
-from packets import MICROSECONDS, Seen, Unreachable
+from packets import CUT, MICROSECONDS, Cut, Seen, Unreachable
 from traces import MOMENT_MOST
 
 DS, ADDRESSES = 43, (1, 28)
+# IXFR and AXFR (RFC 1995, RFC 5936).
+TRANSFERS = (251, 252)
 SERVFAIL, RD, QR, AA = 2, 0x0100, 0x8000, 0x0400
 # How many messages are kept until it is guessed who the resolver is.
 GUESSED_FROM = 20_000
 PENDING_MOST, FAILED_MOST = 100_000, 100_000
 TWICE_MICROSECONDS, TWICE_MOST = 10_000, 4_096
 REMEMBERED = 30 * MICROSECONDS
+BACKWARD = "used, though more than a second earlier than one before: are the files in order?"
 
 
 class Question(NamedTuple):
@@ -65,15 +68,15 @@ def text(name):
 
 
 def guess(messages, ports):
-    """The addresses of the resolver: those that are asked and ask others, and those that ask others
-    with no wish for recursion."""
+    """The addresses of the resolver: those that are asked for recursion and ask others, and those
+    that ask others with no wish for it."""
     asks, recursive = {}, {}
     for it in messages:
         if isinstance(it, Seen) and it.target.port in ports and not flags_of(it.octets) & QR:
             pair = (it.source.address, it.target.address)
             asks[pair] = asks.get(pair, 0) + 1
             recursive[pair] = recursive.get(pair, 0) + bool(flags_of(it.octets) & RD)
-    found = {source for source, _ in asks} & {target for _, target in asks}
+    found = {source for source, _ in asks} & {pair[1] for pair in asks if recursive[pair]}
     for (source, target), count in asks.items():
         if source not in found and target not in found:
             found.add(target if recursive[source, target] * 2 > count else source)
@@ -128,6 +131,22 @@ def told_zone(message):
     return next((fold(it) for it in owners if is_at_or_below(message.name, it)), None)
 
 
+def no_alias(message):
+    """The name that a negative answer is about, which is no alias; or None (RFC 2308 section 2).
+
+    NS records without a SOA record are a referral, which denies nothing (section 2.2)."""
+    if message.is_truncated or message.opcode or message.rclass != IN:
+        return None
+    if message.rtype in (CNAME, ANY):
+        return None
+    there = {it.rtype for it in message.sections[1]}
+    is_referral = NS in there and SOA not in there
+    if message.rcode != NXDOMAIN and (message.rcode != NOERROR or is_referral):
+        return None
+    led = final_name(message)
+    return led and led[0]
+
+
 # ---- lines
 
 
@@ -140,8 +159,9 @@ class Traffic:
         self.is_given = bool(resolvers)
         self.aliases = {} if follows_aliases else None
         self.zones, self.timeout = Zones(by_servers), seconds * MICROSECONDS
-        self.pending, self.open = OrderedDict(), {}
+        self.pending, self.open, self.between = OrderedDict(), {}, {}
         self.failed, self.recent, self.order = OrderedDict(), {}, deque()
+        self.latest = 0
 
     def lines(self, seen):
         """The lines that messages make."""
@@ -149,9 +169,14 @@ class Traffic:
             if not 0 <= it.at // MICROSECONDS <= MOMENT_MOST:
                 self.counts["message: its time is no moment of a trace"] += 1
                 continue
+            if it.at < self.latest - MICROSECONDS:
+                self.counts[BACKWARD] += 1
+            self.latest = max(self.latest, it.at)
             yield from self.expired(it.at)
             if isinstance(it, Unreachable):
                 yield from self.unreachable(it)
+            elif isinstance(it, Cut):
+                self.cut(it)
             elif not self.is_twice(it):
                 yield from self.line(it)
         for _ in self.open.values():
@@ -258,7 +283,7 @@ class Traffic:
         return resolver, server, octets[:2]
 
     def query(self, it, question):
-        """A query to a server is awaited."""
+        """A query to a server is awaited; a zone transfer's so that its response is known."""
         if question.flags >> 11 & 15 or not question.name:
             self.counts["query to a server: not a standard one"] += 1
             return
@@ -270,7 +295,11 @@ class Traffic:
         key = self.key(it.source, it.target, it.octets)
         self.settle(key)
         self.pending[key] = Pending(it.at, question, zone, is_known)
-        self.open.setdefault(question.asked, set()).add(key)
+        self.between.setdefault(key[:2], {})[key] = None
+        if question.rtype in TRANSFERS:
+            self.counts["query to a server: a zone transfer"] += 1
+        else:
+            self.open.setdefault(question.asked, set()).add(key)
         if len(self.pending) > PENDING_MOST:
             self.settle(next(iter(self.pending)))
             self.counts["query to a server: too many without a response"] += 1
@@ -280,11 +309,21 @@ class Traffic:
         """Awaits a query no longer, and answers it."""
         pending = self.pending.pop(key, None)
         if pending:
-            keys = self.open.get(pending.question.asked, set())
-            keys.discard(key)
+            self.is_last(key, pending.question)
+            keys = self.between.get(key[:2], {})
+            keys.pop(key, None)
             if not keys:
-                self.open.pop(pending.question.asked, None)
+                self.between.pop(key[:2], None)
         return pending
+
+    def is_last(self, key, question):
+        """Gives a query up, and answers whether it was the last of its question."""
+        keys = self.open.get(question.asked, set())
+        was_open = key in keys
+        keys.discard(key)
+        if not keys:
+            self.open.pop(question.asked, None)
+        return was_open and not keys
 
     def response(self, it, question):
         """A server's response, for the zone that it was asked for."""
@@ -293,15 +332,32 @@ class Traffic:
         if pending is None:
             self.counts["server's response: its query was not seen, or timed out"] += 1
             return
+        if pending.question.rtype in TRANSFERS:
+            # it may have more messages (RFC 5936 section 2.2)
+            self.counts["server's response: of a zone transfer"] += 1
+            return
         if question and question.name and question.asked != pending.question.asked:
             self.counts["server's response: to another question than its query"] += 1
             return
-        self.settle(key)
-        # what was asked of other servers too has a response now
-        self.open.pop(pending.question.asked, None)
+        self.answer(key, pending)
         self.note(it.at, question, pending)
         zone = self.learnt(it, pending)
         yield f"response {it.at // MICROSECONDS} {text(zone)} {it.octets.hex() or '-'}"
+
+    def answer(self, key, pending):
+        """Awaits a query no longer, nor what was asked of other servers too, and has a response."""
+        self.settle(key)
+        self.open.pop(pending.question.asked, None)
+
+    def cut(self, it):
+        """A response of which the rest is not in the capture: its query has not failed."""
+        key = self.key(it.target, it.source, it.octets)
+        pending = self.pending.get(key)
+        if pending is None:
+            self.counts[CUT] += 1
+        else:
+            self.counts["server's response: cut off, as by the capture's snap length"] += 1
+            self.answer(key, pending)
 
     def note(self, at, question, pending):
         """Notes whether a question has failed just now."""
@@ -335,6 +391,9 @@ class Traffic:
                 self.aliases[owner] = record.data
             else:
                 self.aliases.pop(owner, None)
+        name = no_alias(message)
+        if name and is_at_or_below(name, zone):
+            self.aliases.pop(name, None)
 
     # ---- failures
 
@@ -353,11 +412,9 @@ class Traffic:
 
     def unanswered(self, key, at):
         """The failure of a question of which the last query is given up."""
-        pending = self.pending.get(key)
-        was_open = pending and key in self.open.get(pending.question.asked, ())
-        if self.settle(key) and was_open and pending.question.asked not in self.open:
-            if not unusable(pending.question):
-                yield self.fail(at, pending.question)
+        question = self.pending[key].question
+        if self.is_last(key, question) and not unusable(question):
+            yield self.fail(at, question)
 
     def expired(self, now):
         """The failures of queries that have timed out."""
@@ -366,10 +423,12 @@ class Traffic:
             if now - oldest.at < self.timeout:
                 return
             yield from self.unanswered(key, oldest.at + self.timeout)
+            self.settle(key)
 
     def unreachable(self, it):
-        """A query that the network says did not come to its server."""
-        keys = [key for key in self.pending if key[:2] == (it.source, it.target)]
+        """The failures of queries that the network says did not come to their server. A response
+        is awaited all the same, since anyone may send such a message; it ends the failure."""
+        keys = self.between.pop((it.source, it.target), {})
         if not keys:
             self.counts["ICMP: of no query to a server"] += 1
         for key in keys:
