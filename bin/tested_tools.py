@@ -32,9 +32,9 @@ DENIED = ("123484030001000000010000" "0161076578616d706c650000010001"
 DENIAL = DENIED + "0000012c"
 
 
-def ran(tool, *words):
+def ran(tool, *words, **others):
     return subprocess.run([sys.executable, TOP / "bin" / tool, *map(str, words)],
-                          capture_output=True, text=True, timeout=LIMIT)
+                          capture_output=True, text=True, timeout=LIMIT, **others)
 
 
 def trace_file(folder, lines):
@@ -241,6 +241,14 @@ def test_why_refuses_what_it_cannot_tell_of():
                 yield f"{lines} {words}: status {run.returncode}: {run.stdout}{run.stderr}"
 
 
+def test_why_reads_a_trace_that_can_be_read_once():
+    text = f"{PUT}\nask 159 a.example. 1 answer none\n"
+    for path in ("-", "/dev/stdin"):
+        run = ran("why", 1, path, input=text)
+        if run.returncode or "59 have passed" not in run.stdout:
+            yield f"{path}: status {run.returncode}: {run.stdout}{run.stderr}"
+
+
 # ---- bin/what-if
 
 ASKED = [
@@ -351,6 +359,29 @@ def test_what_if_refuses_what_it_cannot_replay():
         run = ran("what-if", "--program", PROGRAM, trace_file(folder, ["ask"]))
         if run.returncode != 1 or "line 0 is not a line of a trace" not in run.stderr:
             yield f"a bad trace: status {run.returncode}: {run.stderr}"
+
+
+def test_what_if_reads_a_trace_that_can_be_read_once():
+    """Of several settings, too, each of which replays it."""
+    text = "".join(f"{it}\n" for it in ASKED)
+    for path in ("-", "/dev/stdin"):
+        run = ran("what-if", "--program", PROGRAM, "--json", *VARIED, path, input=text)
+        if run.returncode or dict(map(counted, json.loads(run.stdout))) != COUNTED:
+            yield f"{path}: status {run.returncode}: {run.stdout}{run.stderr}"
+
+
+def test_what_if_says_that_a_report_is_not_one_of_the_trace():
+    """A line that is missing at the end or before, one too many, one cut off, and another word."""
+    with tempfile.TemporaryDirectory() as folder:
+        path = trace_file(folder, ASKED)
+        for change, said in ((r"\$d", "has 7 lines, and the trace 8"), ("3d", "has 7 lines"),
+                             ("1p", "has 9 lines, and the trace 8"), ("d", "has 0 lines"),
+                             ("2s/ask.*/ask/", "is not about line 1 of the trace"),
+                             ("2s/ask/put/", "is not about line 1 of the trace")):
+            program = program_of(folder, REPORT.format(change))
+            run = ran("what-if", "--program", program, path)
+            if run.returncode != 1 or run.stdout or said not in run.stderr:
+                yield f"{change}: status {run.returncode}: {run.stdout}{run.stderr}"
 
 
 # ---- bin/fuzz, bin/schedules and bin/refusals
