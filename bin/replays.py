@@ -1,12 +1,30 @@
 # SPDX-License-Identifier: MIT
-"""What bin/what-if and bin/why have in common."""
+"""What bin/what-if and bin/why have in common: the ranges of settings, and traces as files."""
+import argparse
 import shutil
 import sys
 import tempfile
 from contextlib import contextmanager
 from pathlib import Path
 
+from model import NEGATIVE_CAP
+
 STANDARD_INPUT = "-"
+# The ranges of the program's options (docs/FORMATS.md), and of the life of negative answers.
+RANGES = {"parts": (1, 64), "capacity": (1, 65_536), "stale": (0, 604_800), "workers": (1, 64),
+          "chapter": (1, 1_048_576), "negative": (0, NEGATIVE_CAP)}
+
+
+def number(setting):
+    """What reads one value of a setting."""
+    low, high = RANGES[setting]
+
+    def value(text):
+        found = int(text)
+        if not low <= found <= high:
+            raise argparse.ArgumentTypeError(f"{setting} is {low} to {high}")
+        return found
+    return value
 
 
 @contextmanager

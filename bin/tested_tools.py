@@ -241,6 +241,19 @@ def test_why_refuses_what_it_cannot_tell_of():
                 yield f"{lines} {words}: status {run.returncode}: {run.stdout}{run.stderr}"
 
 
+def test_why_takes_the_values_that_the_program_takes():
+    """By the table of docs/FORMATS.md; of more than one worker it tells nothing."""
+    with tempfile.TemporaryDirectory() as folder:
+        path = trace_file(folder, [PUT])
+        for name, (low, high, _) in options().items():
+            for value in (low - 1, low, high, high + 1, -5, "x"):
+                is_taken = value in (low, high) and (name, value) != ("workers", high)
+                run = ran("why", 0, path, f"--{name}={value}")
+                if (run.returncode, bool(run.stdout)) != (0 if is_taken else 2, is_taken) or \
+                        "Traceback" in run.stderr:
+                    yield f"--{name}={value}: status {run.returncode}: {run.stderr}"
+
+
 def test_why_reads_a_trace_that_can_be_read_once():
     text = f"{PUT}\nask 159 a.example. 1 answer none\n"
     for path in ("-", "/dev/stdin"):
