@@ -333,6 +333,25 @@ def test_what_if_draws_a_curve_for_each_share_or_setting():
                 yield f"{words}: {found}"
 
 
+def test_what_if_opens_the_file_of_the_picture_first():
+    """Where it can't, it replays nothing; a file that is there keeps what it has until then."""
+    with tempfile.TemporaryDirectory() as folder:
+        path, picture = trace_file(folder, ASKED), Path(folder) / "a.svg"
+        program = program_of(folder, f"touch {folder}/ran; exit 1")
+        for name in (Path(folder) / "none" / "a.svg", folder):
+            run = ran("what-if", "--program", program, "--svg", name, path)
+            if run.returncode != 2 or run.stdout or len(run.stderr.splitlines()) != 1 or \
+                    str(name) not in run.stderr or (Path(folder) / "ran").exists():
+                yield f"{name}: status {run.returncode}: {run.stdout}{run.stderr}"
+        picture.write_text("before\n")
+        run = ran("what-if", "--program", program, "--svg", picture, path)
+        if run.returncode != 1 or picture.read_text() != "before\n":
+            yield f"a program that fails: status {run.returncode}, {picture.read_text()}"
+        what_if(path, "--svg", picture)
+        if not picture.read_text().startswith("<svg"):
+            yield f"{picture.read_text()[:99]}"
+
+
 def test_what_if_counts_a_fetch_as_an_ask():
     lines = ["fetch 100 a.example. 1 example. -", "fetch 101 a.example. 1 example. -",
              PUT, "fetch 110 a.example. 1 example. -", "sweep 90000",
