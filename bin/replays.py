@@ -1,5 +1,6 @@
 # SPDX-License-Identifier: MIT
-"""What bin/what-if and bin/why have in common: the ranges of settings, and traces as files."""
+"""What bin/what-if and bin/why have in common: the ranges of settings, traces as files, and the
+status of an interrupt."""
 import argparse
 import shutil
 import sys
@@ -10,6 +11,8 @@ from pathlib import Path
 from model import NEGATIVE_CAP
 
 STANDARD_INPUT = "-"
+# 128 and the number of SIGINT, as of a shell's command that the signal ended.
+INTERRUPTED = 130
 # The ranges of the program's options (docs/FORMATS.md), and of the life of negative answers.
 RANGES = {"parts": (1, 64), "capacity": (1, 65_536), "stale": (0, 604_800), "workers": (1, 64),
           "chapter": (1, 1_048_576), "negative": (0, NEGATIVE_CAP)}
@@ -25,6 +28,14 @@ def number(setting):
             raise argparse.ArgumentTypeError(f"{setting} is {low} to {high}")
         return found
     return value
+
+
+def status_of(main, words):
+    """The status that a tool ends with, also where it is interrupted (Ctrl-C)."""
+    try:
+        return main(words)
+    except KeyboardInterrupt:
+        return INTERRUPTED
 
 
 @contextmanager

@@ -12,6 +12,7 @@ import json
 import os
 import re
 import resource
+import signal
 import subprocess
 import sys
 import tempfile
@@ -414,6 +415,45 @@ def test_what_if_says_that_a_report_is_not_one_of_the_trace():
             run = ran("what-if", "--program", program, path)
             if run.returncode != 1 or run.stdout or said not in run.stderr:
                 yield f"{change}: status {run.returncode}: {run.stdout}{run.stderr}"
+
+
+# ---- Interrupts
+
+
+def is_read(fifo):
+    """Whether a tool has opened a FIFO that it reads; it is held open for writing from then on."""
+    try:
+        os.open(fifo, os.O_WRONLY | os.O_NONBLOCK)
+    except OSError:
+        return False
+    return True
+
+
+def interrupted(is_begun, tool, *words):
+    """The status of a tool that is interrupted once it has begun, and all that it writes."""
+    with subprocess.Popen([sys.executable, TOP / "bin" / tool, *words], text=True,
+                          stdout=subprocess.PIPE, stderr=subprocess.STDOUT,
+                          preexec_fn=lambda: signal.signal(signal.SIGINT, signal.SIG_DFL)) as run:
+        while run.poll() is None and not is_begun():
+            time.sleep(0.01)
+        run.send_signal(signal.SIGINT)
+        said, _ = run.communicate(timeout=LIMIT)
+        return run.returncode, said
+
+
+def test_an_interrupt_ends_a_tool_without_a_traceback():
+    """While it reads the trace, and while the program replays it."""
+    with tempfile.TemporaryDirectory() as folder:
+        fifo, begun = Path(folder) / "fifo", Path(folder) / "begun"
+        os.mkfifo(fifo)
+        program = program_of(folder, f"touch {begun}; exec sleep {LIMIT}")
+        what = ["what-if", "--program", str(program)]
+        for is_begun, words in ((lambda: is_read(fifo), ["why", "0", fifo]),
+                                (lambda: is_read(fifo), [*what, fifo]),
+                                (begun.exists, [*what, trace_file(folder, ASKED)])):
+            ended = interrupted(is_begun, *words)
+            if ended != (130, ""):
+                yield f"{words}: {ended}"
 
 
 # ---- bin/fuzz, bin/schedules and bin/refusals
