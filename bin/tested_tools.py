@@ -12,6 +12,7 @@ import json
 import os
 import re
 import resource
+import shutil
 import signal
 import subprocess
 import sys
@@ -415,6 +416,29 @@ def test_what_if_says_that_a_report_is_not_one_of_the_trace():
             run = ran("what-if", "--program", program, path)
             if run.returncode != 1 or run.stdout or said not in run.stderr:
                 yield f"{change}: status {run.returncode}: {run.stdout}{run.stderr}"
+
+
+def test_what_if_shows_how_far_the_build_of_its_program_is():
+    """It does of the repository's program, which builds itself, and of no other that is named. The
+    tool is copied beside a program that tells of its builds."""
+    with tempfile.TemporaryDirectory() as folder:
+        path, copies = trace_file(folder, ASKED), Path(folder) / "bin"
+        copies.mkdir()
+        for it in (TOP / "bin" / "what-if", *(TOP / "bin").glob("*.py")):
+            shutil.copy(it, copies)
+        body = 'case "$*" in --help) echo building >&2; exec "$real" --help ;;'
+        program_of(copies, f'{body} *) exec "$real" "$@" ;; esac', "rrcache")
+        named = what_if(path, "--json", *VARIED)
+        run = ran(copies / "what-if", "--json", *VARIED, path)
+        if (run.returncode, run.stdout, run.stderr) != (0, named, "building\n"):
+            yield f"status {run.returncode}: {run.stdout}{run.stderr}"
+        run = ran(copies / "what-if", "--program", copies / "rrcache", path)
+        if run.returncode or run.stderr:
+            yield f"a program that is named: status {run.returncode}: {run.stderr}"
+        program_of(copies, "echo no kit >&2; exit 3", "rrcache")
+        run = ran(copies / "what-if", path)
+        if run.returncode != 1 or run.stdout or not run.stderr.startswith("no kit\nwhat-if: "):
+            yield f"no build: status {run.returncode}: {run.stdout}{run.stderr}"
 
 
 # ---- Interrupts
