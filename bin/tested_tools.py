@@ -167,6 +167,11 @@ def test_chapters_and_audits_ask_for_memory():
 # ---- bin/why
 
 PUT = "put 100 a.example. 1 4 60 c0000201"
+ALIAS = "put 100 a.example. 5 4 60 016200"
+# Question a.example. A, and the CNAME record that leads to b. for 60 seconds.
+LED = "123484000001000100000000" + DENIED[24:54] + "c00c000500010000003c0003016200"
+# Question a.example. CNAME, which has none: NOERROR, and the SOA record as above.
+NO_CNAME = "123484000001000000010000" + DENIED[24:46] + "00050001" + DENIED[54:] + "0000012c"
 WHY = [
     # the lines, which is asked about, options, and what has to be said
     ([PUT], 0, [], ["rank 4 (authoritative answer), for 60 seconds", "answers until 159",
@@ -221,6 +226,29 @@ WHY = [
     ([PUT, "put 100 b.example. 1 4 900000 c0000202", "sweep 86560"], 2, [],
      ["RRsets past max-stale too, it has 1 ", "that line 0 stored"]),
     (["checkpoint"], 0, [], ["no event"]),
+    # an ask follows no CNAME record ("CNAME in look-ups"), also where that was stored by a fetch
+    ([ALIAS, "ask 110 a.example. 1 answer none"], 1, [],
+     ["No line before stored anything under a.example./1.", "Held is the set a.example. CNAME (1"
+      " record) that line 0 stored at 100 for 60 seconds, rank 4 (authoritative answer); but an ask"
+      " follows no CNAME record", "bin/from-capture --follow-aliases"]),
+    ([ALIAS, "ask 170 A.example. 1 answer none"], 1, [],
+     ["which expired at 160; but an ask follows no CNAME record"]),
+    ([ALIAS, "put 90 a.example. 1 4 10 c0000201", "ask 110 a.example. 1 answer none"], 2, [],
+     ["Miss: in the mode none", "line 0 stored at 100", "an ask follows no CNAME record"]),
+    ([f"fetch 110 a.example. 1 example. {LED}"], 0, [],
+     ["anything under a.example./nx. - It fetches:",
+      "anything under a.example./nx. - Held is the set a.example. CNAME (1 record) that line 0"
+      " stored at 110 for 60 seconds"]),
+]
+# The lines and the number of one of which nothing is to be said of an alias: a fresh answer; an ask
+# for the alias; one in another class; one for a name that has no CNAME record (RFC 2308 section
+# 2.2); and one before the alias was stored.
+NO_ALIAS = [
+    ([ALIAS, PUT, "ask 110 a.example. 1 answer none"], 2),
+    ([ALIAS, "ask 170 a.example. 5 answer none"], 1),
+    ([ALIAS, "ask 110 a.example. 16/3 answer none"], 1),
+    ([f"response 100 example. {NO_CNAME}", "ask 110 a.example. 1 answer none"], 1),
+    (["ask 110 a.example. 1 answer none", ALIAS], 0),
 ]
 
 
@@ -231,6 +259,14 @@ def test_why_says_what_follows_from_the_rules():
             text = re.sub(r"\s+", " ", run.stdout)
             yield from (f"{lines}: not told: {it}; but: {text}{run.stderr}"
                         for it in wanted if it not in text)
+
+
+def test_why_tells_of_an_alias_where_an_ask_misses_for_it():
+    with tempfile.TemporaryDirectory() as folder:
+        for lines, number in NO_ALIAS:
+            run = ran("why", number, trace_file(folder, lines))
+            if run.returncode or not run.stdout or "follows no CNAME" in run.stdout:
+                yield f"{lines}: status {run.returncode}: {run.stdout}{run.stderr}"
 
 
 def test_why_refuses_what_it_cannot_tell_of():
