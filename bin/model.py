@@ -14,6 +14,7 @@ STALE, RECHECK, CAP, NEGATIVE_CAP = 86_400, 30, 604_800, 10_800
 STALE_SECONDS = 30
 GLUE = 1
 IN = 1
+CNAME = 5
 
 
 class Key(NamedTuple):
@@ -92,7 +93,7 @@ class Outcome(NamedTuple):
 class Reply(NamedTuple):
     """What an ask is answered: `fresh`, `stale`, `nodata`, `nxdomain` or `miss`; the entry that
     governs; what else is held for the name and the type; the failure, where it is recent, and where
-    it is not; and for how long the answer is good."""
+    it is not; for how long the answer is good; and what is held for the name and the type CNAME."""
 
     word: str
     governing: Entry | None
@@ -100,6 +101,7 @@ class Reply(NamedTuple):
     failed: Entry | None
     past: Entry | None
     left: int = 0
+    alias: Entry | None = None
 
     def __str__(self):
         if self.word == "miss":
@@ -203,7 +205,8 @@ class Part:
         if word != "miss":
             self.held[entry.key] = self.held.pop(entry.key)
         past = None if failed else self.held.get(Key(name, "failed", rtype, rclass))
-        return Reply(word, entry, other, failed, past, left)
+        alias = self.held.get(Key(name, "set", CNAME, rclass))
+        return Reply(word, entry, other, failed, past, left, alias)
 
     def word_of(self, entry, at, purpose, mode, failed):
         """The row of the table of answers that applies, and for how long the answer is good."""

@@ -8,7 +8,7 @@ from typing import NamedTuple
 
 from messages import (NXDOMAIN, SOA, MessageFault, final_name, is_at_or_below, read, set_offer,
                       sets_of, why_nothing)
-from model import (CAP, GLUE, IN, NEGATIVE_CAP, RECHECK, STALE_SECONDS, Entry, Key, Offer,
+from model import (CAP, CNAME, GLUE, IN, NEGATIVE_CAP, RECHECK, STALE_SECONDS, Entry, Key, Offer,
                    part_of)
 from names import fold, to_text
 from traces import Replay
@@ -222,6 +222,8 @@ class Story:
         if entry:
             yield from self.good(reply, at, purpose, mode)
         yield from self.failure(reply, at)
+        if reply.word == "miss" and rtype != CNAME:
+            yield from self.alias(reply.alias, at)
 
     def governs(self, reply, name, rtype, at, rclass):
         """What is held under the two keys that may answer, and which of them governs."""
@@ -272,6 +274,16 @@ class Story:
         if mode == "none":
             return "Miss: in the mode none no stale answer will do (RFC 8767 section 4)."
         return f"Miss: in the mode failed it answers after a recent failure alone ({RETRIES})."
+
+    def alias(self, entry, at):
+        """That a CNAME record which is held leads to no answer."""
+        if entry is None or entry.body.kind != "positive":
+            return
+        end = entry.at + entry.body.ttl
+        expired = "" if entry.is_unexpired(at) else f", which expired at {end}"
+        yield (f"Held is {self.stored(entry)}{expired}; but an ask follows no CNAME record (ours:"
+               ' "CNAME in look-ups"). A trace of bin/from-capture --follow-aliases asks for that'
+               " type too, and for what it leads to.")
 
     def failure(self, reply, at):
         """What is known of a failure to ask."""

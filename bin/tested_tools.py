@@ -12,6 +12,8 @@ import json
 import os
 import re
 import resource
+import shutil
+import signal
 import subprocess
 import sys
 import tempfile
@@ -32,9 +34,9 @@ DENIED = ("123484030001000000010000" "0161076578616d706c650000010001"
 DENIAL = DENIED + "0000012c"
 
 
-def ran(tool, *words):
+def ran(tool, *words, **others):
     return subprocess.run([sys.executable, TOP / "bin" / tool, *map(str, words)],
-                          capture_output=True, text=True, timeout=LIMIT)
+                          capture_output=True, text=True, timeout=LIMIT, **others)
 
 
 def trace_file(folder, lines):
@@ -165,6 +167,11 @@ def test_chapters_and_audits_ask_for_memory():
 # ---- bin/why
 
 PUT = "put 100 a.example. 1 4 60 c0000201"
+ALIAS = "put 100 a.example. 5 4 60 016200"
+# Question a.example. A, and the CNAME record that leads to b. for 60 seconds.
+LED = "123484000001000100000000" + DENIED[24:54] + "c00c000500010000003c0003016200"
+# Question a.example. CNAME, which has none: NOERROR, and the SOA record as above.
+NO_CNAME = "123484000001000000010000" + DENIED[24:46] + "00050001" + DENIED[54:] + "0000012c"
 WHY = [
     # the lines, which is asked about, options, and what has to be said
     ([PUT], 0, [], ["rank 4 (authoritative answer), for 60 seconds", "answers until 159",
@@ -219,6 +226,29 @@ WHY = [
     ([PUT, "put 100 b.example. 1 4 900000 c0000202", "sweep 86560"], 2, [],
      ["RRsets past max-stale too, it has 1 ", "that line 0 stored"]),
     (["checkpoint"], 0, [], ["no event"]),
+    # an ask follows no CNAME record ("CNAME in look-ups"), also where that was stored by a fetch
+    ([ALIAS, "ask 110 a.example. 1 answer none"], 1, [],
+     ["No line before stored anything under a.example./1.", "Held is the set a.example. CNAME (1"
+      " record) that line 0 stored at 100 for 60 seconds, rank 4 (authoritative answer); but an ask"
+      " follows no CNAME record", "bin/from-capture --follow-aliases"]),
+    ([ALIAS, "ask 170 A.example. 1 answer none"], 1, [],
+     ["which expired at 160; but an ask follows no CNAME record"]),
+    ([ALIAS, "put 90 a.example. 1 4 10 c0000201", "ask 110 a.example. 1 answer none"], 2, [],
+     ["Miss: in the mode none", "line 0 stored at 100", "an ask follows no CNAME record"]),
+    ([f"fetch 110 a.example. 1 example. {LED}"], 0, [],
+     ["anything under a.example./nx. - It fetches:",
+      "anything under a.example./nx. - Held is the set a.example. CNAME (1 record) that line 0"
+      " stored at 110 for 60 seconds"]),
+]
+# The lines and the number of one of which nothing is to be said of an alias: a fresh answer; an ask
+# for the alias; one in another class; one for a name that has no CNAME record (RFC 2308 section
+# 2.2); and one before the alias was stored.
+NO_ALIAS = [
+    ([ALIAS, PUT, "ask 110 a.example. 1 answer none"], 2),
+    ([ALIAS, "ask 170 a.example. 5 answer none"], 1),
+    ([ALIAS, "ask 110 a.example. 16/3 answer none"], 1),
+    ([f"response 100 example. {NO_CNAME}", "ask 110 a.example. 1 answer none"], 1),
+    (["ask 110 a.example. 1 answer none", ALIAS], 0),
 ]
 
 
@@ -231,6 +261,14 @@ def test_why_says_what_follows_from_the_rules():
                         for it in wanted if it not in text)
 
 
+def test_why_tells_of_an_alias_where_an_ask_misses_for_it():
+    with tempfile.TemporaryDirectory() as folder:
+        for lines, number in NO_ALIAS:
+            run = ran("why", number, trace_file(folder, lines))
+            if run.returncode or not run.stdout or "follows no CNAME" in run.stdout:
+                yield f"{lines}: status {run.returncode}: {run.stdout}{run.stderr}"
+
+
 def test_why_refuses_what_it_cannot_tell_of():
     with tempfile.TemporaryDirectory() as folder:
         for lines, words, status in (([PUT], [1], 1), (["put"], [0], 1), ([PUT], [-1], 1),
@@ -239,6 +277,27 @@ def test_why_refuses_what_it_cannot_tell_of():
                 ran("why", words[0], trace_file(folder, lines), words[1])
             if run.returncode != status or not run.stderr or run.stdout:
                 yield f"{lines} {words}: status {run.returncode}: {run.stdout}{run.stderr}"
+
+
+def test_why_takes_the_values_that_the_program_takes():
+    """By the table of docs/FORMATS.md; of more than one worker it tells nothing."""
+    with tempfile.TemporaryDirectory() as folder:
+        path = trace_file(folder, [PUT])
+        for name, (low, high, _) in options().items():
+            for value in (low - 1, low, high, high + 1, -5, "x"):
+                is_taken = value in (low, high) and (name, value) != ("workers", high)
+                run = ran("why", 0, path, f"--{name}={value}")
+                if (run.returncode, bool(run.stdout)) != (0 if is_taken else 2, is_taken) or \
+                        "Traceback" in run.stderr:
+                    yield f"--{name}={value}: status {run.returncode}: {run.stderr}"
+
+
+def test_why_reads_a_trace_that_can_be_read_once():
+    text = f"{PUT}\nask 159 a.example. 1 answer none\n"
+    for path in ("-", "/dev/stdin"):
+        run = ran("why", 1, path, input=text)
+        if run.returncode or "59 have passed" not in run.stdout:
+            yield f"{path}: status {run.returncode}: {run.stdout}{run.stderr}"
 
 
 # ---- bin/what-if
@@ -312,6 +371,25 @@ def test_what_if_draws_a_curve_for_each_share_or_setting():
                 yield f"{words}: {found}"
 
 
+def test_what_if_opens_the_file_of_the_picture_first():
+    """Where it can't, it replays nothing; a file that is there keeps what it has until then."""
+    with tempfile.TemporaryDirectory() as folder:
+        path, picture = trace_file(folder, ASKED), Path(folder) / "a.svg"
+        program = program_of(folder, f"touch {folder}/ran; exit 1")
+        for name in (Path(folder) / "none" / "a.svg", folder):
+            run = ran("what-if", "--program", program, "--svg", name, path)
+            if run.returncode != 2 or run.stdout or len(run.stderr.splitlines()) != 1 or \
+                    str(name) not in run.stderr or (Path(folder) / "ran").exists():
+                yield f"{name}: status {run.returncode}: {run.stdout}{run.stderr}"
+        picture.write_text("before\n")
+        run = ran("what-if", "--program", program, "--svg", picture, path)
+        if run.returncode != 1 or picture.read_text() != "before\n":
+            yield f"a program that fails: status {run.returncode}, {picture.read_text()}"
+        what_if(path, "--svg", picture)
+        if not picture.read_text().startswith("<svg"):
+            yield f"{picture.read_text()[:99]}"
+
+
 def test_what_if_counts_a_fetch_as_an_ask():
     lines = ["fetch 100 a.example. 1 example. -", "fetch 101 a.example. 1 example. -",
              PUT, "fetch 110 a.example. 1 example. -", "sweep 90000",
@@ -351,6 +429,91 @@ def test_what_if_refuses_what_it_cannot_replay():
         run = ran("what-if", "--program", PROGRAM, trace_file(folder, ["ask"]))
         if run.returncode != 1 or "line 0 is not a line of a trace" not in run.stderr:
             yield f"a bad trace: status {run.returncode}: {run.stderr}"
+
+
+def test_what_if_reads_a_trace_that_can_be_read_once():
+    """Of several settings, too, each of which replays it."""
+    text = "".join(f"{it}\n" for it in ASKED)
+    for path in ("-", "/dev/stdin"):
+        run = ran("what-if", "--program", PROGRAM, "--json", *VARIED, path, input=text)
+        if run.returncode or dict(map(counted, json.loads(run.stdout))) != COUNTED:
+            yield f"{path}: status {run.returncode}: {run.stdout}{run.stderr}"
+
+
+def test_what_if_says_that_a_report_is_not_one_of_the_trace():
+    """A line that is missing at the end or before, one too many, one cut off, and another word."""
+    with tempfile.TemporaryDirectory() as folder:
+        path = trace_file(folder, ASKED)
+        for change, said in ((r"\$d", "has 7 lines, and the trace 8"), ("3d", "has 7 lines"),
+                             ("1p", "has 9 lines, and the trace 8"), ("d", "has 0 lines"),
+                             ("2s/ask.*/ask/", "is not about line 1 of the trace"),
+                             ("2s/ask/put/", "is not about line 1 of the trace")):
+            program = program_of(folder, REPORT.format(change))
+            run = ran("what-if", "--program", program, path)
+            if run.returncode != 1 or run.stdout or said not in run.stderr:
+                yield f"{change}: status {run.returncode}: {run.stdout}{run.stderr}"
+
+
+def test_what_if_shows_how_far_the_build_of_its_program_is():
+    """It does of the repository's program, which builds itself, and of no other that is named. The
+    tool is copied beside a program that tells of its builds."""
+    with tempfile.TemporaryDirectory() as folder:
+        path, copies = trace_file(folder, ASKED), Path(folder) / "bin"
+        copies.mkdir()
+        for it in (TOP / "bin" / "what-if", *(TOP / "bin").glob("*.py")):
+            shutil.copy(it, copies)
+        body = 'case "$*" in --help) echo building >&2; exec "$real" --help ;;'
+        program_of(copies, f'{body} *) exec "$real" "$@" ;; esac', "rrcache")
+        named = what_if(path, "--json", *VARIED)
+        run = ran(copies / "what-if", "--json", *VARIED, path)
+        if (run.returncode, run.stdout, run.stderr) != (0, named, "building\n"):
+            yield f"status {run.returncode}: {run.stdout}{run.stderr}"
+        run = ran(copies / "what-if", "--program", copies / "rrcache", path)
+        if run.returncode or run.stderr:
+            yield f"a program that is named: status {run.returncode}: {run.stderr}"
+        program_of(copies, "echo no kit >&2; exit 3", "rrcache")
+        run = ran(copies / "what-if", path)
+        if run.returncode != 1 or run.stdout or not run.stderr.startswith("no kit\nwhat-if: "):
+            yield f"no build: status {run.returncode}: {run.stdout}{run.stderr}"
+
+
+# ---- Interrupts
+
+
+def is_read(fifo):
+    """Whether a tool has opened a FIFO that it reads; it is held open for writing from then on."""
+    try:
+        os.open(fifo, os.O_WRONLY | os.O_NONBLOCK)
+    except OSError:
+        return False
+    return True
+
+
+def interrupted(is_begun, tool, *words):
+    """The status of a tool that is interrupted once it has begun, and all that it writes."""
+    with subprocess.Popen([sys.executable, TOP / "bin" / tool, *words], text=True,
+                          stdout=subprocess.PIPE, stderr=subprocess.STDOUT,
+                          preexec_fn=lambda: signal.signal(signal.SIGINT, signal.SIG_DFL)) as run:
+        while run.poll() is None and not is_begun():
+            time.sleep(0.01)
+        run.send_signal(signal.SIGINT)
+        said, _ = run.communicate(timeout=LIMIT)
+        return run.returncode, said
+
+
+def test_an_interrupt_ends_a_tool_without_a_traceback():
+    """While it reads the trace, and while the program replays it."""
+    with tempfile.TemporaryDirectory() as folder:
+        fifo, begun = Path(folder) / "fifo", Path(folder) / "begun"
+        os.mkfifo(fifo)
+        program = program_of(folder, f"touch {begun}; exec sleep {LIMIT}")
+        what = ["what-if", "--program", str(program)]
+        for is_begun, words in ((lambda: is_read(fifo), ["why", "0", fifo]),
+                                (lambda: is_read(fifo), [*what, fifo]),
+                                (begun.exists, [*what, trace_file(folder, ASKED)])):
+            ended = interrupted(is_begun, *words)
+            if ended != (130, ""):
+                yield f"{words}: {ended}"
 
 
 # ---- bin/fuzz, bin/schedules and bin/refusals
