@@ -2,6 +2,7 @@
 """What bin/what-if and bin/why have in common: the ranges of settings, traces as files, and the
 status of an interrupt."""
 import argparse
+import os
 import shutil
 import sys
 import tempfile
@@ -31,11 +32,17 @@ def number(setting):
 
 
 def status_of(main, words):
-    """The status that a tool ends with, also where it is interrupted (Ctrl-C)."""
+    """The status that a tool ends with, also where it is interrupted (Ctrl-C), or where whoever
+    reads what it prints wants no more of it."""
     try:
-        return main(words)
+        status = main(words)
+        sys.stdout.flush()
+        return status
     except KeyboardInterrupt:
         return INTERRUPTED
+    except BrokenPipeError:
+        os.dup2(os.open(os.devnull, os.O_WRONLY), sys.stdout.fileno())
+        return 1
 
 
 @contextmanager
