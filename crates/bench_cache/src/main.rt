@@ -41,7 +41,12 @@ use std::time::{Clock, CpuClock};
 const FAILED: &str =
     "it takes [lean] TASK KEYS CALLS [PARTS] or [lean] shared TASK THREADS PARTS CALLS, or memory was refused";
 
-fn asked<R: CpuClock>(rt: &R, alloc: Global, task: &Task<'_>, parts: &mut [CachePart]) -> Option<Done> {
+fn asked<R: CpuClock>(
+    rt: &R,
+    alloc: Global,
+    task: &Task<'_>,
+    parts: &mut [CachePart],
+) -> Option<Done> {
     let mut asks = Vec::new(alloc);
     add_asks(alloc, task, &mut asks)?;
     Some(ask_all(rt, task.kind, parts, asks.as_slice()))
@@ -92,13 +97,7 @@ fn on_parts<R: CpuClock>(
     task: &Task<'_>,
     parts: &mut Vec<CachePart>,
 ) -> Option<Done> {
-    add_parts(
-        alloc,
-        task.parts_called(),
-        task.keys,
-        task.recording,
-        parts,
-    )?;
+    add_parts(alloc, task.parts_called(), task.keys, task.recording, parts)?;
     match task.kind {
         Kind::Audit | Kind::Recheck => write(alloc, parts.as_mut_slice(), task.keys, task.calls)?,
         _ => fill(alloc, parts.as_mut_slice(), task.held())?,
