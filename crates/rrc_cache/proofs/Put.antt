@@ -1,8 +1,7 @@
 -- SPDX-License-Identifier: MIT
 -- An entry comes in front, in the place of the one that its key had.
 use Rattle.std.proofs.Common.{◌≡◌, ℕ, Bool, ◌∷◌, ◌^◌, ◌<◌, ◌||◌, length, List, Option, None, true, false, refl, ap, sym, ◌∙◌, arith}
-use Rattle.std.specs.Prelude.{min}
-use Rattle.std.specs.List.{IsDistinct, list_any}
+use Rattle.std.specs.List.{IsDistinct}
 use Rattle.std.specs.Map.{keys_of, lookup}
 use Rattle.lru.specs.LruCache.{LruCache, lru_cache, put_entries}
 use Rattle.rrc_name.specs.Key.{KeyOf, key_eq}
@@ -14,7 +13,7 @@ use Rattle.rrc_cache.specs.ExpiryQueue.{AreQueued, ExpiryQueueOf, expires_by, is
 use Rattle.rrc_cache.specs.FullExpiry.{full_expiry_of}
 use Rattle.rrc_cache.specs.Pairs.{entries_in, AreOwn, IsEntryMap}
 use Rattle.rrc_cache.proofs.Paired.{apart_in, found_in_pairs, put_in, own_put}
-use Rattle.rrc_cache.proofs.Timed.{is_by-own, noted_comes, noted_stays, put_queued}
+use Rattle.rrc_cache.proofs.Timed.{is_by-own, put_queued}
 
 -- the entries with one in front
 abbrev pub with_entry : Entry → List Entry → List Entry
@@ -57,12 +56,3 @@ module _ (stale : ℕ) (entries : List Entry) (queue added : ExpiryQueueOf) (ent
       ∙ (ap (λ t. is_by entry.key expires (record { time = t; key = entry.key })) timed ∙ is_by-own entry.key expires) in
       put_queued stale entries queue are entry added (λ key time is. adds key time (also (is_by key time expiry) (expires_by queue key time) is))
       (adds entry.key expires (ap (λ b. b || expires_by queue entry.key expires) here))
-
--- while none are kept, the time of an entry that is put is enough
-module _ (stale : ℕ) (entries : List Entry) (queue : ExpiryQueueOf) (entry : Entry) (are : AreQueued stale entries queue) (unkept : queue.kept ≡ false) where
-  pub noted_queued : AreQueued stale (with_entry entry entries) (record queue { soonest = min queue.soonest (full_expiry_of stale entry) })
-  noted_queued =
-      let expires : ℕ = full_expiry_of stale entry in
-      put_queued stale entries queue are entry (record queue { soonest = min queue.soonest expires })
-      (λ key time is. noted_stays time queue.soonest expires queue.kept (list_any (is_by key time) queue.waiting || list_any (is_by key time) queue.due) unkept is)
-      (noted_comes queue.soonest expires queue.kept (list_any (is_by entry.key expires) queue.waiting || list_any (is_by entry.key expires) queue.due) unkept)

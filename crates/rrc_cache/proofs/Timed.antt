@@ -321,17 +321,6 @@ sooner key time soonest now expiry kept is at least so =
         min-left soonest expiry.time time
         (ap (λ k. if k then is else nat_le soonest time) (sym at) ∙ (ap (λ b. b || (if kept then is else nat_le soonest time)) (sym one) ∙ so))
 
--- where none are kept, a time that is noted comes, and what came before comes still
-pub noted_stays : (time soonest noted : ℕ) (kept is : Bool) → kept ≡ false → (if kept then is else nat_le soonest time) ≡ true
-    → (if kept then is else nat_le (min soonest noted) time) ≡ true
-noted_stays time soonest noted kept is at so =
-    ap (λ k. if k then is else nat_le (min soonest noted) time) at
-    ∙ min-left soonest noted time (ap (λ k. if k then is else nat_le soonest time) (sym at) ∙ so)
-
-pub noted_comes : (soonest noted : ℕ) (kept is : Bool) → kept ≡ false → (if kept then is else nat_le (min soonest noted) noted) ≡ true
-noted_comes soonest noted kept is at =
-    ap (λ k. if k then is else nat_le (min soonest noted) noted) at ∙ min-right soonest noted noted (grind (arith, nat_tests))
-
 -- before the soonest, where none are kept, and before the first that waits, where they are, none comes
 pub soonest_none : (key : KeyOf) (time : ℕ) (queue : ExpiryQueueOf) → queue.kept ≡ false → time < queue.soonest → expires_by queue key time ≡ false
 soonest_none key time queue at less =

@@ -1,5 +1,5 @@
 // SPDX-License-Identifier: MIT
-ghost use Rattle.std.specs.Prelude.{◌≡◌, ◌<◌, ◌≤◌, ◌||◌, [], length, true, false, nat_eq, min, ℕ, IfOk, IfSome, IfNone, OnOk};
+ghost use Rattle.std.specs.Prelude.{◌≡◌, ◌<◌, ◌≤◌, ◌||◌, [], length, true, false, nat_eq, ℕ, IfOk, IfSome, IfNone, OnOk};
 ghost use Rattle.std.specs.List.{AllByRecursion, list_any};
 ghost use Rattle.std.proofs.Common.{rules};
 ghost use Rattle.std.specs.Cmp.Rules.{comparing};
@@ -204,15 +204,8 @@ impl ExpiryQueue {
         if self.is_kept {
             self.push(expiry);
         } else {
-            self.note(expiry.time);
+            self.soonest = self.soonest.min(expiry.time);
         }
-    }
-
-    /// Notes the time of an expiry of which, where none are kept, nothing else is needed.
-    pub(crate) fn note(&mut self, time: u64)
-        ensures { self.new ≡ record self.old { soonest = min self.old.soonest time } }
-    {
-        self.soonest = self.soonest.min(time);
     }
 
     /// Adds an expiry to those that wait, for which there is room.

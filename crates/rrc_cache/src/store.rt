@@ -10,7 +10,6 @@ ghost use Rattle.rrc_history.specs.Sound.{AreSound};
 ghost use Rattle.rrc_history.specs.Entries.{AreApart, goes, promoted, staying};
 ghost use Rattle.rrc_history.specs.Views.{held_in};
 ghost use Rattle.rrc_cache.specs.ExpiryQueue.{replaced_of};
-ghost use Rattle.rrc_cache.specs.FullExpiry.{full_expiry_of};
 ghost use Rattle.rrc_cache.specs.Keyed.{name_hash};
 ghost use Rattle.rrc_cache.specs.NegativeFilter.{is_negative_slot};
 
@@ -188,30 +187,13 @@ impl Store {
         Ok(())
     }
 
-    /// Puts an entry in front, and sees to it that an expiry comes no later than its own. While none
-    /// are kept that takes nothing but its time.
+    /// Puts an entry in front, and sees to it that an expiry comes no later than its own.
     fn put_queued(&mut self, hash: u64, entry: Entry) -> Result<(), AllocError>
         requires { hash ≡ name_hash self.old.seeded entry.key.name }
         ensures ok { OnOk result (self.new ≡ record self.old { entries = entry ∷ staying (goes entry.key None) self.old.entries }) }
         ensures err { OnErr result (self.new ≡ self.old) }
     {
         let time = full_expiry_of(&entry, self.stale);
-        if self.queue.is_kept() {
-            return self.put_kept(hash, entry, time);
-        }
-        self.filtered.put(hash, entry)?;
-        self.queue.note(time);
-        Ok(())
-    }
-
-    /// Puts an entry in front that is fully expired from a time on, and keeps an expiry that comes
-    /// no later.
-    fn put_kept(&mut self, hash: u64, entry: Entry, time: u64) -> Result<(), AllocError>
-        requires hash { hash ≡ name_hash self.old.seeded entry.key.name }
-        requires time { time ≡ full_expiry_of self.old.stale entry }
-        ensures ok { OnOk result (self.new ≡ record self.old { entries = entry ∷ staying (goes entry.key None) self.old.entries }) }
-        ensures err { OnErr result (self.new ≡ self.old) }
-    {
         let key = entry.key.clone()?;
         self.queue.reserve()?;
         let old = self.filtered.put(hash, entry)?;

@@ -1,5 +1,5 @@
 -- SPDX-License-Identifier: MIT
-use Rattle.std.proofs.Common.{◌≡◌, Bool, true, false, ◌||◌, refl, sym, ap, ◌∙◌}
+use Rattle.std.proofs.Common.{rules, ◌≡◌, Bool, true, ◌||◌, sym, ap, ◌∙◌}
 use Rattle.std.specs.Prelude.{nat_le, min, if◌then◌else◌}
 use Rattle.std.specs.List.{list_any}
 use Rattle.rrc_cache.specs.ExpiryQueue.{ExpiryQueueOf, expires_by, is_by}
@@ -19,8 +19,7 @@ returns-then-self c = λ key time is.
 
 pub returns-else-self : goal.returns-else-self
 returns-else-self c = λ key time is.
-    let was : ExpiryQueueOf = c.args.self.now in
-    let unkept : was.kept ≡ false = sym (ap (λ (d : ExpiryQueueOf). d.kept) c.self.view_is) ∙ c.if-self.false in
-    let any : Bool = list_any (is_by key time) was.waiting || list_any (is_by key time) was.due in
-    ap (λ (d : ExpiryQueueOf). expires_by d key time) c.note.ensures
-    ∙ sooner key time was.soonest (min was.soonest c.args.expiry.time) c.args.expiry was.kept any unkept refl is
+    let least : c.min-self-inside.result ≡ min c.self.inside.soonest c.args.expiry.time = search rules in
+    let any : Bool = list_any (is_by key time) c.self.inside.waiting.data.items || list_any (is_by key time) c.self.inside.due.items in
+    sooner key time c.self.inside.soonest c.min-self-inside.result c.args.expiry c.self.inside.is_kept any c.if-self.false least
+    (ap (λ (d : ExpiryQueueOf). is_by key time c.args.expiry || expires_by d key time) c.self.view_is ∙ is)
