@@ -1,6 +1,6 @@
 # SPDX-License-Identifier: MIT
-"""What bin/what-if and bin/why have in common: the ranges of settings, traces as files, and the
-status of an interrupt."""
+"""What bin/what-if and bin/why have in common: the ranges of settings, traces as files, and how they
+end where they are interrupted, as bin/from-capture does."""
 import argparse
 import os
 import shutil
@@ -31,6 +31,11 @@ def number(setting):
     return value
 
 
+def drop_output():
+    """What is not written by now is written nowhere."""
+    os.dup2(os.open(os.devnull, os.O_WRONLY), sys.stdout.fileno())
+
+
 def status_of(main, words):
     """The status that a tool ends with, also where it is interrupted (Ctrl-C), or where whoever
     reads what it prints wants no more of it."""
@@ -41,7 +46,7 @@ def status_of(main, words):
     except KeyboardInterrupt:
         return INTERRUPTED
     except BrokenPipeError:
-        os.dup2(os.open(os.devnull, os.O_WRONLY), sys.stdout.fileno())
+        drop_output()
         return 1
 
 

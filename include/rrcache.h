@@ -928,9 +928,9 @@ static inline bool rrcache_is_alias_told(uint32_t of_alias, uint32_t of_type)
    10.1). `is_alias` is written where RRCACHE_DONE or RRCACHE_SMALL is returned.
 
    A failure is one of the name and type that were asked for. So with RRCACHE_STALE_IF_FAILED a
-   record is told as stale where asking for the type has failed recently. Once a name of a chain is
-   told as stale, or with RRCACHE_MISS_FAILED, ask for the names behind it with RRCACHE_STALE_NOW.
- */
+   record is told as stale where asking for the type has failed recently, but the names that it
+   leads to have no failure of their own. Where a peek at the question with RRCACHE_NO_STALE tells
+   RRCACHE_MISS_FAILED, ask for each name of its chain with RRCACHE_STALE_NOW. */
 static inline enum rrcache_status
 rrcache_ask_alias(struct rrcache_shelf *shelf, const struct rrcache_query *query, uint64_t line,
                   struct rrcache_told *told, uint8_t *buffer, size_t buffer_size, bool *is_alias)

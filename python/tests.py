@@ -420,6 +420,13 @@ def test_aliases_are_followed_by_python():
         cache.offer_message(message(8, 0x8182, question("x0.example", A)), "example.", 170)
         same([it.kind for it in cache.follow("x0.example", A, 171, **failed)],
              [rrcache.Kind.STALE] * 4, "after a failure")
+        for name, target in zip(names, names[1:]):
+            octets = message(9, 0x8580, question(name, CNAME), [record(name, CNAME, 60, wire(target))])
+            cache.offer_message(octets, "example.", 172)
+        same([it.kind for it in cache.follow("x0.example", A, 173, **failed)],
+             [rrcache.Kind.FRESH] * 3 + [rrcache.Kind.STALE], "aliases that are fresh again")
+        same([it.kind for it in cache.follow("x1.example", A, 173, **failed)],
+             [rrcache.Kind.FRESH] * 2 + [rrcache.Kind.MISS], "a question that did not fail")
 
 
 def test_an_alias_newer_than_that_its_name_does_not_exist():

@@ -7,7 +7,7 @@ import threading
 from types import TracebackType
 from typing import Any
 
-from .choices import Kind, Mode
+from .choices import Class, Kind, Mode, Purpose
 from .library import part_of
 from .names import to_wire
 from .offers import Offers
@@ -40,11 +40,22 @@ class Cache:
         with lock:
             return shelf.ask(name, rtype, moment, **more)
 
+    def _has_failed(self, name: Name, rtype: int, moment: int, rclass: Class | int = Class.IN,
+                    purpose: Purpose | int = Purpose.QUESTION, **_: Any) -> bool:
+        """Whether asking for it has failed recently, and nothing fresh is held."""
+        lock, shelf = self._shelves[part_of(name, len(self._shelves), self._seed)]
+        with lock:
+            return shelf.peek(name, rtype, moment, purpose, rclass=rclass).kind is Kind.MISS_FAILED
+
     def follow(self, name: Name, rtype: int, moment: int, **more: Any) -> list[Reply]:
         """The reply to a question, or where the name is an alias those along the chain: a CNAME
         record's for each alias, and last what the chain ends with (RFC 1034 section 3.6.2). Which of
         both a name has `Shelf.ask_alias` says. They are at most 16; those of a chain that has more,
-        or leads back, end with an alias. Each is one event."""
+        or leads back, end with an alias. Each is one event. A failure of the question is one for
+        all of its chain."""
+        if more.get("mode") == Mode.STALE_IF_FAILED:
+            more["mode"] = Mode.STALE_NOW if self._has_failed(name, rtype, moment, **more) else (
+                Mode.NO_STALE)
         replies: list[Reply] = []
         seen = set()
         while True:
@@ -56,9 +67,6 @@ class Cache:
             seen.add(name.lower())
             if not is_alias:
                 return replies
-            # A failure is one of the question alone, and the names behind it may be stale then too.
-            if reply.kind is Kind.STALE and more.get("mode") == Mode.STALE_IF_FAILED:
-                more["mode"] = Mode.STALE_NOW
             name = reply.data[0]
             if len(replies) == LINKS_MOST or name.lower() in seen:
                 return replies

@@ -39,7 +39,7 @@ use std::thread::Threads;
 use std::time::{Clock, CpuClock};
 
 const FAILED: &str =
-    "it takes [lean] TASK KEYS CALLS [PARTS] or [lean] shared TASK THREADS PARTS CALLS, or memory was refused";
+    "it takes [lean] TASK KEYS CALLS [PARTS], [lean] shared TASK THREADS PARTS CALLS, and memory";
 
 fn asked<R: CpuClock>(
     rt: &R,
