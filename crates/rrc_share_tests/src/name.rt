@@ -1,5 +1,6 @@
 // SPDX-License-Identifier: MIT
 mod names;
+mod parts;
 mod rdata_lists;
 mod sequences;
 

@@ -55,18 +55,18 @@ static RISING: [&str; 10] = [
     r"\200.z.example.",
 ];
 
-/// Whether a name comes before another one.
-fn comes_before(rt: &impl Abort, alloc: Global, text: &str, other: &str) -> bool {
-    let order = name(rt, alloc, text).canonical_cmp(&name(rt, alloc, other));
-    order == Ordering::Less
+/// How a name stands to another one.
+fn order(rt: &impl Abort, alloc: Global, text: &str, other: &str) -> Ordering {
+    name(rt, alloc, text).canonical_cmp(&name(rt, alloc, other))
 }
 
 #[test]
 fn orders_names_canonically(rt: HostRuntime) {
-    let mut low = RISING[0];
-    for high in &RISING[1..] {
-        assert!(rt; comes_before(&rt, rt.alloc(), low, high), "{high}");
-        low = *high;
+    for (place, text) in RISING.iter().enumerate() {
+        for (behind, other) in RISING.iter().enumerate() {
+            let order = order(&rt, rt.alloc(), text, other);
+            assert!(rt; order == place.cmp(&behind), "{text} and {other}");
+        }
     }
 }
 
