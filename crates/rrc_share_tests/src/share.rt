@@ -2,12 +2,14 @@
 ghost use Rattle.std.specs.Prelude.{◌≡◌, ◌<◌};
 
 mod parts;
+mod shelf;
 mod switched;
 
 use crate::cache::{TAG, failure, question, rules};
 use rrc_cache::Refusal;
-use rrc_history::Reply;
+use rrc_history::{Outcome, Reply};
 use rrc_share::{CacheShelf, Recording, SharedCache};
+use shelf::is_in_chapter_2;
 use std::alloc::Global;
 use std::process::Abort;
 use std::sync::Wait;
@@ -96,4 +98,25 @@ fn calls_are_made_on_the_part_of_the_name(rt: HostRuntime) {
     let is_so = stand_so(cache.into_parts().as_slice(), &STANDS);
     assert!(rt; own == [Some(40), Some(40)] && other == [None, None]);
     assert!(rt; closed == (1, 1) && is_so);
+}
+
+/// Whether a part records, and event 1 stands in chapter 2 of it.
+fn is_recorded_in_chapter_2(part: Option<&CacheShelf>) -> bool {
+    match part {
+        Some(part) => match part.recorded() {
+            Some(shelf) => is_in_chapter_2(shelf),
+            None => false,
+        },
+        None => false,
+    }
+}
+
+#[test]
+fn a_full_chapter_is_closed_under_the_lock(rt: HostRuntime) {
+    let alloc = rt.alloc();
+    let cache = kept(&rt, alloc, 1, Recording::On);
+    let offer = failure(&rt, alloc, "a.example.");
+    let outcome = cache.offer(&rt, TAG, offer).expect(&rt, "no outcome");
+    assert!(rt; outcome == Outcome::Kept);
+    assert!(rt; is_recorded_in_chapter_2(cache.into_parts().as_slice().get(1)));
 }
