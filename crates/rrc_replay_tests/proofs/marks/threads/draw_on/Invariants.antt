@@ -1,0 +1,9 @@
+-- SPDX-License-Identifier: MIT
+use Rattle.rrc_marks.specs.Seen.{KeepsShare}
+use Rattle.rrc_replay_tests.proofs.marks.threads.draw_on.Given as goal
+
+abbrev pub invariant-loop-pass : goal.invariant-loop-pass
+invariant-loop-pass l = KeepsShare l.initial.pass l.pass
+
+abbrev pub decreases-loop-pass : goal.decreases-loop-pass
+decreases-loop-pass l = l.pass.view.turns
