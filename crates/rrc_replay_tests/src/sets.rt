@@ -8,7 +8,7 @@ use std::process::Abort;
 
 /// NXDOMAIN for `a.example.` of type A, which is an alias for `b.example.`, with the SOA record of
 /// `example.`
-static DENIED_ALIAS: &[u8] = b"\x12\x34\x84\x03\0\x01\0\x01\0\x01\0\0\
+pub(crate) static DENIED_ALIAS: &[u8] = b"\x12\x34\x84\x03\0\x01\0\x01\0\x01\0\0\
     \x01a\x07example\0\0\x01\0\x01\
     \xc0\x0c\0\x05\0\x01\0\0\0\x3c\0\x04\x01b\xc0\x0e\
     \xc0\x0e\0\x06\0\x01\0\0\x0e\x10\0\x18\xc0\x0e\xc0\x0e\
