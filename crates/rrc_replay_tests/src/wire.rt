@@ -53,6 +53,20 @@ fn headers_are_read(rt: HostRuntime) {
     }
 }
 
+/// Whether a message asks for `.` of type 1 and class 1.
+fn asks_for_the_root(message: &Message) -> bool {
+    let question = &message.question;
+    question.qtype == 1 && question.qclass == 1 && question.name.wire.as_slice() == b"\0".as_slice()
+}
+
+/// A pointer leads to any octet before it, those of the header too (RFC 1035 section 4.1.4).
+#[test]
+fn a_question_in_the_header(rt: HostRuntime) {
+    let octets = [0, 0, 0x84, 0, 0, 1, 0, 0, 0, 0, 0, 0, 0xc0, 0, 0, 1, 0, 1];
+    let message = read_message(rt.alloc(), &octets).expect(&rt, "a message");
+    assert!(rt; asks_for_the_root(&message));
+}
+
 /// A response to `a.example.` of type A: an alias for `b.example.` and the two addresses of that.
 static RESPONSE: &[u8] = b"\x12\x34\x84\0\0\x01\0\x03\0\0\0\0\
     \x01a\x07example\0\0\x01\0\x01\

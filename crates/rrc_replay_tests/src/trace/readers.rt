@@ -2,6 +2,7 @@
 use rrc_fakes::FailsOnce;
 use rrc_trace::{ReplayFault, read_trace};
 use std::alloc::Global;
+use std::process::Abort;
 
 /// Octets, and how many of them a read gives at most; how many reads come before one that fails, if
 /// one does; and the fault.
@@ -11,9 +12,7 @@ const LINES: &[u8] = b"sweep 10\r\nask 11 a 1 any none";
 
 const BAD_LINES: &[u8] = b"ask\nask 1";
 
-static READINGS: [Reading; 4] = [
-    (LINES, 1, None, None),
-    (LINES, 3, None, None),
+static READINGS: [Reading; 2] = [
     // A bad line that was read whole comes before a later fault of reading.
     (BAD_LINES, 3, Some(1), Some(ReplayFault::Read)),
     (BAD_LINES, 4, Some(1), Some(ReplayFault::BadLine(0))),
@@ -36,7 +35,7 @@ fn read(
 }
 
 #[test]
-fn readers_of_few_octets(rt: HostRuntime) {
+fn bad_lines_before_a_fault_of_reading(rt: HostRuntime) {
     for (octets, most, reads, fault) in &READINGS {
         assert!(rt;
             read(rt.alloc(), octets, *most, *reads).0 == *fault,
@@ -54,5 +53,29 @@ fn readers_that_fail_once(rt: HostRuntime) {
             read(rt.alloc(), LINES, 1, Some(reads)) == wanted,
             "at {reads}"
         );
+    }
+}
+
+/// A line of each kind.
+const EACH_KIND: &str =
+    "put 100 A.example. 1 4 60 c0000201,c0000202\r\nask 101 a.Example. 28 answer failed\nfail 102 b. 16\nresponse 103 c. 00ff\nfetch 104 D.example. 15 example. 00fe\n fetch 105 e. 1 . -\nsweep 106\ncheckpoint";
+
+/// All lines and fields of a trace that a reader gives so many octets at once.
+fn shown(rt: &impl Abort, alloc: Global, most: usize) -> String {
+    let mut reader = FailsOnce {
+        octets: EACH_KIND.as_bytes(),
+        most,
+        reads: None,
+    };
+    let trace = read_trace(alloc, &mut reader).expect(rt, "a trace");
+    format!(in alloc; "{trace:?}").expect(rt, "a text")
+}
+
+#[test]
+fn readers_of_few_octets_give_the_same_trace(rt: HostRuntime) {
+    let whole = shown(&rt, rt.alloc(), EACH_KIND.len());
+    for most in &[1, 3] {
+        let read = shown(&rt, rt.alloc(), *most);
+        assert!(rt; read.as_str() == whole.as_str(), "by {most}");
     }
 }
