@@ -37,10 +37,8 @@ fn read(
 #[test]
 fn bad_lines_before_a_fault_of_reading(rt: HostRuntime) {
     for (octets, most, reads, fault) in &READINGS {
-        assert!(rt;
-            read(rt.alloc(), octets, *most, *reads).0 == *fault,
-            "by {most}"
-        );
+        let (found, _left) = read(rt.alloc(), octets, *most, *reads);
+        assert!(rt; found == *fault, "by {most}: {found:?}");
     }
 }
 
@@ -49,10 +47,8 @@ fn bad_lines_before_a_fault_of_reading(rt: HostRuntime) {
 fn readers_that_fail_once(rt: HostRuntime) {
     for reads in 0..=LINES.len() {
         let wanted = (Some(ReplayFault::Read), LINES.len() - reads);
-        assert!(rt;
-            read(rt.alloc(), LINES, 1, Some(reads)) == wanted,
-            "at {reads}"
-        );
+        let found = read(rt.alloc(), LINES, 1, Some(reads));
+        assert!(rt; found == wanted, "at {reads}: {found:?}");
     }
 }
 
