@@ -584,7 +584,7 @@ def test_random_tests_say_that_a_program_does_not_start_or_end():
 
 
 def test_refusals_say_that_nothing_was_tried():
-    for words in (["--compiler=no-compiler"], ["no-row"], ["--seconds=0"]):
+    for words in (["--compiler=no-compiler"], ["no-row"], ["--seconds=0", "workers-of-64"]):
         run = ran("refusals", *words)
         if run.returncode != 1 or run.stdout.splitlines()[-1] != "0 passed, 1 failed":
             yield f"{words}: status {run.returncode}: {run.stdout}{run.stderr}"
