@@ -10,9 +10,10 @@ use crate::event::Event;
 use crate::snapshot::Snapshot;
 use rrc_name::{Sequence, Shared};
 use std::alloc::AllocError;
+use std::error::Error;
+use std::fmt::{self, Display, Formatter, Write};
 use std::marker::Model;
 use std::vec::IntoIter;
-use thiserror::Error;
 
 /// A history of a part's: the snapshot that it began with, the events since, the oldest first, and the snapshot that they lead to.
 #[derive(Debug, Drop)]
@@ -34,15 +35,36 @@ impl Model for Whole {
 }
 
 /// Why chapters are no history: at which place of the list the first is that does not go on from the one before it.
-#[derive(Clone, Copy, Debug, PartialEq, Eq, Hash, Error)]
+#[derive(Clone, Copy, Debug, PartialEq, Eq, Hash)]
 pub enum ChainFault {
-    #[error("chapter {0} does not follow the one before it")]
+    /// The chapter does not follow the one before it.
     NumberGap(usize),
-    #[error("chapter {0} does not begin with what the one before it ends with")]
+    /// The chapter does not begin with what the one before it ends with.
     NotTheSameContents(usize),
-    #[error("memory was refused")]
     Memory,
 }
+
+impl Display for ChainFault {
+    ghost use Rattle.std.specs.Prelude.{Some};
+    ghost use Rattle.rrc_history.specs.Faults.{chain_fault_text};
+
+    ghost output = { λ fault. Some (chain_fault_text fault) };
+
+    fn fmt<W: Write>(&self, f: &mut Formatter<W>) -> fmt::Result {
+        match self {
+            ChainFault::NumberGap(place) => {
+                write!(f, "chapter {place} does not follow the one before it")
+            }
+            ChainFault::NotTheSameContents(place) => write!(
+                f,
+                "chapter {place} does not begin with what the one before it ends with"
+            ),
+            ChainFault::Memory => f.write_str("memory was refused"),
+        }
+    }
+}
+
+impl Error for ChainFault {}
 
 impl ChainFault {
     ghost use Rattle.rrc_history.specs.Faults.{chain_fault_number};

@@ -15,7 +15,51 @@ use crate::offer::Offer;
 use crate::snapshot::{Entry, Snapshot};
 use rrc_name::classless::{IN, Key as ClasslessKey};
 use rrc_name::{Key, Sequence, Shared};
-use std::alloc::{AllocError, Global};
+use std::alloc::{AllocError, AllocFailed, Global};
+use thiserror::Error;
+
+/// Why no chapter was made of one that was made before keys had a class.
+#[derive(Clone, Copy, Debug, PartialEq, Eq, Hash, Error)]
+pub enum ClassFault {
+    #[error("memory was refused")]
+    Memory,
+}
+
+impl ClassFault {
+    ghost use Rattle.std.specs.Prelude.{◌≡◌};
+    ghost use Rattle.rrc_history.specs.Faults.{class_fault_number};
+
+    /// The number of the fault, which is 1.
+    pub fn number(&self) -> u8
+        ensures value { result ≡ class_fault_number self.now }
+    {
+        match self {
+            ClassFault::Memory => 1,
+        }
+    }
+}
+
+impl From<AllocError> for ClassFault {
+    ghost use Rattle.std.specs.Prelude.{◌≡◌};
+    ghost use Rattle.rrc_history.specs.declared.images.ClassFault.TheVariants.{Memory};
+
+    ghost from_gives = { λ _ fault. fault ≡ Memory };
+
+    fn from(_refused: AllocError) -> ClassFault {
+        ClassFault::Memory
+    }
+}
+
+impl<T: Drop> From<AllocFailed<T>> for ClassFault {
+    ghost use Rattle.std.specs.Prelude.{◌≡◌};
+    ghost use Rattle.rrc_history.specs.declared.images.ClassFault.TheVariants.{Memory};
+
+    ghost from_gives = { λ _ fault. fault ≡ Memory };
+
+    fn from(_refused: AllocFailed<T>) -> ClassFault {
+        ClassFault::Memory
+    }
+}
 
 /// An event that was made before keys had a class is right after others exactly where its image in class IN is right after theirs; so
 /// a history was legal exactly where its image is. An ask in class IN is answered after the images as it was before asks had a class.
@@ -32,7 +76,7 @@ pub fn images_are_right_alike()
 ///
 /// No octets of names and data are copied: both chapters share them. The time goes with the number of the entries, of the events and
 /// of the keys that sweeps removed. An `Err` says that memory was refused.
-pub fn from_classless(alloc: Global, chapter: &classless::Chapter) -> Result<Chapter, AllocError>
+pub fn from_classless(alloc: Global, chapter: &classless::Chapter) -> Result<Chapter, ClassFault>
     ensures image { IfOk result (λ made. made ≡ image_of_chapter chapter.now) }
     ensures leads { IfOk result (λ made. LeadTo made.snapshot made.events made.closing) }
     ensures answers { IfOk result (λ made. AnswersAsBefore chapter.now made) }

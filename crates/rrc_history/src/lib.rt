@@ -32,8 +32,8 @@ pub use chapter::Chapter;
 pub use entry_list::{Entries, EntryList};
 pub use event::{Event, Outcome, Reply, RrSet, Soa, Tag};
 pub use images::{
-    events_from_classless, from_classless, images_are_right_alike, snapshot_from_classless,
-    snapshot_without_class,
+    ClassFault, events_from_classless, from_classless, images_are_right_alike,
+    snapshot_from_classless, snapshot_without_class,
 };
 pub use judge::{Found, Held, governing, recent_failure, reply_of, retry_from, span, verdict};
 pub use laws::{

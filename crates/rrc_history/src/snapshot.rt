@@ -11,6 +11,7 @@ use crate::repeats::{Repeats, Trees, repeats_among};
 use crate::rules::{LAST_MOMENT, Rules};
 use rrc_name::Key;
 use std::alloc::{AllocError, Global};
+use std::fmt::{self, Display, Formatter, Write};
 use std::marker::Model;
 use thiserror::Error;
 
@@ -45,19 +46,44 @@ impl Model for Snapshot {
 }
 
 /// Why entries are no snapshot: what is wrong with the first of them that is wrong.
-#[derive(Clone, Copy, Debug, PartialEq, Eq, Hash, Error)]
+#[derive(Clone, Copy, Debug, PartialEq, Eq, Hash)]
 pub enum SnapshotFault {
-    #[error("as many entries as the capacity stand before an entry")]
+    /// As many entries as the capacity stand before an entry.
     TooMany = 1,
-    #[error("an entry has the key of one before it")]
+    /// An entry has the key of one before it.
     RepeatedKey = 2,
-    #[error("an entry has the number of one before it, or one that is not below the first event's")]
+    /// An entry has the number of one before it, or one that is not below the first event's.
     BadNumber = 3,
-    #[error("the body of an entry does not fit its key")]
+    /// The body of an entry does not fit its key.
     WrongBody = 4,
-    #[error("the moment of an entry is above 2^40 seconds")]
+    /// The moment of an entry is above 2^40 seconds.
     BadMoment = 5,
 }
+
+impl Display for SnapshotFault {
+    ghost use Rattle.std.specs.Prelude.{Some};
+    ghost use Rattle.rrc_history.specs.Faults.{snapshot_fault_text};
+
+    ghost output = { λ fault. Some (snapshot_fault_text fault) };
+
+    fn fmt<W: Write>(&self, f: &mut Formatter<W>) -> fmt::Result {
+        match self {
+            SnapshotFault::TooMany => {
+                f.write_str("as many entries as the capacity stand before an entry")
+            }
+            SnapshotFault::RepeatedKey => f.write_str("an entry has the key of one before it"),
+            SnapshotFault::BadNumber => f.write_str(
+                "an entry has the number of one before it, or one that is not below the first event's",
+            ),
+            SnapshotFault::WrongBody => f.write_str("the body of an entry does not fit its key"),
+            SnapshotFault::BadMoment => {
+                f.write_str("the moment of an entry is above 2^40 seconds")
+            }
+        }
+    }
+}
+
+impl std::error::Error for SnapshotFault {}
 
 impl SnapshotFault {
     ghost use Rattle.rrc_history.specs.Faults.{snapshot_fault_number};
