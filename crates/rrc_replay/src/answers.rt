@@ -45,7 +45,7 @@ fn respond<R: Wait, G>(
             Ok(Answer::Response(told))
         }
         Err(WireFault::Memory) => Err(Refused::Memory),
-        Err(fault) => Ok(Answer::Refused(fault)),
+        Err(fault) => Ok(Answer::Refused(fault.number())),
     }
 }
 

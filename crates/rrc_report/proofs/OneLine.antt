@@ -1,12 +1,9 @@
 -- SPDX-License-Identifier: MIT
 -- One line: behind the same pasts of the parts it has one answer, one list of operations, and one list of events.
-use Rattle.std.proofs.Common.{◌≡◌, ◌⊎◌, ℕ, zero, suc, ◌+◌, ◌<◌, ◌≤◌, List, [], ◌∷◌, ◌++◌, map, Some, None, refl, sym, ap, subst, ◌∙◌, inl, inr, Err, Result, arith}
+use Rattle.std.proofs.Common.{◌≡◌, ◌⊎◌, ℕ, zero, suc, ◌+◌, ◌<◌, ◌≤◌, List, [], ◌∷◌, ◌++◌, map, Some, None, refl, sym, ap, subst, ◌∙◌, inl, inr, arith}
 use Rattle.std.proofs.lemmas.Nat.{mod_below}
 use Rattle.rrc_name.specs.Key.{KeyOf}
 use Rattle.rrc_name.specs.Wire.{folded}
-use Rattle.rrc_wire.specs.declared.fault.WireFault.{WireFault}
-use Rattle.rrc_wire.specs.declared.message.Message.{Message}
-use Rattle.rrc_wire.specs.Message.{FirstFault}
 use Rattle.rrc_history.specs.declared.event.Event.{Event}
 use Rattle.rrc_history.specs.declared.event.Event.TheVariants.{Offered, Asked, Swept}
 use Rattle.rrc_history.specs.declared.event.Reply.{Reply}
@@ -31,21 +28,10 @@ use Rattle.rrc_collate.specs.declared.task.Fate.TheVariants as fates
 use Rattle.rrc_collate.specs.Calls.{AreCalls}
 use Rattle.rrc_script.specs.declared.config.Config.{Config}
 use Rattle.rrc_script.specs.declared.script.Script.{Script}
-use Rattle.rrc_script.specs.Scripts.{offer_of, failure_of, offering, asking, sweeping, plain, first_ask, last_ask, fetching, HasScript}
+use Rattle.rrc_script.specs.Scripts.{offer_of, failure_of, offering, asking, sweeping, plain, first_ask, last_ask, fetching, HasFaultOf, HasScript}
 use Rattle.rrc_report.specs.Answers.{TellsOutcome, Replies, Counts, TellAll, TellFetched, CountAll, RepliesAlone, IsHit, IsTold}
-use Rattle.rrc_script.proofs.Scripted.{OneMessageOrFault, not_both, one_script}
+use Rattle.rrc_script.proofs.Scripted.{OneMessageOrFault, not_both, one_number, one_script}
 use Rattle.rrc_report.proofs.OneRun.{GoRight, AreHome, one_first, one_run}
-
--- ---- what octets bring
-
-abbrev refused : WireFault → Result Message WireFault
-refused fault = Err fault
-
-err_is : (a b : WireFault) → refused a ≡ refused b → a ≡ b
-err_is a b e = cc
-
-one_fault : (octets : List ℕ) (fault other : WireFault) → FirstFault octets fault → FirstFault octets other → fault ≡ other
-one_fault octets fault other is also = err_is fault other (sym is ∙ also)
 
 -- ---- what events tell
 
@@ -235,14 +221,14 @@ WasAnswered config response answer operations =
     (offers : List OfferOf) × (Brings config.limits response.octets response.zone response.moment offers × IsMade (List Told) answers.Response answer operations (map (offering config.parts) offers))
 
 abbrev WasRefused : Config → Response → Answer → List Operation → Type 0
-WasRefused config response answer operations = (fault : WireFault) × (FirstFault response.octets fault × IsMade (Unit {0}) (λ unit. answers.Refused fault) answer operations [])
+WasRefused config response answer operations = (number : ℕ) × (HasFaultOf response.octets number × IsMade (Unit {0}) (λ unit. answers.Refused number) answer operations [])
 
 of_response : (config : Config) (questions : List KeyOf) (response : Response) (answer : Answer) (script : Script) → HasScript config questions (lines.Response response) answer script
     → WasAnswered config response answer script.operations ⊎ WasRefused config response answer script.operations
 of_response config questions response (answers.Response told) script has =
     inl (has.offers, (has.brought, record { value = told; answer_is = refl; operations_are = operations_in script (plain (map (offering config.parts) has.offers)) has.is }))
-of_response config questions response (answers.Refused fault) script has =
-    inr (fault, (has.0, record { value = tt; answer_is = refl; operations_are = operations_in script (plain []) has.1 }))
+of_response config questions response (answers.Refused number) script has =
+    inr (number, (has.0, record { value = tt; answer_is = refl; operations_are = operations_in script (plain []) has.1 }))
 of_response config questions response answer script has = absurd has
 
 -- answers of one kind, which call for the same whatever they say, have one plan
@@ -269,14 +255,14 @@ response_same law snapshot config questions pasts number response answer other o
     made_same (List Told) answers.Response planned snapshot config questions pasts number (lines.Response response) answer other operations others events also
     all_told (offers_home config.parts one.0 some) one.1.1 plan done other_done
 response_same law snapshot config questions pasts number response answer other operations others events also some (inl one) (inr two) done other_done =
-    absurd (not_both law response.octets one.1.0.message two.0 one.1.0.begins two.1.0)
+    absurd (not_both law response.octets one.1.0.message two.1.0.0 one.1.0.begins two.1.0.1.0)
 response_same law snapshot config questions pasts number response answer other operations others events also some (inr one) (inl two) done other_done =
-    absurd (not_both law response.octets two.1.0.message one.0 two.1.0.begins one.1.0)
+    absurd (not_both law response.octets two.1.0.message one.1.0.0 two.1.0.begins one.1.0.1.0)
 response_same law snapshot config questions pasts number response answer other operations others events also some (inr one) (inr two) done other_done =
-    let fault : two.0 ≡ one.0 = one_fault response.octets two.0 one.0 two.1.0 one.1.0 in
-    let same_fault : IsMade (Unit {0}) (λ unit. answers.Refused one.0) other others [] = subst (λ f. IsMade (Unit {0}) (λ unit. answers.Refused f) other others []) fault two.1.1 in
+    let number : two.0 ≡ one.0 = one_number law response.octets two.0 one.0 two.1.0 one.1.0 in
+    let same_number : IsMade (Unit {0}) (λ unit. answers.Refused one.0) other others [] = subst (λ n. IsMade (Unit {0}) (λ unit. answers.Refused n) other others []) number two.1.1 in
     made_same (Unit {0}) (λ unit. answers.Refused one.0) [] snapshot config questions pasts number (lines.Response response) answer other operations others events also
-    (λ x y es left right. refl) tt one.1.1 same_fault done other_done
+    (λ x y es left right. refl) tt one.1.1 same_number done other_done
 
 -- ---- fetches
 

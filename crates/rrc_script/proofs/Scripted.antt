@@ -4,6 +4,7 @@ use Rattle.std.proofs.Common.{◌≡◌, ◌⊎◌, ℕ, List, [], ◌∷◌, ma
 use Rattle.rrc_name.specs.Key.{KeyOf}
 use Rattle.rrc_wire.specs.declared.fault.WireFault.{WireFault}
 use Rattle.rrc_wire.specs.declared.message.Message.{Message}
+use Rattle.rrc_wire.specs.Fault.{number_of}
 use Rattle.rrc_wire.specs.Grammar.{MessageOf}
 use Rattle.rrc_wire.specs.Message.{FirstFault}
 use Rattle.rrc_wire.specs.Law.{BeginsWithMessage, HasFault}
@@ -19,7 +20,7 @@ use Rattle.rrc_trace.specs.Questions.{question_of, number_among}
 use Rattle.rrc_collate.specs.declared.task.Fate.TheVariants as fates
 use Rattle.rrc_script.specs.declared.config.Config.{Config}
 use Rattle.rrc_script.specs.declared.script.Script.{Script}
-use Rattle.rrc_script.specs.Scripts.{BringsOctets, offering, plain, first_ask, fetching, Joins, Gets, Responds, OneScript}
+use Rattle.rrc_script.specs.Scripts.{BringsOctets, offering, plain, first_ask, fetching, HasFaultOf, Joins, Gets, Responds, OneScript}
 
 -- ---- octets bring one list of offers
 
@@ -44,6 +45,18 @@ not_both law octets message fault begins first = by (law octets)
     by : BeginsWithMessage octets ⊎ HasFault octets → ⊥
     by (inl one) = one.no_fault fault first
     by (inr has) = has.no_message message begins
+
+-- octets have one first fault
+pub one_fault : OneMessageOrFault → (octets : List ℕ) (fault other : WireFault) → FirstFault octets fault → FirstFault octets other → fault ≡ other
+one_fault law octets fault other is also = by (law octets)
+  where
+    by : BeginsWithMessage octets ⊎ HasFault octets → fault ≡ other
+    by (inl one) = absurd (one.no_fault fault is)
+    by (inr has) = has.only fault is ∙ sym (has.only other also)
+
+-- it has one number
+pub one_number : OneMessageOrFault → (octets : List ℕ) (number other : ℕ) → HasFaultOf octets number → HasFaultOf octets other → number ≡ other
+one_number law octets number other is also = is.1.1 ∙ (ap number_of (one_fault law octets is.0 also.0 is.1.0 also.1.0) ∙ sym also.1.1)
 
 -- a fetch brings one list of offers
 one_fetched : OneMessageOrFault → (limits : Limits) (fetch : Fetch) (octets : Option (List ℕ)) (offers others : List OfferOf) → BringsOctets limits fetch octets offers
@@ -95,7 +108,7 @@ one_script law config questions (lines.Ask ask) (answers.Ask reply) script other
 one_script law config questions (lines.Fail failed) (answers.Fail told) script other is also = is ∙ sym also
 one_script law config questions (lines.Response response) (answers.Response told) script other is also =
     one_response law config response.octets response.zone response.moment script other is also
-one_script law config questions (lines.Response response) (answers.Refused fault) script other is also = is.1 ∙ sym also.1
+one_script law config questions (lines.Response response) (answers.Refused number) script other is also = is.1 ∙ sym also.1
 one_script law config questions (lines.Fetch fetch) (answers.Hit reply) script other is also = is ∙ sym also
 one_script law config questions (lines.Fetch fetch) (answers.Held moment) script other is also = is ∙ sym also
 one_script law config questions (lines.Fetch fetch) answers.Joined script other is also = one_joined config questions fetch script other is also

@@ -6,6 +6,7 @@ use Rattle.rrc_name.specs.Key.{KeyOf}
 use Rattle.rrc_name.specs.Parts.{part_of}
 use Rattle.rrc_name.specs.declared.slot.Slot.TheVariants as slots
 use Rattle.rrc_wire.specs.declared.fault.WireFault.{WireFault}
+use Rattle.rrc_wire.specs.Fault.{number_of}
 use Rattle.rrc_wire.specs.Message.{FirstFault}
 use Rattle.rrc_history.specs.declared.ask.Purpose.TheVariants as purposes
 use Rattle.rrc_history.specs.declared.ask.Mode.{Mode}
@@ -126,6 +127,10 @@ pub record Responds (config : Config) (octets zone : List ℕ) (moment : ℕ) (s
   pub brought : Brings config.limits octets zone moment offers
   pub is : script ≡ plain (map (offering config.parts) offers)
 
+-- octets have a first fault, of this number
+abbrev pub HasFaultOf : List ℕ → ℕ → Type 0
+HasFaultOf octets number = (fault : WireFault) × (FirstFault octets fault × (number ≡ number_of fault))
+
 -- what a line calls for, where it got an answer of this kind; the questions that the trace fetches are numbered
 abbrev pub HasScript : Config → List KeyOf → Line → Answer → Script → Type 0
 HasScript config questions (lines.Put put) (answers.Put told) script = script ≡ plain (offering config.parts (offer_of config.limits put) ∷ [])
@@ -133,7 +138,7 @@ HasScript config questions (lines.Ask ask) (answers.Ask reply) script = script �
 HasScript config questions (lines.Fail failed) (answers.Fail told) script =
     script ≡ plain (offering config.parts (failure_of config.limits failed.moment failed.name failed.class failed.rtype) ∷ [])
 HasScript config questions (lines.Response response) (answers.Response told) script = Responds config response.octets response.zone response.moment script
-HasScript config questions (lines.Response response) (answers.Refused fault) script = FirstFault response.octets fault × (script ≡ plain [])
+HasScript config questions (lines.Response response) (answers.Refused number) script = HasFaultOf response.octets number × (script ≡ plain [])
 HasScript config questions (lines.Fetch fetch) (answers.Hit reply) script = script ≡ plain (first_ask config.parts fetch ∷ [])
 HasScript config questions (lines.Fetch fetch) (answers.Held moment) script = script ≡ plain (first_ask config.parts fetch ∷ [])
 HasScript config questions (lines.Fetch fetch) answers.Joined script = Joins config questions fetch script

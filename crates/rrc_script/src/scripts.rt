@@ -4,7 +4,7 @@ ghost use Rattle.rrc_wire.specs.Message.{FirstFault};
 ghost use Rattle.rrc_trace.specs.Lawful.{IsLawful};
 ghost use Rattle.rrc_trace.specs.declared.fault.ReplayFault.TheVariants as faults;
 ghost use Rattle.rrc_script.specs.declared.script.Script.{Script};
-ghost use Rattle.rrc_script.specs.Scripts.{offer_of, failure_of, offering, asking, sweeping, plain, first_ask, fetching, Joins, Gets, Responds, HasScript, OneScript};
+ghost use Rattle.rrc_script.specs.Scripts.{offer_of, failure_of, offering, asking, sweeping, plain, first_ask, fetching, Joins, Gets, Responds, HasFaultOf, HasScript, OneScript};
 
 use crate::config::Config;
 use crate::offers::{failure_at, offer_at, offers_fetched};
@@ -74,20 +74,25 @@ fn first_fault(alloc: Global, octets: &[u8]) -> Result<Option<WireFault>, Replay
     Ok(Some(fault))
 }
 
-/// The script of a response whose octets have this first fault, or `None` where they have not.
+/// The script of a response whose octets have a first fault of this number, or `None` where they
+/// have none of it.
 fn refused_script(
     alloc: Global,
     response: &Response,
-    fault: WireFault,
+    number: u8,
 ) -> Result<Option<Script>, ReplayFault>
-    ensures some { IfOk result (λ found. IfSome found (λ script. FirstFault response.now.octets fault × (script ≡ plain []))) }
-    ensures none { IfOk result (λ found. IfNone found (FirstFault response.now.octets fault → ⊥)) }
+    ensures some { IfOk result (λ found. IfSome found (λ script. HasFaultOf response.now.octets number × (script ≡ plain []))) }
+    ensures none { IfOk result (λ found. IfNone found (HasFaultOf response.now.octets number → ⊥)) }
     ensures err { IfErr result (λ fault. fault ≡ faults.Memory) }
 {
-    match first_fault(alloc, response.octets.as_slice())? {
-        Some(found) if found == fault => Ok(Some(plain(Operations::none(alloc)))),
-        _ => Ok(None),
+    let Some(fault) = first_fault(alloc, response.octets.as_slice())? else {
+        return Ok(None);
+    };
+    if fault.number() == number {
+        return Ok(Some(plain(Operations::none(alloc))));
     }
+    one_message_or_fault();
+    Ok(None)
 }
 
 /// The script of a fetch that another one of its question stood in for, or `None` where its
@@ -187,8 +192,8 @@ pub fn script_of(
             Ok(Some(plain(Operations::alone(offering(config, offer)))))
         }
         (Line::Response(response), Answer::Response(_)) => response_script(alloc, config, response),
-        (Line::Response(response), Answer::Refused(fault)) => refused_script(
-            alloc, response, *fault,
+        (Line::Response(response), Answer::Refused(number)) => refused_script(
+            alloc, response, *number,
         ),
         (Line::Fetch(fetch), _) => fetch_script(alloc, config, questions, fetch, answer),
         (Line::Sweep(moment), Answer::Swept(_)) => Ok(Some(plain(sweeping(config, *moment)))),

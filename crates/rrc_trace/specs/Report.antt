@@ -11,7 +11,6 @@ use Rattle.rrc_history.specs.declared.event.Reply.{Reply}
 use Rattle.rrc_history.specs.declared.event.Reply.TheVariants.{Fresh, Stale, NoData, NxDomain, Miss}
 use Rattle.rrc_history.specs.declared.event.Soa.{Soa}
 use Rattle.rrc_name.specs.Key.{KeyOf}
-use Rattle.rrc_wire.specs.Fault.{number_of}
 use Rattle.rrc_name.specs.declared.slot.Slot.{Slot}
 use Rattle.rrc_name.specs.declared.slot.Slot.TheVariants.{Set, Nx, Failed}
 use Rattle.rrc_trace.specs.declared.answer.Told.{Told}
@@ -95,7 +94,7 @@ answer_text (answers.Put told) = codes "put " ++ told_text told
 answer_text (answers.Ask reply) = codes "ask " ++ reply_text reply
 answer_text (answers.Fail told) = codes "fail " ++ told_text told
 answer_text (answers.Response offers) = codes "response " ++ offers_text offers
-answer_text (answers.Refused fault) = codes "response refused " ++ decimal (number_of fault)
+answer_text (answers.Refused number) = codes "response refused " ++ decimal number
 answer_text (answers.Hit reply) = codes "fetch hit " ++ reply_text reply
 answer_text (answers.Held moment) = codes "fetch held " ++ decimal moment
 answer_text answers.Joined = codes "fetch joined"

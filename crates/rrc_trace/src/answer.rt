@@ -1,7 +1,6 @@
 // SPDX-License-Identifier: MIT
 use rrc_history::{Outcome, Reply};
 use rrc_name::{Key, Sequence};
-use rrc_wire::WireFault;
 
 /// What became of an offer, and the key that it evicted.
 #[derive(Debug, Drop)]
@@ -18,8 +17,8 @@ pub enum Answer {
     Fail(Told),
     /// What became of the offers of a response, in order.
     Response(Sequence<Told>),
-    /// The first fault of a response that was no message.
-    Refused(WireFault),
+    /// The number of the first fault of a response that was no message (`WireFault::number`).
+    Refused(u8),
     /// The reply of a fetch that the cache answered.
     Hit(Reply),
     /// The moment at which a fetch may be tried again, since it failed not long ago (RFC 8767

@@ -203,9 +203,9 @@ fn put_answer<W: Write>(output: &mut Output<'_, W>, answer: &Answer)
             put_word(output, "response ");
             put_offers(output, offers.as_slice());
         }
-        Answer::Refused(fault) => {
+        Answer::Refused(number) => {
             put_word(output, "response refused ");
-            put_number(output, u64::from(fault.number()));
+            put_number(output, u64::from(*number));
         }
         Answer::Hit(reply) => {
             put_word(output, "fetch hit ");

@@ -1,5 +1,5 @@
 -- SPDX-License-Identifier: MIT
-use Rattle.std.proofs.Common.{◌∙◌, ◌∷◌, ◌++◌, subst, decimal}
+use Rattle.std.proofs.Common.{◌∷◌, ◌++◌, subst, decimal}
 use Rattle.rrc_trace.specs.Output.{Puts}
 use Rattle.rrc_trace.specs.Report.{offers_text, reply_text}
 use Rattle.rrc_trace.proofs.OutputLemmas.{then}
@@ -7,7 +7,7 @@ use Rattle.rrc_trace.proofs.write.report.put_answer.Goals as goal
 
 pub returns-in-Refused : goal.returns-in-Refused
 returns-in-Refused g c =
-    let puts = subst (λ number. Puts g.W.Write.contents c.put_word-in-Refused.new.output c.put_number.new.output (decimal number)) (c.from.ensures ∙ c.number.ensures)
+    let puts = subst (λ number. Puts g.W.Write.contents c.put_word-in-Refused.new.output c.put_number.new.output (decimal number)) c.from.ensures
     c.put_number.ensures in
     rw c.in-Refused.is (then c.put_word-in-Refused.ensures puts)
 
