@@ -16,16 +16,19 @@ use rrc_name::{Key, KeyRef};
 use std::cmp::Ordering;
 use thiserror::Error;
 
-/// The place of the first event of a history that is not right after those before it, counted from 0.
+/// The place of the first event of a history that is not right after those before it, counted from
+/// 0.
 #[derive(Clone, Copy, Debug, PartialEq, Eq, Hash, Error)]
 #[error("event {0} is not right")]
 pub struct FirstBad(pub usize);
 
-/// Whether events, the oldest first, are a legal history from a snapshot: each has a number below 2^62, a moment of at most 2^40,
-/// and became, evicted, answered or removed just what it had to after those before it. Else the first that is not right is answered.
+/// Whether events, the oldest first, are a legal history from a snapshot: each has a number below
+/// 2^62, a moment of at most 2^40, and became, evicted, answered or removed just what it had to
+/// after those before it. Else the first that is not right is answered.
 ///
-/// It is given no allocator. What a key held and when it was touched is looked up in what was written, so the time goes with the square of
-/// the number of events, and each eviction and each sweep looks up every key that was ever offered.
+/// It is given no allocator. What a key held and when it was touched is looked up in what was
+/// written, so the time goes with the square of the number of events, and each eviction and each
+/// sweep looks up every key that was ever offered.
 pub fn audit(snapshot: &Snapshot, events: &[Event]) -> Result<(), FirstBad>
     ensures ok { OnOk result (IsLegal snapshot.now (reverse events.now)) }
     ensures err { IfErr result (λ bad. IsFirstBad snapshot.now events.now bad.0) }
@@ -99,8 +102,8 @@ fn is_right_sweep(snapshot: &Snapshot, past: &[Event], moment: u64, gone: &[Key]
     moment <= LAST_MOMENT && are_in_order(gone) && are_fully_expired(snapshot, past, moment, gone)
 }
 
-/// Whether an offer evicted what it had to: where it is kept under a new key and as many keys are held as may be, the one that was
-/// touched least recently, and else none.
+/// Whether an offer evicted what it had to: where it is kept under a new key and as many keys are
+/// held as may be, the one that was touched least recently, and else none.
 fn is_rightly_evicted(
     snapshot: &Snapshot,
     past: &[Event],
@@ -163,7 +166,8 @@ fn is_lower_offer(snapshot: &Snapshot, past: &[Event], number: u64, event: &Even
     }
 }
 
-/// Whether a key that one of the events offers a body under is held and was touched before a number.
+/// Whether a key that one of the events offers a body under is held and was touched before a
+/// number.
 fn is_lower_offered(snapshot: &Snapshot, past: &[Event], number: u64) -> bool
     requires { snapshot.now.first + length past.now ≤ 2 ^ 62 }
     ensures { result ≡ list_any (is_offered (is_lower snapshot.now (reverse past.now) number)) past.now }
@@ -176,7 +180,8 @@ fn is_lower_offered(snapshot: &Snapshot, past: &[Event], number: u64) -> bool
     false
 }
 
-/// Whether some key is held and was touched before a number. Each key that is held is one of the snapshot's or of an offer's.
+/// Whether some key is held and was touched before a number. Each key that is held is one of the
+/// snapshot's or of an offer's.
 fn is_lower_somewhere(snapshot: &Snapshot, past: &[Event], number: u64) -> bool
     requires { snapshot.now.first + length past.now ≤ 2 ^ 62 }
     ensures { result ≡ is_somewhere (is_lower snapshot.now (reverse past.now) number) snapshot.now past.now }

@@ -5,8 +5,8 @@ use std::alloc::AllocError;
 /// How far the place where a set stood is trusted (RFC 2181 section 5.4.1), from low to high.
 #[derive(Clone, Copy, Debug, PartialEq, Eq, PartialOrd, Ord, Hash)]
 pub enum Trust {
-    /// The additional section, or the authority section of a reply that is not authoritative: glue. It never answers a
-    /// question.
+    /// The additional section, or the authority section of a reply that is not authoritative: glue.
+    /// It never answers a question.
     Additional = 1,
     /// The answer section in any other case than the last one.
     NonAuthoritativeAnswer = 2,
@@ -19,15 +19,16 @@ pub enum Trust {
 /// What a key may hold.
 #[derive(Debug, Drop)]
 pub enum Body {
-    /// The data of an RRset, one at least, under the spelling of its owner as received; for `ttl` seconds.
+    /// The data of an RRset, one at least, under the spelling of its owner as received; for `ttl`
+    /// seconds.
     Positive {
         trust: Trust,
         ttl: u32,
         owner: Name,
         items: Shared<RdataList>,
     },
-    /// That the name or the type does not exist, with the SOA record that says so, its data expanded (RFC 2308 section 5);
-    /// for `ttl` seconds.
+    /// That the name or the type does not exist, with the SOA record that says so, its data
+    /// expanded (RFC 2308 section 5); for `ttl` seconds.
     Negative {
         trust: Trust,
         ttl: u32,

@@ -15,7 +15,8 @@ use std::fmt::{self, Display, Formatter, Write};
 use std::marker::Model;
 use std::vec::IntoIter;
 
-/// A history of a part's: the snapshot that it began with, the events since, the oldest first, and the snapshot that they lead to.
+/// A history of a part's: the snapshot that it began with, the events since, the oldest first, and
+/// the snapshot that they lead to.
 #[derive(Debug, Drop)]
 pub struct Whole {
     pub snapshot: Shared<Snapshot>,
@@ -34,7 +35,8 @@ impl Model for Whole {
     ghost invariant = { λ w. LeadTo w.snapshot w.events w.closing };
 }
 
-/// Why chapters are no history: at which place of the list the first is that does not go on from the one before it.
+/// Why chapters are no history: at which place of the list the first is that does not go on from
+/// the one before it.
 #[derive(Clone, Copy, Debug, PartialEq, Eq, Hash)]
 pub enum ChainFault {
     /// The chapter does not follow the one before it.
@@ -92,12 +94,14 @@ impl From<AllocError> for ChainFault {
     }
 }
 
-/// The history that chapters are, one after another: the first snapshot, all events in order, and the last closing.
+/// The history that chapters are, one after another: the first snapshot, all events in order, and
+/// the last closing.
 ///
-/// The first chapter that does not go on from the one before it is answered for, by its place in the list: `NumberGap` where its
-/// number or that of its first event is not the next, else `NotTheSameContents` where its snapshot is not the closing before it,
-/// octet for octet, rules counted. No chapters at all are `NumberGap(0)`. `Memory` comes only where nothing is
-/// wrong with the chapters.
+/// The first chapter that does not go on from the one before it is answered for, by its place in
+/// the list: `NumberGap` where its number or that of its first event is not the next, else
+/// `NotTheSameContents` where its snapshot is not the closing before it, octet for octet, rules
+/// counted. No chapters at all are `NumberGap(0)`. `Memory` comes only where nothing is wrong with
+/// the chapters.
 pub fn chain(chapters: Vec<Chapter>) -> Result<Whole, ChainFault>
     ensures whole { IfOk result (λ whole. IsWhole chapters.items whole) }
     ensures leads { IfOk result (λ whole. LeadTo whole.snapshot whole.events whole.closing) }
@@ -111,9 +115,10 @@ pub fn chain(chapters: Vec<Chapter>) -> Result<Whole, ChainFault>
     Ok(join_chained(chapters)?)
 }
 
-/// The history that chapters are of which each goes on from the one before it, as `chain` answers it: such are the chapters that a
-/// shelf closed. It compares nothing: its time is in proportion to the events, and to what the snapshots between hold where nothing
-/// else holds them, since these are let go. An error is that memory was refused.
+/// The history that chapters are of which each goes on from the one before it, as `chain` answers
+/// it: such are the chapters that a shelf closed. It compares nothing: its time is in proportion to
+/// the events, and to what the snapshots between hold where nothing else holds them, since these
+/// are let go. An error is that memory was refused.
 pub fn join_chained(chapters: Vec<Chapter>) -> Result<Whole, AllocError>
     requires { chain_fault chapters.items ≡ None }
     ensures whole { IfOk result (λ whole. IsWhole chapters.items whole) }

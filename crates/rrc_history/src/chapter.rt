@@ -7,8 +7,9 @@ use crate::snapshot::Snapshot;
 use rrc_name::{Sequence, Shared};
 use std::marker::Model;
 
-/// A piece of a part's history that is closed: the snapshot that it began with, the events since, the oldest first, and the
-/// snapshot that they lead to, which the next chapter begins with: both share it. Its number is below 2^62.
+/// A piece of a part's history that is closed: the snapshot that it began with, the events since,
+/// the oldest first, and the snapshot that they lead to, which the next chapter begins with: both
+/// share it. Its number is below 2^62.
 #[derive(Debug, Drop)]
 pub struct Chapter {
     pub number: u64,
@@ -43,7 +44,8 @@ impl Chapter {
         &self.snapshot
     }
 
-    /// The events of the chapter, the oldest first. They are legal from the snapshot, and lead to the closing.
+    /// The events of the chapter, the oldest first. They are legal from the snapshot, and lead to
+    /// the closing.
     pub fn events(&self) -> &[Event]
         ensures value { result.now ≡ self.now.events }
         ensures leads { LeadTo self.now.snapshot self.now.events self.now.closing }
@@ -51,8 +53,8 @@ impl Chapter {
         self.events.as_slice()
     }
 
-    /// The snapshot that the events lead to: the rules of the first, the number of the event behind them, and what the keys held
-    /// then, the key touched last first.
+    /// The snapshot that the events lead to: the rules of the first, the number of the event behind
+    /// them, and what the keys held then, the key touched last first.
     pub fn closing(&self) -> &Snapshot
         ensures value { result.now ≡ self.now.closing }
         ensures leads { LeadTo self.now.snapshot self.now.events self.now.closing }

@@ -1,5 +1,6 @@
 // SPDX-License-Identifier: MIT
-//! Histories as they were made before keys had a class. `from_classless` makes of them what they are now.
+//! Histories as they were made before keys had a class. `from_classless` makes of them what they
+//! are now.
 ghost use Rattle.std.specs.Prelude.{◌≡◌, true, false, IfOk, IfErr, OnOk, OnErr};
 ghost use Rattle.rrc_history.specs.Fits.{is_set, is_failed, is_lifetime};
 ghost use Rattle.rrc_history.specs.classless.Fits.{fits};
@@ -68,7 +69,8 @@ pub enum OfferFault {
 }
 
 impl Offer {
-    /// An offer, where the body fits the key, as `rrc_history::Offer::new` makes it. It takes no memory.
+    /// An offer, where the body fits the key, as `rrc_history::Offer::new` makes it. It takes no
+    /// memory.
     pub fn new(key: Key, body: Body, moment: u64) -> Result<Offer, OfferFault>
         ensures ok { IfOk result (λ offer. offer ≡ record { key = key; body = body; moment = moment }) }
         ensures fits { OnOk result (fits key body ≡ true) }
@@ -148,9 +150,10 @@ pub struct Entry {
     pub number: u64,
 }
 
-/// What a part held when a chapter of its history began, the key touched last first. The chapter's first event has the
-/// number `first`. The entries are no more than the capacity, each has a key of its own, which its body fits, a number of its
-/// own below `first`, and a moment of at most 2^40 seconds.
+/// What a part held when a chapter of its history began, the key touched last first. The chapter's
+/// first event has the number `first`. The entries are no more than the capacity, each has a key of
+/// its own, which its body fits, a number of its own below `first`, and a moment of at most 2^40
+/// seconds.
 #[derive(Debug, Drop)]
 pub struct Snapshot {
     pub rules: Rules,
@@ -172,8 +175,10 @@ impl Model for Snapshot {
 impl Snapshot {
     ghost use Rattle.std.specs.Prelude.{None, Some};
 
-    /// A snapshot of entries, the key touched last first, in front of the event of the number `first`, or what is wrong with the first
-    /// entry that is wrong, as `rrc_history::Snapshot::new` tells it. It takes no memory, and so compares each entry with all before it.
+    /// A snapshot of entries, the key touched last first, in front of the event of the number
+    /// `first`, or what is wrong with the first entry that is wrong, as
+    /// `rrc_history::Snapshot::new` tells it. It takes no memory, and so compares each entry with
+    /// all before it.
     pub fn new(rules: Rules, first: u64, entries: Vec<Entry>) -> Result<Snapshot, SnapshotFault>
         ensures ok { IfOk result (λ snapshot. snapshot ≡ record { rules = rules; first = first; entries = entries.items }) }
         ensures sound { OnOk result (snapshot_fault rules first entries.items ≡ None) }
@@ -236,8 +241,9 @@ fn has_number(number: u64, entries: &[Entry]) -> bool
     entries.iter().any(|entry| entry.number == number)
 }
 
-/// A piece of a part's history that is closed: the snapshot that it began with, the events since, the oldest first, and the
-/// snapshot that they lead to. Its number is below 2^62, and the events are legal from the snapshot.
+/// A piece of a part's history that is closed: the snapshot that it began with, the events since,
+/// the oldest first, and the snapshot that they lead to. Its number is below 2^62, and the events
+/// are legal from the snapshot.
 #[derive(Debug, Drop)]
 pub struct Chapter {
     pub number: u64,

@@ -24,8 +24,9 @@ pub(crate) struct Batched {
     pub(crate) places: Vec<Place>,
 }
 
-/// Entries in an order. A list that was made beside an earlier one shares with it what both hold: it names an entry by its place in
-/// a batch, in 16 octets, and copies only those that are new. Contracts see the list of the entries.
+/// Entries in an order. A list that was made beside an earlier one shares with it what both hold:
+/// it names an entry by its place in a batch, in 16 octets, and copies only those that are new.
+/// Contracts see the list of the entries.
 #[derive(Debug, Drop)]
 pub struct EntryList {
     /// The first entries, which no other list has.

@@ -61,21 +61,23 @@ impl<T: Drop> From<AllocFailed<T>> for ClassFault {
     }
 }
 
-/// An event that was made before keys had a class is right after others exactly where its image in class IN is right after theirs; so
-/// a history was legal exactly where its image is. An ask in class IN is answered after the images as it was before asks had a class.
-/// The function does nothing; its contract is the law.
+/// An event that was made before keys had a class is right after others exactly where its image in
+/// class IN is right after theirs; so a history was legal exactly where its image is. An ask in
+/// class IN is answered after the images as it was before asks had a class. The function does
+/// nothing; its contract is the law.
 pub fn images_are_right_alike()
     ensures right { RightWhereImageIs }
     ensures legal { LegalWhereImageIs }
     ensures answers { ImageAnswersAlike }
 {}
 
-/// What a chapter is now that was made before keys had a class: all its keys, offers and asks are in class IN (RFC 1035 section 3.2.4),
-/// and all else is equal. Asks in class IN are answered after its events as they were before they had a class, and asks in any other
-/// class by nothing.
+/// What a chapter is now that was made before keys had a class: all its keys, offers and asks are
+/// in class IN (RFC 1035 section 3.2.4), and all else is equal. Asks in class IN are answered after
+/// its events as they were before they had a class, and asks in any other class by nothing.
 ///
-/// No octets of names and data are copied: both chapters share them. The time goes with the number of the entries, of the events and
-/// of the keys that sweeps removed. An `Err` says that memory was refused.
+/// No octets of names and data are copied: both chapters share them. The time goes with the number
+/// of the entries, of the events and of the keys that sweeps removed. An `Err` says that memory was
+/// refused.
 pub fn from_classless(alloc: Global, chapter: &classless::Chapter) -> Result<Chapter, ClassFault>
     ensures image { IfOk result (λ made. made ≡ image_of_chapter chapter.now) }
     ensures leads { IfOk result (λ made. LeadTo made.snapshot made.events made.closing) }

@@ -17,8 +17,8 @@ use crate::reply::{ReplyRef, SetRef, SoaRef};
 use crate::snapshot::Entry;
 use rrc_name::{Key, Slot};
 
-/// What a key holds, where that is kept: in an entry, or in the offer of a history that stored it. The moment is that of the offer, in
-/// seconds, the number that of its event.
+/// What a key holds, where that is kept: in an entry, or in the offer of a history that stored it.
+/// The moment is that of the offer, in seconds, the number that of its event.
 #[derive(Clone, Copy, Debug)]
 pub struct Held<'a> {
     pub key: &'a Key,
@@ -27,7 +27,8 @@ pub struct Held<'a> {
     pub number: u64,
 }
 
-/// What the three keys of an ask hold: of its name the set of its type, that the name does not exist, that asking for the type failed.
+/// What the three keys of an ask hold: of its name the set of its type, that the name does not
+/// exist, that asking for the type failed.
 #[derive(Clone, Copy, Debug)]
 pub struct Found<'a> {
     pub set: Option<Held<'a>>,
@@ -80,8 +81,8 @@ fn ttl_of(body: &Body) -> u32
     }
 }
 
-/// For how many seconds from its moment on a body may answer: a set past its ttl as well, up to the stale limit in seconds (RFC 8767
-/// section 4).
+/// For how many seconds from its moment on a body may answer: a set past its ttl as well, up to the
+/// stale limit in seconds (RFC 8767 section 4).
 pub fn span(body: &Body, stale: u64) -> u64
     requires { stale ≤ 604800 }
     ensures { result ≡ span stale body.now }
@@ -112,8 +113,8 @@ fn outranks(entry: Held<'_>, moment: u64, body: &Body) -> bool
     is_unexpired(entry, moment) && rank_of(body) < rank_of(entry.body)
 }
 
-/// What becomes of an offer where its key holds this, or nothing: unexpired data of higher rank stay (RFC 2181 section 5.4.1), a ttl of 0
-/// clears, and that asking failed is always kept.
+/// What becomes of an offer where its key holds this, or nothing: unexpired data of higher rank
+/// stay (RFC 2181 section 5.4.1), a ttl of 0 clears, and that asking failed is always kept.
 pub fn verdict(held: Option<Held<'_>>, offer: &Offer) -> Outcome
     ensures { result ≡ verdict (option_map held_in held.entry) offer.now }
 {
@@ -137,8 +138,9 @@ fn later_governs<'a>(later: Held<'a>, earlier: Held<'a>, moment: u64) -> Held<'a
     }
 }
 
-/// Of what is held for a name and a type, a set or its denial and the denial of the name, the later one, unless the earlier is
-/// unexpired at the moment and trusted more (RFC 2181 section 5.4.1, RFC 2308 section 5).
+/// Of what is held for a name and a type, a set or its denial and the denial of the name, the later
+/// one, unless the earlier is unexpired at the moment and trusted more (RFC 2181 section 5.4.1, RFC
+/// 2308 section 5).
 pub fn governing<'a>(set: Option<Held<'a>>, nx: Option<Held<'a>>, moment: u64) -> Option<Held<'a>>
     ensures { option_map held_in result ≡ governing (option_map held_in set.entry) (option_map held_in nx.entry) moment }
 {
@@ -162,7 +164,8 @@ fn is_before(other: Option<Held<'_>>, entry: Held<'_>) -> bool
     }
 }
 
-/// The failure, where it still lives at the moment and nothing was learnt since (RFC 8767 section 5).
+/// The failure, where it still lives at the moment and nothing was learnt since (RFC 8767 section
+/// 5).
 pub fn recent_failure<'a>(found: Found<'a>, moment: u64) -> Option<Held<'a>>
     ensures { option_map held_in result ≡ recent_failure (found_in found.entry) moment }
 {
@@ -192,7 +195,8 @@ fn may_serve(purpose: Purpose, body: &Body) -> bool
     }
 }
 
-/// From which moment on asking may be tried again, in seconds: once a recent failure's time is over. `None` where there is none.
+/// From which moment on asking may be tried again, in seconds: once a recent failure's time is
+/// over. `None` where there is none.
 pub fn retry_from(failure: Option<Held<'_>>) -> Option<u64>
     requires { IfSome (option_map held_in failure) IsTimely }
     ensures { result ≡ retry_from (option_map held_in failure.entry) }
@@ -203,7 +207,8 @@ pub fn retry_from(failure: Option<Held<'_>>) -> Option<u64>
     }
 }
 
-/// The answer of a set: fresh while it lives, then stale where that will do, within the limit (RFC 8767 section 5).
+/// The answer of a set: fresh while it lives, then stale where that will do, within the limit (RFC
+/// 8767 section 5).
 fn reply_of_set<'a>(
     set: SetRef<'a>,
     ttl: u32,
@@ -287,8 +292,9 @@ fn reply_of_entry<'a>(
     }
 }
 
-/// What an ask is answered from what governs, where there is something that may serve: glue answers no question (RFC 2181 section
-/// 5.4.1). A stale answer waits for a recent failure where the ask's mode says so (RFC 8767 section 5). `None` is a miss.
+/// What an ask is answered from what governs, where there is something that may serve: glue answers
+/// no question (RFC 2181 section 5.4.1). A stale answer waits for a recent failure where the ask's
+/// mode says so (RFC 8767 section 5). `None` is a miss.
 pub fn reply_of<'a>(
     governing: Option<Held<'a>>,
     ask: AskRef<'_>,

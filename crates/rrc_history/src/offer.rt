@@ -85,9 +85,10 @@ fn is_lifetime(ttl: u32) -> bool
 }
 
 impl Offer {
-    /// An offer, where the body fits the key: a positive one a `Slot::Set` of its owner's folded name, with one item at
-    /// least, a negative one a `Slot::Set` or `Slot::Nx`, a failure a `Slot::Failed`; each with a ttl of at most 2^31 - 1
-    /// seconds (RFC 2181 section 8). It takes no memory.
+    /// An offer, where the body fits the key: a positive one a `Slot::Set` of its owner's folded
+    /// name, with one item at least, a negative one a `Slot::Set` or `Slot::Nx`, a failure a
+    /// `Slot::Failed`; each with a ttl of at most 2^31 - 1 seconds (RFC 2181 section 8). It takes
+    /// no memory.
     pub fn new(key: Key, body: Body, moment: u64) -> Result<Offer, OfferFault>
         ensures ok { IfOk result (λ offer. offer ≡ record { key = key; body = body; moment = moment }) }
         ensures fits { OnOk result (fits key body ≡ true) }

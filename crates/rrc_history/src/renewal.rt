@@ -13,8 +13,9 @@ use std::collections::HashSet;
 const MOST_BATCHES: usize = 64;
 
 impl EntryList {
-    /// Those of the entries whose numbers are not among `gone`, in their order. Both lists share them, unless this one has 64 batches or
-    /// more, or these hold more than twice as many entries as it names and 64 besides: then they are copied into one batch.
+    /// Those of the entries whose numbers are not among `gone`, in their order. Both lists share
+    /// them, unless this one has 64 batches or more, or these hold more than twice as many entries
+    /// as it names and 64 besides: then they are copied into one batch.
     pub fn without(&self, alloc: Global, gone: &[u64]) -> Result<EntryList, AllocError>
         ensures { IfOk result (λ list. list ≡ without gone.now self.now) }
     {
@@ -28,7 +29,8 @@ impl EntryList {
         }
     }
 
-    /// The list with new entries in front of it. These, and those that no other list has, are in one batch then, which others can share.
+    /// The list with new entries in front of it. These, and those that no other list has, are in
+    /// one batch then, which others can share.
     pub fn led_by(self, alloc: Global, front: Vec<Entry>) -> Result<EntryList, AllocError>
         ensures { IfOk result (λ list. list ≡ front.items ++ self) }
     {

@@ -106,7 +106,8 @@ impl ReplyRef<'_> {
         }
     }
 
-    /// The reply as an owner of its data. No octets are copied: a name and data are shared. An `Err` says that memory was refused.
+    /// The reply as an owner of its data. No octets are copied: a name and data are shared. An
+    /// `Err` says that memory was refused.
     pub fn to_owned(self) -> Result<Reply, AllocError>
         ensures { IfOk result (λ reply. reply ≡ reply_in self.entry) }
     {

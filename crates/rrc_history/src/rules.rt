@@ -14,7 +14,8 @@ pub struct Rules {
     pub capacity: u64,
     /// How many events a chapter of its history may have: 1 to 1,048,576.
     pub chapter: u64,
-    /// For how many seconds past its time to live a set may answer: 0 to 604,800 (RFC 8767 section 5).
+    /// For how many seconds past its time to live a set may answer: 0 to 604,800 (RFC 8767 section
+    /// 5).
     pub stale: u64,
     pub ghost some_capacity: { 1 ≤ capacity },
     pub ghost capacity_within: { capacity ≤ 65536 },

@@ -24,9 +24,10 @@ pub struct Entry {
     pub number: u64,
 }
 
-/// What a part held when a chapter of its history began, the key touched last first. The chapter's first event has the
-/// number `first`. The entries are no more than the capacity, each has a key of its own, which its body fits, a number of its
-/// own below `first`, and a moment of at most 2^40 seconds.
+/// What a part held when a chapter of its history began, the key touched last first. The chapter's
+/// first event has the number `first`. The entries are no more than the capacity, each has a key of
+/// its own, which its body fits, a number of its own below `first`, and a moment of at most 2^40
+/// seconds.
 #[derive(Debug, Drop)]
 pub struct Snapshot {
     pub rules: Rules,
@@ -88,7 +89,8 @@ impl std::error::Error for SnapshotFault {}
 impl SnapshotFault {
     ghost use Rattle.rrc_history.specs.Faults.{snapshot_fault_number};
 
-    /// The number of the fault, from 1 to 5. Of several faults of an entry the one of the lowest number is answered.
+    /// The number of the fault, from 1 to 5. Of several faults of an entry the one of the lowest
+    /// number is answered.
     pub fn number(&self) -> u8
         ensures value { result ≡ snapshot_fault_number self.now }
     {
@@ -141,8 +143,8 @@ impl Snapshot {
         }
     }
 
-    /// What `new` answers, or `Memory`, in a time that grows little faster than the entries: ordered
-    /// trees of their keys and of their numbers find the repeats.
+    /// What `new` answers, or `Memory`, in a time that grows little faster than the entries:
+    /// ordered trees of their keys and of their numbers find the repeats.
     pub fn new_by_trees(
         alloc: Global,
         rules: Rules,

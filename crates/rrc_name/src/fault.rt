@@ -29,7 +29,8 @@ impl NameFault {
     }
 }
 
-/// Why octets are not the wire form of a name, in the order of reading: the first fault is answered.
+/// Why octets are not the wire form of a name, in the order of reading: the first fault is
+/// answered.
 #[derive(Clone, Copy, Debug, PartialEq, Eq, Hash, Error)]
 pub enum WireNameFault {
     #[error("the name ends too soon")]

@@ -95,8 +95,8 @@ impl Hash for Key {
 
     ghost respects_eq = { key_hash-alike.fed };
 
-    // The slots of a block have one hash, so in a map they lie side by side: at most 65 keys of a name in each class, and those that
-    // one ask looks for mostly among them.
+    // The slots of a block have one hash, so in a map they lie side by side: at most 65 keys of a
+    // name in each class, and those that one ask looks for mostly among them.
     fn hash<H: Hasher>(&self, state: &mut H) {
         self.name.hash(state);
         self.slot.block().hash(state);
@@ -116,7 +116,8 @@ impl Ord for Key {
 
     ghost matches_eq = { key_order-ties };
 
-    // Names that are folded and tie in canonical order are one name, so classes and slots are all that is left to compare.
+    // Names that are folded and tie in canonical order are one name, so classes and slots are all
+    // that is left to compare.
     fn cmp(&self, other: &Key) -> Ordering {
         let names = self.name().canonical_cmp(other.name());
         let classes = self.class.cmp(&other.class);

@@ -6,8 +6,8 @@ use std::alloc::AllocError;
 use std::collections::hash_map::Equivalent;
 use std::hash::{Hash, Hasher};
 
-/// A key that is looked up: a folded name that belongs to somebody else, a class, and a slot of them. It finds what is kept under the
-/// key in a map, without a key of its own.
+/// A key that is looked up: a folded name that belongs to somebody else, a class, and a slot of
+/// them. It finds what is kept under the key in a map, without a key of its own.
 #[derive(Debug)]
 pub struct KeyRef<'a> {
     pub name: NameRef<'a>,

@@ -2,7 +2,8 @@
 ghost use Rattle.std.specs.Prelude.{◌≡◌, ◌<◌, [], length, IfSome, IfNone};
 ghost use Rattle.rrc_name.specs.Wire.{labels_of, IsWireForm, BeginsWith};
 
-/// The first label of a name's wire form, and the wire form of the name behind it. The root has no label.
+/// The first label of a name's wire form, and the wire form of the name behind it. The root has no
+/// label.
 pub fn first_label(wire: &[u8]) -> Option<(&[u8], &[u8])>
     requires { IsWireForm wire.now }
     ensures root { IfNone result (labels_of wire.now ≡ []) }

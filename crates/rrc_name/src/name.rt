@@ -15,8 +15,9 @@ use std::alloc::{AllocError, Global};
 use std::cmp::Ordering;
 use std::marker::Model;
 
-/// A name of the DNS, in the spelling received. Contracts see its wire form (RFC 1035 section 3.1): each label of 1 to 63
-/// octets behind its length, and a zero octet at the end, at most 255 octets in all.
+/// A name of the DNS, in the spelling received. Contracts see its wire form (RFC 1035 section 3.1):
+/// each label of 1 to 63 octets behind its length, and a zero octet at the end, at most 255 octets
+/// in all.
 #[derive(Debug, Drop, PartialEq, Eq, Hash)]
 pub struct Name {
     pub wire: Shared<Octets>,
@@ -45,8 +46,9 @@ impl Name {
         })
     }
 
-    /// The name that a text spells: labels with dots between them, where `\.` is a dot within a label, `\DDD` the octet of
-    /// a decimal number, and the last dot may be left out; `.` alone is the root.
+    /// The name that a text spells: labels with dots between them, where `\.` is a dot within a
+    /// label, `\DDD` the octet of a decimal number, and the last dot may be left out; `.` alone is
+    /// the root.
     ///
     /// The text is read from the left and its first fault is answered.
     pub fn from_text(alloc: Global, text: &str) -> Result<Name, NameFault>
@@ -63,8 +65,8 @@ impl Name {
         })
     }
 
-    /// The name that has this wire form (RFC 1035 section 3.1). The octets are read from the left and their first fault is
-    /// answered.
+    /// The name that has this wire form (RFC 1035 section 3.1). The octets are read from the left
+    /// and their first fault is answered.
     pub fn from_wire(alloc: Global, octets: &[u8]) -> Result<Name, WireNameFault>
         ensures ok { IfOk result (λ name. name ≡ octets.now) }
         ensures wire_form { IfOk result (λ _. IsWireForm octets.now) }
@@ -76,8 +78,9 @@ impl Name {
         })
     }
 
-    /// The text of the name, which ends with a dot: `\.` for a dot within a label, `\\` for a backslash, `\DDD` for an octet
-    /// that is no graphic one, by its decimal number; `.` alone for the root. `from_text` reads the name again from it.
+    /// The text of the name, which ends with a dot: `\.` for a dot within a label, `\\` for a
+    /// backslash, `\DDD` for an octet that is no graphic one, by its decimal number; `.` alone for
+    /// the root. `from_text` reads the name again from it.
     pub fn to_text(&self) -> Result<String, AllocError>
         ensures text { IfOk result (λ text. string_bytes text ≡ text_of self.now) }
         ensures read_again { IfOk result (λ text. Spells (string_bytes text) self.now) }
@@ -123,8 +126,9 @@ impl Name {
         order::is_same(self.wire.as_slice(), other.wire.as_slice())
     }
 
-    /// The canonical order of names (RFC 4034 section 6.1): by labels from the rightmost, each by its octets with the letters
-    /// A to Z as a to z; an absent label or octet comes first. It takes no memory.
+    /// The canonical order of names (RFC 4034 section 6.1): by labels from the rightmost, each by
+    /// its octets with the letters A to Z as a to z; an absent label or octet comes first. It takes
+    /// no memory.
     pub fn canonical_cmp(&self, other: &Name) -> Ordering
         ensures value { result ≡ canonical_order self.now other.now }
         ensures same { (result ≡ Ordering.Equal) ↔ IsSameName self.now other.now }

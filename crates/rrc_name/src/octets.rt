@@ -11,8 +11,9 @@ use std::alloc::{AllocError, Global};
 use std::hash::{Hash, Hasher};
 use std::marker::Model;
 
-/// Octets, as a message or a trace has them. Contracts see the list of them. Up to 32 of them, as most names and data are, stand
-/// in the value itself and ask for no memory; `from_vec` alone keeps the block of a vector that has room for more.
+/// Octets, as a message or a trace has them. Contracts see the list of them. Up to 32 of them, as
+/// most names and data are, stand in the value itself and ask for no memory; `from_vec` alone keeps
+/// the block of a vector that has room for more.
 #[derive(Debug, Drop)]
 pub struct Octets {
     octets: SmallVec<u8, 32>,

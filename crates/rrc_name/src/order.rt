@@ -43,7 +43,8 @@ fn behind_labels(name: &[u8], count: usize) -> &[u8]
     rest
 }
 
-/// Reads two names with as many labels from the left, and puts each label's order before the order found so far.
+/// Reads two names with as many labels from the left, and puts each label's order before the order
+/// found so far.
 fn outweigh(a: &[u8], b: &[u8], order: Ordering) -> Ordering
     requires a_name { IsWireForm a.now }
     requires b_name { IsWireForm b.now }
@@ -78,7 +79,8 @@ pub(crate) fn order_of_names(a: &[u8], b: &[u8]) -> Ordering
     outweigh(a, b, count.cmp(&other))
 }
 
-/// Whether octets are the same but for the case of letters. Most names that are compared are spelled alike, and to see that is quicker.
+/// Whether octets are the same but for the case of letters. Most names that are compared are
+/// spelled alike, and to see that is quicker.
 pub(crate) fn is_same(a: &[u8], b: &[u8]) -> bool
     ensures { IsTrue result ↔ IsSameName a.now b.now }
 {

@@ -17,8 +17,8 @@ fn hash_of(octets: &[u8]) -> u32
         })
 }
 
-/// The part of a cache, below `parts`, which is 1 to 64, that all keys of a name lie in, in whatever
-/// case the name is written. It takes no memory.
+/// The part of a cache, below `parts`, which is 1 to 64, that all keys of a name lie in, in
+/// whatever case the name is written. It takes no memory.
 pub fn part_of(name: &Name, parts: usize) -> usize
     requires some { 1 ≤ parts }
     requires few { parts ≤ 64 }

@@ -13,9 +13,9 @@ enum Place {
     InVector(Vec<Octets>),
 }
 
-/// The rdata of an RRset, each by its octets, in the order received. Contracts see the list of them.
-/// Rdata that stand alone, as of most RRsets, are in the value itself, so that a cache finds them by
-/// one load less.
+/// The rdata of an RRset, each by its octets, in the order received. Contracts see the list of
+/// them. Rdata that stand alone, as of most RRsets, are in the value itself, so that a cache finds
+/// them by one load less.
 #[derive(Debug, Drop)]
 pub struct RdataList {
     place: Place,

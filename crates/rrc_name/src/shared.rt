@@ -8,7 +8,8 @@ use std::marker::Model;
 use std::ops::Deref;
 use std::sync::Arc;
 
-/// A value with several owners, in any threads. A clone is one more owner, and no copy. Contracts see the value.
+/// A value with several owners, in any threads. A clone is one more owner, and no copy. Contracts
+/// see the value.
 #[derive(Drop)]
 pub struct Shared<T> {
     value: Arc<T>,
