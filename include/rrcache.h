@@ -977,7 +977,9 @@ static inline enum rrcache_status rrcache_sweep(struct rrcache_shelf *shelf, uin
 
 /* Tells a moment before which no key of the shelf is fully expired, so that no sweep before it
    removes one; a sweep at it may remove none. Before the first sweep it is the soonest of all keys
-   that were kept. It is 2^64 - 1 where the shelf holds no key. No event is written. */
+   that were kept. After a sweep at a moment, with no offer since and no chapter closed since, a
+   later one is told, so that sweeps as long as it is no later than now come to an end. It is
+   2^64 - 1 exactly where the shelf holds no key. No event is written. */
 static inline enum rrcache_status rrcache_next_expiry(struct rrcache_shelf *shelf, uint64_t *moment)
 {
     if (shelf == NULL || moment == NULL || rrcache_holds(shelf, moment, sizeof *moment))

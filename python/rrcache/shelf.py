@@ -202,7 +202,8 @@ class Shelf:
 
     def next_expiry(self) -> int | None:
         """A moment before which no key is fully expired, so that no sweep before it removes one; a
-        sweep at it may remove none. It is None where the shelf holds no key."""
+        sweep at it may remove none. After a sweep, with no offer since and no chapter closed since,
+        it is later than the sweep's. It is None exactly where the shelf holds no key."""
         moment = told("rrc_next_expiry", c_uint64, self._handle)
         return None if moment == 2 ** 64 - 1 else moment
 

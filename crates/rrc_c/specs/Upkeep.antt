@@ -1,7 +1,8 @@
 -- SPDX-License-Identifier: MIT
 -- What C is told of octets, and of what a shelf holds.
-use Rattle.std.specs.Prelude.{◌≡◌, ℕ, ◌⊎◌, List}
-use Rattle.rrc_cache.specs.Expiry.{NoneFullyExpiresBefore}
+use Rattle.std.specs.Prelude.{◌≡◌, ℕ, ◌-◌, ◌^◌, ◌<◌, ◌⊎◌, List}
+use Rattle.rrc_cache.specs.Expiry.{HoldsNothing, HoldsSomething, IsAfterLastSweep, NoneFullyExpiresBefore}
+use Rattle.rrc_cache.specs.Part.{PartOf}
 use Rattle.rrc_cache.specs.Sizes.{HoldsKeys, HoldsOctets}
 use Rattle.rrc_share.specs.CacheShelf.{CacheShelfOf, lean_shelf}
 use Rattle.rrc_wire.specs.Fault.{number_of}
@@ -37,10 +38,27 @@ pub record TellsSizes (keys events chapters octets : ℕ) (old new : CacheShelfO
   pub chapters_are : chapters ≡ recorded_chapters old.records old.shelf
   pub octets_are : HoldsOctets old.shelf.part octets
 
--- no key of the shelf is fully expired before a moment
+-- the greatest number is told, since no key holds anything
+pub record TellsNever (part : PartOf) (moment : ℕ) : Type 0 where
+  pub none : HoldsNothing part
+  pub told : moment ≡ 2 ^ 64 - 1
+
+-- some key holds something, none is fully expired before the moment, and it is past that of the
+-- last sweep, where no offer came since
+pub record TellsNext (part : PartOf) (moment : ℕ) : Type 0 where
+  pub some : HoldsSomething part
+  pub below : moment < 2 ^ 64 - 1
+  pub before : NoneFullyExpiresBefore part moment
+  pub progress : IsAfterLastSweep part moment
+
+-- the next expiry of a part, or 2^64 - 1 where no key holds anything
+abbrev pub IsNextExpiry : PartOf → ℕ → Type 0
+IsNextExpiry part moment = TellsNever part moment ⊎ TellsNext part moment
+
+-- the next expiry of the shelf's part is told
 pub record TellsExpiry (moment : ℕ) (old new : CacheShelfOf) : Type 0 where
   pub kept : new ≡ old
-  pub before : NoneFullyExpiresBefore old.shelf.part moment
+  pub next : IsNextExpiry old.shelf.part moment
 
 -- the closed chapters were dropped, and as many of them are told, of which there are none where
 -- nothing is recorded

@@ -375,7 +375,8 @@ pub extern "C" fn rrc_drop_chapters(alloc: Global, handle: &mut Handle, dropped:
 }
 
 /// Tells a moment before which no key of a shelf is fully expired: the earliest at which a sweep
-/// may remove one, or 2^64 - 1 where the shelf holds no key.
+/// may remove one, or 2^64 - 1 exactly where the shelf holds no key. After a sweep, until an offer
+/// comes or the chapter ends, it is later than the sweep's moment.
 #[unsafe(no_mangle)]
 pub extern "C" fn rrc_next_expiry(alloc: Global, handle: &mut Handle, moment: &mut u64) -> u32
     ensures none { TellsNone handle.old.seal.shelf result }

@@ -1,9 +1,8 @@
 // SPDX-License-Identifier: MIT
 ghost use Rattle.std.specs.Prelude.{◌≡◌, ◌≤◌, ◌<◌, true, false, IfOk, IfErr, OnOk, OnErr};
-ghost use Rattle.rrc_cache.specs.Expiry.{NoneFullyExpiresBefore};
 ghost use Rattle.rrc_c.specs.Bounds.{AreBounded};
 ghost use Rattle.rrc_c.specs.Fed.{AreBoundedAtAnySize, FedAreBounded};
-ghost use Rattle.rrc_c.specs.Upkeep.{DropsChapters, TellsFault};
+ghost use Rattle.rrc_c.specs.Upkeep.{DropsChapters, IsNextExpiry, TellsFault};
 ghost use Rattle.rrc_c.specs.Parts.{keyed_part_of};
 ghost use Rattle.rrc_c.specs.Refusals.{OutOfMemory, PartDue, RecordDue, WriteDue};
 ghost use Rattle.rrc_c.specs.Shelves.{DropsRecord, IsLeftAs, MakesSweep, StartsRecord, recorded_chapters, recorded_events};
@@ -93,9 +92,10 @@ pub(crate) fn drop_chapters(shelf: &mut CacheShelf) -> u64
     dropped
 }
 
-/// A moment before which no key of a shelf is fully expired.
+/// The next expiry of a shelf (`CacheShelf::next_expiry`), or the greatest number exactly where no
+/// key holds anything.
 pub(crate) fn expiry_of(shelf: &CacheShelf) -> u64
-    ensures { NoneFullyExpiresBefore shelf.now.shelf.part result }
+    ensures { IsNextExpiry shelf.now.shelf.part result }
 {
     match shelf.next_expiry() {
         Some(moment) => moment,

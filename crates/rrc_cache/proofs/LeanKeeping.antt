@@ -18,6 +18,7 @@ use Rattle.rrc_history.specs.Right.{IsLegal}
 use Rattle.rrc_history.specs.lemmas.AskLaws.{found-contents}
 use Rattle.rrc_history.specs.lemmas.LawsHold.{laws_hold}
 use Rattle.rrc_cache.specs.Calls.{Leaves, Writes}
+use Rattle.rrc_cache.specs.Expiry.{swept_until}
 use Rattle.rrc_cache.specs.Lean.{HoldsLean, IsLeanOpen, IsPick, begun_with, first_chapter, with_event}
 use Rattle.rrc_cache.specs.Pairs.{StoreOf}
 use Rattle.rrc_cache.specs.Part.{PartOf, past_of, Adds}
@@ -27,7 +28,7 @@ use Rattle.rrc_cache.proofs.Keeping.{number-of, past-more}
 use Rattle.rrc_cache.proofs.Written.{writes_leaves}
 
 -- a part with nothing in it
-pub empty_holds : (rules : Rules) (store : StoreOf) → store.entries ≡ [] → store.stale ≡ rules.stale → HoldsLean (first_chapter rules) 1 0 rules store
+pub empty_holds : (rules : Rules) (store : StoreOf) → store.entries ≡ [] → store.stale ≡ rules.stale → HoldsLean (first_chapter rules) 1 0 rules store 0
 unfolding held
 empty_holds rules store none stale = record {
   sound = record { legal = tt; numbered = omega arith; chapter = omega arith };
@@ -42,11 +43,12 @@ empty_holds rules store none stale = record {
   chapter = refl;
   following = omega arith;
   ruled = refl;
+  sweeps = refl;
 }
 
 -- a part with what a snapshot holds
 pub restored_holds : (snapshot : Snapshot) (store : StoreOf) → store.entries ≡ snapshot.entries → store.stale ≡ snapshot.rules.stale → snapshot.first ≤ 2 ^ 62
-    → AreSound snapshot.rules.capacity snapshot.first snapshot.entries → HoldsLean (begun_with snapshot) 2 snapshot.first snapshot.rules store
+    → AreSound snapshot.rules.capacity snapshot.first snapshot.entries → HoldsLean (begun_with snapshot) 2 snapshot.first snapshot.rules store 0
 restored_holds snapshot store is stale numbered sound = record {
   sound = record { legal = tt; numbered = omega (arith, numbered); chapter = omega arith };
   leaves =
@@ -61,17 +63,19 @@ restored_holds snapshot store is stale numbered sound = record {
   chapter = refl;
   following = omega arith;
   ruled = refl;
+  sweeps = refl;
 }
 
 -- what an event that was written says, and what the part keeps after it
-pub record IsLeanDone (old new : PartOf) (number next : ℕ) (rules : Rules) (event : Event) (store : StoreOf) : Type 0 where
+pub record IsLeanDone (old new : PartOf) (number next : ℕ) (rules : Rules) (event : Event) (store : StoreOf) (swept : ℕ) : Type 0 where
   pub adds : Adds old new event
-  pub holds : HoldsLean new number (next + 1) rules store
+  pub holds : HoldsLean new number (next + 1) rules store swept
 
-done : (part : PartOf) (number next : ℕ) (rules : Rules) (before after : StoreOf) (event : Event) → HoldsLean part number next rules before
+done : (part : PartOf) (number next : ℕ) (rules : Rules) (before after : StoreOf) (was swept : ℕ) (event : Event) → HoldsLean part number next rules before was
     → IsLeanOpen part (moment_of event) → Writes rules next before.entries event after.entries → after.stale ≡ before.stale
-    → IsLeanDone part (with_event part event) number next rules event after
-done part number next rules before after event holds open' writes stale =
+    → swept ≡ swept_until (event ∷ past_of part)
+    → IsLeanDone part (with_event part event) number next rules event after swept
+done part number next rules before after was swept event holds open' writes stale sweeps =
     let now : ℕ = number_after part.snapshot (past_of part) in
     let below : now < 2 ^ 62 = omega (arith, number-of part, open'.number) in
     let W : Rules → ℕ → Type 0 = λ r n. Writes r n before.entries event after.entries in
@@ -99,18 +103,20 @@ done part number next rules before after event holds open' writes stale =
         chapter = holds.chapter;
         following = omega (arith, holds.following, more);
         ruled = holds.ruled;
+        sweeps = sweeps ∙ ap (λ (p : List Event). swept_until p) past;
       };
     }
 
 -- where the part is seen as its history, and the history was told the event
-pub lean_done : (seen part told : PartOf) (number next : ℕ) (rules : Rules) (before after : StoreOf) (event : Event) → part ≡ seen → told ≡ with_event part event
-    → HoldsLean part number next rules before → IsLeanOpen seen (moment_of event) → Writes rules next before.entries event after.entries → after.stale ≡ before.stale
-    → IsLeanDone seen told number next rules event after
-lean_done seen part told number next rules before after event is tells holds open' writes stale =
-    let D : PartOf → PartOf → Type 0 = λ old new. IsLeanDone old new number next rules event after in
+pub lean_done : (seen part told : PartOf) (number next : ℕ) (rules : Rules) (before after : StoreOf) (was swept : ℕ) (event : Event) → part ≡ seen → told ≡ with_event part event
+    → HoldsLean part number next rules before was → IsLeanOpen seen (moment_of event) → Writes rules next before.entries event after.entries → after.stale ≡ before.stale
+    → swept ≡ swept_until (event ∷ past_of part)
+    → IsLeanDone seen told number next rules event after swept
+lean_done seen part told number next rules before after was swept event is tells holds open' writes stale sweeps =
+    let D : PartOf → PartOf → Type 0 = λ old new. IsLeanDone old new number next rules event after swept in
     let O : PartOf → Type 0 = λ p. IsLeanOpen p (moment_of event) in
     subst (D seen) (sym tells)
-    (subst (λ old. D old (with_event part event)) is (done part number next rules before after event holds (subst O (sym is) open') writes stale))
+    (subst (λ old. D old (with_event part event)) is (done part number next rules before after was swept event holds (subst O (sym is) open') writes stale sweeps))
 
 -- ---- an ask in two halves
 

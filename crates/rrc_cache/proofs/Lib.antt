@@ -20,6 +20,7 @@ pub mod Answering
 pub mod LeanKeeping
 pub mod Sweeping
 pub mod Closed
+pub mod SweptUntil
 pub mod Begun
 pub mod Again
 pub mod Rechecked

@@ -13,6 +13,7 @@ use Rattle.rrc_history.specs.Lives.{LAST_MOMENT}
 use Rattle.rrc_history.specs.Past.{found, key_at, reply_to}
 use Rattle.rrc_history.specs.Right.{IsLegal}
 use Rattle.rrc_cache.specs.Calls.{Leaves}
+use Rattle.rrc_cache.specs.Expiry.{swept_until}
 use Rattle.rrc_cache.specs.Pairs.{StoreOf}
 use Rattle.rrc_cache.specs.Part.{PartOf, past_of, next_number}
 use Rattle.rrc_cache.specs.declared.refusal.Refusal.{Refusal}
@@ -66,14 +67,16 @@ pub record IsLeanSound (part : PartOf) : Type 0 where
   pub chapter : part.number ≤ 2 ^ 62
 
 -- a part that keeps no events keeps what its history leaves, the key touched last first, and of the
--- history the number of its chapter, that of its next event, and its rules
-pub record HoldsLean (part : PartOf) (number next : ℕ) (rules : Rules) (store : StoreOf) : Type 0 where
+-- history the number of its chapter, that of its next event, its rules, and until when a sweep left
+-- nothing that is fully expired
+pub record HoldsLean (part : PartOf) (number next : ℕ) (rules : Rules) (store : StoreOf) (swept : ℕ) : Type 0 where
   pub sound : IsLeanSound part
   pub leaves : Leaves part.snapshot (past_of part) store.entries
   pub stale : store.stale ≡ part.snapshot.rules.stale
   pub chapter : number ≡ part.number
   pub following : next ≡ next_number part
   pub ruled : rules ≡ part.snapshot.rules
+  pub sweeps : swept ≡ swept_until (past_of part)
 
 -- the chapter that was open ends with what the part holds, and the next one begins with that
 pub record Shuts (old new : PartOf) (closing : Snapshot) : Type 0 where

@@ -1,6 +1,6 @@
 // SPDX-License-Identifier: MIT
 //! Which expiries the entries of a store have, and under which of them something is fully expired.
-ghost use Rattle.std.specs.Prelude.{◌≡◌, ℕ, ◌<◌, ◌≤◌, Some, None, nat_le, false, true, if◌then◌else◌, IfOk, IfSome, IfNone, OnOk};
+ghost use Rattle.std.specs.Prelude.{◌≡◌, ℕ, ◌<◌, ◌≤◌, length, Some, None, nat_le, false, true, if◌then◌else◌, IfOk, IfSome, IfNone, OnOk};
 ghost use Rattle.std.specs.List.{AllByRecursion};
 ghost use Rattle.rrc_name.specs.Key.{KeyOf};
 ghost use Rattle.rrc_name.specs.KeyRef.{key_of};
@@ -27,6 +27,7 @@ impl Store {
     pub(crate) fn next_expiry(&self) -> Option<u64>
         ensures none { IfNone result ((key : KeyOf) → entry_at key self.now.entries ≡ None) }
         ensures some { IfSome result (λ time. (key : KeyOf) (moment : ℕ) → moment < time → moment ≤ LAST_MOMENT → is_swept self.now.stale (entry_at key self.now.entries) moment ≡ false) }
+        ensures holds { IfSome result (λ time. 0 < length self.now.entries) }
     {
         if self.len() == 0 {
             return None;

@@ -1,5 +1,5 @@
 // SPDX-License-Identifier: MIT
-ghost use Rattle.std.specs.Prelude.{◌≡◌, ◌<◌, ◌≤◌, ◌^◌, ◌↔◌, [], IsTrue, IfOk, IfErr, IfSome, IfNone, OnErr, Err};
+ghost use Rattle.std.specs.Prelude.{◌≡◌, ◌<◌, ◌≤◌, ◌-◌, ◌^◌, ◌↔◌, [], IsTrue, IfOk, IfErr, IfSome, IfNone, OnErr, Err};
 
 use crate::history::{History, StepRef};
 use crate::part::KNOWN_SEED;
@@ -30,6 +30,10 @@ pub struct LeanPart {
     next: u64,
     /// What is kept, the key touched last first.
     store: Store,
+    /// Nothing is fully expired before this moment: the one after that of the chapter's last sweep,
+    /// or 0 where an offer came since. The queue alone does not tell it, where memory was refused
+    /// when a sweep had removed what it found.
+    swept_until: u64,
     history: History,
 }
 
@@ -41,7 +45,7 @@ impl Model for LeanPart {
 
     ghost view = { λ p. p.history.part };
 
-    ghost invariant = { λ p. HoldsLean p.history.part p.number p.next p.rules p.store };
+    ghost invariant = { λ p. HoldsLean p.history.part p.number p.next p.rules p.store p.swept_until };
 }
 
 impl LeanPart {
@@ -50,7 +54,7 @@ impl LeanPart {
     ghost use Rattle.rrc_history.specs.Views.{ask_in, held_in, reply_in};
     ghost use Rattle.rrc_name.specs.KeyRef.{key_of};
     ghost use Rattle.std.specs.Option.{option_map};
-    ghost use Rattle.rrc_cache.specs.Expiry.{HoldsNothing, NoneFullyExpiresBefore};
+    ghost use Rattle.rrc_cache.specs.Expiry.{HoldsNothing, HoldsSomething, IsAfterLastSweep, NoneFullyExpiresBefore};
     ghost use Rattle.rrc_cache.specs.Lean.{begun_with, IsLeanDue, IsLeanOpen, IsLeanSound, IsPick, IsRestoreDue, Shuts};
     ghost use Rattle.rrc_cache.specs.Part.{past_of, next_number, Adds, IsCloseDue, IsOfMoments, WritesOffer, WritesAsk, WritesSweep};
     ghost use Rattle.rrc_cache.specs.Sizes.{HoldsKeys, HoldsOctets};
@@ -80,6 +84,7 @@ impl LeanPart {
             rules,
             next: 0,
             store: Store::new(alloc, Seeded::new(seed), rules)?,
+            swept_until: 0,
             history: History::new(&rules),
         })
     }
@@ -103,6 +108,7 @@ impl LeanPart {
             rules,
             next: snapshot.first,
             store: Store::of(alloc, Seeded::new(seed), snapshot)?,
+            swept_until: 0,
             history: History::new(&rules).then(&StepRef::Closed { opening: snapshot }),
         })
     }
@@ -142,14 +148,22 @@ impl LeanPart {
         self.store.get(self.store.hash_of(key.name), key)
     }
 
-    /// A moment before which no key is fully expired, or `None` where the part holds none: the
-    /// earliest at which a sweep may find something, though not each such sweep does. It takes no
-    /// memory.
+    /// A moment before which no key is fully expired, or `None` exactly where the part holds none:
+    /// the earliest at which a sweep may find something, though not each such sweep does. After a
+    /// sweep, until an offer comes or the chapter ends, it is later than the sweep's moment, so
+    /// sweeps as long as it is no later than now come to an end. It is never `u64::MAX`, and it
+    /// takes no memory.
     pub fn next_expiry(&self) -> Option<u64>
         ensures none { IfNone result (HoldsNothing self.now) }
         ensures some { IfSome result (λ time. NoneFullyExpiresBefore self.now time) }
+        ensures holds { IfSome result (λ time. HoldsSomething self.now) }
+        ensures progress { IfSome result (λ time. IsAfterLastSweep self.now time) }
+        ensures below { IfSome result (λ time. time < 2 ^ 64 - 1) }
     {
-        self.store.next_expiry()
+        match self.store.next_expiry() {
+            Some(time) => Some(time.max(self.swept_until).min(u64::MAX - 1)),
+            None => None,
+        }
     }
 
     /// Whether the numbers go on to another event. Only after 2^62 events they do not.
@@ -208,6 +222,7 @@ impl LeanPart {
             evicted: &evicted,
         });
         self.next += 1;
+        self.swept_until = 0;
         Ok((outcome, evicted))
     }
 
@@ -278,6 +293,7 @@ impl LeanPart {
             gone: gone.as_slice(),
         });
         self.next += 1;
+        self.swept_until = moment + 1;
         Ok(gone)
     }
 
@@ -312,6 +328,7 @@ impl LeanPart {
         let opening = closing.clone()?;
         self.history = self.history.then(&StepRef::Closed { opening: &closing });
         self.number += 1;
+        self.swept_until = 0;
         Ok((closing, opening))
     }
 
@@ -349,6 +366,7 @@ impl Debug for LeanPart {
             .field("rules", &self.rules)
             .field("next", &self.next)
             .field("store", &self.store)
+            .field("swept_until", &self.swept_until)
             .finish()
     }
 }

@@ -1,5 +1,5 @@
 // SPDX-License-Identifier: MIT
-ghost use Rattle.std.specs.Prelude.{◌≡◌, ◌<◌, ◌≤◌, ◌↔◌, ◌++◌, ◌∷◌, [], None, length, IsTrue, IfOk, IfErr, IfSome, IfNone, OnOk, OnErr, Err};
+ghost use Rattle.std.specs.Prelude.{◌≡◌, ◌<◌, ◌≤◌, ◌-◌, ◌^◌, ◌↔◌, ◌++◌, ◌∷◌, [], None, length, IsTrue, IfOk, IfErr, IfSome, IfNone, OnOk, OnErr, Err};
 ghost use Rattle.rrc_cache.specs.Recording.{refused_by, BeginsRecorded};
 
 use crate::lean::LeanPart;
@@ -44,7 +44,7 @@ impl Part {
     ghost use Rattle.rrc_cache.specs.Lean.{begun_with, IsRestoreDue};
     ghost use Rattle.rrc_cache.specs.Part.{past_of, Closes, HasRoom, IsCloseDue, IsDue, IsOfMoments, IsSound, WritesOffer, WritesAsk, WritesSweep};
     ghost use Rattle.rrc_cache.specs.Sizes.{HoldsKeys, HoldsOctets};
-    ghost use Rattle.rrc_cache.specs.Expiry.{HoldsNothing, NoneFullyExpiresBefore};
+    ghost use Rattle.rrc_cache.specs.Expiry.{HoldsNothing, HoldsSomething, IsAfterLastSweep, NoneFullyExpiresBefore};
     ghost use Rattle.rrc_history.specs.Past.{held, reply_to};
     ghost use Rattle.rrc_history.specs.Views.{ask_in, held_in, reply_in};
     ghost use Rattle.rrc_name.specs.KeyRef.{key_of};
@@ -147,12 +147,17 @@ impl Part {
         self.lean.held(key)
     }
 
-    /// A moment before which no key is fully expired, or `None` where the part holds none: the
-    /// earliest at which a sweep may find something, though not each such sweep does. It takes no
-    /// memory.
+    /// A moment before which no key is fully expired, or `None` exactly where the part holds none:
+    /// the earliest at which a sweep may find something, though not each such sweep does. After a
+    /// sweep, until an offer comes or the chapter ends, it is later than the sweep's moment, so
+    /// sweeps as long as it is no later than now come to an end. It is never `u64::MAX`, and it
+    /// takes no memory.
     pub fn next_expiry(&self) -> Option<u64>
         ensures none { IfNone result (HoldsNothing self.now) }
         ensures some { IfSome result (λ time. NoneFullyExpiresBefore self.now time) }
+        ensures holds { IfSome result (λ time. HoldsSomething self.now) }
+        ensures progress { IfSome result (λ time. IsAfterLastSweep self.now time) }
+        ensures below { IfSome result (λ time. time < 2 ^ 64 - 1) }
     {
         self.lean.next_expiry()
     }

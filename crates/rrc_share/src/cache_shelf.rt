@@ -1,5 +1,5 @@
 // SPDX-License-Identifier: MIT
-ghost use Rattle.std.specs.Prelude.{◌≡◌, ◌≤◌, [], true, false, not, Err, IfErr, IfNone, IfOk, IfSome, OnErr, OnOk};
+ghost use Rattle.std.specs.Prelude.{◌≡◌, ◌<◌, ◌≤◌, ◌-◌, ◌^◌, [], true, false, not, Err, IfErr, IfNone, IfOk, IfSome, OnErr, OnOk};
 ghost use Rattle.rrc_cache.specs.Part.{IsCloseDue, IsOfMoments};
 ghost use Rattle.rrc_share.specs.CacheShelf.{lean_shelf};
 ghost use Rattle.rrc_share.specs.Switches.{HandsOut, IsSwitchDue, Starts, Stops, refused_by};
@@ -42,7 +42,7 @@ impl Model for CacheShelf {
 }
 
 impl CacheShelf {
-    ghost use Rattle.rrc_cache.specs.Expiry.{HoldsNothing, NoneFullyExpiresBefore};
+    ghost use Rattle.rrc_cache.specs.Expiry.{HoldsNothing, HoldsSomething, IsAfterLastSweep, NoneFullyExpiresBefore};
     ghost use Rattle.rrc_cache.specs.Lean.{IsLeanDue, IsLeanOpen, IsPick};
     ghost use Rattle.rrc_cache.specs.Sizes.{HoldsKeys, HoldsOctets};
     ghost use Rattle.rrc_history.specs.Views.{ask_in, held_in, reply_in};
@@ -133,11 +133,15 @@ impl CacheShelf {
         }
     }
 
-    /// A moment before which no key is fully expired, or `None` where the part holds none
-    /// (`Part::next_expiry`). It takes no memory.
+    /// A moment before which no key is fully expired, or `None` exactly where the part holds none.
+    /// After a sweep, until an offer comes or the chapter ends, it is later than the sweep's moment
+    /// (`Part::next_expiry`). It is never `u64::MAX`, and it takes no memory.
     pub fn next_expiry(&self) -> Option<u64>
         ensures none { IfNone result (HoldsNothing self.now.shelf.part) }
         ensures some { IfSome result (λ time. NoneFullyExpiresBefore self.now.shelf.part time) }
+        ensures holds { IfSome result (λ time. HoldsSomething self.now.shelf.part) }
+        ensures progress { IfSome result (λ time. IsAfterLastSweep self.now.shelf.part time) }
+        ensures below { IfSome result (λ time. time < 2 ^ 64 - 1) }
     {
         match &self.state {
             ShelfState::Lean(part) => part.next_expiry(),

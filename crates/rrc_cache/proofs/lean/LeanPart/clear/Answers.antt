@@ -1,5 +1,5 @@
 -- SPDX-License-Identifier: MIT
-use Rattle.std.proofs.Common.{◌≡◌, ℕ, List, ap, subst, sym, ◌∙◌}
+use Rattle.std.proofs.Common.{◌≡◌, ℕ, ◌+◌, List, refl, ap, subst, sym, ◌∙◌}
 use Rattle.rrc_name.specs.Key.{KeyOf}
 use Rattle.rrc_history.specs.declared.event.Event.{Event}
 use Rattle.rrc_history.specs.declared.event.Event.TheVariants.{Swept}
@@ -24,10 +24,10 @@ invariant_of-self-2 c =
     ∙ (ap (λ (keys : List KeyOf). staying (λ key. is_among key keys) c.expired_keys.new.store.entries) c.as_slice.ensures.value
     ∙ ap (λ (store : StoreOf). staying (λ key. is_among key gone) store.entries) c.expired_keys.ensures.same) in
     (lean_done c.args.self.now c.self.inside.history.part c.then-self-inside.result.part c.self.inside.number c.self.inside.next c.self.inside.rules
-    c.self.inside.store c.remove.new.store (event gone) c.self.view_is
+    c.self.inside.store c.remove.new.store c.self.inside.swept_until (c.args.moment + 1) (event gone) c.self.view_is
     (c.then-self-inside.ensures ∙ ap (λ keys. with_event c.self.inside.history.part (event keys)) c.as_slice-2.ensures.value)
     c.self.invariant c.in_ok-admit.ensures.due (expired, removed)
-    (ap (λ (store : StoreOf). store.stale) c.remove.ensures ∙ ap (λ (store : StoreOf). store.stale) c.expired_keys.ensures.same)).holds
+    (ap (λ (store : StoreOf). store.stale) c.remove.ensures ∙ ap (λ (store : StoreOf). store.stale) c.expired_keys.ensures.same) refl).holds
 
 pub returns-clause-ok : goal.returns-clause-ok
 returns-clause-ok c =
@@ -41,7 +41,7 @@ returns-clause-ok c =
     ∙ (ap (λ (keys : List KeyOf). staying (λ key. is_among key keys) c.expired_keys.new.store.entries) c.as_slice.ensures.value
     ∙ ap (λ (store : StoreOf). staying (λ key. is_among key gone) store.entries) c.expired_keys.ensures.same) in
     (lean_done c.args.self.now c.self.inside.history.part c.then-self-inside.result.part c.self.inside.number c.self.inside.next c.self.inside.rules
-    c.self.inside.store c.remove.new.store (event gone) c.self.view_is
+    c.self.inside.store c.remove.new.store c.self.inside.swept_until (c.args.moment + 1) (event gone) c.self.view_is
     (c.then-self-inside.ensures ∙ ap (λ keys. with_event c.self.inside.history.part (event keys)) c.as_slice-2.ensures.value)
     c.self.invariant c.in_ok-admit.ensures.due (expired, removed)
-    (ap (λ (store : StoreOf). store.stale) c.remove.ensures ∙ ap (λ (store : StoreOf). store.stale) c.expired_keys.ensures.same)).adds
+    (ap (λ (store : StoreOf). store.stale) c.remove.ensures ∙ ap (λ (store : StoreOf). store.stale) c.expired_keys.ensures.same) refl).adds

@@ -17,8 +17,8 @@ invariant_of-result c =
     let few : snapshot.first ≤ 2 ^ 62 = omega (arith, first, c.if-snapshot-gt-NUMBER_LIMIT.false) in
     let entries : store.entries ≡ snapshot.entries = ap (λ (s : StoreOf). s.entries) c.in_ok-of.ensures.ok in
     let stale : store.stale ≡ snapshot.rules.stale = ap (λ (s : StoreOf). s.stale) c.in_ok-of.ensures.ok in
-    let holds : HoldsLean (begun_with snapshot) 2 snapshot.first snapshot.rules store = restored_holds snapshot store entries stale few c.in_ok-of.ensures.sound in
-    let P : PartOf → Type 0 = λ p. HoldsLean p 2 c.snapshot.inside.first c.rules-rules.result store in
-    let F : ℕ → Type 0 = λ n. HoldsLean (begun_with snapshot) 2 n c.rules-rules.result store in
-    let R : Rules → Type 0 = λ rules. HoldsLean (begun_with snapshot) 2 snapshot.first rules store in
+    let holds : HoldsLean (begun_with snapshot) 2 snapshot.first snapshot.rules store 0 = restored_holds snapshot store entries stale few c.in_ok-of.ensures.sound in
+    let P : PartOf → Type 0 = λ p. HoldsLean p 2 c.snapshot.inside.first c.rules-rules.result store 0 in
+    let F : ℕ → Type 0 = λ n. HoldsLean (begun_with snapshot) 2 n c.rules-rules.result store 0 in
+    let R : Rules → Type 0 = λ rules. HoldsLean (begun_with snapshot) 2 snapshot.first rules store 0 in
     subst P (sym part) (subst F (sym first) (subst R (sym c.rules-rules.ensures.value) holds))
