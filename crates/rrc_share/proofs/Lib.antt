@@ -1,3 +1,4 @@
 -- SPDX-License-Identifier: MIT
 pub mod Chaining
+pub mod Got
 pub mod Shelved

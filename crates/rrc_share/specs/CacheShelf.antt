@@ -10,7 +10,7 @@ use Rattle.rrc_history.specs.declared.event.Reply.{Reply}
 use Rattle.rrc_history.specs.declared.event.Tag.{Tag}
 use Rattle.rrc_history.specs.declared.snapshot.Entry.{Entry}
 use Rattle.rrc_cache.specs.Lean.{IsLeanDue, IsLeanSound}
-use Rattle.rrc_cache.specs.Part.{PartOf, past_of, WritesOffer, WritesAsk, WritesSweep}
+use Rattle.rrc_cache.specs.Part.{PartOf, past_of, IsSound, WritesOffer, WritesAsk, WritesSweep}
 use Rattle.rrc_cache.specs.declared.refusal.Refusal.{Refusal}
 use Rattle.rrc_share.specs.Shelf.{ShelfOf, AppendsOffer, AppendsAsk, AppendsSweep, IsShelfDue, IsLeft, IsShelf, ShelvesChapter}
 use Rattle.rrc_share.specs.declared.state.ShelfState.{ShelfState}
@@ -29,10 +29,10 @@ abbrev pub shelf_in : ShelfState → CacheShelfOf
 shelf_in (Lean part) = record { records = false; shelf = lean_shelf part }
 shelf_in (Recorded shelf) = record { records = true; shelf = shelf }
 
--- what holds of every part: of one that records, what holds of a shelf; of one that does not, that
--- its history is legal, and that it has no closed chapters
+-- what holds of every part: its history is legal; of one that records, what holds of a shelf holds
+-- too, and one that does not has no closed chapters
 abbrev pub IsSoundBy : Bool → ShelfOf → Type 0
-IsSoundBy true shelf = IsShelf shelf
+IsSoundBy true shelf = IsShelf shelf × IsSound shelf.part
 IsSoundBy false shelf = (shelf.closed ≡ []) × IsLeanSound shelf.part
 
 -- what a key of the part holds

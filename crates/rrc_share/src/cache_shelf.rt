@@ -94,8 +94,8 @@ impl CacheShelf {
                 None
             }
             ShelfState::Recorded(shelf) => {
-                // The part is read for what it tells: the shelf is sound.
-                let _ = shelf.part();
+                // The number is read for what it tells: the shelf and its history are sound.
+                let _ = shelf.part().number();
                 Some(shelf)
             }
         }

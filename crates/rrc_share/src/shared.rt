@@ -1,5 +1,6 @@
 // SPDX-License-Identifier: MIT
-ghost use Rattle.std.specs.Prelude.{◌≡◌, ◌<◌, ◌≤◌, Err, All, length, IfErr, IfOk, OnErr};
+ghost use Rattle.std.specs.Prelude.{◌≡◌, ◌<◌, ◌≤◌, Err, All, length, not, IfErr, IfOk, OnErr};
+ghost use Rattle.std.specs.Sync.Mutex.{mutex_guard_value};
 ghost use Rattle.rrc_share.specs.CacheShelf.{IsSoundBy};
 
 use crate::cache_shelf::CacheShelf;
@@ -73,7 +74,9 @@ fn unlocked(lock: Locked) -> CacheShelf
 
 impl SharedCache {
     ghost use Rattle.rrc_name.specs.Parts.{part_of};
-    ghost use Rattle.rrc_share.specs.Shared.{AreChained, IsMomentDue, IsWithoutMoment};
+    ghost use Rattle.rrc_share.specs.CacheShelf.{reply_of, ShutsBy, TakesAsk, TakesOffer, TakesSweep};
+    ghost use Rattle.rrc_share.specs.Shared.{AreChained, IsCallOfPart, IsMomentDue, IsOfPart, IsSwitchOfPart, IsWithoutMoment};
+    ghost use Rattle.rrc_share.specs.Switches.{Starts, Stops};
 
     /// As many empty parts, by the same rules, which record their histories or not. Their seed is
     /// that of `Part::new`, which anyone may know.
@@ -146,11 +149,16 @@ impl SharedCache {
         part_of(name, self.parts())
     }
 
-    /// A part, once its lock is got, and until the guard goes.
+    /// A part, once its lock is got, and until the guard goes. Whatever other threads did to it, it
+    /// is sound.
     fn part<R: Wait>(&self, rt: &R, part: usize) -> MutexGuard<'_, CacheShelf>
         requires { part < self.now }
+        ensures { IsSoundBy (mutex_guard_value result).records (mutex_guard_value result).shelf }
     {
-        self.locks[part].lock(rt)
+        let part = self.locks[part].lock(rt);
+        // The record is read for what it tells: the part is sound.
+        let _ = part.recorded();
+        part
     }
 
     /// Makes the offer to the part that its name lies in (`CacheShelf::offer`), under that part's
@@ -159,6 +167,7 @@ impl SharedCache {
     /// `HistoryFull` comes first, then `MomentTooLarge` (above 2^40 seconds), then `Memory`. What a
     /// refusal leaves `CacheShelf::offer` says.
     pub fn offer<R: Wait>(&self, rt: &R, tag: Tag, offer: Offer) -> Result<Outcome, Refusal>
+        ensures by_part { IsCallOfPart (λ records old new. TakesOffer records old new tag offer) offer.moment result }
         ensures timely { IsMomentDue offer.moment result }
     {
         let home = self.home(offer.key.name());
@@ -169,6 +178,7 @@ impl SharedCache {
     /// Asks the part that the name lies in (`CacheShelf::ask`), under that part's lock. The
     /// refusals are those of `offer`.
     pub fn ask<R: Wait>(&self, rt: &R, tag: Tag, ask: &Ask) -> Result<Reply, Refusal>
+        ensures by_part { IsCallOfPart (λ records old new. TakesAsk records old new tag ask.now) ask.now.moment result }
         ensures timely { IsMomentDue ask.now.moment result }
     {
         let home = self.home(&ask.name);
@@ -180,6 +190,7 @@ impl SharedCache {
     /// the lock of the part that the name lies in. No event is written and nothing touched.
     /// `Memory` comes only where data have as many owners as can be counted.
     pub fn would_answer<R: Wait>(&self, rt: &R, ask: &Ask) -> Result<Reply, Refusal>
+        ensures ok { IfOk result (λ reply. IsOfPart (λ shelf. reply ≡ reply_of shelf ask.now)) }
         ensures memory { OnErr result (result ≡ Err Refusal.Memory) }
     {
         let home = self.home(&ask.name);
@@ -196,6 +207,7 @@ impl SharedCache {
         moment: u64,
     ) -> Result<usize, Refusal>
         requires { part < self.now }
+        ensures by_part { IsCallOfPart (λ records old new. TakesSweep records old new tag moment) moment result }
         ensures timely { IsMomentDue moment result }
     {
         let mut part = self.part(rt, part);
@@ -207,6 +219,7 @@ impl SharedCache {
     /// done.
     pub fn checkpoint_part<R: Wait>(&self, rt: &R, part: usize) -> Result<(), Refusal>
         requires { part < self.now }
+        ensures by_part { IsSwitchOfPart (λ records old new _. ShutsBy records old new) (λ records. records) result }
         ensures refusals { IfErr result IsWithoutMoment }
     {
         let mut part = self.part(rt, part);
@@ -218,6 +231,7 @@ impl SharedCache {
     /// with the chapters is done after the lock is let go.
     pub fn take_chapters<R: Wait>(&self, rt: &R, part: usize) -> Vec<Chapter>
         requires { part < self.now }
+        ensures chapters { IsOfPart (λ shelf. result.items ≡ shelf.closed) }
         ensures chained { AreChained result.items }
     {
         let mut part = self.part(rt, part);
@@ -229,6 +243,7 @@ impl SharedCache {
     /// nothing is done. `HistoryFull` or `Memory`, and the part is as it was.
     pub fn record_part<R: Wait>(&self, rt: &R, part: usize) -> Result<(), Refusal>
         requires { part < self.now }
+        ensures by_part { IsSwitchOfPart (λ records old new _. Starts records old new) not result }
         ensures refusals { IfErr result IsWithoutMoment }
     {
         let mut part = self.part(rt, part);
@@ -241,6 +256,7 @@ impl SharedCache {
     /// part is as it was.
     pub fn release_part<R: Wait>(&self, rt: &R, part: usize) -> Result<Vec<Chapter>, Refusal>
         requires { part < self.now }
+        ensures by_part { IsSwitchOfPart (λ records old new chapters. Stops records old new chapters.items) (λ records. records) result }
         ensures chained { IfOk result (λ chapters. AreChained chapters.items) }
         ensures refusals { IfErr result IsWithoutMoment }
     {
