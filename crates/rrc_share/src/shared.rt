@@ -28,9 +28,9 @@ type Locked = CachePadded<Mutex<CacheShelf>>;
 ///   keys. It makes its room and drops what goes under the lock.
 /// - An offer is made before, by the caller. An answer shares its data with what is kept, so that
 ///   under a lock no name and no data are copied, and it is read after the lock is let go.
-/// - What a call does under its lock the contract of the call on the part says. Here only that is
-///   said which holds of every part, since no clause can name what another thread left there. Nor
-///   is it proved that a call which waits for a lock gets it.
+/// - A call answers what the call on the part answers, by its contract, from some state in which
+///   what holds of every part held of it. Which state that was no clause can name, since other
+///   threads left it there. Nor is it proved that a call which waits for a lock gets it.
 #[derive(Drop)]
 pub struct SharedCache {
     locks: Vec<Locked>,
@@ -214,9 +214,11 @@ impl SharedCache {
         part.sweep(tag, moment)
     }
 
-    /// Closes the chapter of a part that is open (`CacheShelf::checkpoint`), under its lock:
-    /// `HistoryFull` or `Memory`. Of a part that records nothing there is none, and nothing is
-    /// done.
+    /// Closes the chapter of a part that is open (`CacheShelf::checkpoint`), under its lock. Of a
+    /// part that records nothing there is none, and nothing is done.
+    ///
+    /// `HistoryFull` comes where the part records and its chapter's number is 2^62, else `Memory`.
+    /// Either leaves the part as it was.
     pub fn checkpoint_part<R: Wait>(&self, rt: &R, part: usize) -> Result<(), Refusal>
         requires { part < self.now }
         ensures by_part { IsSwitchOfPart (λ records old new _. ShutsBy records old new) (λ records. records) result }
@@ -227,8 +229,10 @@ impl SharedCache {
     }
 
     /// Hands out the chapters that a part closed, the oldest first, and leaves it none
-    /// (`CacheShelf::take_chapters`), under its lock. It takes no memory, and what is to be done
-    /// with the chapters is done after the lock is let go.
+    /// (`CacheShelf::take_chapters`), under its lock: all that were closed and not yet handed out.
+    /// They chain, and the part goes on from the last. Of a part that records nothing there are
+    /// none. It takes no memory, and what is to be done with the chapters is done after the lock is
+    /// let go.
     pub fn take_chapters<R: Wait>(&self, rt: &R, part: usize) -> Vec<Chapter>
         requires { part < self.now }
         ensures chapters { IsOfPart (λ shelf. result.items ≡ shelf.closed) }
@@ -240,7 +244,10 @@ impl SharedCache {
 
     /// Has a part record its history from here on (`CacheShelf::start_recording`), under its lock:
     /// a history of its own, which begins with what the part holds. Where it records already
-    /// nothing is done. `HistoryFull` or `Memory`, and the part is as it was.
+    /// nothing is done.
+    ///
+    /// `HistoryFull` comes where the part records nothing and its chapter's number is 2^62, else
+    /// `Memory`. Either leaves the part as it was.
     pub fn record_part<R: Wait>(&self, rt: &R, part: usize) -> Result<(), Refusal>
         requires { part < self.now }
         ensures by_part { IsSwitchOfPart (λ records old new _. Starts records old new) not result }
@@ -251,9 +258,12 @@ impl SharedCache {
     }
 
     /// Has a part record nothing from here on (`CacheShelf::stop_recording`), under its lock, and
-    /// hands out the chapters that were not taken, the oldest first, of which the last is that
-    /// which was open. Where nothing is recorded there are none. `HistoryFull` or `Memory`, and the
-    /// part is as it was.
+    /// hands out the chapters that were not taken, the oldest first. They chain. Of a part that
+    /// recorded there is at least one, the last, which is the chapter that was open. Where nothing
+    /// is recorded there are none.
+    ///
+    /// `HistoryFull` comes where the part records and its chapter's number is 2^62, else `Memory`.
+    /// Either leaves the part as it was.
     pub fn release_part<R: Wait>(&self, rt: &R, part: usize) -> Result<Vec<Chapter>, Refusal>
         requires { part < self.now }
         ensures by_part { IsSwitchOfPart (λ records old new chapters. Stops records old new chapters.items) (λ records. records) result }
