@@ -1,6 +1,7 @@
 // SPDX-License-Identifier: MIT
-//! What a call counts the owners of comes from memory, as a rule: it was not touched for long. A count waits for every load before it,
-//! and no load behind it begins before it is made. So what is counted late is loaded early, beside what the call loads anyway.
+//! What a call counts the owners of comes from memory, as a rule: it was not touched for long. A
+//! count waits for every load before it, and no load behind it begins before it is made. So what is
+//! counted late is loaded early, beside what the call loads anyway.
 
 use rrc_history::Body;
 

@@ -16,7 +16,8 @@ use rrc_history::{Ask, AskRef, Event, Held, Reply, Tag};
 use rrc_name::Slot;
 use std::alloc::AllocError;
 
-/// The ask, as its event is to keep it: with the name of the entry that answers, so that the caller's is not kept as well.
+/// The ask, as its event is to keep it: with the name of the entry that answers, so that the
+/// caller's is not kept as well.
 fn kept_ask(ask: &Ask, answering: Option<Held<'_>>) -> Result<Ask, AllocError>
     requires { IfSome (option_map held_in answering) (HasName ask.now.name) }
     ensures { IfOk result (λ kept. kept ≡ ask.now) }
@@ -49,7 +50,8 @@ pub(crate) fn slot_of(answering: Option<Held<'_>>) -> Option<Slot>
     }
 }
 
-/// What an ask, whose name has the hash, is answered, the ask as its event is to keep it, and the slot of the entry that answers.
+/// What an ask, whose name has the hash, is answered, the ask as its event is to keep it, and the
+/// slot of the entry that answers.
 pub(crate) fn answer(
     store: &Store,
     hash: u64,
@@ -81,7 +83,8 @@ pub(crate) fn event_of(tag: Tag, ask: Ask, reply: &Reply) -> Result<Event, Alloc
     })
 }
 
-/// Whether an ask, whose name has the hash, is answered just this reply, and the slot of the entry that answers. It takes no memory.
+/// Whether an ask, whose name has the hash, is answered just this reply, and the slot of the entry
+/// that answers. It takes no memory.
 pub(crate) fn compare(
     store: &Store,
     hash: u64,

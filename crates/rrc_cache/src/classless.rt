@@ -30,7 +30,8 @@ impl ChapterFault {
     ghost use Rattle.std.specs.Prelude.{◌≡◌};
     ghost use Rattle.rrc_cache.specs.Classless.{number_of};
 
-    /// The number of the fault, from 1 to 3. Of several faults the one of the lowest number is answered.
+    /// The number of the fault, from 1 to 3. Of several faults the one of the lowest number is
+    /// answered.
     pub fn number(&self) -> u8
         ensures value { result ≡ number_of self.now }
     {
@@ -67,12 +68,12 @@ impl From<RecheckFault> for ChapterFault {
     }
 }
 
-/// A chapter as it was made before keys had a class: a number, a snapshot, and the events since, the oldest first, where they are legal
-/// from it. The closing is what they lead to.
+/// A chapter as it was made before keys had a class: a number, a snapshot, and the events since,
+/// the oldest first, where they are legal from it. The closing is what they lead to.
 ///
-/// It makes each call again in class IN, as `recheck` does, so its time is that of the calls and its memory that of the events and keys.
-/// Keys are hashed behind a known seed: for a history whose names anyone may have picked, `classless_chapter_seeded` takes one that
-/// nobody knows.
+/// It makes each call again in class IN, as `recheck` does, so its time is that of the calls and
+/// its memory that of the events and keys. Keys are hashed behind a known seed: for a history whose
+/// names anyone may have picked, `classless_chapter_seeded` takes one that nobody knows.
 pub fn classless_chapter(
     alloc: Global,
     number: u64,

@@ -23,8 +23,8 @@ fn entry_of(offer: &Offer, number: u64) -> Result<Entry, AllocError>
     })
 }
 
-/// Puts an entry in front, and removes the key touched least recently where there are then more than there may be. An `Err`
-/// leaves the entries as they were.
+/// Puts an entry in front, and removes the key touched least recently where there are then more
+/// than there may be. An `Err` leaves the entries as they were.
 fn place(
     store: &mut Store,
     hash: u64,
@@ -48,7 +48,8 @@ fn place(
     }
 }
 
-/// Judges an offer, and changes the entries as its outcome says. Its name is hashed once. An `Err` leaves them as they were.
+/// Judges an offer, and changes the entries as its outcome says. Its name is hashed once. An `Err`
+/// leaves them as they were.
 pub(crate) fn take(
     store: &mut Store,
     offer: &Offer,

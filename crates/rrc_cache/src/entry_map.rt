@@ -134,8 +134,8 @@ impl EntryMap {
         Ok(())
     }
 
-    /// Moves the entry of a key to the front, and answers its number, if there is one. Where the hint is
-    /// the hash of its name, that is not hashed again.
+    /// Moves the entry of a key to the front, and answers its number, if there is one. Where the
+    /// hint is the hash of its name, that is not hashed again.
     pub(crate) fn promote(&mut self, hint: u64, key: KeyRef<'_>) -> Option<u64>
         ensures number { result ≡ option_map (λ entry. entry.number) (entry_at (key_of key.entry) self.old.entries) }
         ensures entries { self.new ≡ record self.old { entries = promoted (key_of key.entry) self.old.entries } }

@@ -59,8 +59,8 @@ impl Hash for HashedKey {
 
     ghost respects_eq = { hashed_by-alike.fed };
 
-    // The slots of a block have one hash, so in a map they lie side by side: at most 65 keys of a name, and those that one ask
-    // looks for mostly among them.
+    // The slots of a block have one hash, so in a map they lie side by side: at most 65 keys of a
+    // name, and those that one ask looks for mostly among them.
     fn hash<H: Hasher>(&self, state: &mut H) {
         state.write_u64(self.hash ^ u64::from(block_of(self.key.slot)));
     }

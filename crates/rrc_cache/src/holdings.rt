@@ -145,7 +145,8 @@ impl Holdings {
         gone
     }
 
-    /// Puts an entry in front under a key, and answers what that had. An `Err` leaves all as it was.
+    /// Puts an entry in front under a key, and answers what that had. An `Err` leaves all as it
+    /// was.
     pub(crate) fn push(
         &mut self,
         hash: u64,

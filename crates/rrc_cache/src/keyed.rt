@@ -20,9 +20,10 @@ use rrc_name::{Key, KeyRef, NameRef};
 use std::alloc::{AllocError, Global};
 use std::marker::Model;
 
-/// Entries by their keys, in the order of touch. Each key lies beside the hash of its name behind the seed (`Seeded`), so that a name
-/// is hashed once a call, whatever is looked up of it. The map's own hasher is a fast one that anyone may know, since what it is fed
-/// nobody foresees: that hash, with the block of the slot.
+/// Entries by their keys, in the order of touch. Each key lies beside the hash of its name behind
+/// the seed (`Seeded`), so that a name is hashed once a call, whatever is looked up of it. The
+/// map's own hasher is a fast one that anyone may know, since what it is fed nobody foresees: that
+/// hash, with the block of the slot.
 ///
 /// Contracts see the seed, and the map of entries by their keys.
 #[derive(Debug, Drop)]
@@ -152,7 +153,8 @@ impl Keyed {
         }
     }
 
-    /// Puts an entry in front under a key, and answers what that had. An `Err` leaves all as it was.
+    /// Puts an entry in front under a key, and answers what that had. An `Err` leaves all as it
+    /// was.
     pub(crate) fn push(
         &mut self,
         hash: u64,
@@ -169,7 +171,8 @@ impl Keyed {
         push(&mut self.cache, HashedKey { hash, key }, entry)
     }
 
-    /// Writes what an offer stores over the entry of its key, and moves that to the front. An `Err` leaves all as it was.
+    /// Writes what an offer stores over the entry of its key, and moves that to the front. An `Err`
+    /// leaves all as it was.
     pub(crate) fn overwrite(
         &mut self,
         hash: u64,

@@ -90,8 +90,8 @@ impl LeanPart {
     }
 
     /// A part that holds what a snapshot does, the key touched last first, in the second chapter of
-    /// its history: what led to the snapshot is the first. So what a cache held is held again, after
-    /// a restart say. Names are hashed as those of `seeded`.
+    /// its history: what led to the snapshot is the first. So what a cache held is held again,
+    /// after a restart say. Names are hashed as those of `seeded`.
     ///
     /// `HistoryFull` comes exactly where the snapshot's first event has a number above 2^62, else
     /// `Memory`.
@@ -140,8 +140,8 @@ impl LeanPart {
         self.store.octets()
     }
 
-    /// What a key holds, lent: the body, and the moment and the number of the event that stored it. It takes no memory and touches
-    /// nothing.
+    /// What a key holds, lent: the body, and the moment and the number of the event that stored it.
+    /// It takes no memory and touches nothing.
     pub fn held(&self, key: KeyRef<'_>) -> Option<Held<'_>>
         ensures { option_map held_in result ≡ held self.now.snapshot (past_of self.now) (key_of key.entry) }
     {
@@ -297,8 +297,8 @@ impl LeanPart {
         Ok(gone)
     }
 
-    /// What `judge` tells, whatever the ask's moment is: the reply, the ask, as its event is to keep
-    /// them, and which entry answers.
+    /// What `judge` tells, whatever the ask's moment is: the reply, the ask, as its event is to
+    /// keep them, and which entry answers.
     pub(crate) fn answer(&self, ask: &Ask) -> Result<(Reply, Ask, Pick), AllocError>
         ensures reply { IfOk result (λ told. told.0 ≡ reply_to self.now.snapshot (past_of self.now) ask.now) }
         ensures asked { IfOk result (λ told. told.1 ≡ ask.now) }

@@ -1,5 +1,6 @@
 // SPDX-License-Identifier: MIT
-//! A part of the cache, lent to one thread: each call appends one event to its history and answers what stands in it.
+//! A part of the cache, lent to one thread: each call appends one event to its history and answers
+//! what stands in it.
 #![tactic(auto)]
 
 mod ahead;

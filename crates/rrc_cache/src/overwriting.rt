@@ -10,8 +10,9 @@ use lru::LruCache;
 use rrc_history::{Body, Entry, Offer};
 use std::alloc::AllocError;
 
-/// Writes what an offer stores over the entry of its key, and moves that to the front. It is written where it stands, so that where memory
-/// is refused nothing has moved: an `Err` leaves all as it was.
+/// Writes what an offer stores over the entry of its key, and moves that to the front. It is
+/// written where it stands, so that where memory is refused nothing has moved: an `Err` leaves all
+/// as it was.
 pub(crate) fn overwrite(
     cache: &mut LruCache<HashedKey, Entry>,
     key: HashedRef<'_>,
@@ -42,7 +43,8 @@ fn write_entry(entry: &mut Entry, offer: &Offer, number: u64) -> Result<(), Allo
     Ok(())
 }
 
-/// Writes a body over another. The owner of a set stays where that of the new one is spelled alike. An `Err` leaves it as it was.
+/// Writes a body over another. The owner of a set stays where that of the new one is spelled alike.
+/// An `Err` leaves it as it was.
 fn write_body(body: &mut Body, offered: &Body) -> Result<(), AllocError>
     ensures ok { OnOk result (body.new ≡ offered.now) }
     ensures err { OnErr result (body.new ≡ body.old) }

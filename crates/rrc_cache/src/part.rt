@@ -18,8 +18,8 @@ use std::mem;
 /// The seed of a part that is given none, so that tests and replays take the same time twice.
 pub(crate) const KNOWN_SEED: [u8; 16] = [0; 16];
 
-/// A part of the cache. Contracts see the chapter of its history that is open: its number, the snapshot that it began with, and
-/// the events since.
+/// A part of the cache. Contracts see the chapter of its history that is open: its number, the
+/// snapshot that it began with, and the events since.
 #[derive(Debug, Drop)]
 pub struct Part {
     /// What the calls are made on. Its history is that of the open chapter.
@@ -50,8 +50,8 @@ impl Part {
     ghost use Rattle.rrc_name.specs.KeyRef.{key_of};
     ghost use Rattle.std.specs.Option.{option_map};
 
-    /// An empty part in the first chapter of its history. Its seed is `KNOWN_SEED`: for names that anyone may send, `seeded`
-    /// takes one that nobody knows.
+    /// An empty part in the first chapter of its history. Its seed is `KNOWN_SEED`: for names that
+    /// anyone may send, `seeded` takes one that nobody knows.
     pub fn new(alloc: Global, rules: Rules) -> Result<Part, Refusal>
         ensures number { IfOk result (λ part. part.number ≡ 1) }
         ensures empty { IfOk result (λ part. part.events ≡ []) }
@@ -61,8 +61,9 @@ impl Part {
         Part::seeded(alloc, rules, KNOWN_SEED)
     }
 
-    /// An empty part in the first chapter of its history, whose names are hashed by SipHash-1-3 with the seed as its key. Under a
-    /// seed that nobody can foresee nobody can pick names that make it slow. No reply depends on the seed.
+    /// An empty part in the first chapter of its history, whose names are hashed by SipHash-1-3
+    /// with the seed as its key. Under a seed that nobody can foresee nobody can pick names that
+    /// make it slow. No reply depends on the seed.
     pub fn seeded(alloc: Global, rules: Rules, seed: [u8; 16]) -> Result<Part, Refusal>
         ensures number { IfOk result (λ part. part.number ≡ 1) }
         ensures empty { IfOk result (λ part. part.events ≡ []) }
@@ -139,8 +140,8 @@ impl Part {
         self.lean.octets()
     }
 
-    /// What a key holds, lent: the body, and the moment and the number of the event that stored it. It takes no memory and touches
-    /// nothing.
+    /// What a key holds, lent: the body, and the moment and the number of the event that stored it.
+    /// It takes no memory and touches nothing.
     pub fn held(&self, key: KeyRef<'_>) -> Option<Held<'_>>
         ensures { option_map held_in result ≡ held self.now.snapshot (past_of self.now) (key_of key.entry) }
     {
@@ -169,17 +170,20 @@ impl Part {
         (self.events.len() as u64) < self.snapshot.rules().chapter && self.lean.has_room()
     }
 
-    /// The reply that `ask` would give to this ask now. It comes whatever the ask's moment is, also above the last one, and in a
-    /// full chapter too, where `ask` refuses. It takes no memory and touches nothing.
+    /// The reply that `ask` would give to this ask now. It comes whatever the ask's moment is, also
+    /// above the last one, and in a full chapter too, where `ask` refuses. It takes no memory and
+    /// touches nothing.
     pub fn would_answer(&self, ask: AskRef<'_>) -> ReplyRef<'_>
         ensures { reply_in result ≡ reply_to self.now.snapshot (past_of self.now) (ask_in ask.entry) }
     {
         self.lean.would_answer(ask)
     }
 
-    /// Keeps the body of an offer under its key, or says why not, and appends one event that tells it.
+    /// Keeps the body of an offer under its key, or says why not, and appends one event that tells
+    /// it.
     ///
-    /// `HistoryFull` comes first, then `MomentTooLarge` (above 2^40 seconds), then `Memory`. A part that refuses is as it was.
+    /// `HistoryFull` comes first, then `MomentTooLarge` (above 2^40 seconds), then `Memory`. A part
+    /// that refuses is as it was.
     pub fn offer(&mut self, tag: Tag, offer: Offer) -> Result<Outcome, Refusal>
         ensures ok { IfOk result (WritesOffer self.old self.new tag offer) }
         ensures err { OnErr result (self.new ≡ self.old) }
@@ -197,7 +201,8 @@ impl Part {
         Ok(outcome)
     }
 
-    /// Answers a question from what is kept, and appends one event that tells it. The refusals are those of `offer`.
+    /// Answers a question from what is kept, and appends one event that tells it. The refusals are
+    /// those of `offer`.
     pub fn ask(&mut self, tag: Tag, ask: &Ask) -> Result<Reply, Refusal>
         ensures ok { IfOk result (WritesAsk self.old self.new tag ask.now) }
         ensures err { OnErr result (self.new ≡ self.old) }
@@ -231,9 +236,11 @@ impl Part {
         Ok(removed)
     }
 
-    /// Closes the chapter that is open and hands it out, and opens the next one with what the part holds.
+    /// Closes the chapter that is open and hands it out, and opens the next one with what the part
+    /// holds.
     ///
-    /// `HistoryFull` comes exactly where the chapter's number is 2^62, else `Memory`. A part that refuses is as it was.
+    /// `HistoryFull` comes exactly where the chapter's number is 2^62, else `Memory`. A part that
+    /// refuses is as it was.
     pub fn checkpoint(&mut self) -> Result<Chapter, Refusal>
         ensures ok { IfOk result (Closes self.old self.new) }
         ensures err { OnErr result (self.new ≡ self.old) }

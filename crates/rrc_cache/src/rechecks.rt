@@ -37,12 +37,13 @@ impl From<AllocError> for RecheckFault {
     }
 }
 
-/// Whether events, the oldest first, are a legal history from a snapshot, as `rrc_history::audit` tells it, and else the first that is
-/// not right; or `Memory`.
+/// Whether events, the oldest first, are a legal history from a snapshot, as `rrc_history::audit`
+/// tells it, and else the first that is not right; or `Memory`.
 ///
-/// It keeps what the snapshot holds, makes each call again, and compares what that writes. So its time is that of the calls, in a long
-/// history as in a short one, and its memory that of the keys. Keys are hashed behind a known seed: for a history whose names anyone
-/// may have picked, `recheck_seeded` takes one that nobody knows.
+/// It keeps what the snapshot holds, makes each call again, and compares what that writes. So its
+/// time is that of the calls, in a long history as in a short one, and its memory that of the keys.
+/// Keys are hashed behind a known seed: for a history whose names anyone may have picked,
+/// `recheck_seeded` takes one that nobody knows.
 pub fn recheck(alloc: Global, snapshot: &Snapshot, events: &[Event]) -> Result<(), RecheckFault>
     ensures ok { OnOk result (IsLegal snapshot.now (reverse events.now)) }
     ensures err { IfErr result (IsFault snapshot.now events.now) }
@@ -83,7 +84,8 @@ pub(crate) fn replayed(
     Ok(store)
 }
 
-/// Whether an event is right behind others that left what the store holds. Where it is, the store then holds what it leaves.
+/// Whether an event is right behind others that left what the store holds. Where it is, the store
+/// then holds what it leaves.
 pub(crate) fn is_right(
     alloc: Global,
     store: &mut Store,

@@ -17,7 +17,8 @@ impl Refusal {
     ghost use Rattle.std.specs.Prelude.{◌≡◌};
     ghost use Rattle.rrc_cache.specs.Refusals.{number_of};
 
-    /// The number of the refusal, from 1 to 3. Of several refusals a part answers the one of the lowest number.
+    /// The number of the refusal, from 1 to 3. Of several refusals a part answers the one of the
+    /// lowest number.
     pub fn number(&self) -> u8
         ensures value { result ≡ number_of self.now }
     {

@@ -24,8 +24,9 @@ impl RandomSource for Given {
     }
 }
 
-/// What names are hashed behind: SipHash-1-3 under the two keys of 64 bits that are a seed, the lower octets first. Who does not
-/// know the seed cannot foresee the hash of any name, and so cannot pick names whose hashes are alike.
+/// What names are hashed behind: SipHash-1-3 under the two keys of 64 bits that are a seed, the
+/// lower octets first. Who does not know the seed cannot foresee the hash of any name, and so
+/// cannot pick names whose hashes are alike.
 #[derive(Clone, Copy)]
 pub struct Seeded {
     fresh: DefaultHasher,
