@@ -1,8 +1,7 @@
 -- SPDX-License-Identifier: MIT
 -- What the last sweep tells of the next expiry.
-use Rattle.std.proofs.Common.{◌≡◌, ℕ, ◌+◌, ◌-◌, ◌^◌, ◌<◌, ◌≤◌, List, [], ◌∷◌, length, Bool, true, false, Option, Some, None, refl, sym, ap, subst, ◌∙◌, arith}
+use Rattle.std.proofs.Common.{◌≡◌, ℕ, ◌+◌, ◌-◌, ◌^◌, ◌<◌, ◌≤◌, List, [], ◌∷◌, length, Bool, true, false, Option, Some, None, refl, sym, subst, ◌∙◌, arith}
 use Rattle.std.specs.Prelude.{nat_le, min, max, if◌then◌else◌, IfSome}
-use Rattle.std.proofs.lemmas.Bool.{leb-true, lt-leb}
 use Rattle.std.proofs.lemmas.Bool.Decides.{nat_tests}
 use Rattle.rrc_name.specs.Key.{KeyOf}
 use Rattle.rrc_name.specs.lemmas.KeyLaws.{key_eq-laws}
@@ -10,7 +9,7 @@ use Rattle.rrc_history.specs.declared.event.Event.{Event}
 use Rattle.rrc_history.specs.declared.event.Event.TheVariants.{Offered, Asked, Swept}
 use Rattle.rrc_history.specs.declared.snapshot.Entry.{Entry}
 use Rattle.rrc_history.specs.declared.snapshot.Snapshot.{Snapshot}
-use Rattle.rrc_history.specs.Lives.{LAST_MOMENT, is_fully_expired, span}
+use Rattle.rrc_history.specs.Lives.{LAST_MOMENT, span}
 use Rattle.rrc_history.specs.Past.{entry_at, held, is_among, AreContents}
 use Rattle.rrc_history.specs.Right.{IsLegal, is_swept}
 use Rattle.rrc_cache.specs.Expiry.{HoldsSomething, IsAfterLastSweep, NoneFullyExpiresBefore, last_sweep, moment_after, swept_until}
