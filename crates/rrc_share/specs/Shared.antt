@@ -38,7 +38,7 @@ AreChained (chapter ∷ behind) = chain_fault (chapter ∷ behind) ≡ None
 -- ---- what a call answers is what the same call on some sound part answers. Which part that was no
 -- clause can name: other threads change what lies under a lock
 
--- a sound part took a call at a moment with this answer, or refused it
+-- a sound part took a call at a moment with this answer, or refused it so, where that is due
 pub record IsCallOfPart {A : Type 0} (Takes : Bool → ShelfOf → ShelfOf → A → Type 0) (moment : ℕ) (result : Result A Refusal) : Type 0 where
   pub old : CacheShelfOf
   pub new : CacheShelfOf
@@ -47,7 +47,7 @@ pub record IsCallOfPart {A : Type 0} (Takes : Bool → ShelfOf → ShelfOf → A
   pub err : OnErr result (IsLeftBy old.records old.shelf new.shelf)
   pub due : IsDueBy old.records old.shelf.part moment result
 
--- the same of a call that has no moment, and for which the chapter is closed, or not, by whether the part records
+-- the same of a call that has no moment. Whether it has to close the chapter goes by whether the part records
 pub record IsSwitchOfPart {A : Type 0} (Does : Bool → ShelfOf → ShelfOf → A → Type 0) (closes : Bool → Bool) (result : Result A Refusal) : Type 0 where
   pub old : CacheShelfOf
   pub new : CacheShelfOf
