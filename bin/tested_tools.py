@@ -79,6 +79,15 @@ def test_options_have_the_ranges_and_defaults_of_the_document():
                 yield f"--{name}={number}: status {run.returncode}: {run.stderr}"
 
 
+def test_the_version_is_that_of_the_package_and_of_the_kit():
+    kit = re.search(r"^Proved with `(.+?)`", (TOP / "README.md").read_text(), re.M)[1]
+    wanted = f"rrcache {VERSION}\nproved with {kit}\n"
+    for word in ("--version", "-V"):
+        run = run_program(word)
+        if (run.returncode, run.stdout, run.stderr) != (0, wanted, ""):
+            yield f"{word}: status {run.returncode}: {run.stdout}{run.stderr}"
+
+
 def test_an_audit_of_an_archive_takes_no_other_option():
     for word in ("--workers=1", "--parts=1", "--capacity=1024", "--chapter=4096", "--stale=0",
                  "--audit", "--progress"):

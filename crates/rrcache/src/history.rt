@@ -1,5 +1,5 @@
 // SPDX-License-Identifier: MIT
-use crate::FAULT;
+use crate::{FAULT, random_seed};
 use rrc_replay::{Audited, Finding, audit_archive};
 use std::io;
 use std::io::{ErrorKind, Read, Write};
@@ -40,7 +40,8 @@ fn write_all(rt: &HostRuntime, text: &[u8]) -> io::Result<()> {
 }
 
 /// What was found of the archive on standard input, once it was told on standard output.
-fn found(rt: &HostRuntime, seed: [u8; 16]) -> Result<Finding, AuditFault> {
+fn found(rt: &HostRuntime) -> Result<Finding, AuditFault> {
+    let seed = random_seed(rt).map_err(|_| AuditFault::Read)?;
     let octets = read_all(rt)?;
     let audited: Audited = match audit_archive(rt.alloc(), octets.as_slice(), seed) {
         Ok(audited) => audited,
@@ -54,8 +55,8 @@ fn found(rt: &HostRuntime, seed: [u8; 16]) -> Result<Finding, AuditFault> {
 
 /// Audits the history that the archive on standard input tells, and tells on standard output what
 /// was found: status 0 where it is legal.
-pub(crate) fn audited(rt: &HostRuntime, seed: [u8; 16]) -> ExitCode {
-    match found(rt, seed) {
+pub(crate) fn audited(rt: &HostRuntime) -> ExitCode {
+    match found(rt) {
         Ok(Finding::Legal) => ExitCode::SUCCESS,
         Ok(Finding::NotLegal) => ExitCode::from(FAULT),
         Err(fault) => {

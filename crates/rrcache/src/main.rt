@@ -41,9 +41,9 @@ fn no_text(rt: &impl Eprint) -> ExitCode {
     ExitCode::from(WRONG_ARGUMENTS)
 }
 
-/// A seed that nobody can foresee, so that names picked by whoever made the trace don't make its
-/// replay slow.
-fn random_seed(rt: &HostRuntime) -> io::Result<[u8; 16]> {
+/// A seed that nobody can foresee, so that names picked by whoever made the trace or the archive
+/// don't make its reading slow. Where the system gives none, its callers tell a failed read.
+pub(crate) fn random_seed(rt: &HostRuntime) -> io::Result<[u8; 16]> {
     let mut seed = [0; 16];
     rt.fill_bytes(&mut seed)?;
     Ok(seed)
@@ -123,8 +123,8 @@ fn replayed_as<T: Threads + Wait + Sync>(
     rt: &HostRuntime,
     threads: &T,
     asked: &Asked,
-    seed: [u8; 16],
 ) -> Result<ExitCode, ReplayFault> {
+    let seed = random_seed(rt).map_err(|_| ReplayFault::Read)?;
     match Progress::new(rt) {
         Ok(progress) if asked.progress => replayed(rt, threads, asked, seed, &progress)?,
         _ => replayed(rt, threads, asked, seed, &OpenGate)?,
@@ -138,17 +138,10 @@ fn ended<T: Threads + Wait + Sync>(
     threads: &T,
     words: &[String],
 ) -> Result<ExitCode, ReplayFault> {
-    let work = match read_arguments(rt, words)? {
-        Wanted::Work(work) => work,
-        Wanted::End(code) => return Ok(code),
-    };
-    let Ok(seed) = random_seed(rt) else {
-        let _ = eprintln!(rt; "rrcache: the system gave no random octets");
-        return Ok(ExitCode::from(FAULT));
-    };
-    match work {
-        Work::Replay(asked) => replayed_as(rt, threads, &asked, seed),
-        Work::AuditHistory => Ok(audited(rt, seed)),
+    match read_arguments(rt, words)? {
+        Wanted::Work(Work::Replay(asked)) => replayed_as(rt, threads, &asked),
+        Wanted::Work(Work::AuditHistory) => Ok(audited(rt)),
+        Wanted::End(code) => Ok(code),
     }
 }
 

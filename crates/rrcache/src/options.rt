@@ -80,8 +80,11 @@ fn audit_history<'a>(alloc: Global) -> Result<Arg<'a>, AllocError> {
         .conflicts_with("progress")
 }
 
+/// The version of the package, as the file VERSION has it, and the kit that proved it.
+const VERSION: &str = "1.1.0\nproved with rattle-kit-13f logic dac8208d650f15bf";
+
 fn program<'a>(alloc: Global) -> Command<'a> {
-    Command::new(alloc, "rrcache").about(
+    Command::new(alloc, "rrcache").version(VERSION).about(
         "Replays a trace of cache operations from standard input, and writes its report to standard output",
     )
 }
