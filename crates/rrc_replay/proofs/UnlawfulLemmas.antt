@@ -1,6 +1,6 @@
 -- SPDX-License-Identifier: MIT
 -- What is due behind the closing of the events before a bad one is due in its place.
-use Rattle.std.proofs.Common.{◌≡◌, ℕ, zero, suc, ◌+◌, ◌≤◌, ◌⊎◌, inl, inr, List, [], ◌∷◌, ◌++◌, length, take, reverse, Option, None, Some, refl, sym, ap, subst, ◌∙◌, arith}
+use Rattle.std.proofs.Common.{◌≡◌, ℕ, suc, ◌+◌, ◌⊎◌, inl, inr, List, [], ◌∷◌, ◌++◌, length, take, reverse, Option, None, Some, refl, sym, ap, subst, ◌∙◌, arith}
 use Rattle.std.specs.Prelude.{option_to_list}
 use Rattle.std.proofs.lemmas.List.{reverse-append, reverse-reverse}
 use Rattle.rrc_name.specs.Key.{KeyOf}
@@ -18,8 +18,7 @@ use Rattle.rrc_cache.specs.Restored.{IsWhyNotRestored}
 use Rattle.rrc_cache.specs.declared.classless.ChapterFault.{ChapterFault}
 use Rattle.rrc_cache.specs.declared.classless.ChapterFault.TheVariants.{BadNumber, NotLegal, Memory}
 use Rattle.rrc_replay.specs.declared.unlawful.Due.{Due}
-use Rattle.rrc_replay.specs.declared.unlawful.Reason.{Reason}
-use Rattle.rrc_replay.specs.Unlawful.{held_under, IsDueEvent, IsDueThere, IsWhyUnlawful}
+use Rattle.rrc_replay.specs.Unlawful.{held_under, IsDueThere, IsWhyUnlawful}
 use Rattle.rrc_replay.proofs.AuditLemmas.{never_bad}
 
 -- legal events are refused as chapter 1 for memory alone

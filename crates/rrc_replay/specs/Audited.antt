@@ -70,6 +70,7 @@ IsRefusal Memory text = SaysNotLegal text
 pub record IsToldNot (octets text : List ℕ) : Type 0 where
   pub fault : HistoryFault
   pub why : IsWhyNoHistory octets fault
+  pub known : fault ≡ Memory → ⊥
   pub told : IsRefusal fault text
 
 -- what was found is so, and the text tells it

@@ -1,12 +1,14 @@
 // SPDX-License-Identifier: MIT
 //! The history that an archive tells.
-ghost use Rattle.std.specs.Prelude.{◌≡◌, length, map, reverse, None, IfOk, IfErr, IfSome, IsTrue, OnOk};
+ghost use Rattle.std.specs.Prelude.{◌≡◌, ◌<◌, ◌^◌, length, map, reverse, None, IfOk, IfErr, IfSome, IsTrue, OnOk};
+ghost use Rattle.std.specs.List.{AllByRecursion, flat_map};
 ghost use Rattle.rrc_history.specs.Chains.{IsWhole, chain_fault};
-ghost use Rattle.rrc_history.specs.Chapters.{LeadTo};
+ghost use Rattle.rrc_history.specs.Chapters.{IsChapter, LeadTo};
 ghost use Rattle.rrc_history.specs.Equality.{rules_eq};
 ghost use Rattle.rrc_history.specs.WholeLaws.{AllKeepLaws};
-ghost use Rattle.rrc_trace.specs.Archive.{archive_text, written_of};
-ghost use Rattle.rrc_replay.specs.Archives.{TellsHistory, TellsCounted, IsWhyNoHistory, IsFaultAt, IsNoOpening, IsToldAt, HasWhy};
+ghost use Rattle.rrc_trace.specs.Archive.{archive_text, lines_of, written_of};
+ghost use Rattle.rrc_trace.specs.ArchiveLaw.{IsOnlyArchive};
+ghost use Rattle.rrc_replay.specs.Archives.{AreChapters, AreLinesFew, TellsHistory, TellsCounted, IsWhyNoHistory, IsFaultBehind, IsNoOpening, IsToldBehind, IsWhyBroken, HasWhy, line_of};
 
 use crate::unlawful::{Reason, why_unlawful};
 use rrc_cache::{ChapterFault, NotRestored, restored_chapter};
@@ -112,10 +114,12 @@ pub(crate) fn counted_in(
 
 /// The chapters that an archive tells, each of them legal from what it begins with.
 fn chapters_in(alloc: Global, octets: &[u8], seed: [u8; 16]) -> Result<Vec<Chapter>, HistoryFault>
-    ensures ok { IfOk result (λ chapters. octets.now ≡ archive_text (map written_of chapters.items)) }
+    ensures ok { IfOk result (λ chapters. AreChapters octets.now chapters.items) }
     ensures err { IfErr result (IsWhyNoHistory octets.now) }
 {
-    if octets.is_empty() {
+    // A number that `usize` has, so that each line of the archive has one too.
+    let size = octets.len();
+    if size == 0 {
         return Err(HistoryFault::Empty);
     }
     match read_archive(alloc, octets) {
@@ -131,7 +135,10 @@ fn restored(
     written: Vec<WrittenChapter>,
     seed: [u8; 16],
 ) -> Result<Vec<Chapter>, HistoryFault>
+    requires only { IsOnlyArchive (archive_text written.items) written.items }
+    requires few { length (flat_map lines_of written.items) < 2 ^ 64 }
     ensures ok { IfOk result (λ chapters. map written_of chapters.items ≡ written.items) }
+    ensures legal { IfOk result (λ chapters. AllByRecursion IsChapter chapters.items) }
     ensures err { IfErr result (IsWhyNoHistory (archive_text written.items)) }
 {
     let mut chapters = Vec::with_capacity(alloc, written.len())?;
@@ -149,8 +156,10 @@ fn restored_one(
     written: WrittenChapter,
     seed: [u8; 16],
 ) -> Result<Chapter, HistoryFault>
+    requires { AreLinesFew before.now written.entries written.events }
     ensures ok { IfOk result (λ chapter. written_of chapter ≡ written) }
-    ensures err { IfErr result (IsFaultAt (length before.now) written) }
+    ensures legal { IfOk result IsChapter }
+    ensures err { IfErr result (IsFaultBehind before.now written) }
 {
     let WrittenChapter {
         number,
@@ -162,7 +171,7 @@ fn restored_one(
     let snapshot = opening(alloc, before, rules, first, entries)?;
     match restored_chapter(alloc, number, snapshot, events, seed) {
         Ok(chapter) => Ok(chapter),
-        Err(refused) => Err(told_at(alloc, before, refused, seed)),
+        Err(refused) => Err(told_behind(alloc, before, refused, seed)),
     }
 }
 
@@ -260,9 +269,15 @@ fn new_opening(
 }
 
 /// Why there is no chapter behind others.
-fn told_at(alloc: Global, before: &[Chapter], refused: NotRestored, seed: [u8; 16]) -> HistoryFault
-    requires { HasWhy refused }
-    ensures { IsToldAt (length before.now) refused result }
+fn told_behind(
+    alloc: Global,
+    before: &[Chapter],
+    refused: NotRestored,
+    seed: [u8; 16],
+) -> HistoryFault
+    requires why { HasWhy refused }
+    requires few { AreLinesFew before.now refused.snapshot.entries refused.events.items }
+    ensures { IsToldBehind before.now refused result }
 {
     let NotRestored {
         snapshot,
@@ -288,19 +303,24 @@ fn told_at(alloc: Global, before: &[Chapter], refused: NotRestored, seed: [u8; 1
     }
 }
 
-/// The line of an event in a chapter behind others: each of these has one, one for each entry, and
-/// one for each event. No sum of lines that were read comes near 2^64.
-fn line_of(before: &[Chapter], snapshot: &Snapshot, event: usize) -> u64 {
-    let mut line = 1_u64
-        .saturating_add(snapshot.entries.len() as u64)
-        .saturating_add(event as u64);
+/// The line of an event in a chapter that begins with a snapshot, behind other chapters.
+fn line_of(before: &[Chapter], snapshot: &Snapshot, event: usize) -> u64
+    requires { line_of (map written_of before.now) snapshot.now.entries event < 2 ^ 64 }
+    ensures { result ≡ line_of (map written_of before.now) snapshot.now.entries event }
+{
+    let mut line = 1 + snapshot.entries.len() as u64 + event as u64;
     for chapter in before {
-        line = line
-            .saturating_add(1)
-            .saturating_add(chapter.snapshot().entries.len() as u64)
-            .saturating_add(chapter.events().len() as u64);
+        line += lines_in(chapter);
     }
     line
+}
+
+/// How many lines a chapter has.
+fn lines_in(chapter: &Chapter) -> u64
+    requires { length (lines_of (written_of chapter.now)) < 2 ^ 64 }
+    ensures { result ≡ length (lines_of (written_of chapter.now)) }
+{
+    1 + chapter.snapshot().entries.len() as u64 + chapter.events().len() as u64
 }
 
 /// The history that chapters are, where each goes on from the one before it.
@@ -309,7 +329,7 @@ fn whole_of(chapters: Vec<Chapter>) -> Result<Whole, HistoryFault>
     ensures chained { OnOk result (chain_fault chapters.items ≡ None) }
     ensures leads { IfOk result (λ whole. LeadTo whole.snapshot whole.events whole.closing) }
     ensures laws { IfOk result (λ whole. AllKeepLaws whole.snapshot (reverse whole.events)) }
-    ensures err { IfErr result (IsWhyNoHistory (archive_text (map written_of chapters.items))) }
+    ensures err { IfErr result (IsWhyBroken chapters.items) }
 {
     match chain(chapters) {
         Ok(whole) => Ok(whole),

@@ -1,5 +1,5 @@
 -- SPDX-License-Identifier: MIT
-use Rattle.std.proofs.Common.{◌≡◌, ℕ, ◌+◌, suc, arith}
+use Rattle.std.proofs.Common.{◌≡◌, ◌+◌, suc, arith}
 use Rattle.rrc_replay.proofs.ArchiveLemmas.{alike_from, not_unlike}
 use Rattle.rrc_replay.proofs.archive.has_entries.Goals as goal
 

@@ -1,5 +1,5 @@
 -- SPDX-License-Identifier: MIT
-use Rattle.std.proofs.Common.{◌≡◌, ◌∙◌, sym}
+use Rattle.std.proofs.Common.{◌∙◌, sym}
 use Rattle.rrc_replay.proofs.ArchiveLemmas.{same_snapshot}
 use Rattle.rrc_replay.proofs.archive.is_snapshot.Goals as goal
 

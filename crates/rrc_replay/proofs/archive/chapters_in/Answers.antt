@@ -1,0 +1,12 @@
+-- SPDX-License-Identifier: MIT
+use Rattle.std.proofs.Common.{◌≡◌, ◌≤◌, length, arith, ap}
+use Rattle.std.specs.List.{flat_map}
+use Rattle.rrc_trace.specs.Archive.{archive_text, lines_of}
+use Rattle.rrc_replay.proofs.ArchiveLemmas.{archive_within}
+use Rattle.rrc_replay.proofs.archive.chapters_in.Goals as goal
+
+pub restored-requires-clause-few : goal.restored-requires-clause-few
+restored-requires-clause-few c =
+    let within : length (flat_map lines_of c.in-Ok.written.items) ≤ length (archive_text c.in-Ok.written.items) = archive_within c.in-Ok.written.items in
+    let octets : length c.args.octets.now ≡ length (archive_text c.in-Ok.written.items) = ap length c.in-Ok.ensures.ok in
+    omega (arith, within, octets)
