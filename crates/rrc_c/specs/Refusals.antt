@@ -7,7 +7,7 @@ use Rattle.rrc_name.specs.WireFault.{IsFirstFaultOfWire}
 use Rattle.rrc_name.specs.declared.fault.WireNameFault.{WireNameFault}
 use Rattle.rrc_wire.specs.Layout.{is_kept_class, is_kept}
 use Rattle.rrc_wire.specs.Plain.{IsPlain}
-use Rattle.rrc_wire.specs.Message.{FirstFault}
+use Rattle.rrc_wire.specs.FirstFault.{FirstFault}
 use Rattle.rrc_wire.specs.declared.fault.WireFault.{WireFault}
 use Rattle.rrc_history.specs.Lives.{LAST_MOMENT}
 use Rattle.rrc_history.specs.Limits.{MayBeRules}

@@ -7,7 +7,7 @@ use Rattle.rrc_cache.specs.Sizes.{HoldsKeys, HoldsOctets}
 use Rattle.rrc_share.specs.CacheShelf.{CacheShelfOf, lean_shelf}
 use Rattle.rrc_wire.specs.Fault.{number_of}
 use Rattle.rrc_wire.specs.Grammar.{MessageOf}
-use Rattle.rrc_wire.specs.Message.{FirstFault}
+use Rattle.rrc_wire.specs.FirstFault.{FirstFault}
 use Rattle.rrc_wire.specs.declared.fault.WireFault.{WireFault}
 use Rattle.rrc_wire.specs.declared.message.Message.{Message}
 use Rattle.rrc_c.specs.Shelves.{recorded_chapters, recorded_events}

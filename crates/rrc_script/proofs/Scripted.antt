@@ -6,7 +6,7 @@ use Rattle.rrc_wire.specs.declared.fault.WireFault.{WireFault}
 use Rattle.rrc_wire.specs.declared.message.Message.{Message}
 use Rattle.rrc_wire.specs.Fault.{number_of}
 use Rattle.rrc_wire.specs.Grammar.{MessageOf}
-use Rattle.rrc_wire.specs.Message.{FirstFault}
+use Rattle.rrc_wire.specs.FirstFault.{FirstFault}
 use Rattle.rrc_wire.specs.Law.{BeginsWithMessage, HasFault}
 use Rattle.rrc_history.specs.Fits.{OfferOf}
 use Rattle.rrc_sets.specs.declared.limits.Limits.{Limits}

@@ -7,7 +7,7 @@ use Rattle.rrc_name.specs.Parts.{part_of}
 use Rattle.rrc_name.specs.declared.slot.Slot.TheVariants as slots
 use Rattle.rrc_wire.specs.declared.fault.WireFault.{WireFault}
 use Rattle.rrc_wire.specs.Fault.{number_of}
-use Rattle.rrc_wire.specs.Message.{FirstFault}
+use Rattle.rrc_wire.specs.FirstFault.{FirstFault}
 use Rattle.rrc_history.specs.declared.ask.Purpose.TheVariants as purposes
 use Rattle.rrc_history.specs.declared.ask.Mode.{Mode}
 use Rattle.rrc_history.specs.declared.ask.Mode.TheVariants as modes

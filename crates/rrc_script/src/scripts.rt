@@ -1,6 +1,6 @@
 // SPDX-License-Identifier: MIT
 ghost use Rattle.std.specs.Prelude.{◌≡◌, [], ◌∷◌, ◌++◌, map, IfOk, IfErr, IfSome, IfNone};
-ghost use Rattle.rrc_wire.specs.Message.{FirstFault};
+ghost use Rattle.rrc_wire.specs.FirstFault.{FirstFault};
 ghost use Rattle.rrc_trace.specs.Lawful.{IsLawful};
 ghost use Rattle.rrc_trace.specs.declared.fault.ReplayFault.TheVariants as faults;
 ghost use Rattle.rrc_script.specs.declared.script.Script.{Script};

@@ -7,7 +7,7 @@ use Rattle.rrc_wire.specs.declared.fault.WireFault.{WireFault}
 use Rattle.rrc_wire.specs.declared.fault.WireFault.TheVariants as wire
 use Rattle.rrc_wire.specs.declared.message.Message.{Message}
 use Rattle.rrc_wire.specs.Grammar.{MessageOf}
-use Rattle.rrc_wire.specs.Message.{FirstFault}
+use Rattle.rrc_wire.specs.FirstFault.{FirstFault}
 use Rattle.rrc_sets.specs.declared.query.Query.{Query}
 use Rattle.rrc_sets.specs.declared.query.QueryFault.{QueryFault}
 use Rattle.rrc_sets.specs.declared.query.QueryFault.TheVariants.{Memory}

@@ -1,7 +1,7 @@
 // SPDX-License-Identifier: MIT
 ghost use Rattle.std.specs.Prelude.{◌≡◌, ◌⊎◌, IfOk, IfErr, length};
 ghost use Rattle.std.specs.List.{All};
-ghost use Rattle.rrc_wire.specs.Message.{FirstFault};
+ghost use Rattle.rrc_wire.specs.FirstFault.{FirstFault};
 ghost use Rattle.rrc_sets.specs.Kept.{IsOfRecords};
 ghost use Rattle.rrc_sets.specs.Message.{Brings};
 ghost use Rattle.rrc_sets.specs.Octets.{most_octets, HasWithin, MakesAtMost};

@@ -7,6 +7,10 @@ pub mod NameGrammar
 pub mod Chains
 pub mod RecordGrammar
 pub mod MessageGrammar
+pub mod Failing
+pub mod NameFaults
+pub mod RecordFaults
+pub mod FirstFaults
 pub mod NoMemory
 pub mod Laws
 pub mod FrontNames

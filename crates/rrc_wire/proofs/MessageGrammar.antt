@@ -25,14 +25,14 @@ pub record Begins (octets : List ℕ) (header : HeaderFields) : Type 0 where
   pub one_question : word_at octets 4 ≡ 1
   pub fields : fields_of octets ≡ header
 
-not_false : (b : Bool) → not b ≡ false → b ≡ true
+pub not_false : (b : Bool) → not b ≡ false → b ≡ true
 not_false true h = refl
 not_false false h = sym h
 
-abbrev tested : Bool → WireFault → Result HeaderFields WireFault → Result HeaderFields WireFault
+abbrev pub tested : Bool → WireFault → Result HeaderFields WireFault → Result HeaderFields WireFault
 tested b fault rest = cond b (Err fault) rest
 
-header_of-finds : (octets : List ℕ) (header : HeaderFields) → header_of octets ≡ Ok header → Begins octets header
+pub header_of-finds : (octets : List ℕ) (header : HeaderFields) → header_of octets ≡ Ok header → Begins octets header
 unfolding header_of
 header_of-finds octets header h =
     let last = tested (not (eqb (word_at octets 4) 1)) NotOneQuestion (Ok (fields_of octets)) in
@@ -53,7 +53,7 @@ header_of-finds octets header h =
 passed : (b : Bool) (fault : WireFault) (rest : Result HeaderFields WireFault) → b ≡ false → tested b fault rest ≡ rest
 passed b fault rest h = ap (λ (t : Bool). tested t fault rest) h
 
-header_of-reads : (octets : List ℕ) (header : HeaderFields) → Begins octets header → header_of octets ≡ Ok header
+pub header_of-reads : (octets : List ℕ) (header : HeaderFields) → Begins octets header → header_of octets ≡ Ok header
 unfolding header_of
 header_of-reads octets header is =
     let last = tested (not (eqb (word_at octets 4) 1)) NotOneQuestion (Ok (fields_of octets)) in
@@ -67,19 +67,19 @@ header_of-reads octets header is =
 
 -- the message
 
-abbrev whole : HeaderFields → Question × ℕ → List Rr × ℕ → List Rr × ℕ → List Rr × ℕ → Result Message WireFault
+abbrev pub whole : HeaderFields → Question × ℕ → List Rr × ℕ → List Rr × ℕ → List Rr × ℕ → Result Message WireFault
 whole header question answer authority additional = Ok (message_of header question.0 answer.0 authority.0 additional.0)
 
-abbrev behind_authority : List ℕ → HeaderFields → Question × ℕ → List Rr × ℕ → List Rr × ℕ → Result Message WireFault
+abbrev pub behind_authority : List ℕ → HeaderFields → Question × ℕ → List Rr × ℕ → List Rr × ℕ → Result Message WireFault
 behind_authority octets header question answer authority = section_at octets header.additionals authority.1 >>= whole header question answer authority
 
-abbrev behind_answer : List ℕ → HeaderFields → Question × ℕ → List Rr × ℕ → Result Message WireFault
+abbrev pub behind_answer : List ℕ → HeaderFields → Question × ℕ → List Rr × ℕ → Result Message WireFault
 behind_answer octets header question answer = section_at octets header.authorities answer.1 >>= behind_authority octets header question answer
 
-abbrev behind_question : List ℕ → HeaderFields → Question × ℕ → Result Message WireFault
+abbrev pub behind_question : List ℕ → HeaderFields → Question × ℕ → Result Message WireFault
 behind_question octets header question = section_at octets header.answers question.1 >>= behind_answer octets header question
 
-abbrev behind_header : List ℕ → HeaderFields → Result Message WireFault
+abbrev pub behind_header : List ℕ → HeaderFields → Result Message WireFault
 behind_header octets header = question_at octets 12 >>= behind_question octets header
 
 -- what is read as a message is one

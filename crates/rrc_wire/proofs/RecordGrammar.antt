@@ -76,10 +76,10 @@ data-reads message (Some layout) place end rdata inside is = laid_out-reads mess
 
 -- records
 
-abbrev record_of : List ℕ → List ℕ → ℕ → List ℕ → Result (List Rr) WireFault
+abbrev pub record_of : List ℕ → List ℕ → ℕ → List ℕ → Result (List Rr) WireFault
 record_of message owner fields rdata = Ok (rr_of message owner fields rdata ∷ [])
 
-abbrev kept_where : Bool → List ℕ → List ℕ → ℕ → ℕ → Result (List Rr) WireFault
+abbrev pub kept_where : Bool → List ℕ → List ℕ → ℕ → ℕ → Result (List Rr) WireFault
 kept_where b message owner fields end = cond b (data_at message (word_at message fields) (fields + 10) end >>= record_of message owner fields) (Ok [])
 
 kept-finds : (b : Bool) (message owner : List ℕ) (fields end : ℕ) (records : List Rr) → end ≤ length message → keeps message fields ≡ b
@@ -98,16 +98,16 @@ kept-reads {message} {owner} {fields} {end} inside (kept {rdata = rdata} is foun
     (data-reads message (layout_of (word_at message fields)) (fields + 10) end rdata inside found) refl
 kept-reads {message} {owner} {fields} {end} inside (read_over is) = ap (λ b. kept_where b message owner fields end) is
 
-abbrev with_end : ℕ → List Rr → Result (List Rr × ℕ) WireFault
+abbrev pub with_end : ℕ → List Rr → Result (List Rr × ℕ) WireFault
 with_end end records = Ok (records, end)
 
-abbrev behind_end : List ℕ → List ℕ × ℕ → ℕ → Result (List Rr × ℕ) WireFault
+abbrev pub behind_end : List ℕ → List ℕ × ℕ → ℕ → Result (List Rr × ℕ) WireFault
 behind_end message owner end = kept_at message owner.0 owner.1 end >>= with_end end
 
-abbrev behind_fields : List ℕ → List ℕ × ℕ → ℕ → Result (List Rr × ℕ) WireFault
+abbrev pub behind_fields : List ℕ → List ℕ × ℕ → ℕ → Result (List Rr × ℕ) WireFault
 behind_fields message owner begin = within message begin (word_at message (owner.1 + 8)) >>= behind_end message owner
 
-abbrev behind_owner : List ℕ → List ℕ × ℕ → Result (List Rr × ℕ) WireFault
+abbrev pub behind_owner : List ℕ → List ℕ × ℕ → Result (List Rr × ℕ) WireFault
 behind_owner message owner = within message owner.1 10 >>= behind_fields message owner
 
 pub record_at-finds : (message : List ℕ) (place : ℕ) (records : List Rr) (next : ℕ) → record_at message place ≡ Ok (records, next) → RecordAt message place records next
@@ -151,10 +151,10 @@ section_at-reads message count place records next follow = times-reads (record_a
 
 -- the question
 
-abbrev question_of : List ℕ → List ℕ × ℕ → ℕ → Result (Question × ℕ) WireFault
+abbrev pub question_of : List ℕ → List ℕ × ℕ → ℕ → Result (Question × ℕ) WireFault
 question_of message name next = Ok (record { name = name.0; qtype = word_at message name.1; qclass = word_at message (name.1 + 2) }, next)
 
-abbrev behind_name : List ℕ → List ℕ × ℕ → Result (Question × ℕ) WireFault
+abbrev pub behind_name : List ℕ → List ℕ × ℕ → Result (Question × ℕ) WireFault
 behind_name message name = within message name.1 4 >>= question_of message name
 
 pub question_at-finds : (message : List ℕ) (place : ℕ) (question : Question) (next : ℕ) → question_at message place ≡ Ok (question, next) → QuestionAt message place question next

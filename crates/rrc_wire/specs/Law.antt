@@ -4,7 +4,7 @@ use Rattle.std.specs.Prelude.{◌≡◌, ◌≢◌, ℕ, List}
 use Rattle.rrc_wire.specs.declared.fault.WireFault.{WireFault}
 use Rattle.rrc_wire.specs.declared.fault.WireFault.TheVariants.{Memory}
 use Rattle.rrc_wire.specs.declared.message.Message.{Message}
-use Rattle.rrc_wire.specs.Message.{FirstFault}
+use Rattle.rrc_wire.specs.FirstFault.{FirstFault}
 use Rattle.rrc_wire.specs.Grammar.{MessageOf}
 
 -- the octets begin with one message, and have no fault

@@ -15,6 +15,7 @@ pub mod SameRdata
 pub mod SameRdataLaws
 pub mod Message
 pub mod Grammar
+pub mod FirstFault
 pub mod Chain
 pub mod Law
 pub mod ReadPlain

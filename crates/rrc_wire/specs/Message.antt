@@ -1,6 +1,6 @@
 -- SPDX-License-Identifier: MIT
--- Reading a message whole (RFC 1035 4.1), and its first fault.
-use Rattle.std.specs.Prelude.{◌≡◌, ℕ, List, Result, Ok, Err}
+-- Reading a message whole (RFC 1035 4.1).
+use Rattle.std.specs.Prelude.{ℕ, List, Result, Ok}
 use Rattle.rrc_wire.specs.declared.fault.WireFault.{WireFault}
 use Rattle.rrc_wire.specs.Header.{HeaderFields, header_of}
 use Rattle.rrc_wire.specs.declared.record.Rr.{Rr}
@@ -36,7 +36,3 @@ message_in octets = do
   authority ← section_at octets header.authorities answer.1
   additional ← section_at octets header.additionals authority.1
   Ok (message_of header question.0 answer.0 authority.0 additional.0)
-
--- the first fault of some octets, in the order of reading
-abbrev pub FirstFault : List ℕ → WireFault → Type 0
-FirstFault octets fault = message_in octets ≡ Err fault

@@ -35,7 +35,9 @@ mod source;
 
 pub use fault::WireFault;
 pub use layout::{is_kept, is_kept_class};
-pub use message::{Message, chains_lead_to_names, one_message_or_fault, read_message};
+pub use message::{
+    Message, chains_lead_to_names, first_fault_is_the_readers, one_message_or_fault, read_message,
+};
 pub use plain::{plain_rdata, read_data_are_plain};
 pub use question::Question;
 pub use record::Rr;

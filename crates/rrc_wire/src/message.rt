@@ -1,7 +1,8 @@
 // SPDX-License-Identifier: MIT
-ghost use Rattle.std.specs.Prelude.{◌≡◌, ◌⊎◌, ℕ, List, IfOk, IfErr};
+ghost use Rattle.std.specs.Prelude.{◌≡◌, ◌⊎◌, ◌↔◌, ℕ, List, Err, IfOk, IfErr};
 ghost use Rattle.rrc_wire.specs.Reading.{Gives};
-ghost use Rattle.rrc_wire.specs.Message.{message_in, FirstFault};
+ghost use Rattle.rrc_wire.specs.Message.{message_in};
+ghost use Rattle.rrc_wire.specs.FirstFault.{FirstFault};
 ghost use Rattle.rrc_wire.specs.Grammar.{MessageOf};
 ghost use Rattle.rrc_wire.specs.Chain.{LeadsToName};
 ghost use Rattle.rrc_wire.specs.Law.{BeginsWithMessage, HasFault};
@@ -52,6 +53,12 @@ pub fn read_message(alloc: Global, octets: &[u8]) -> Result<Message, WireFault>
 /// first fault and begin with no message.
 pub fn one_message_or_fault()
     ensures { (octets : List ℕ) → BeginsWithMessage octets ⊎ HasFault octets }
+{}
+
+/// The first fault is the reader's: octets have it, by what stands before its place and the rule
+/// that is broken there, exactly where reading them in order fails with it.
+pub fn first_fault_is_the_readers()
+    ensures { (octets : List ℕ) (fault : WireFault) → FirstFault octets fault ↔ (message_in octets ≡ Err fault) }
 {}
 
 /// The law of pointers: a chain of them leads from each place to one last place, and a name stands

@@ -1,6 +1,6 @@
 -- SPDX-License-Identifier: MIT
 use Rattle.std.proofs.Common.{subst, rules}
-use Rattle.rrc_wire.specs.Message.{FirstFault}
+use Rattle.rrc_wire.specs.FirstFault.{FirstFault}
 use Rattle.rrc_script.proofs.Scripted.{not_both}
 use Rattle.rrc_script.proofs.scripts.response_script.Goals as goal
 
