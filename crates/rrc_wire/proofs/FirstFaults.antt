@@ -44,14 +44,17 @@ header_of-fails octets fault h = short (cond_err (nat_lt 65535 (length octets)) 
     questions have qr (so is e) =
         subst (FirstFault octets) (err_is NotOneQuestion fault e) (FirstFault.not_one_question have qr (false_eq (word_at octets 4) 1 (not_true (eqb (word_at octets 4) 1) is)))
     questions have qr (not_so is e) = absurd cc
+
     qr_bit : HaveHeader octets → Parts (not (flag (word_at octets 2) 15)) (Err NotResponse) (one_question octets) fault → FirstFault octets fault
     qr_bit have (so is e) = subst (FirstFault octets) (err_is NotResponse fault e) (FirstFault.no_response have (not_true (flag (word_at octets 2) 15) is))
     qr_bit have (not_so is e) =
         questions have (not_false (flag (word_at octets 2) 15) is) (cond_err (not (eqb (word_at octets 4) 1)) (Err NotOneQuestion) (Ok (fields_of octets)) fault e)
+
     room : length octets ≤ 65535 → Parts (nat_lt (length octets) 12) (Err Short) (response octets) fault → FirstFault octets fault
     room few (so is e) = subst (FirstFault octets) (err_is Short fault e) (FirstFault.no_header (true_lt (length octets) 12 is))
     room few (not_so is e) =
         qr_bit (record { long = false_lt (length octets) 12 is; short = few }) (cond_err (not (flag (word_at octets 2) 15)) (Err NotResponse) (one_question octets) fault e)
+
     short : Parts (nat_lt 65535 (length octets)) (Err TooLong) (long octets) fault → FirstFault octets fault
     short (so is e) = subst (FirstFault octets) (err_is TooLong fault e) (FirstFault.too_long (true_lt 65535 (length octets) is))
     short (not_so is e) = room (false_lt 65535 (length octets) is) (cond_err (nat_lt (length octets) 12) (Err Short) (response octets) fault e)

@@ -39,6 +39,7 @@ label_at-fails message run size place octets fault begins h = long (cond_err (na
     cut : size + octets + 2 ≤ 255 → Parts (nat_lt run.end (place + 1 + octets)) (Err run.past) (Ok (Label octets)) fault → NameFails message run size place fault
     cut fits (so is e) = subst (NameFails message run size place) (err_is run.past fault e) (NameFails.label_cut_off begins fits (true_lt run.end (place + 1 + octets) is))
     cut fits (not_so is e) = absurd cc
+
     long : Parts (nat_lt 255 (size + octets + 2)) (Err NameTooLong) (whole_label run place octets) fault → NameFails message run size place fault
     long (so is e) = subst (NameFails message run size place) (err_is NameTooLong fault e) (NameFails.too_long begins (true_lt 255 (size + octets + 2) is))
     long (not_so is e) = cut (false_lt 255 (size + octets + 2) is) (cond_err (nat_lt run.end (place + 1 + octets)) (Err run.past) (Ok (Label octets)) fault e)
@@ -52,6 +53,7 @@ pointer_at-fails message run size place fault within bits h = cut (cond_err (nat
     bad whole (not_so is e) =
         subst (NameFails message run size place) (err_is BadPointer fault e)
         (NameFails.bad_pointer (record { within = whole; top_bits = bits; target_is = refl }) (false_lt (target_at message place) run.start is))
+
     cut : Parts (nat_lt run.end (place + 2)) (Err run.past) (lower_target message run place) fault → NameFails message run size place fault
     cut (so is e) = subst (NameFails message run size place) (err_is run.past fault e) (NameFails.pointer_cut_off within bits (true_lt run.end (place + 2) is))
     cut (not_so is e) =
@@ -65,11 +67,13 @@ octet-fails message run size place octet fault within at h = ends (cond_err (eqb
     other high (so is e) =
         subst (NameFails message run size place) (err_is ReservedLabel fault e) (NameFails.reserved within (omega (arith, at, high)) (omega (arith, at, true_lt octet 192 is)))
     other high (not_so is e) = pointer_at-fails message run size place fault within (omega (arith, at, false_lt octet 192 is)) e
+
     label : (octet ≡ 0 → ⊥) → Parts (nat_lt octet 64) (label_at run size place octet) (no_label message run place octet) fault → NameFails message run size place fault
     label some (so is e) =
         label_at-fails message run size place octet fault
         (record { within = within; octets_are = at; some = omega (arith, some); few = omega (arith, true_lt octet 64 is) }) e
     label some (not_so is e) = other (false_lt octet 64 is) (cond_err (nat_lt octet 192) (Err ReservedLabel) (pointer_at message run place) fault e)
+
     ends : Parts (eqb octet 0) (Ok End) (no_end message run size place octet) fault → NameFails message run size place fault
     ends (so is e) = absurd cc
     ends (not_so is e) = label (false_eq octet 0 is) (cond_err (nat_lt octet 64) (label_at run size place octet) (no_label message run place octet) fault e)

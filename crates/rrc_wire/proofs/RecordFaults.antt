@@ -51,6 +51,7 @@ laid_out-fails message layout place end fault inside h =
         let found = times-finds (name_in_data message end) (StandsAt message end) (λ at name next is. name_at-stands message (in_data at end) name next inside is) layout.names first (place + layout.before) read.0 read.1 is in
         let last = last_octets-fails message layout end read fault e in
         subst (LayoutFails message layout place end) last.1 (LayoutFails.last room found.stand last.0)
+
     by : Parts (nat_le (place + layout.before) end) (names_read message layout place end >>= last_octets message layout end) (Err BadData) fault → LayoutFails message layout place end fault
     by (so is e) = parts (true_le (place + layout.before) end is) (bind_err (names_read message layout place end) (last_octets message layout end) fault e)
     by (not_so is e) = subst (LayoutFails message layout place end) (err_is BadData fault e) (LayoutFails.first (false_le (place + layout.before) end is))
