@@ -86,6 +86,7 @@ pub record HasDataFault (rtype : ℕ) (octets : List ℕ) : Type 0 where
   pub rest : List ℕ
   pub parts : data_text items ++ rest ≡ octets
   pub plain : AllByRecursion (IsPlain rtype) items
+  pub some : 1 ≤ length rest
   pub fault : IsCutOff rest ⊎ BeginsNotPlain rtype rest
 
 abbrev pub DataRefused : ℕ → List ℕ → ℕ → Type 0

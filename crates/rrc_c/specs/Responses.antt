@@ -48,6 +48,14 @@ pub record IsResponseReading (octets zone : List ℕ) (query : Query) (parts : �
 abbrev pub IsOther : Query → List ℕ → Type 0
 IsOther query octets = (fault : QueryFault) × IsOfOtherQuery query octets fault
 
+-- all that is tested before is right, and octets are a message that answers another query
+pub record IsOtherAtLast (octets zone : List ℕ) (query : Query) (parts : ℕ) (seed : List ℕ) (bounds : Bounds) : Type 0 where
+  pub division : IsDivision parts seed
+  pub limits : AreLimits bounds
+  pub zone_is : IsWireForm zone
+  pub name_is : IsWireForm query.question.name
+  pub other : IsOther query octets
+
 -- a response is not read
 abbrev pub ResponseRefused : List ℕ → List ℕ → List ℕ → ℕ → List ℕ → Bounds → ℕ → Type 0
 ResponseRefused octets zone name parts seed bounds =
@@ -60,4 +68,4 @@ ResponseRefused octets zone name parts seed bounds =
 abbrev pub ResponseDue : List ℕ → List ℕ → Query → ℕ → List ℕ → Bounds → Option Reading → ℕ → Type 0
 ResponseDue octets zone query parts seed bounds (Some reading) number = number ≡ 19
 ResponseDue octets zone query parts seed bounds None number =
-    (number ≡ 0) ⊎ (((number ≡ 20) × IsOther query octets) ⊎ ResponseRefused octets zone query.question.name parts seed bounds number)
+    (number ≡ 0) ⊎ (((number ≡ 20) × IsOtherAtLast octets zone query parts seed bounds) ⊎ ResponseRefused octets zone query.question.name parts seed bounds number)

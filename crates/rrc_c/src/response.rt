@@ -2,7 +2,7 @@
 ghost use Rattle.std.specs.Prelude.{◌≡◌, IfOk, IfErr, IfSome, IfNone, OnOk};
 ghost use Rattle.rrc_c.specs.Intake.{AreAt};
 ghost use Rattle.rrc_c.specs.Refusals.{MessageRefused, NameRefused};
-ghost use Rattle.rrc_c.specs.Responses.{query_of, BringsByDefault, IsOther, IsResponseReading, ResponseRefused};
+ghost use Rattle.rrc_c.specs.Responses.{query_of, BringsByDefault, IsOther, IsOtherAtLast, IsResponseReading, ResponseRefused};
 ghost use Rattle.rrc_c.specs.Statuses.{number_of};
 ghost use Rattle.rrc_name.specs.Wire.{IsWireForm};
 
@@ -72,7 +72,7 @@ pub(crate) fn read_response(
     bounds: &Bounds,
 ) -> Result<Option<Box<Reading>>, Status>
     ensures some { IfOk result (λ found. IfSome found (λ reading. IsResponseReading octets.now zone.now (query_of id name.now rtype class) parts seed.now moment bounds.now reading.value)) }
-    ensures none { IfOk result (λ found. IfNone found (IsOther (query_of id name.now rtype class) octets.now)) }
+    ensures none { IfOk result (λ found. IfNone found (IsOtherAtLast octets.now zone.now (query_of id name.now rtype class) parts seed.now bounds.now)) }
     ensures refused { IfErr result (λ status. ResponseRefused octets.now zone.now name.now parts seed.now bounds.now (number_of status)) }
 {
     let seed = check_division(parts, seed)?;
