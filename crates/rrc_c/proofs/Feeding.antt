@@ -2,7 +2,7 @@
 -- Calls that offer failures and what responses bring leave few octets.
 use Rattle.std.proofs.Common.{◌≡◌, ◌⊎◌, ℕ, ◌/◌, ◌≤◌, ◌==◌, Bool, true, false, cond, List, [], ◌∷◌, ◌++◌, length, map, filter, reverse, sym, subst, inl, inr, arith}
 use Rattle.std.proofs.lemmas.List.{length-map}
-use Rattle.std.proofs.lemmas.List.Elements.{All-from_recursion, recursion_from_All}
+use Rattle.std.proofs.lemmas.List.Elements.{recursion_from_All}
 use Rattle.std.proofs.Math.Nat.{div-mul-le_self}
 use Rattle.std.proofs.lemmas.Nat.{le-div}
 use Rattle.std.specs.Char.{to_ascii_lowercase}
@@ -22,7 +22,7 @@ use Rattle.rrc_sets.specs.Octets.{most_octets, MakesAtMost}
 use Rattle.rrc_sets.specs.lemmas.RelevantSizes.{are_few}
 use Rattle.rrc_sets.specs.declared.query.Query.{Query}
 use Rattle.rrc_c.specs.Fed.{OffersResponse, Goes, offers_response, offers_failure, asks, sweeps, starts_record, drops_record, drops_chapters, stops_record, takes_chapters, is_refused, IsFed, made, goes_on, RDATA_LIMIT, FedAreBounded, AreBoundedAtAnySize}
-use Rattle.rrc_c.specs.Intake.{failure_offer, AreAt, Takes, TakesAll, TakesFirst}
+use Rattle.rrc_c.specs.Intake.{failure_offer, Takes, TakesAll, TakesFirst}
 use Rattle.rrc_c.specs.Parts.{keyed_part_of}
 use Rattle.rrc_c.specs.Readings.{placed_in, share_of, TakesShare, TakesSomeOfShare}
 use Rattle.rrc_c.specs.Responses.{IsResponseReading}
@@ -208,11 +208,6 @@ module _ (octets zone : List ℕ) (query : Query) (parts : ℕ) (seed : List ℕ
   share_few size within =
       share_is (MakesAtMost (most_octets RDATA_LIMIT size)) (offers_few size within)
 
-  share_at : AreAt at (share_of part reading.placed.items)
-  share_at =
-      All-from_recursion _ (share_of part reading.placed.items)
-      (share_is (λ offer. offer.moment ≡ at) (recursion_from_All _ is.offers is.moment))
-
   few_share : (size number line : ℕ) (counts : Counts) (old new : CacheShelfOf)
       → length octets ≤ size → TakesSomeOfShare number line part counts reading old new
       → IsFew (most_octets RDATA_LIMIT size) old.shelf.part
@@ -221,8 +216,8 @@ module _ (octets zone : List ℕ) (query : Query) (parts : ℕ) (seed : List ℕ
       subst (λ (shelf : CacheShelfOf). IsFew (most_octets RDATA_LIMIT size) shelf.shelf.part)
       (sym none.kept) few
   few_share size number line counts old new within (inr beginning) few =
-      few_first (most_octets RDATA_LIMIT size) number line at (share_of part reading.placed.items)
-      counts old new (beginning.takes at share_at) (share_few size within) few
+      few_first (most_octets RDATA_LIMIT size) number line reading.moment
+      (share_of part reading.placed.items) counts old new beginning.takes (share_few size within) few
 
 -- ---- a shelf
 

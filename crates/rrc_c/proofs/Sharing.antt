@@ -3,7 +3,8 @@
 use Rattle.std.proofs.Common.{◌≡◌, ℕ, suc, ◌+◌, ◌^◌, ◌<◌, ◌≤◌, List, [], ◌∷◌, ◌==◌, Bool, true, false, cond, if◌then◌else◌, map, filter, refl, sym, ap, subst, ◌∙◌, inl, inr, arith}
 use Rattle.std.proofs.Math.Nat.{two-pow-succ}
 use Rattle.std.proofs.Math.Pow.{pow_mono}
-use Rattle.std.proofs.lemmas.List.Elements.{All-filter}
+use Rattle.std.proofs.lemmas.List.Elements.{All-filter, All-map}
+use Rattle.std.specs.List.{All}
 use Rattle.rrc_history.specs.Fits.{OfferOf}
 use Rattle.rrc_c.specs.Intake.{AreAt, TakesAll, TakesFirst}
 use Rattle.rrc_c.specs.PartIntake.{lying_in, IsPart}
@@ -12,6 +13,20 @@ use Rattle.rrc_c.specs.Readings.{bit_of, has_part, parts_below, placed_in, share
 use Rattle.rrc_c.specs.declared.counts.Bounds.{Bounds}
 use Rattle.rrc_c.specs.declared.reading.Placed.{Placed}
 use Rattle.rrc_c.specs.declared.reading.Reading.{Reading}
+
+-- ---- moments
+
+-- offers that were placed in their parts are of the moment that they were of
+pub placed_at : (parts : ℕ) (seed : List ℕ) (at : ℕ) (offers : List OfferOf) (placed : List Placed) → placed ≡ map (placed_in parts seed) offers → AreAt at offers
+    → All (λ (one : Placed). one.offer.moment ≡ at) placed
+placed_at parts seed at offers placed is are =
+    subst (All (λ (one : Placed). one.offer.moment ≡ at)) (sym is) (All-map (λ (one : Placed). one.offer.moment ≡ at) (placed_in parts seed) offers are)
+
+-- those of a part are of the moment of their reading
+pub share_at : (part : ℕ) (reading : Reading) → AreAt reading.moment (share_of part reading.placed.items)
+share_at part reading =
+    All-map (λ (offer : OfferOf). offer.moment ≡ reading.moment) (λ (one : Placed). one.offer) (filter (λ (one : Placed). one.part == part) reading.placed.items)
+    (All-filter _ (λ (one : Placed). one.offer.moment ≡ reading.moment) reading.placed.items reading.moments)
 
 -- ---- shares
 
@@ -51,13 +66,13 @@ refused_share_is_part octets zone number parts seed part at line bounds reading 
     inl (none, inr (is_part octets zone parts seed part at bounds reading is below, inr (is.division.is_seed, inr (is.are_limits, inl (inl memory)))))
 refused_share_is_part octets zone number parts seed part at line bounds reading counts old new is (inr beginning) =
     let same = share_same octets zone parts seed part at bounds reading is in
-    let moment = All-filter _ (λ (offer : OfferOf). offer.moment ≡ at) is.offers is.moment in
+    let first = subst (λ moment. TakesFirst number line moment (share_of part reading.placed.items) counts old new) is.moment_is beginning.takes in
     inr (record {
       is_part = is_part octets zone parts seed part at bounds reading is beginning.below;
       is_seed = is.division.is_seed;
       offers = is.offers;
       offered = is.offered;
-      takes = subst (λ offers. AreAt at offers → TakesFirst number line at offers counts old new) same (beginning.takes at) moment;
+      takes = subst (λ offers. TakesFirst number line at offers counts old new) same first;
     })
 
 -- ---- bits

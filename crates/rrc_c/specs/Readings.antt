@@ -21,10 +21,11 @@ use Rattle.rrc_c.specs.declared.status.Status.TheVariants.{BadRules}
 abbrev pub placed_in : ℕ → List ℕ → OfferOf → Placed
 placed_in parts seed offer = record { part = keyed_part_of seed offer.key.name parts; offer = offer }
 
--- a reading of a message: all that it offers, in order, each beside its part
+-- a reading of a message: all that it offers, in order, at the moment of its reading, each beside its part
 pub record IsReading (octets zone : List ℕ) (parts : ℕ) (seed : List ℕ) (at : ℕ) (bounds : Bounds) (reading : Reading) : Type 0 where
   pub division : IsDivision parts seed
   pub parts_are : reading.parts ≡ parts
+  pub moment_is : reading.moment ≡ at
   pub are_limits : AreLimits bounds
   pub offers : List OfferOf
   pub offered : AreOffered octets zone at bounds offers
@@ -69,10 +70,10 @@ TakesShare line part counts reading old new = TakesAll line (share_of part readi
 abbrev pub ShareRefused : ℕ → Reading → ℕ → Type 0
 ShareRefused part reading = Then (Because BadRules (reading.parts ≤ part)) (part < reading.parts) OutOfMemory
 
--- the first of these offers, which are of one moment, were written, and nothing else, and then it was refused by this number
+-- the first of these offers were written, and nothing else, and then it was refused by this number at the moment of the reading
 pub record TakesBeginningOfShare (number line part : ℕ) (counts : Counts) (reading : Reading) (old new : CacheShelfOf) : Type 0 where
   pub below : part < reading.parts
-  pub takes : (at : ℕ) → AreAt at (share_of part reading.placed.items) → TakesFirst number line at (share_of part reading.placed.items) counts old new
+  pub takes : TakesFirst number line reading.moment (share_of part reading.placed.items) counts old new
 
 -- what a refusal by this number leaves: nothing was written, or the first of the offers that lie in the part
 abbrev pub TakesSomeOfShare : ℕ → ℕ → ℕ → Counts → Reading → CacheShelfOf → CacheShelfOf → Type 0

@@ -34,10 +34,11 @@ pub record AreRelevant (octets zone : List ℕ) (query : Query) (at : ℕ) (boun
   pub are_limits : LimitsAre limits bounds.cap bounds.negative_cap bounds.recheck
   pub relevant : BringsByDefault query limits octets zone at offers
 
--- a reading of a response: what of it is relevant, in order, each offer beside its part
+-- a reading of a response: what of it is relevant, in order, at the moment of its reading, each offer beside its part
 pub record IsResponseReading (octets zone : List ℕ) (query : Query) (parts : ℕ) (seed : List ℕ) (at : ℕ) (bounds : Bounds) (reading : Reading) : Type 0 where
   pub division : IsDivision parts seed
   pub parts_are : reading.parts ≡ parts
+  pub moment_is : reading.moment ≡ at
   pub are_limits : AreLimits bounds
   pub offers : List OfferOf
   pub offered : AreRelevant octets zone query at bounds offers

@@ -9,9 +9,10 @@ ghost use Rattle.rrc_c.specs.Statuses.{OnDone, OnNoOffers, OnNoShelf, OnRefused}
 use crate::calls::number_of_call;
 use crate::counts::{Bounds, Counts};
 use crate::handle::Handle;
+use crate::message::read;
 use crate::offers::Offers;
-use crate::reading::{offer_share, parts_concerned, read};
 use crate::response::read_response;
+use crate::shares::{offer_share, parts_concerned};
 use crate::status::{HAS_OFFERS, NO_OFFERS, NO_SHELF, OTHER_QUERY};
 use std::alloc::Global;
 

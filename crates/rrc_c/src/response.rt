@@ -10,7 +10,8 @@ use crate::asks::name_of;
 use crate::counts::Bounds;
 use crate::division::check_division;
 use crate::intake::limits_of;
-use crate::reading::{Reading, placed_in};
+use crate::message::reading_of;
+use crate::reading::Reading;
 use crate::status::Status;
 use rrc_history::Offer;
 use rrc_name::Name;
@@ -82,6 +83,6 @@ pub(crate) fn read_response(
     let Some(offers) = relevant_in(alloc, octets, &query, &zone, moment, &limits)? else {
         return Ok(None);
     };
-    let placed = placed_in(alloc, offers, parts as usize, &seed)?;
-    Ok(Some(Box::new(alloc, Reading { parts, placed })?))
+    let reading = reading_of(alloc, offers, parts, &seed, moment)?;
+    Ok(Some(reading))
 }

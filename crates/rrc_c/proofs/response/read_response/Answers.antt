@@ -16,12 +16,14 @@ returns-clause-some c =
     let by_zone : BringsByDefault c.in_ok-query.query limits c.args.octets.now c.args.zone.now c.args.moment made =
     subst (λ zone. BringsByDefault c.in_ok-query.query limits c.args.octets.now zone c.args.moment made) c.in_ok-zone.ensures.name brings in
     let moment : AreAt c.args.moment made = search rules in
-    let parts : c.in_ok-new.field-0.value.parts ≡ c.args.parts = search rules in
-    let by_seed : c.in_ok-new.field-0.value.placed.items ≡ map (placed_in c.args.parts c.in_ok-seed.seed) made = search rules in
-    let placed = subst (λ seed. c.in_ok-new.field-0.value.placed.items ≡ map (placed_in c.args.parts seed) made) c.in_ok-seed.ensures.seed by_seed in
+    let parts : c.in_ok-reading.reading.value.parts ≡ c.args.parts = search rules in
+    let moment_is : c.in_ok-reading.reading.value.moment ≡ c.args.moment = search rules in
+    let by_seed : c.in_ok-reading.reading.value.placed.items ≡ map (placed_in c.args.parts c.in_ok-seed.seed) made = search rules in
+    let placed = subst (λ seed. c.in_ok-reading.reading.value.placed.items ≡ map (placed_in c.args.parts seed) made) c.in_ok-seed.ensures.seed by_seed in
     record {
       division = c.in_ok-seed.ensures.fit;
       parts_are = parts;
+      moment_is = moment_is;
       are_limits = c.in_ok-limits.ensures.fit;
       offers = made;
       offered = record {

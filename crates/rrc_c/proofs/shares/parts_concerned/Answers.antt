@@ -1,7 +1,7 @@
 -- SPDX-License-Identifier: MIT
 use Rattle.std.proofs.Common.{arith}
 use Rattle.rrc_c.proofs.Sharing.{bits_fit, bits_more}
-use Rattle.rrc_c.proofs.reading.parts_concerned.Goals as goal
+use Rattle.rrc_c.proofs.shares.parts_concerned.Goals as goal
 
 pub loop-part-preserved : goal.loop-part-preserved
 loop-part-preserved c = bits_more c.args.placed.now c.loop-part.part c.loop-part.bits c.bit_of-bits.result c.loop-part.invariant c.bit_of-bits.ensures

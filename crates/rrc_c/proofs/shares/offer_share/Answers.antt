@@ -2,8 +2,9 @@
 use Rattle.std.proofs.Common.{ℕ, subst, inr}
 use Rattle.rrc_c.specs.Intake.{AreAt, TakesAll, TakesFirst}
 use Rattle.rrc_c.specs.Statuses.{number_of}
+use Rattle.rrc_c.proofs.Sharing.{share_at}
 use Rattle.rrc_c.proofs.Taking.{map_ok, map_err}
-use Rattle.rrc_c.proofs.reading.offer_share.Goals as goal
+use Rattle.rrc_c.proofs.shares.offer_share.Goals as goal
 
 pub returns-clause-ok : goal.returns-clause-ok
 returns-clause-ok c =
@@ -14,6 +15,7 @@ returns-clause-err c =
     map_err c.take_each.result _ _
     (λ status first. inr (record {
       below = c.in_ok-offers.ensures.below;
-      takes = subst (λ offers. (at : ℕ) → AreAt at offers → TakesFirst (number_of status) c.args.line at offers c.take_each.new.counts c.args.shelf.now c.take_each.new.shelf) c.in_ok-offers.ensures.share first;
+      takes = subst (λ offers. (at : ℕ) → AreAt at offers → TakesFirst (number_of status) c.args.line at offers c.take_each.new.counts c.args.shelf.now c.take_each.new.shelf) c.in_ok-offers.ensures.share first
+          c.args.reading.now.moment (share_at c.args.part c.args.reading.now);
     }))
     c.take_each.ensures.err
