@@ -742,10 +742,10 @@ rrcache_read_response(struct rrcache_offers *offers, const struct rrcache_respon
 }
 
 /* Offers a shelf what was read of the names that lie in a part, counted from 0 and below the number
-   of parts that the message was read for. After `rrcache_read_message` that is what
-   `rrcache_offer_part` offers, without reading the message again. The offers stay in their handle,
-   so that a part may be offered again, and what the shelf keeps of them outlives the handle. No
-   name and no data are copied. */
+   of parts that the message was read for, at the moment of the response. After
+   `rrcache_read_message` that is what `rrcache_offer_part` offers, without reading the message
+   again. The offers stay in their handle, so that a part may be offered again, and what the shelf
+   keeps of them outlives the handle. No name and no data are copied. */
 static inline enum rrcache_status rrcache_offer_read(struct rrcache_shelf *shelf,
                                                      struct rrcache_offers *offers, uint64_t part,
                                                      uint64_t line, struct rrcache_counts *counts)
