@@ -1,6 +1,7 @@
 -- SPDX-License-Identifier: MIT
 -- What an archive tells: a history, or why it tells none.
-use Rattle.std.specs.Prelude.{◌≡◌, ◌⊎◌, ◌+◌, ◌<◌, ◌≤◌, ◌^◌, ℕ, List, [], ◌∷◌, ◌++◌, length, map, Some, None}
+use Rattle.std.specs.Prelude.{◌≡◌, ◌⊎◌, ◌+◌, ◌<◌, ◌≤◌, ◌^◌, ℕ, List, [], ◌∷◌, ◌++◌, codes, length, map, Some, None}
+use Rattle.std.specs.Fmt.{decimal}
 use Rattle.std.specs.List.{AllByRecursion, flat_map}
 use Rattle.rrc_cache.specs.declared.classless.ChapterFault.{ChapterFault}
 use Rattle.rrc_cache.specs.declared.classless.ChapterFault.TheVariants as refusal
@@ -14,6 +15,7 @@ use Rattle.rrc_history.specs.declared.snapshot.SnapshotFault.{SnapshotFault}
 use Rattle.rrc_history.specs.Audits.{IsFirstBad}
 use Rattle.rrc_history.specs.Chains.{WholeOf, IsWhole, chain_fault}
 use Rattle.rrc_history.specs.Chapters.{ChapterOf, IsChapter}
+use Rattle.rrc_history.specs.Faults.{chain_fault_text, snapshot_fault_text}
 use Rattle.rrc_history.specs.Snapshots.{snapshot_fault}
 use Rattle.rrc_trace.specs.Archive.{WrittenOf, written_of, archive_text, lines_of}
 use Rattle.rrc_trace.specs.ArchiveFaults.{StopsAt}
@@ -81,6 +83,18 @@ HasBadNumber chapter = (chapter.number ≡ 0) ⊎ (2 ^ 62 ≤ chapter.number)
 abbrev pub HasBadEvent : ℕ → ℕ → Reason → List WrittenOf → WrittenOf → Type 0
 HasBadEvent event line reason before chapter =
     IsWhyUnlawful (opening_of chapter) chapter.events event reason × (line ≡ line_of before chapter.entries event)
+
+-- the text of why octets tell no history
+abbrev pub fault_text : HistoryFault → List ℕ
+fault_text Empty = codes "the archive has no chapters"
+fault_text (BadLine line) = codes "line " ++ (decimal line ++ codes " is not a line of an archive")
+fault_text (BadEntry chapter fault) =
+    codes "chapter " ++ (decimal chapter ++ (codes " begins with entries that no part holds: " ++ snapshot_fault_text fault))
+fault_text (BadNumber chapter) = codes "chapter " ++ (decimal chapter ++ codes " has a number that no closed chapter has")
+fault_text (NotLegal chapter event line reason) =
+    codes "event " ++ (decimal event ++ (codes " of chapter " ++ (decimal chapter ++ codes " is not right after those before it")))
+fault_text (Broken fault) = chain_fault_text fault
+fault_text Memory = codes "memory was refused"
 
 -- why octets tell no history; of a bad line that octets are an archive up to it, and with it none
 abbrev pub IsWhyNoHistory : List ℕ → HistoryFault → Type 0

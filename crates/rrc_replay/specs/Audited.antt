@@ -11,7 +11,7 @@ use Rattle.rrc_replay.specs.declared.unlawful.Reason.{Reason}
 use Rattle.rrc_history.specs.Chains.{WholeOf}
 use Rattle.rrc_history.specs.Chapters.{ChapterOf}
 use Rattle.rrc_history.specs.Right.{IsLegal}
-use Rattle.rrc_replay.specs.Archives.{AreHistory, IsWhyNoHistory}
+use Rattle.rrc_replay.specs.Archives.{AreHistory, IsWhyNoHistory, fault_text}
 use Rattle.rrc_replay.specs.declared.archive.HistoryFault.{HistoryFault}
 use Rattle.rrc_replay.specs.declared.archive.HistoryFault.TheVariants.{Empty, BadLine, BadEntry, BadNumber, NotLegal, Broken, Memory}
 use Rattle.rrc_replay.specs.declared.audited.Finding.{Finding}
@@ -30,9 +30,9 @@ pub record IsToldLegal (octets text : List ℕ) : Type 0 where
   pub legal : IsLegal whole.snapshot (reverse whole.events)
   pub told : text ≡ legal_text (length chapters) (length whole.events) whole.snapshot.first
 
--- not legal: and why in some words
-abbrev pub SaysNotLegal : List ℕ → Type 0
-SaysNotLegal text = (words : List ℕ) × (text ≡ codes "not legal: " ++ (words ++ 10 ∷ []))
+-- not legal: and why
+abbrev pub why_text : HistoryFault → List ℕ
+why_text fault = codes "not legal: " ++ (fault_text fault ++ 10 ∷ [])
 
 -- not legal: chapter N of the archive, event K (line L)
 abbrev pub place_text : ℕ → ℕ → ℕ → List ℕ
@@ -56,22 +56,23 @@ due_text (Some due) = event_line (codes "due: ") due.event ++ flat_map held_line
 abbrev pub reason_text : Reason → List ℕ
 reason_text reason = event_line (codes "written: ") reason.written ++ due_text reason.due
 
--- the text says why a history is not legal
-abbrev pub IsRefusal : HistoryFault → List ℕ → Type 0
-IsRefusal Empty text = SaysNotLegal text
-IsRefusal (BadLine line) text = SaysNotLegal text
-IsRefusal (BadEntry chapter fault) text = SaysNotLegal text
-IsRefusal (BadNumber chapter) text = SaysNotLegal text
-IsRefusal (NotLegal chapter event line reason) text = text ≡ place_text chapter event line ++ reason_text reason
-IsRefusal (Broken fault) text = SaysNotLegal text
-IsRefusal Memory text = SaysNotLegal text
+-- why a history is not legal: of an event that is not right its place and what is due, and else the
+-- fault in words
+abbrev pub refusal_text : HistoryFault → List ℕ
+refusal_text Empty = why_text Empty
+refusal_text (BadLine line) = why_text (BadLine line)
+refusal_text (BadEntry chapter fault) = why_text (BadEntry chapter fault)
+refusal_text (BadNumber chapter) = why_text (BadNumber chapter)
+refusal_text (NotLegal chapter event line reason) = place_text chapter event line ++ reason_text reason
+refusal_text (Broken fault) = why_text (Broken fault)
+refusal_text Memory = why_text Memory
 
 -- the octets tell no legal history, and the text says so
 pub record IsToldNot (octets text : List ℕ) : Type 0 where
   pub fault : HistoryFault
   pub why : IsWhyNoHistory octets fault
   pub known : fault ≡ Memory → ⊥
-  pub told : IsRefusal fault text
+  pub told : text ≡ refusal_text fault
 
 -- what was found is so, and the text tells it
 abbrev pub IsAudit : List ℕ → Finding → List ℕ → Type 0

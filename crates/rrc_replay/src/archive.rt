@@ -18,24 +18,25 @@ use rrc_history::{
 use rrc_name::Shared;
 use rrc_trace::{ArchiveFault, WrittenChapter, read_archive};
 use std::alloc::{AllocError, AllocFailed, Global};
-use thiserror::Error;
+use std::error::Error;
+use std::fmt::{self, Display, Formatter, Write};
 
 /// Why octets are no archive of a history. Chapters of an archive, events of a chapter and lines
 /// are counted from 0.
-#[derive(Debug, Drop, Error)]
+#[derive(Debug, Drop)]
 pub enum HistoryFault {
-    #[error("the archive has no chapters")]
+    /// There are no octets.
     Empty,
-    #[error("line {0} is not a line of an archive")]
+    /// The octets are an archive up to this line, and with it none.
     BadLine(u64),
-    #[error("chapter {chapter} begins with entries that no part holds: {fault}")]
+    /// The chapter begins with entries that no part holds.
     BadEntry {
         chapter: usize,
         fault: SnapshotFault,
     },
-    #[error("chapter {0} has a number that no closed chapter has")]
+    /// The chapter has a number that no closed chapter has.
     BadNumber(usize),
-    #[error("event {event} of chapter {chapter} is not right after those before it")]
+    /// The event is not right after those before it.
     NotLegal {
         chapter: usize,
         event: usize,
@@ -44,11 +45,39 @@ pub enum HistoryFault {
         reason: Reason,
     },
     /// Of this chapter or one before it each event is right, and it does not go on from the last.
-    #[error("{0}")]
     Broken(ChainFault),
-    #[error("memory was refused")]
     Memory,
 }
+
+impl Display for HistoryFault {
+    ghost use Rattle.std.specs.Prelude.{Some};
+    ghost use Rattle.rrc_replay.specs.Archives.{fault_text};
+
+    ghost output = { λ fault. Some (fault_text fault) };
+
+    fn fmt<W: Write>(&self, f: &mut Formatter<W>) -> fmt::Result {
+        match self {
+            HistoryFault::Empty => f.write_str("the archive has no chapters"),
+            HistoryFault::BadLine(line) => write!(f, "line {line} is not a line of an archive"),
+            HistoryFault::BadEntry { chapter, fault } => write!(
+                f,
+                "chapter {chapter} begins with entries that no part holds: {fault}"
+            ),
+            HistoryFault::BadNumber(chapter) => write!(
+                f,
+                "chapter {chapter} has a number that no closed chapter has"
+            ),
+            HistoryFault::NotLegal { chapter, event, .. } => write!(
+                f,
+                "event {event} of chapter {chapter} is not right after those before it"
+            ),
+            HistoryFault::Broken(fault) => write!(f, "{fault}"),
+            HistoryFault::Memory => f.write_str("memory was refused"),
+        }
+    }
+}
+
+impl Error for HistoryFault {}
 
 impl From<AllocError> for HistoryFault {
     ghost use Rattle.std.specs.Prelude.{◌≡◌};

@@ -3,7 +3,7 @@
 ghost use Rattle.std.specs.Prelude.{◌≡◌, ◌++◌, ◌∷◌, [], length, IfOk, OnOk};
 ghost use Rattle.std.specs.List.{flat_map};
 ghost use Rattle.rrc_trace.specs.Archive.{line_text};
-ghost use Rattle.rrc_replay.specs.Audited.{IsAudit, SaysNotLegal, IsRefusal, IsToldLegal, due_text, held_line, legal_text, place_text, reason_text};
+ghost use Rattle.rrc_replay.specs.Audited.{IsAudit, IsToldLegal, due_text, held_line, legal_text, place_text, reason_text, refusal_text, why_text};
 
 use crate::archive::{Counted, HistoryFault, counted_in};
 use crate::unlawful::{Due, Reason};
@@ -73,7 +73,7 @@ fn legal_text(
 
 /// That a history is not legal, and why.
 fn refusal(alloc: Global, fault: &HistoryFault) -> Result<Vec<u8>, AllocError>
-    ensures { IfOk result (λ text. IsRefusal fault.now text.items) }
+    ensures { IfOk result (λ text. text.items ≡ refusal_text fault.now) }
 {
     match fault {
         HistoryFault::NotLegal {
@@ -82,20 +82,19 @@ fn refusal(alloc: Global, fault: &HistoryFault) -> Result<Vec<u8>, AllocError>
             line,
             reason,
         } => unlawful_text(alloc, *chapter, *event, *line, reason),
-        HistoryFault::Empty => one_line(alloc, fault),
-        HistoryFault::BadLine(_) => one_line(alloc, fault),
-        HistoryFault::BadEntry { .. } => one_line(alloc, fault),
-        HistoryFault::BadNumber(_) => one_line(alloc, fault),
-        HistoryFault::Broken(_) => one_line(alloc, fault),
-        HistoryFault::Memory => one_line(alloc, fault),
+        HistoryFault::Empty => why_text(alloc, fault),
+        HistoryFault::BadLine(_) => why_text(alloc, fault),
+        HistoryFault::BadEntry { .. } => why_text(alloc, fault),
+        HistoryFault::BadNumber(_) => why_text(alloc, fault),
+        HistoryFault::Broken(_) => why_text(alloc, fault),
+        HistoryFault::Memory => why_text(alloc, fault),
     }
 }
 
-fn one_line(alloc: Global, fault: &HistoryFault) -> Result<Vec<u8>, AllocError>
-    ensures { IfOk result (λ text. SaysNotLegal text.items) }
+fn why_text(alloc: Global, fault: &HistoryFault) -> Result<Vec<u8>, AllocError>
+    ensures { IfOk result (λ text. text.items ≡ why_text fault.now) }
 {
-    let why = format!(in alloc; "{fault}")?;
-    let text = format!(in alloc; "not legal: {why}\n")?;
+    let text = format!(in alloc; "not legal: {fault}\n")?;
     Ok(text.into_bytes())
 }
 
