@@ -55,7 +55,8 @@ fn tell(reply: ReplyRef<'_>, told: &mut ReplyRecord, buffer: &mut [u8]) -> Optio
     Some(fits)
 }
 
-/// Tells what a shelf would answer, and writes nothing. False is answered where the buffer is too small.
+/// Tells what a shelf would answer, and writes nothing. False is answered where the buffer is too
+/// small.
 fn show(
     shelf: &CacheShelf,
     ask: AskRef<'_>,
@@ -160,8 +161,9 @@ fn answer_lean(
     Ok(fits)
 }
 
-/// Answers a question, which is one event. False is answered where the buffer is too small, and then
-/// no event is written. It takes memory only where the history is recorded, which keeps the question.
+/// Answers a question, which is one event. False is answered where the buffer is too small, and
+/// then no event is written. It takes memory only where the history is recorded, which keeps the
+/// question.
 fn answer(
     alloc: Global,
     shelf: &mut CacheShelf,

@@ -425,7 +425,8 @@ pub extern "C" fn rrc_sizes(
     0
 }
 
-/// Tells of what a shelf holds of a name, a type and a class how far it is trusted, its time to live and when it was stored.
+/// Tells of what a shelf holds of a name, a type and a class how far it is trusted, its time to
+/// live and when it was stored.
 #[unsafe(no_mangle)]
 pub extern "C" fn rrc_stored(
     alloc: Global,

@@ -1,6 +1,6 @@
 // SPDX-License-Identifier: MIT
-/// What became of the offers of a message: how many were kept, how many cleared what their key held, and how many were refused, since
-/// what their key holds is trusted more.
+/// What became of the offers of a message: how many were kept, how many cleared what their key
+/// held, and how many were refused, since what their key holds is trusted more.
 #[repr(C)]
 #[derive(Clone, Copy, Debug)]
 pub struct Counts {

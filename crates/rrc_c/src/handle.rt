@@ -7,7 +7,8 @@ use rrc_share::CacheShelf;
 use std::alloc::Global;
 use std::mem;
 
-/// A shelf, if it was made and not freed. C owns it, and writes nothing into it but zeros, before it is made.
+/// A shelf, if it was made and not freed. C owns it, and writes nothing into it but zeros, before
+/// it is made.
 #[repr(C)]
 #[derive(Drop)]
 pub struct Handle {

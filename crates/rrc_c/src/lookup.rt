@@ -48,7 +48,8 @@ fn stored_of(held: Option<Held<'_>>) -> Stored
     }
 }
 
-/// What a shelf holds of a name, a type and a class: a set, or that the name has no data of the type.
+/// What a shelf holds of a name, a type and a class: a set, or that the name has no data of the
+/// type.
 pub(crate) fn stored_in(
     shelf: &CacheShelf,
     name: &[u8],

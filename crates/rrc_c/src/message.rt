@@ -33,7 +33,8 @@ fn placed_in(
     Ok(placed)
 }
 
-/// A reading of offers of one moment, each beside the part of its name by a seed, so many being all.
+/// A reading of offers of one moment, each beside the part of its name by a seed, so many being
+/// all.
 pub(crate) fn reading_of(
     alloc: Global,
     offers: Vec<Offer>,

@@ -7,8 +7,8 @@ use crate::reading_seal::ReadingSeal;
 use std::alloc::Global;
 use std::mem;
 
-/// The offers of a message, if one was read and they were not freed. C owns it, and writes nothing into it but zeros, before a
-/// message is read.
+/// The offers of a message, if one was read and they were not freed. C owns it, and writes nothing
+/// into it but zeros, before a message is read.
 #[repr(C)]
 #[derive(Drop)]
 pub struct Offers {

@@ -49,8 +49,8 @@ pub extern "C" fn rrc_read_message(
     }
 }
 
-/// Reads a response to a query into a handle that holds no offers: what of it is relevant. It tells in which of so many parts these
-/// offers lie by a seed, as bits.
+/// Reads a response to a query into a handle that holds no offers: what of it is relevant. It tells
+/// in which of so many parts these offers lie by a seed, as bits.
 #[unsafe(no_mangle)]
 pub extern "C" fn rrc_read_response(
     alloc: Global,

@@ -8,7 +8,8 @@ use rrc_history::{Reply, ReplyRef, SetRef, SoaRef};
 use rrc_name::Octets;
 use std::slice;
 
-/// What a reply is, and how many octets of the buffer it takes: those of the owner and behind them those of the data.
+/// What a reply is, and how many octets of the buffer it takes: those of the owner and behind them
+/// those of the data.
 #[repr(C)]
 #[derive(Clone, Copy, Debug)]
 pub struct ReplyRecord {
@@ -126,7 +127,8 @@ fn retry_of(reply: ReplyRef<'_>) -> u64
     }
 }
 
-/// The record of a reply, where each of its data has as many octets as its length can tell, and all can be counted.
+/// The record of a reply, where each of its data has as many octets as its length can tell, and all
+/// can be counted.
 pub(crate) fn told_of(reply: ReplyRef<'_>) -> Option<ReplyRecord>
     ensures told { IfSome result (λ told. told ≡ told_of (reply_in reply.entry)) }
     ensures some { IfSome result (λ told. AreTellable (data_of (reply_in reply.entry))) }

@@ -34,7 +34,8 @@ fn query_of(alloc: Global, id: u16, name: &[u8], rtype: u16, class: u16) -> Resu
     Ok(Query { id, question })
 }
 
-/// What of octets is relevant to a query, or `None` where they are a message that answers another one.
+/// What of octets is relevant to a query, or `None` where they are a message that answers another
+/// one.
 fn relevant_in(
     alloc: Global,
     octets: &[u8],
@@ -57,8 +58,8 @@ fn relevant_in(
     }
 }
 
-/// Reads a response to a query that a zone's server sent, so many parts being all, by a seed; `None`
-/// where it answers another query.
+/// Reads a response to a query that a zone's server sent, so many parts being all, by a seed;
+/// `None` where it answers another query.
 pub(crate) fn read_response(
     alloc: Global,
     octets: &[u8],

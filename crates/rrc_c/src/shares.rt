@@ -27,7 +27,8 @@ fn bit_of(placed: &[Placed], part: u64) -> u64
     if has_part(placed, part) { 1 << part } else { 0 }
 }
 
-/// The parts in which offers lie, so many being all, as bits: 1 for part 0, 2 for part 1, and so on.
+/// The parts in which offers lie, so many being all, as bits: 1 for part 0, 2 for part 1, and so
+/// on.
 pub(crate) fn parts_concerned(placed: &[Placed], parts: u64) -> u64
     requires { parts ≤ 64 }
     ensures { result ≡ parts_below placed.now parts }
@@ -87,13 +88,14 @@ pub(crate) fn offer_share(
     take_each(shelf, line, offers, counts)
 }
 
-/// What a reading of a message offers by a part is what `rrc_offer_part` offers of the message to that part, each offer with the
-/// same tag. The function does nothing; its contract is the law.
+/// What a reading of a message offers by a part is what `rrc_offer_part` offers of the message to
+/// that part, each offer with the same tag. The function does nothing; its contract is the law.
 pub fn a_share_is_what_a_part_is_offered()
     ensures { ShareIsPart }
 {}
 
-/// A refusal of a share leaves what a refusal of `rrc_offer_part` leaves. The function does nothing; its contract is the law.
+/// A refusal of a share leaves what a refusal of `rrc_offer_part` leaves. The function does
+/// nothing; its contract is the law.
 pub fn a_refused_share_leaves_what_a_part_leaves()
     ensures { RefusedShareIsPart }
 {}

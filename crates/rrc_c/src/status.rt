@@ -5,7 +5,8 @@ ghost use Rattle.rrc_c.specs.Statuses.{number_of};
 use rrc_cache::Refusal;
 use std::alloc::{AllocError, AllocFailed};
 
-/// Why a shelf did not do what was called for. The numbers are those of `include/rrcache.h`, where 0 is a call that was done.
+/// Why a shelf did not do what was called for. The numbers are those of `include/rrcache.h`, where
+/// 0 is a call that was done.
 #[derive(Clone, Copy, Debug, PartialEq, Eq)]
 pub(crate) enum Status {
     /// Memory was refused.
@@ -45,7 +46,8 @@ pub(crate) const HAS_SHELF: u32 = 2;
 /// What C is told where the buffer is too small for the answer, whose size is then told.
 pub(crate) const SMALL_BUFFER: u32 = 16;
 
-/// What C is told where the handle holds no offers; 17 is told by the header's inline functions alone.
+/// What C is told where the handle holds no offers; 17 is told by the header's inline functions
+/// alone.
 pub(crate) const NO_OFFERS: u32 = 18;
 
 /// What C is told where the handle that is to be read into holds offers already.
@@ -60,8 +62,8 @@ pub(crate) const NO_CHAPTERS: u32 = 21;
 /// What C is told where the handle that chapters are to be put into holds some already.
 pub(crate) const HAS_CHAPTERS: u32 = 22;
 
-/// What C is told where there is no such chapter, or it has no such line; 24 is told by the header's
-/// inline functions alone.
+/// What C is told where there is no such chapter, or it has no such line; 24 is told by the
+/// header's inline functions alone.
 pub(crate) const NO_LINE: u32 = 23;
 
 impl Status {

@@ -1,5 +1,6 @@
 // SPDX-License-Identifier: MIT
-/// Of what is kept under a key: how far it is trusted, its time to live when it was stored, and that moment, in seconds.
+/// Of what is kept under a key: how far it is trusted, its time to live when it was stored, and
+/// that moment, in seconds.
 #[repr(C)]
 #[derive(Clone, Copy, Debug)]
 pub struct Stored {

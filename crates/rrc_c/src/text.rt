@@ -26,7 +26,8 @@ fn put_datum(buffer: &mut [u8], at: usize, octets: &[u8])
     put(buffer, at + 2, octets);
 }
 
-/// How many octets data take, each behind its length, where each has as many as its length can tell, and they can be counted.
+/// How many octets data take, each behind its length, where each has as many as its length can
+/// tell, and they can be counted.
 pub(crate) fn size_of_data(items: &[Octets]) -> Option<usize>
     ensures size { IfSome result (λ size. size ≡ length (data_text items.now)) }
     ensures some { IfSome result (λ size. AreTellable items.now) }

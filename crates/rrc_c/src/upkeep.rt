@@ -135,8 +135,8 @@ pub fn keys_times_the_most_bound_the_octets()
 
 /// The law of the octets that `rrc_sizes` tells of a shelf that was offered failures and what is
 /// relevant of responses alone (`rrc_read_response`): they are at most the keys times a number, by
-/// the octets of the largest response, and at most the keys times 302,830. The function does nothing;
-/// its contract is the law.
+/// the octets of the largest response, and at most the keys times 302,830. The function does
+/// nothing; its contract is the law.
 pub fn responses_bound_the_octets()
     ensures bounded { FedAreBounded }
     ensures at_any_size { AreBoundedAtAnySize }
