@@ -16,47 +16,45 @@ use Rattle.rrc_history.specs.Equality.{entry_eq, rules_eq, snapshot_eq}
 use Rattle.rrc_history.specs.Snapshots.{SnapshotOf}
 use Rattle.rrc_history.specs.lemmas.EqualityLaws.{entry_eq-Decides, snapshot_eq-Decides}
 use Rattle.rrc_trace.specs.Archive.{WrittenOf, written_of, archive_text, chapter_text, entry_text, event_text, lines_of, text_of_lines}
-use Rattle.rrc_trace.specs.ArchiveLaw.{IsOnlyArchive}
 use Rattle.rrc_replay.specs.declared.archive.HistoryFault.{HistoryFault}
 use Rattle.rrc_replay.specs.declared.archive.HistoryFault.TheVariants.{Empty, BadLine, BadEntry, BadNumber, NotLegal, Broken, Memory}
-use Rattle.rrc_replay.specs.Archives.{AreLinesFew, HasBadEvent, TellsChapter, IsWhyNoHistory, IsFaultBehind, line_of}
+use Rattle.rrc_replay.specs.Archives.{AreLinesFew, HasBadEvent, IsArchiveOf, TellsChapter, IsWhyNoHistory, IsFaultBehind, line_of}
 
 told : (before : List WrittenOf) (chapter : WrittenOf) (behind all : List WrittenOf) (place : ℕ) (Holds : List WrittenOf → WrittenOf → Type 0)
-    → before ++ chapter ∷ behind ≡ all → IsOnlyArchive (archive_text all) all → place ≡ length before → Holds before chapter → TellsChapter (archive_text all) place Holds
-told before chapter behind all place Holds are only at so = record {
+    → before ++ chapter ∷ behind ≡ all → IsArchiveOf (archive_text all) all → place ≡ length before → Holds before chapter → TellsChapter (archive_text all) place Holds
+told before chapter behind all place Holds are archive at so = record {
   before = before;
   chapter = chapter;
   behind = behind;
-  text = ap (λ (chapters : List WrittenOf). archive_text chapters) (sym are);
-  only = subst (λ (chapters : List WrittenOf). IsOnlyArchive (archive_text all) chapters) (sym are) only;
+  archive = subst (λ (chapters : List WrittenOf). IsArchiveOf (archive_text all) chapters) (sym are) archive;
   at = at;
   so = so;
 }
 
 -- what is wrong with a chapter behind others is wrong with the archive
 told_among : (made : List ChapterOf) (before : List WrittenOf) (chapter : WrittenOf) (behind all : List WrittenOf) (fault : HistoryFault)
-    → before ++ chapter ∷ behind ≡ all → IsOnlyArchive (archive_text all) all → map written_of made ≡ before → length made ≡ length before
+    → before ++ chapter ∷ behind ≡ all → IsArchiveOf (archive_text all) all → map written_of made ≡ before → length made ≡ length before
     → IsFaultBehind made chapter fault → IsWhyNoHistory (archive_text all) fault
-told_among made before chapter behind all Empty are only is number why = absurd why
-told_among made before chapter behind all (BadLine line) are only is number why = absurd why
-told_among made before chapter behind all (BadEntry at fault) are only is number why =
-    told before chapter behind all at _ are only (why.0 ∙ number) why.1
-told_among made before chapter behind all (BadNumber at) are only is number why =
-    told before chapter behind all at _ are only (why.0 ∙ number) why.1
-told_among made before chapter behind all (NotLegal at event line reason) are only is number why =
-    told before chapter behind all at (HasBadEvent event line reason) are only (why.0 ∙ number)
+told_among made before chapter behind all Empty are archive is number why = absurd why
+told_among made before chapter behind all (BadLine line) are archive is number why = absurd why
+told_among made before chapter behind all (BadEntry at fault) are archive is number why =
+    told before chapter behind all at _ are archive (why.0 ∙ number) why.1
+told_among made before chapter behind all (BadNumber at) are archive is number why =
+    told before chapter behind all at _ are archive (why.0 ∙ number) why.1
+told_among made before chapter behind all (NotLegal at event line reason) are archive is number why =
+    told before chapter behind all at (HasBadEvent event line reason) are archive (why.0 ∙ number)
     (subst (λ (others : List WrittenOf). HasBadEvent event line reason others chapter) is why.1)
-told_among made before chapter behind all (Broken fault) are only is number why = absurd why
-told_among made before chapter behind all Memory are only is number why = tt
+told_among made before chapter behind all (Broken fault) are archive is number why = absurd why
+told_among made before chapter behind all Memory are archive is number why = tt
 
 -- why the chapter is none that is told behind others is handed on as why there is no history
 pub handed_on : {A : Type 0} (result : Result A HistoryFault) (before : List WrittenOf) (chapter : WrittenOf) (behind all : List WrittenOf)
-    (made : List ChapterOf) (fault : HistoryFault) → IsErrAnd result (λ e. e ≡ fault) → before ++ chapter ∷ behind ≡ all → IsOnlyArchive (archive_text all) all
+    (made : List ChapterOf) (fault : HistoryFault) → IsErrAnd result (λ e. e ≡ fault) → before ++ chapter ∷ behind ≡ all → IsArchiveOf (archive_text all) all
     → map written_of made ≡ before → IsFaultBehind made chapter fault → IfErr result (IsWhyNoHistory (archive_text all))
-handed_on (Ok x) before chapter behind all made fault on are only is why = absurd on
-handed_on (Err e) before chapter behind all made fault on are only is why =
+handed_on (Ok x) before chapter behind all made fault on are archive is why = absurd on
+handed_on (Err e) before chapter behind all made fault on are archive is why =
     let number : length made ≡ length before = sym (length-map made written_of) ∙ ap length is in
-    subst (IsWhyNoHistory (archive_text all)) (sym on) (told_among made before chapter behind all fault are only is number why)
+    subst (IsWhyNoHistory (archive_text all)) (sym on) (told_among made before chapter behind all fault are archive is number why)
 
 -- ---- lines
 

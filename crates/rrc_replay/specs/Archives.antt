@@ -19,17 +19,22 @@ use Rattle.rrc_history.specs.Faults.{chain_fault_text, snapshot_fault_text}
 use Rattle.rrc_history.specs.Snapshots.{snapshot_fault}
 use Rattle.rrc_trace.specs.Archive.{WrittenOf, written_of, archive_text, lines_of}
 use Rattle.rrc_trace.specs.ArchiveFaults.{StopsAt}
-use Rattle.rrc_trace.specs.ArchiveLaw.{IsOnlyArchive}
+use Rattle.rrc_trace.specs.ArchiveLaw.{HoldsChapter, IsOnlyArchive}
 use Rattle.rrc_replay.specs.declared.unlawful.Reason.{Reason}
 use Rattle.rrc_replay.specs.Unlawful.{IsWhyUnlawful}
 use Rattle.rrc_replay.specs.declared.archive.Counted.{Counted}
 use Rattle.rrc_replay.specs.declared.archive.HistoryFault.{HistoryFault}
 use Rattle.rrc_replay.specs.declared.archive.HistoryFault.TheVariants.{Empty, BadLine, BadEntry, BadNumber, NotLegal, Broken, Memory}
 
--- the octets are what is written of these chapters and of no others, and each is legal in itself
+-- the octets are what is written of these chapters, which Rust can hold, and of no others that it can
+pub record IsArchiveOf (octets : List ℕ) (chapters : List WrittenOf) : Type 0 where
+  pub written : octets ≡ archive_text chapters
+  pub held : AllByRecursion HoldsChapter chapters
+  pub only : IsOnlyArchive octets chapters
+
+-- the octets are the archive of these chapters, and each is legal in itself
 pub record AreChapters (octets : List ℕ) (chapters : List ChapterOf) : Type 0 where
-  pub written : octets ≡ archive_text (map written_of chapters)
-  pub only : IsOnlyArchive octets (map written_of chapters)
+  pub archive : IsArchiveOf octets (map written_of chapters)
   pub legal : AllByRecursion IsChapter chapters
 
 -- the octets tell these chapters, which go on from one another, and are this history
@@ -46,13 +51,12 @@ TellsHistory octets whole = (chapters : List ChapterOf) × AreHistory octets cha
 abbrev pub TellsCounted : List ℕ → Counted → Type 0
 TellsCounted octets counted = (chapters : List ChapterOf) × (length chapters ≡ counted.chapters) × AreHistory octets chapters counted.whole
 
--- the octets are what is written of some chapters and of no others, and this holds of the one at a place
+-- the octets are the archive of some chapters, and this holds of the one at a place
 pub record TellsChapter (octets : List ℕ) (place : ℕ) (Holds : List WrittenOf → WrittenOf → Type 0) : Type 0 where
   pub before : List WrittenOf
   pub chapter : WrittenOf
   pub behind : List WrittenOf
-  pub text : octets ≡ archive_text (before ++ chapter ∷ behind)
-  pub only : IsOnlyArchive octets (before ++ chapter ∷ behind)
+  pub archive : IsArchiveOf octets (before ++ chapter ∷ behind)
   pub at : place ≡ length before
   pub so : Holds before chapter
 

@@ -7,8 +7,7 @@ ghost use Rattle.rrc_history.specs.Chapters.{IsChapter, LeadTo};
 ghost use Rattle.rrc_history.specs.Equality.{rules_eq};
 ghost use Rattle.rrc_history.specs.WholeLaws.{AllKeepLaws};
 ghost use Rattle.rrc_trace.specs.Archive.{archive_text, lines_of, written_of};
-ghost use Rattle.rrc_trace.specs.ArchiveLaw.{IsOnlyArchive};
-ghost use Rattle.rrc_replay.specs.Archives.{AreChapters, AreLinesFew, TellsHistory, TellsCounted, IsWhyNoHistory, IsFaultBehind, IsNoOpening, IsToldBehind, IsWhyBroken, HasWhy, line_of};
+ghost use Rattle.rrc_replay.specs.Archives.{AreChapters, AreLinesFew, IsArchiveOf, TellsHistory, TellsCounted, IsWhyNoHistory, IsFaultBehind, IsNoOpening, IsToldBehind, IsWhyBroken, HasWhy, line_of};
 
 use crate::unlawful::{Reason, why_unlawful};
 use rrc_cache::{ChapterFault, NotRestored, restored_chapter};
@@ -164,7 +163,7 @@ fn restored(
     written: Vec<WrittenChapter>,
     seed: [u8; 16],
 ) -> Result<Vec<Chapter>, HistoryFault>
-    requires only { IsOnlyArchive (archive_text written.items) written.items }
+    requires archive { IsArchiveOf (archive_text written.items) written.items }
     requires few { length (flat_map lines_of written.items) < 2 ^ 64 }
     ensures ok { IfOk result (λ chapters. map written_of chapters.items ≡ written.items) }
     ensures legal { IfOk result (λ chapters. AllByRecursion IsChapter chapters.items) }

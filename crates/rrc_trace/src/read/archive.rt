@@ -127,6 +127,7 @@ fn cut_behind_lf(octets: &[u8]) -> Option<(&[u8], &[u8])>
 /// memory. `Memory` comes at will. The time goes with the octets, and so does the memory.
 pub fn read_archive(alloc: Global, octets: &[u8]) -> Result<Vec<WrittenChapter>, ArchiveFault>
     ensures ok { IfOk result (λ chapters. octets.now ≡ archive_text chapters.items) }
+    ensures held { IfOk result (λ chapters. AllByRecursion HoldsChapter chapters.items) }
     ensures only { IfOk result (λ chapters. IsOnlyArchive octets.now chapters.items) }
     ensures line { IfErr result (IsFaultOfArchive octets.now) }
     ensures none { IfErr result (TellsNoArchive octets.now) }

@@ -1,9 +1,17 @@
 -- SPDX-License-Identifier: MIT
-use Rattle.std.proofs.Common.{◌≡◌, ◌≤◌, length, arith, ap}
+use Rattle.std.proofs.Common.{◌≡◌, ◌≤◌, length, arith, ap, refl, subst}
 use Rattle.std.specs.List.{flat_map}
 use Rattle.rrc_trace.specs.Archive.{archive_text, lines_of}
+use Rattle.rrc_trace.specs.ArchiveLaw.{IsOnlyArchive}
 use Rattle.rrc_replay.proofs.ArchiveLemmas.{archive_within}
 use Rattle.rrc_replay.proofs.archive.chapters_in.Goals as goal
+
+pub restored-requires-clause-archive : goal.restored-requires-clause-archive
+restored-requires-clause-archive c = record {
+  written = refl;
+  held = c.in-Ok.ensures.held;
+  only = subst (λ octets. IsOnlyArchive octets c.in-Ok.written.items) c.in-Ok.ensures.ok c.in-Ok.ensures.only;
+}
 
 pub restored-requires-clause-few : goal.restored-requires-clause-few
 restored-requires-clause-few c =

@@ -21,4 +21,4 @@ returns-in_err-chapter-clause-err c =
     let P : List ChapterOf → Type 0 = λ (made : List ChapterOf). IsFaultBehind made c.in-Some.one c.in_err-chapter.field-0.0 in
     let why : IsFaultBehind c.loop-one.chapters.items c.in-Some.one c.in_err-chapter.field-0.0 = subst P c.as_slice.ensures.value c.in_err-chapter.ensures.err in
     handed_on c.from_residual-in_err-chapter.result c.loop-one.yielded c.in-Some.one (into_iter_items c.next.new.self) c.args.written.items
-    c.loop-one.chapters.items c.in_err-chapter.field-0.0 c.from_residual-in_err-chapter.ensures.1 are c.requires.only c.loop-one.invariant.made why
+    c.loop-one.chapters.items c.in_err-chapter.field-0.0 c.from_residual-in_err-chapter.ensures.1 are c.requires.archive c.loop-one.invariant.made why

@@ -9,6 +9,9 @@ use Rattle.rrc_trace.proofs.GoesOnLemmas.{stops_with, stops_short, no_archive}
 use Rattle.rrc_trace.proofs.HeldLemmas.{only_archive}
 use Rattle.rrc_trace.proofs.read.archive.read_archive.Goals as goal
 
+pub returns-clause-held : goal.returns-clause-held
+returns-clause-held c = grind (arith, common_steps)
+
 pub returns-clause-only : goal.returns-clause-only
 returns-clause-only c =
     let held : AllByRecursion HoldsChapter c.in_ok-into_vec.field-0.items = grind (arith, common_steps) in
