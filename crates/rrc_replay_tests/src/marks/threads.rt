@@ -128,13 +128,13 @@ enum Met {
     Taken,
 }
 
-/// Whether the flag was raised within so many looks.
+/// Whether the flag was raised within so many looks, which are some tenths of a second of a
+/// processor. It never yields: how long that takes depends on what else runs there.
 fn wait_for(flag: &AtomicBool) -> bool {
-    for _ in 0..10_000_000 {
+    for _ in 0..300_000_000 {
         if flag.load(SeqCst) {
             return true;
         }
-        thread::yield_now();
     }
     false
 }
