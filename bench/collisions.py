@@ -14,8 +14,8 @@ import sys
 import tempfile
 
 TOP = pathlib.Path(__file__).resolve().parent.parent
-sys.path.insert(0, str(TOP / "bin"))
-from attacks import puts_and_asks
+sys.path.insert(0, str(TOP))
+from tests.hostile.attacks import puts_and_asks  # noqa: E402
 
 REPLAY = TOP / "crates" / "rrcache" / "out" / "rrcache"
 MOST = 1.5

@@ -19,15 +19,16 @@ import sys
 import threading
 
 TOP = pathlib.Path(__file__).resolve().parent.parent
-sys.path[:0] = [str(TOP / "bin"), str(TOP / "python")]
+sys.path[:0] = [str(TOP), str(TOP / "python")]
 LIBRARY = os.environ.setdefault("RRCACHE_LIBRARY", str(TOP / "build" / "librrcache.so"))
 PROGRAM = os.environ.get("RRCACHE_PROGRAM", TOP / "crates" / "rrcache" / "out" / "rrcache")
 if not pathlib.Path(LIBRARY).exists():
     sys.exit("build the library first: `bin/build-c`")
-import rrcache
-from attacks import ASKED, ENDS, LONG, MESSAGES, ROOT, label, many_keys, many_types, one_key
-from costs import memory, timed, used_by
-from dns import A, MINFO, TXT, question, record, response
+import rrcache  # noqa: E402
+from tests.hostile.attacks import (ASKED, ENDS, LONG, MESSAGES, ROOT, label,  # noqa: E402
+                                   many_keys, many_types, one_key)
+from tests.hostile.costs import memory, timed, used_by  # noqa: E402
+from tools.wire import A, MINFO, TXT, question, record, response, wire  # noqa: E402
 
 MOST_KEYS, SEED = 65_536, bytes(range(16))
 

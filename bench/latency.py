@@ -27,12 +27,12 @@ import time
 
 TOP = pathlib.Path(__file__).resolve().parent.parent
 FORWARDER = TOP / "examples" / "forwarder"
-sys.path[:0] = [str(TOP / "bin"), str(FORWARDER / "tests")]
+sys.path.insert(0, str(TOP))
 sys.dont_write_bytecode = True
-import attacks  # noqa: E402
-from dns import A, TXT, message, pointer, question, record  # noqa: E402
-from harness import QR, RD, TC, Forwarder, Server, address  # noqa: E402
-from model import part_of  # noqa: E402
+from tests.forwarder.harness import QR, RD, TC, Forwarder, Server, address  # noqa: E402
+from tests.hostile import attacks  # noqa: E402
+from tools.model import part_of  # noqa: E402
+from tools.wire import A, TXT, message, pointer, question, record  # noqa: E402
 from page import machine, write_section  # noqa: E402
 
 OTHERS, PARTS, TTL = 20, 16, 600

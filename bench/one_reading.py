@@ -17,9 +17,9 @@ import tempfile
 import textwrap
 
 TOP = pathlib.Path(__file__).resolve().parent.parent
-sys.path[:0] = [str(TOP / "bin"), str(TOP / "bench")]
-from attacks import many_keys, many_labels, many_types, one_key  # noqa: E402
-from dns import A, NS, question, record, response, wire  # noqa: E402
+sys.path.insert(0, str(TOP))
+from tests.hostile.attacks import many_keys, many_labels, many_types, one_key  # noqa: E402
+from tools.wire import A, NS, question, record, response, wire  # noqa: E402
 from page import machine, write_section  # noqa: E402
 
 PROGRAM = TOP / "build" / "one_reading"

@@ -13,8 +13,8 @@ import subprocess
 import sys
 import tempfile
 
-sys.path.insert(0, str(pathlib.Path(__file__).resolve().parent.parent / "bin"))
-from dns import A, opt, pointer, question, record, response
+sys.path.insert(0, str(pathlib.Path(__file__).resolve().parent.parent))
+from tools.wire import A, opt, pointer, question, record, response  # noqa: E402
 
 PROGRAM = pathlib.Path(__file__).resolve().parent.parent / "crates" / "rrcache" / "out" / "rrcache"
 NAMES = 4

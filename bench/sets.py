@@ -12,8 +12,9 @@ import subprocess
 import sys
 import tempfile
 
-sys.path.insert(0, str(pathlib.Path(__file__).resolve().parent.parent / "bin"))
-from dns import A, CNAME, MINFO, NS, PTR, SOA, pointer, question, record, response, soa_data, wire
+sys.path.insert(0, str(pathlib.Path(__file__).resolve().parent.parent))
+from tools.wire import (A, CNAME, MINFO, NS, PTR, SOA, pointer, question, record,  # noqa: E402
+                        response, soa_data, wire)
 
 PROGRAM = pathlib.Path(__file__).resolve().parent.parent / "crates" / "bench_sets" / "out" / "bench_sets"
 QUESTION = question("a.example.", A)

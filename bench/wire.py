@@ -13,9 +13,9 @@ import sys
 import tempfile
 import time
 
-sys.path.insert(0, str(pathlib.Path(__file__).resolve().parent.parent / "bin"))
-from attacks import chained
-from dns import A, CNAME, MINFO, NS, pointer, question, record, response, wire
+sys.path.insert(0, str(pathlib.Path(__file__).resolve().parent.parent))
+from tests.hostile.attacks import chained  # noqa: E402
+from tools.wire import A, CNAME, MINFO, NS, pointer, question, record, response, wire  # noqa: E402
 
 PROGRAM = pathlib.Path(__file__).resolve().parent.parent / "crates" / "bench_sets" / "out" / "bench_sets"
 QUESTION = question("a.example.", A)

@@ -1,0 +1,17 @@
+# SPDX-License-Identifier: MIT
+"""The tests around the program and the libraries. `run` in a folder runs what the folder tests, and
+bin/test runs all.
+
+  rows       worked traces with their reports, which bin/test runs
+  c          the library for C
+  forwarder  the forwarder of examples/forwarder, and then the package for Python
+  python     that package; what is here is run with the forwarder's tests
+  install    the library for C as bin/install-c installs it
+  tools      from-capture, what-if, why, fuzz, the model of the rules, and the program's options
+  captures   a capture that the tools are tested on
+  archives   audits of archives that the model of the rules makes
+  hostile    what hostile messages, names and traces cost
+  schedules  random traces by several workers
+  refusals   requests for memory and threads that are refused
+  documents  widths, links and paths of the documents
+"""

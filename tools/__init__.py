@@ -1,0 +1,13 @@
+# SPDX-License-Identifier: MIT
+"""What the commands of bin/, tests/ and bench/ share; nothing here is of the program or library.
+
+  names, wire, messages, traces   names, messages and traces, read and written
+  model, archive, audits          the rules of the cache, histories by them, and audits of these
+  grammar, mutation, trials       random traces, and what is compared on them
+  rows                            the worked traces of tests/rows
+  captures                        what bin/from-capture, bin/what-if and bin/why are made of
+  kit, lanes, processes           the Rattle kit, tasks side by side, and what these take
+  version, manual, debian         the library's version and man pages, and libraries of Debian's
+
+build-times has how long each crate takes, for bin/build, and proof-times tells the slowest proofs.
+"""

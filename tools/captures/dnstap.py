@@ -1,0 +1,117 @@
+# SPDX-License-Identifier: MIT
+"""Messages in dnstap files: protobuf records in frame streams, as resolvers write them.
+
+Debian has libraries for neither in Python but for protobuf itself, which wants the schema compiled;
+the few fields that are needed are read here. The formats: fstrm's frame streams, the encoding of
+protocol buffers, and dnstap.proto of dnstap.info.
+"""
+from tools.captures.packets import MICROSECONDS, NoCapture, Peer, Seen
+from tools.messages import name_at
+
+ESCAPE, FRAME_MOST = b"\0\0\0\0", 2**20
+CONTROL_STOP = 3
+CONTENT_TYPE = b"protobuf:dnstap.Dnstap"
+# What a message is, by its type: the side, and whether it is the response.
+ROLES = {
+    3: ("server", False), 4: ("server", True), 5: ("client", False), 6: ("client", True),
+    7: ("server", False), 8: ("server", True),
+}
+FORWARDER = (7, 8)
+DNSTAP_MESSAGE = 14
+TYPE, QUERY_ADDRESS, RESPONSE_ADDRESS, QUERY_PORT, RESPONSE_PORT = 1, 4, 5, 6, 7
+QUERY_SECONDS, QUERY_NANOS, QUERY, ZONE = 8, 9, 10, 11
+RESPONSE_SECONDS, RESPONSE_NANOS, RESPONSE = 12, 13, 14
+
+
+def is_dnstap(beginning):
+    """Whether a file with these first octets is a frame stream."""
+    return beginning[:4] == ESCAPE
+
+
+def frames(stream, counts):
+    """The data frames of a stream; a control frame stands behind an empty one."""
+    is_first = True
+    while size := stream.read(4):
+        is_control = size == ESCAPE
+        size = stream.read(4) if is_control else size
+        length = int.from_bytes(size, "big")
+        if len(size) < 4 or length > FRAME_MOST:
+            counts["file: a frame of no lawful length; the rest was not read"] += 1
+            return
+        frame = stream.read(length)
+        if len(frame) < length:
+            counts["file: it ends within a frame"] += 1
+            return
+        if is_first and CONTENT_TYPE not in frame:
+            raise NoCapture("a frame stream of something else than dnstap")
+        is_first = False
+        if not is_control:
+            yield frame
+        elif frame[:4] == CONTROL_STOP.to_bytes(4, "big"):
+            return
+
+
+def varint(octets, at):
+    """The number at a place, seven bits an octet, and the place behind it."""
+    value = shift = 0
+    while True:
+        value |= (octets[at] & 127) << shift
+        at, shift = at + 1, shift + 7
+        if not octets[at - 1] & 128:
+            return value, at
+
+
+def fields(octets):
+    """The fields of a protobuf record by their numbers; of several of one number the last."""
+    found, at = {}, 0
+    while at < len(octets):
+        tag, at = varint(octets, at)
+        kind = tag & 7
+        if kind == 0:
+            found[tag >> 3], at = varint(octets, at)
+            continue
+        size, at = varint(octets, at) if kind == 2 else ({1: 8, 5: 4}[kind], at)
+        if at + size > len(octets):
+            raise IndexError
+        value = octets[at:at + size]
+        found[tag >> 3] = value if kind == 2 else int.from_bytes(value, "little")
+        at += size
+    return found
+
+
+def zone_of(message):
+    """The zone that a message names, in wire form; a forwarder's that names none is the root."""
+    zone = message.get(ZONE, b"\0" if message[TYPE] in FORWARDER else None)
+    if zone is not None and name_at(zone, 0, len(zone)) != (zone, len(zone)):
+        raise ValueError("no name in wire form")
+    return zone
+
+
+def seen(message):
+    """What a dnstap message tells was seen."""
+    side, is_response = ROLES[message[TYPE]]
+    # unbound 1.17 names another port of its own in a response than in the query
+    port = message.get(QUERY_PORT, 0) if side == "client" else 0
+    asker = Peer(message.get(QUERY_ADDRESS, b""), port)
+    server = Peer(message.get(RESPONSE_ADDRESS, b""), message.get(RESPONSE_PORT, 0))
+    zone = zone_of(message)
+    if is_response:
+        at = message[RESPONSE_SECONDS], message.get(RESPONSE_NANOS, 0)
+        ends, octets = (server, asker), message[RESPONSE]
+    else:
+        at = message[QUERY_SECONDS], message.get(QUERY_NANOS, 0)
+        ends, octets = (asker, server), message[QUERY]
+    return Seen(at[0] * MICROSECONDS + at[1] // 1000, *ends, octets, side, zone)
+
+
+def messages(stream, counts):
+    """What was seen of a resolver's own messages, in the order of the file."""
+    for frame in frames(stream, counts):
+        try:
+            message = fields(fields(frame)[DNSTAP_MESSAGE])
+            if message[TYPE] in ROLES:
+                yield seen(message)
+            else:
+                counts["frame: neither a client's nor an upstream message"] += 1
+        except (KeyError, IndexError, TypeError, ValueError):
+            counts["frame: not what it should be"] += 1

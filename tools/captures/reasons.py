@@ -1,0 +1,430 @@
+# SPDX-License-Identifier: MIT
+"""In words why a line of a report is as it is: what the rules (docs/RULES.md) make of a trace.
+
+Each sentence names the RFC's section that its rule comes from, or says `ours` where the rule is
+this cache's own.
+"""
+from typing import NamedTuple
+
+from tools.messages import (NXDOMAIN, SOA, MessageFault, final_name, is_at_or_below, read,
+                            set_offer, sets_of, why_nothing)
+from tools.model import (CAP, CNAME, GLUE, IN, NEGATIVE_CAP, RECHECK, STALE_SECONDS, Entry, Key,
+                         Offer, part_of)
+from tools.names import fold, to_text
+from tools.traces import Replay
+
+RANKS = {
+    4: "4 (authoritative answer)", 3: "3 (authority section of an authoritative reply)",
+    2: "2 (answer that is not authoritative)", 1: "1 (additional data, glue)",
+}
+PLACES = {
+    4: "it stood in the answer section of an authoritative reply, under the name that was asked"
+       " for",
+    3: "it stood in the authority section of an authoritative reply",
+    2: "it stood in the answer section, and is not the authoritative answer to the name asked for",
+    1: "it stood in the additional section, or in the authority section of a reply that is not"
+       " authoritative",
+}
+TYPES = {1: "A", 2: "NS", 5: "CNAME", 6: "SOA", 12: "PTR", 13: "HINFO", 15: "MX", 16: "TXT",
+         28: "AAAA", 33: "SRV", 39: "DNAME", 43: "DS", 44: "SSHFP", 47: "NSEC", 48: "DNSKEY",
+         50: "NSEC3", 51: "NSEC3PARAM", 52: "TLSA", 64: "SVCB", 65: "HTTPS", 257: "CAA"}
+TRUST, RRSETS = "RFC 2181 section 5.4.1", "RFC 2181 section 5"
+NEGATIVES, NO_TTL = "RFC 2308 section 5", "RFC 1035 section 3.2.1"
+STALENESS, RETRIES = "RFC 8767 sections 4 and 5", "RFC 8767 section 5"
+ROOM = "ours: \"Recency, eviction and sweeps\""
+SHOWN_MOST = 20
+
+
+class Gone(NamedTuple):
+    """How a key came to hold nothing: by which line, in words, and what it held."""
+
+    line: int
+    how: str
+    entry: Entry
+
+
+def type_name(rtype):
+    return TYPES.get(rtype, f"TYPE{rtype}")
+
+
+def kind_name(key):
+    """A key's type, and its class where that is not IN."""
+    name = type_name(key.rtype)
+    return name if key.rclass == IN else f"{name} of class {key.rclass}"
+
+
+def body_name(key, body):
+    """What a key holds, in words."""
+    name = to_text(key.name)
+    if body.kind == "positive":
+        records = f"{len(body.items)} record{'s' * (len(body.items) != 1)}"
+        return f"the set {name} {kind_name(key)} ({records})"
+    if body.kind == "failure":
+        return f"the failure of {name} {kind_name(key)}"
+    if key.slot == "nx":
+        of_class = "" if key.rclass == IN else f" in class {key.rclass}"
+        return f"the negative answer that {name} does not exist{of_class}"
+    return f"the negative answer that {name} has no {kind_name(key)}"
+
+
+def seconds(count):
+    return f"{count:,} second{'s' * (count != 1)}"
+
+
+class Story:
+    """A replay by one worker that remembers which line did what."""
+
+    def __init__(self, **rules):
+        self.replay = Replay(**rules)
+        self.stale = self.replay.parts[0].stale
+        self.tags = [[] for _ in self.replay.parts]
+        self.gone, self.touched = {}, {}
+
+    def go_on(self, place, line):
+        """Replays a line, and remembers."""
+        for told in self.replayed(place, line)[1]:
+            self.note(place, told)
+
+    def explain(self, place, line):
+        """Replays a line, and answers its line of the report and the sentences about it."""
+        words, calls = self.replayed(place, line)
+        tell = getattr(self, f"tell_{line.word}")
+        report = " ".join([str(place), line.word, *words])
+        calls = self.one_by_one(place, calls)
+        sentences = list(tell(line, words, calls))
+        # A call is noted when the next is asked for, which none does behind the last of a response.
+        for _ in calls:
+            pass
+        return report, sentences
+
+    def replayed(self, place, line):
+        words, calls = self.replay.line(line)
+        for told in calls:
+            self.tags[told.part].append(place)
+        return words, calls
+
+    def one_by_one(self, place, calls):
+        """The calls of a line, each noted before the next is told of."""
+        for told in calls:
+            yield told
+            self.note(place, told)
+
+    def note(self, place, told):
+        if isinstance(told.call, Offer):
+            self.note_offer(place, told)
+        elif isinstance(told.answer, list):
+            self.note_sweep(place, told)
+        elif told.answer.word != "miss":
+            self.touched[told.answer.governing.key] = place
+
+    def note_offer(self, place, told):
+        key, outcome = told.call.key, told.answer
+        if outcome.evicted:
+            gone = Gone(place, f"line {place} put it out to make room", outcome.evicted)
+            self.gone[outcome.evicted.key] = gone
+        if outcome.word == "cleared" and outcome.old:
+            self.gone[key] = Gone(place, f"line {place} cleared it by a time of 0", outcome.old)
+        if outcome.word == "kept":
+            self.gone.pop(key, None)
+            self.touched[key] = place
+
+    def note_sweep(self, place, told):
+        for entry in told.answer:
+            self.gone[entry.key] = Gone(place, f"the sweep of line {place} removed it", entry)
+
+    def line_of(self, entry):
+        """The line that stored an entry."""
+        return self.tags[part_of(entry.key.name, len(self.tags))][entry.number]
+
+    # ---- entries and keys
+
+    def stored(self, entry):
+        """Which line stored an entry, when, for how long and how far trusted."""
+        body = entry.body
+        rank = f", rank {RANKS[body.rank]}" if body.rank else ""
+        return (f"{body_name(entry.key, body)} that line {self.line_of(entry)} stored at {entry.at}"
+                f" for {seconds(body.ttl)}{rank}")
+
+    def empty(self, key):
+        """Why a key holds nothing."""
+        gone = self.gone.get(key)
+        if gone is None:
+            return f"No line before stored anything under {key}."
+        return f"Nothing is held under {key}: {self.stored_by(gone)}, and {gone.how}."
+
+    def stored_by(self, gone):
+        entry = gone.entry
+        return f"line {self.line_of(entry)} stored it at {entry.at} for {seconds(entry.body.ttl)}"
+
+    # ---- offers
+
+    def offer(self, told, where):
+        """Why an offer had its outcome."""
+        key, body, at = told.call
+        old, outcome = told.answer.old, told.answer
+        yield body_name(key, body) + self.offered_with(body, where)
+        if outcome.word == "less":
+            yield (f"Less: the key holds {self.stored(old)}; at {at} that is unexpired, as it is"
+                   f" until {old.at + old.body.ttl - 1}, and its rank is higher, so it stays"
+                   f" ({TRUST}).")
+            return
+        if outcome.word == "cleared":
+            yield f"Cleared: with a time to live of 0 nothing is stored ({NO_TTL})."
+            yield f"It clears {self.stored(old)}." if old else "The key held nothing."
+            return
+        yield from self.kept(told)
+
+    def offered_with(self, body, where):
+        """The rank and the time of an offer, and whence they are."""
+        if body.kind == "failure":
+            return f", for {seconds(body.ttl)} ({RETRIES}; ours: {RECHECK} seconds)."
+        lives = f"for {seconds(body.ttl)}"
+        if where == "put":
+            return f", rank {RANKS[body.rank]}, {lives}{capped(body)}, as the line says."
+        if body.kind == "positive":
+            return (f", {lives}, the lowest time of its records{capped(body)} (RFC 2181 section"
+                    f" 5.2), with rank {body.rank}: {PLACES[body.rank]} ({TRUST}).")
+        most = f", at most {NEGATIVE_CAP:,}" if body.ttl == NEGATIVE_CAP else ""
+        rank = ("the reply is authoritative and no alias was followed" if body.rank == 4 else
+                "the reply is not authoritative, or an alias was followed")
+        return (f", {lives}, the lower of the time and the MINIMUM of the SOA record of"
+                f" {to_text(body.owner)}{most} ({NEGATIVES}), with rank {body.rank}: {rank}"
+                " (ours).")
+
+    def kept(self, told):
+        """What a kept offer found, put out, and for how long it is good."""
+        (key, body, at), old = told.call, told.answer.old
+        if body.kind == "failure":
+            yield "Kept: a failure is always kept (ours)."
+        if old:
+            it = "Kept: it" if body.rank else "It"
+            yield f"{it} replaces {self.stored(old)}{replaced(old, body, at)}"
+        elif body.rank:
+            yield f"Kept: the key held nothing. {self.empty(key)}"
+        if told.answer.evicted:
+            yield from self.evicted(told.answer.evicted)
+        yield until(key, body, at, self.stale)
+
+    def evicted(self, entry):
+        capacity = self.replay.parts[0].capacity
+        yield (f"Its part held {capacity:,} key{'s' * (capacity != 1)}, as many as it may, so the"
+               f" one touched least recently, last by line {self.touched.get(entry.key)}, is put"
+               f" out: {self.stored(entry)} ({ROOM}).")
+
+    # ---- asks
+
+    def ask(self, told):
+        """Why an ask was answered so."""
+        name, rtype, at, purpose, mode, rclass = told.call
+        reply = told.answer
+        yield from self.governs(reply, fold(name), rtype, at, rclass)
+        entry = reply.governing
+        if entry:
+            yield from self.good(reply, at, purpose, mode)
+        yield from self.failure(reply, at)
+        if reply.word == "miss" and rtype != CNAME:
+            yield from self.alias(reply.alias, at)
+
+    def governs(self, reply, name, rtype, at, rclass):
+        """What is held under the two keys that may answer, and which of them governs."""
+        entry, other = reply.governing, reply.other
+        if entry is None:
+            yield self.empty(Key(name, "set", rtype, rclass))
+            yield self.empty(Key(name, "nx", 0, rclass))
+            return
+        yield f"Held is {self.stored(entry)}."
+        if other is None:
+            return
+        if entry.number > other.number:
+            yield (f"Held is also {self.stored(other)}; of the two the later one governs, since the"
+                   f" earlier is not both unexpired and of higher rank ({TRUST}, {NEGATIVES}).")
+        else:
+            yield (f"Held is also {self.stored(other)}, which came later; but the earlier one is"
+                   f" unexpired at {at} and of higher rank, so it governs ({TRUST}).")
+
+    def good(self, reply, at, purpose, mode):
+        """Whether what governs may answer, and as what."""
+        entry, body = reply.governing, reply.governing.body
+        end = entry.at + body.ttl
+        if body.rank == GLUE and purpose == "any":
+            yield f"It is glue, and the purpose is any: glue serves the resolver itself ({TRUST})."
+        if purpose == "answer" and body.rank == GLUE:
+            yield f"Miss: it is glue, and glue answers no question ({TRUST})."
+        elif entry.is_unexpired(at):
+            word = {"fresh": "Fresh", "nodata": "No data (RFC 2308 section 2.2)",
+                    "nxdomain": "No such name (RFC 2308 section 2.1)"}[reply.word]
+            yield (f"{word}: of its {seconds(body.ttl)} {entry.age(at):,} have passed at {at},"
+                   f" which leaves {reply.left:,} (RFC 1035 section 3.2.1).")
+        else:
+            yield f"It expired at {end}, {seconds(at - end)} before {at}."
+            yield self.stale_or_not(reply, at, mode)
+
+    def stale_or_not(self, reply, at, mode):
+        """Why something expired is answered as stale, or not."""
+        entry = reply.governing
+        if entry.body.kind == "negative":
+            return "Miss: negative answers are never stale (ours)."
+        if entry.is_fully_expired(at, self.stale):
+            return (f"Miss: that is past max-stale, {seconds(self.stale)}, so it was good"
+                    f" until {entry.at + entry.body.ttl + self.stale - 1} (RFC 8767 section 4).")
+        if reply.word == "stale":
+            cause = "a failure is recent" if mode == "failed" else "the mode is now"
+            return (f"Stale: it is within max-stale, {seconds(self.stale)}, and {cause}, so"
+                    f" it answers for {STALE_SECONDS} seconds ({STALENESS}).")
+        if mode == "none":
+            return "Miss: in the mode none no stale answer will do (RFC 8767 section 4)."
+        return f"Miss: in the mode failed it answers after a recent failure alone ({RETRIES})."
+
+    def alias(self, entry, at):
+        """That a CNAME record which is held leads to no answer."""
+        if entry is None or entry.body.kind != "positive":
+            return
+        end = entry.at + entry.body.ttl
+        expired = "" if entry.is_unexpired(at) else f", which expired at {end}"
+        yield (f"Held is {self.stored(entry)}{expired}; but an ask follows no CNAME record (ours:"
+               ' "CNAME in look-ups"). A trace of bin/from-capture --follow-aliases asks for that'
+               " type too, and for what it leads to.")
+
+    def failure(self, reply, at):
+        """What is known of a failure to ask."""
+        if reply.word not in ("miss", "stale"):
+            return
+        if reply.failed:
+            told = f"Asking failed: held is {self.stored(reply.failed)}, and nothing came later"
+            more = f"; it may be tried again from {reply.retry_from} on" * (reply.word == "miss")
+            yield f"{told}{more} ({RETRIES})."
+            return
+        if reply.past and reply.word == "miss":
+            end = reply.past.at + reply.past.body.ttl
+            cause = f"it ended at {end}" if at >= end else "something was learnt later"
+            yield f"Held is {self.stored(reply.past)}, which is not recent: {cause} ({RETRIES})."
+
+    # ---- lines: the sentences, and the calls as they are told of
+
+    def tell_put(self, line, words, calls):
+        for told in calls:
+            first, *others = self.offer(told, line.word)
+            yield f"It offers {first}"
+            yield from others
+
+    tell_fail = tell_put
+
+    def tell_ask(self, line, words, calls):
+        for told in calls:
+            yield from self.ask(told)
+
+    def tell_response(self, line, words, calls):
+        yield from message_told(*line.rest, words[0])
+        yield from self.tell_offers(calls, words[1:])
+
+    def tell_offers(self, calls, outcomes):
+        for number, _ in enumerate(outcomes):
+            first, *others = self.offer(told := next(calls), "response")
+            yield f"Offer {number} ({told.answer}): {first}"
+            yield from others
+
+    def tell_fetch(self, line, words, calls):
+        yield "It asks first, for a client's answer, where a stale one will do after a failure:"
+        first = next(calls)
+        yield from self.ask(first)
+        if words[0] != "fetched":
+            is_held = words[0] == "held"
+            yield (f"Held: nothing is fetched before {first.answer.retry_from} ({RETRIES})."
+                   if is_held else "Hit: so nothing is fetched.")
+            return
+        zone, octets = line.rest
+        yield "It fetches:"
+        if octets is None:
+            yield f"No message came, which is a failure ({RETRIES})."
+        else:
+            yield from message_told(zone, octets, words[1])
+        yield from self.tell_offers(calls, words[2:-1])
+        yield "It asks again, where a stale answer will do at once:"
+        yield from self.ask(next(calls))
+
+    def tell_sweep(self, line, words, calls):
+        for place, told in enumerate(calls):
+            yield (f"Part {place}: of its keys that are fully expired at {line.at}, RRsets past"
+                   f" max-stale too, it has {len(told.answer)} (RFC 8767 section 4).")
+            yield from (f"Removed is {self.stored(it)}." for it in told.answer[:SHOWN_MOST])
+            if len(told.answer) > SHOWN_MOST:
+                yield f"And {len(told.answer) - SHOWN_MOST:,} more."
+
+    def tell_checkpoint(self, line, words, calls):
+        yield "It closes the chapter of each part, which is no event and changes no answer (ours)."
+
+
+# ---- sentences that need no story
+
+
+def capped(body):
+    return ", no more than a week" if body.ttl == CAP else ""
+
+
+def replaced(old, body, at):
+    """Why what was held is replaced."""
+    end = old.at + old.body.ttl
+    if old.body.kind == "failure":
+        return "."
+    if not old.is_unexpired(at):
+        return f", which expired at {end}; a set is replaced whole ({RRSETS})."
+    rank = "the same" if old.body.rank == body.rank else "a lower"
+    return (f", which is unexpired until {end - 1} but of {rank} rank; a set is replaced whole"
+            " (RFC 2181 sections 5 and 5.4.1).")
+
+
+def until(key, body, at, stale):
+    """Until when an offer that was kept is good."""
+    end = at + body.ttl
+    if body.kind == "failure":
+        return f"It is recent until {end - 1}, unless something is learnt later ({RETRIES})."
+    if body.kind == "negative":
+        return f"It answers until {end - 1} (RFC 2308 section 5)."
+    limit = f", and may be stale until {end + stale - 1} (RFC 8767 section 4)" if stale else ""
+    return f"It answers until {end - 1}{limit}."
+
+
+def message_told(zone, octets, count):
+    """What becomes of a message: its fault, or what of it is left out and why."""
+    try:
+        message = read(octets)
+    except MessageFault as fault:
+        yield f"Refused {fault.number}: {fault} (RFC 1035 section 4.1)."
+        return
+    asked = f"{to_text(message.name)} {type_name(message.rtype)}"
+    kind = "an authoritative" if message.is_authoritative else "a"
+    yield (f"The message is {kind} response to {asked} with RCODE {message.rcode}, read for the"
+           f" zone {to_text(zone)}; it makes {count} offer{'s' * (count != '1')}.")
+    nothing = why_nothing(message, zone)
+    if nothing:
+        yield f"It offers nothing: {nothing}."
+    elif message.rcode in (0, NXDOMAIN):
+        yield from left_out(message, zone)
+        yield from no_negative(message, zone)
+    else:
+        yield f"Its RCODE says that asking failed, and nothing else of it is used ({RETRIES})."
+
+
+def left_out(message, zone):
+    """The sets of a response that it does not offer."""
+    for section, records in enumerate(message.sections):
+        for key, of_key in sets_of(records):
+            name = f"The set {to_text(key[0])} {type_name(key[1])} is left out"
+            if not is_at_or_below(key[0], zone):
+                yield f"{name}: it is not at or below the zone (ours)."
+            elif set_offer(message, section, key, of_key, 0) is None:
+                yield f"{name}: its times differ and AA is clear (RFC 2181 section 5.2)."
+
+
+def no_negative(message, zone):
+    """Why a response that denies something gives no negative answer, where that may surprise."""
+    if message.rcode != NXDOMAIN and message.sections[0]:
+        return
+    led = final_name(message)
+    if led is None:
+        yield "It gives no negative answer: more than 16 aliases would be followed (ours)."
+        return
+    owners = [it.owner for it in message.sections[1] if it.rtype == SOA]
+    if not any(is_at_or_below(it, zone) and is_at_or_below(led[0], it) for it in owners):
+        yield ("It gives no negative answer: no SOA record stands in its authority section with an"
+               f" owner at or below the zone and at or above {to_text(led[0])} ({NEGATIVES}).")

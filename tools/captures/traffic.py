@@ -1,0 +1,448 @@
+# SPDX-License-Identifier: MIT
+"""What a resolver's messages are as lines of a trace: asks, responses and failures.
+
+Whoever asks the resolver is a client, and whom it asks is a server. Memory is bounded but for the
+zones with the names of their servers, the addresses of all names, and the aliases to be followed.
+"""
+from collections import OrderedDict, deque
+from functools import lru_cache
+from typing import NamedTuple
+
+from tools.captures.packets import CUT, MICROSECONDS, Cut, Seen, Unreachable
+from tools.messages import (ALIASES_MOST, ANY, CNAME, HEADER, IN, NOERROR, NS, NXDOMAIN, QUESTION,
+                            SOA, MessageFault, fields_at, final_name, is_kept, name_at, read)
+from tools.names import ROOT, ancestors, fold, is_at_or_below, to_text
+from tools.traces import MOMENT_MOST
+
+DS, ADDRESSES = 43, (1, 28)
+# IXFR and AXFR (RFC 1995, RFC 5936).
+TRANSFERS = (251, 252)
+SERVFAIL, RD, QR, AA = 2, 0x0100, 0x8000, 0x0400
+# How many messages are kept until it is guessed who the resolver is.
+GUESSED_FROM = 20_000
+PENDING_MOST, FAILED_MOST = 100_000, 100_000
+TWICE_MICROSECONDS, TWICE_MOST = 10_000, 4_096
+REMEMBERED = 30 * MICROSECONDS
+BACKWARD = "used, though more than a second earlier than one before: are the files in order?"
+
+
+class Question(NamedTuple):
+    """The first question of a message, its name folded, and the message's flags."""
+
+    number: int
+    flags: int
+    name: bytes
+    rtype: int
+    rclass: int
+    spelled: bytes
+
+    @classmethod
+    def of(cls, octets):
+        (number, flags, questions, *_), _ = fields_at(octets, 0, HEADER)
+        if not questions:
+            return cls(number, flags, b"", 0, IN, b"")
+        name, at = name_at(octets, 12, len(octets))
+        (rtype, rclass), _ = fields_at(octets, at, QUESTION)
+        return cls(number, flags, fold(name), rtype, rclass, name)
+
+    @property
+    def asked(self):
+        return self.name, self.rtype
+
+
+class Pending(NamedTuple):
+    """A query of the resolver's to a server that has no response yet."""
+
+    at: int
+    question: Question
+    zone: bytes
+    is_known: bool
+
+
+@lru_cache(maxsize=65_536)
+def text(name):
+    return to_text(name)
+
+
+# ---- who is the resolver
+
+
+def guess(messages, ports):
+    """The addresses of the resolver: those that are asked for recursion and ask others, and those
+    that ask others with no wish for it."""
+    asks, recursive = {}, {}
+    for it in messages:
+        if isinstance(it, Seen) and it.target.port in ports and not flags_of(it.octets) & QR:
+            pair = (it.source.address, it.target.address)
+            asks[pair] = asks.get(pair, 0) + 1
+            recursive[pair] = recursive.get(pair, 0) + bool(flags_of(it.octets) & RD)
+    found = {source for source, _ in asks} & {pair[1] for pair in asks if recursive[pair]}
+    for (source, target), count in asks.items():
+        if source not in found and target not in found:
+            found.add(target if recursive[source, target] * 2 > count else source)
+    return found
+
+
+def flags_of(octets):
+    return int.from_bytes(octets[2:4], "big")
+
+
+# ---- whose servers are asked
+
+
+class Zones:
+    """The NS sets and the addresses of servers that the responses so far told of."""
+
+    def __init__(self, by_servers):
+        self.by_servers, self.servers, self.addresses = by_servers, {}, {}
+
+    def asked_for(self, question, address):
+        """The zone whose servers are asked, and whether the server is known for one of it.
+
+        A DS record stands with the zone above (RFC 4035 section 3.1.4.1)."""
+        above = [it for it in ancestors(question.name) if it in self.servers]
+        if question.rtype == DS and above and above[0] == question.name != ROOT:
+            above = above[1:]
+        own = [it for it in above if self.is_server_of(it, address)]
+        if self.by_servers and own:
+            return own[0], True
+        return (above[0], above[0] in own) if above else (ROOT, False)
+
+    def is_server_of(self, zone, address):
+        return any(address in self.addresses.get(it, ()) for it in self.servers[zone])
+
+    def learn(self, message, zone):
+        """Takes in the NS sets and the addresses of a response for a zone."""
+        fresh = {}
+        for record in (it for section in message.sections for it in section):
+            owner = fold(record.owner)
+            if record.rtype == NS and is_at_or_below(owner, zone):
+                fresh.setdefault(owner, set()).add(record.folded)
+            elif record.rtype in ADDRESSES and is_at_or_below(owner, zone):
+                self.addresses.setdefault(owner, set()).add(record.data)
+        self.servers.update((owner, frozenset(names)) for owner, names in fresh.items())
+
+
+def told_zone(message):
+    """The zone that an authoritative response names as its own, at or above the question."""
+    if not message.is_authoritative:
+        return None
+    owners = (it.owner for it in message.sections[1] if it.rtype in (NS, SOA))
+    return next((fold(it) for it in owners if is_at_or_below(message.name, it)), None)
+
+
+def no_alias(message):
+    """The name that a negative answer is about, which is no alias; or None (RFC 2308 section 2).
+
+    NS records without a SOA record are a referral, which denies nothing (section 2.2)."""
+    if message.is_truncated or message.opcode or message.rclass != IN:
+        return None
+    if message.rtype in (CNAME, ANY):
+        return None
+    there = {it.rtype for it in message.sections[1]}
+    is_referral = NS in there and SOA not in there
+    if message.rcode != NXDOMAIN and (message.rcode != NOERROR or is_referral):
+        return None
+    led = final_name(message)
+    return led and led[0]
+
+
+# ---- lines
+
+
+class Traffic:
+    """Takes what was seen in its order, and answers lines of a trace."""
+
+    def __init__(self, counts, resolvers=(), by_servers=False, seconds=5, ports=(53,),
+                 follows_aliases=False):
+        self.counts, self.resolvers, self.ports = counts, frozenset(resolvers), frozenset(ports)
+        self.is_given = bool(resolvers)
+        self.aliases = {} if follows_aliases else None
+        self.zones, self.timeout = Zones(by_servers), seconds * MICROSECONDS
+        self.pending, self.open, self.between = OrderedDict(), {}, {}
+        self.failed, self.recent, self.order = OrderedDict(), {}, deque()
+        self.latest = 0
+
+    def lines(self, seen):
+        """The lines that messages make."""
+        for it in self.guessed(seen):
+            if not 0 <= it.at // MICROSECONDS <= MOMENT_MOST:
+                self.counts["message: its time is no moment of a trace"] += 1
+                continue
+            if it.at < self.latest - MICROSECONDS:
+                self.counts[BACKWARD] += 1
+            self.latest = max(self.latest, it.at)
+            yield from self.expired(it.at)
+            if isinstance(it, Unreachable):
+                yield from self.unreachable(it)
+            elif isinstance(it, Cut):
+                self.cut(it)
+            elif not self.is_twice(it):
+                yield from self.line(it)
+        for _ in self.open.values():
+            self.counts["query: the capture ends before its response or time-out"] += 1
+
+    def guessed(self, seen):
+        """The messages again, where the resolver has to be guessed after a first look at many."""
+        if self.is_given:
+            yield from seen
+            return
+        first, size = deque(), 0
+        for it in seen:
+            first.append(it)
+            size += len(it.octets) if isinstance(it, Seen) else 0
+            if len(first) == GUESSED_FROM or size > 64 * 2**20:
+                break
+        self.resolvers = frozenset(guess([it for it in first if not getattr(it, "role", None)],
+                                         self.ports))
+        while first:
+            yield first.popleft()
+        yield from seen
+
+    def is_twice(self, it):
+        """Whether the same packet was just seen, as on two interfaces."""
+        key = hash((it.source, it.target, it.octets))
+        while self.order and (it.at - self.order[0][0] > TWICE_MICROSECONDS
+                              or len(self.order) > TWICE_MOST):
+            self.recent.pop(self.order.popleft()[1], None)
+        if key in self.recent:
+            self.counts["message: the same again within 10 milliseconds"] += 1
+            return True
+        self.recent[key] = it.at
+        self.order.append((it.at, key))
+        return False
+
+    def line(self, it):
+        """The lines that one message makes."""
+        try:
+            question = Question.of(it.octets)
+        except MessageFault as fault:
+            if self.is_response_of_server(it):
+                yield from self.response(it, None)
+            else:
+                self.counts[f"message: {fault}"] += 1
+            return
+        is_response = bool(question.flags & QR)
+        if (it.source if is_response else it.target).port not in self.ports and it.role is None:
+            self.counts["message: from or to a port of which it should not be"] += 1
+            return
+        side = it.role or self.side(it.source.address, it.target.address, is_response)
+        if side is None:
+            self.counts["message: neither from nor to the resolver"] += 1
+        elif is_response:
+            yield from (self.answered if side == "client" else self.response)(it, question)
+        else:
+            yield from (self.ask if side == "client" else self.query)(it, question)
+
+    def side(self, source, target, is_response):
+        """Whether a message is between the resolver and a `client`, or a `server`."""
+        asked, asking = (source, target) if is_response else (target, source)
+        if asked in self.resolvers:
+            return "client"
+        return "server" if asking in self.resolvers else None
+
+    def is_response_of_server(self, it):
+        """Whether a message that could not be read stands where a server's response is awaited."""
+        is_server = it.role == "server" or it.target.address in self.resolvers
+        return is_server and self.key(it.target, it.source, it.octets) in self.pending
+
+    # ---- clients
+
+    def ask(self, it, question):
+        """A client's query as an ask, or several; without RD it wants no stale answer."""
+        reason = unusable(question)
+        if reason:
+            self.counts[f"client's query: {reason}"] += 1
+            return
+        mode, at = "failed" if question.flags & RD else "none", it.at // MICROSECONDS
+        for name, rtype in self.chain(question):
+            yield f"ask {at} {text(name)} {rtype} answer {mode}"
+
+    def chain(self, question):
+        """What a cache is asked for: where aliases are followed, each that is known by now, and
+        what the last one leads to (RFC 1034 section 3.6.2)."""
+        name, rtype = question.spelled, question.rtype
+        for _ in range(ALIASES_MOST):
+            if not self.aliases or rtype == CNAME or fold(name) not in self.aliases:
+                break
+            yield name, CNAME
+            name = self.aliases[fold(name)]
+        yield name, rtype
+
+    def answered(self, it, question):
+        """A server failure to a client as a failure: that is the resolver's own word for it."""
+        if question.flags & 15 == SERVFAIL and not unusable(question):
+            last = self.failed.get(question.asked)
+            if last is None or it.at - last >= REMEMBERED:
+                yield self.fail(it.at, question)
+
+    # ---- servers
+
+    @staticmethod
+    def key(resolver, server, octets):
+        return resolver, server, octets[:2]
+
+    def query(self, it, question):
+        """A query to a server is awaited; a zone transfer's so that its response is known."""
+        if question.flags >> 11 & 15 or not question.name:
+            self.counts["query to a server: not a standard one"] += 1
+            return
+        zone, is_known = it.zone and fold(it.zone), True
+        if zone is None and question.flags & RD:
+            zone = ROOT
+        if zone is None:
+            zone, is_known = self.zones.asked_for(question, it.target.address)
+        key = self.key(it.source, it.target, it.octets)
+        self.settle(key)
+        self.pending[key] = Pending(it.at, question, zone, is_known)
+        self.between.setdefault(key[:2], {})[key] = None
+        if question.rtype in TRANSFERS:
+            self.counts["query to a server: a zone transfer"] += 1
+        else:
+            self.open.setdefault(question.asked, set()).add(key)
+        if len(self.pending) > PENDING_MOST:
+            self.settle(next(iter(self.pending)))
+            self.counts["query to a server: too many without a response"] += 1
+        yield from ()
+
+    def settle(self, key):
+        """Awaits a query no longer, and answers it."""
+        pending = self.pending.pop(key, None)
+        if pending:
+            self.is_last(key, pending.question)
+            keys = self.between.get(key[:2], {})
+            keys.pop(key, None)
+            if not keys:
+                self.between.pop(key[:2], None)
+        return pending
+
+    def is_last(self, key, question):
+        """Gives a query up, and answers whether it was the last of its question."""
+        keys = self.open.get(question.asked, set())
+        was_open = key in keys
+        keys.discard(key)
+        if not keys:
+            self.open.pop(question.asked, None)
+        return was_open and not keys
+
+    def response(self, it, question):
+        """A server's response, for the zone that it was asked for."""
+        key = self.key(it.target, it.source, it.octets)
+        pending = self.pending.get(key)
+        if pending is None:
+            self.counts["server's response: its query was not seen, or timed out"] += 1
+            return
+        if pending.question.rtype in TRANSFERS:
+            # it may have more messages (RFC 5936 section 2.2)
+            self.counts["server's response: of a zone transfer"] += 1
+            return
+        if question and question.name and question.asked != pending.question.asked:
+            self.counts["server's response: to another question than its query"] += 1
+            return
+        self.answer(key, pending)
+        self.note(it.at, question, pending)
+        zone = self.learnt(it, pending)
+        yield f"response {it.at // MICROSECONDS} {text(zone)} {it.octets.hex() or '-'}"
+
+    def answer(self, key, pending):
+        """Awaits a query no longer, nor what was asked of other servers too, and has a response."""
+        self.settle(key)
+        self.open.pop(pending.question.asked, None)
+
+    def cut(self, it):
+        """A response of which the rest is not in the capture: its query has not failed."""
+        key = self.key(it.target, it.source, it.octets)
+        pending = self.pending.get(key)
+        if pending is None:
+            self.counts[CUT] += 1
+        else:
+            self.counts["server's response: cut off, as by the capture's snap length"] += 1
+            self.answer(key, pending)
+
+    def note(self, at, question, pending):
+        """Notes whether a question has failed just now."""
+        self.failed.pop(pending.question.asked, None)
+        if question and question.flags & 15 not in (0, 3):
+            self.remember(at, pending.question)
+
+    def learnt(self, it, pending):
+        """The zone of a response, whose NS sets and addresses are learnt."""
+        try:
+            message = read(it.octets)
+        except MessageFault as fault:
+            self.counts[f"used, though the cache will refuse it: {fault}"] += 1
+            return pending.zone
+        zone = it.zone or pending.zone
+        if not pending.is_known and not it.zone:
+            zone = told_zone(message) or zone
+            zone = zone if is_at_or_below(zone, pending.zone) else pending.zone
+        self.zones.learn(message, zone)
+        if self.aliases is not None:
+            self.learn_aliases(message, zone)
+        return zone
+
+    def learn_aliases(self, message, zone):
+        """Takes in which names of an answer are aliases, and which are not."""
+        for record in message.sections[0]:
+            owner = fold(record.owner)
+            if not is_at_or_below(owner, zone):
+                continue
+            if record.rtype == CNAME:
+                self.aliases[owner] = record.data
+            else:
+                self.aliases.pop(owner, None)
+        name = no_alias(message)
+        if name and is_at_or_below(name, zone):
+            self.aliases.pop(name, None)
+
+    # ---- failures
+
+    def remember(self, at, question):
+        self.failed[question.asked] = at
+        while self.failed:
+            is_young = at - next(iter(self.failed.values())) < REMEMBERED
+            if is_young and len(self.failed) < FAILED_MOST:
+                return
+            self.failed.popitem(last=False)
+
+    def fail(self, at, question):
+        self.failed.pop(question.asked, None)
+        self.remember(at, question)
+        return f"fail {at // MICROSECONDS} {text(question.spelled)} {question.rtype}"
+
+    def unanswered(self, key, at):
+        """The failure of a question of which the last query is given up."""
+        question = self.pending[key].question
+        if self.is_last(key, question) and not unusable(question):
+            yield self.fail(at, question)
+
+    def expired(self, now):
+        """The failures of queries that have timed out."""
+        while self.pending:
+            key, oldest = next(iter(self.pending.items()))
+            if now - oldest.at < self.timeout:
+                return
+            yield from self.unanswered(key, oldest.at + self.timeout)
+            self.settle(key)
+
+    def unreachable(self, it):
+        """The failures of queries that the network says did not come to their server. A response
+        is awaited all the same, since anyone may send such a message; it ends the failure."""
+        keys = self.between.pop((it.source, it.target), {})
+        if not keys:
+            self.counts["ICMP: of no query to a server"] += 1
+        for key in keys:
+            yield from self.unanswered(key, it.at)
+
+
+def unusable(question):
+    """Why a question can be no line of a trace, or None."""
+    if question.flags >> 11 & 15:
+        return "its opcode is not that of a standard query"
+    if not question.name:
+        return "it has no question"
+    if question.rclass != IN:
+        return "of a class other than IN"
+    if not is_kept(question.rtype):
+        return "of type ANY" if question.rtype == ANY else "of a type that the cache does not keep"
+    return None

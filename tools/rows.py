@@ -1,0 +1,25 @@
+# SPDX-License-Identifier: MIT
+"""The rows, tests/rows/TOPIC/NAME: traces with what the program has to answer them
+(tests/rows/README.md)."""
+from pathlib import Path
+
+ROWS = Path(__file__).resolve().parent.parent / "tests" / "rows"
+
+
+class RepeatedName(Exception):
+    """Two topics have a row of one name."""
+
+
+def rows():
+    """The folders of all rows by their names, in the order of names."""
+    found = {}
+    for row in sorted((it for it in ROWS.glob("*/*") if it.is_dir()), key=lambda it: it.name):
+        if found.setdefault(row.name, row) != row:
+            raise RepeatedName(f"{found[row.name]} and {row} have one name")
+    return found
+
+
+def content(row, name, default=b""):
+    """What a file of a row has, if it is there."""
+    path = row / name
+    return path.read_bytes() if path.exists() else default

@@ -1,0 +1,254 @@
+# SPDX-License-Identifier: MIT
+"""Trials of the program on a trace: two answers that have to be the same, and how they differ.
+
+The model's answer is that of model.py and traces.py, by one worker. The checks, by what is varied
+from the first answer to the second:
+
+  model      the model, and the program
+  chapters   where chapters end changes no answer (docs/FORMATS.md)
+  audit      an audit changes no answer
+  parts      one part and many: the same where nothing is evicted, since a part is evicted from by
+             its own capacity, and no key of a name concerns another name. Of a sweep, which tells a
+             number for each part, the sums are the same.
+  workers    one worker and many: the same where the trace is refused, for it is read before it is
+             replayed, and where the calls of different lines are on different names (`are_apart`)
+             and nothing is evicted. Then each line meets no entry and no mark but its own.
+  builds     what LLVM and what Rattle's own compiler made of the program
+  arguments  options out of their ranges are refused, with status 2
+"""
+import io
+import re
+import subprocess
+import time
+from typing import NamedTuple
+
+from tools.names import fold
+from tools.traces import Replay, TraceFault, read_trace, report
+
+SECONDS = 10
+NO_END = f"no end in {SECONDS} seconds".encode()
+DEFAULTS = {"capacity": 1024, "parts": 1, "stale": 86_400}
+RANGES = {"workers": (1, 64), "parts": (1, 64), "capacity": (1, 65_536), "chapter": (1, 2**20),
+          "stale": (0, 604_800)}
+
+
+class Answer(NamedTuple):
+    """How a trace was answered: the status, the report, and what standard error says."""
+
+    status: int | None
+    report: bytes
+    fault: bytes
+
+
+def words_of(options):
+    """The words of a command line. An audit has no number."""
+    return [f"--{name}" if value is None else f"--{name}={value}"
+            for name, value in options.items()]
+
+
+def by_model(options, text):
+    """What the model answers, where the options are in their ranges."""
+    rules = {name: options.get(name, value) for name, value in DEFAULTS.items()}
+    try:
+        lines = report(read_trace(io.BytesIO(text)), **rules)
+        return Answer(0, "".join(it + "\n" for it in lines).encode(), b"")
+    except TraceFault as fault:
+        return Answer(1, b"", f"rrcache: {fault}\n".encode())
+    except Exception as fault:
+        return Answer(None, b"", f"the model fell over {fault!r}".encode())
+
+
+def by_program(program, options, text):
+    """What the program answers; one that does not start or does not end has no status."""
+    try:
+        run = subprocess.run([program, *words_of(options)], input=text, capture_output=True,
+                             timeout=SECONDS)
+    except subprocess.TimeoutExpired:
+        return Answer(None, b"", NO_END)
+    except OSError as fault:
+        return Answer(None, b"", f"it did not start: {fault}".encode())
+    return Answer(run.returncode, run.stdout, run.stderr)
+
+
+def are_in_range(options):
+    return all(least <= options.get(name, least) <= most
+               for name, (least, most) in RANGES.items())
+
+
+def with_sums(answer):
+    """The answer with the sum alone of what each sweep removed."""
+    def summed(found):
+        return b"%s%d" % (found[1], sum(map(int, found[2].split())))
+    return answer._replace(report=re.sub(rb"(?m)^(\d+ sweep )([\d ]+)$", summed, answer.report))
+
+
+def names_called(line):
+    """The names that the calls of a line are on, were it alone."""
+    _, told = Replay(capacity=2**16).line(line)
+    return {it.call.key.name if hasattr(it.call, "key") else fold(it.call[0]) for it in told}
+
+
+def apart(texts):
+    """Those of the lines that are lines of a trace, call on no name that an earlier one of them
+    calls on, and are no sweeps."""
+    found, taken = [], set()
+    for text in texts:
+        try:
+            lines = read_trace(io.BytesIO(text + b"\n"))
+        except TraceFault:
+            continue
+        if len(lines) != 1 or lines[0].word == "sweep":
+            continue
+        names = names_called(lines[0])
+        if not names & taken:
+            found.append(text)
+            taken |= names
+    return found
+
+
+def are_apart(text):
+    texts = text.split(b"\n")[:-1]
+    return text.endswith(b"\n") and apart(texts) == texts
+
+
+class Trial(NamedTuple):
+    """A trace, the check, the options, what the second answer has instead of them, and the
+    programs that are asked."""
+
+    check: str
+    options: dict
+    varied: dict
+    programs: tuple
+    text: bytes
+
+    def sides(self):
+        """Who is asked, with what options, in order: the model has no program."""
+        first, second = self.programs[0], self.programs[-1]
+        if self.check in ("model", "arguments"):
+            return [(None, self.options), (first, self.options)]
+        return [(first, self.options), (second, {**self.options, **self.varied})]
+
+    def asked(self, side):
+        program, options = side
+        if program is not None:
+            return by_program(program, options, self.text)
+        return by_model(options, self.text) if are_in_range(options) else Answer(2, b"", b"")
+
+    def answers(self):
+        return [self.asked(it) for it in self.sides()]
+
+    def may_differ(self, first):
+        """Whether the two need not be the same."""
+        if first.status != 0:
+            return False
+        if self.check == "workers":
+            return not are_apart(self.text)
+        return self.check == "parts" and b"-out:" in first.report
+
+    def differs(self, answers):
+        """Whether the answers differ where they have to be the same."""
+        first, second = answers
+        if None in (first.status, second.status):
+            return True
+        if self.check == "parts":
+            first, second = with_sums(first), with_sums(second)
+        if first.status == 2:
+            return second.status != 2 or bool(second.report) or not second.fault
+        return first != second and not self.may_differ(first)
+
+    def fails(self):
+        """Whether it fails; with several workers, in any of some runs."""
+        times = 8 if self.check == "workers" else 1
+        return any(self.differs(self.answers()) for _ in range(times))
+
+
+# ---- the least trial that fails
+
+
+# What a field of a line is tried as, where it is longer.
+SIMPLE = [b"0", b"1", b"-", b".", b"9", b"a.", b"16", b"00", b"100", b"a.b."]
+
+
+class Spent(Exception):
+    """All the tries are used up."""
+
+
+class Shortener:
+    """Makes a failing trial shorter while it fails, by so many tries at most."""
+
+    def __init__(self, trial, tries=1_000):
+        self.trial, self.tries = trial, tries
+
+    def fails(self, trial):
+        """Whether a shorter trial fails too, which is then gone on from."""
+        if self.tries <= 0:
+            raise Spent
+        begun = time.monotonic()
+        found = trial.fails()
+        # where a run did not end, it is the last
+        self.tries -= self.tries if time.monotonic() - begun > SECONDS else 1
+        if found:
+            self.trial = trial
+        return found
+
+    def without_pieces(self, pieces, made):
+        """The pieces without those that are not needed, larger runs of them first."""
+        size = max(1, len(pieces) // 2)
+        while pieces:
+            at = len(pieces)
+            while at > 0:
+                at = max(0, at - size)
+                left = pieces[:at] + pieces[at + size:]
+                if len(left) < len(pieces) and self.fails(made(left)):
+                    pieces = left
+            if size == 1:
+                break
+            size //= 2
+        return pieces
+
+    def with_text(self, text):
+        return self.trial._replace(text=text)
+
+    def drop_options(self):
+        for name in [*self.trial.options]:
+            left = {it: value for it, value in self.trial.options.items() if it != name}
+            self.fails(self.trial._replace(options=left))
+
+    def drop_lines(self):
+        lines = self.trial.text.splitlines(True)
+        self.without_pieces(lines, lambda left: self.with_text(b"".join(left)))
+
+    def simplify_fields(self):
+        for at, line in enumerate(self.trial.text.split(b"\n")):
+            for place in range(1, len(line.split(b" "))):
+                self.simplify_field(at, place)
+
+    def simplify_field(self, at, place):
+        lines = self.trial.text.split(b"\n")
+        fields = lines[at].split(b" ")
+        for simple in [it for it in SIMPLE if len(it) < len(fields[place])]:
+            line = b" ".join([*fields[:place], simple, *fields[place + 1:]])
+            if self.fails(self.with_text(b"\n".join([*lines[:at], line, *lines[at + 1:]]))):
+                break
+
+    def shorten_lines(self):
+        for at in range(len(self.trial.text.splitlines(True))):
+            lines = self.trial.text.splitlines(True)
+            if at >= len(lines):
+                break
+
+            def made(left, lines=lines, at=at):
+                return self.with_text(b"".join([*lines[:at], bytes(left), *lines[at + 1:]]))
+            self.without_pieces(lines[at], made)
+
+    def shortest(self):
+        """The shortest that was found."""
+        try:
+            self.drop_lines()
+            self.drop_options()
+            self.simplify_fields()
+            self.shorten_lines()
+            self.drop_lines()
+        except Spent:
+            pass
+        return self.trial
