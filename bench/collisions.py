@@ -2,7 +2,7 @@
 # SPDX-License-Identifier: MIT
 """Times the program on names that were picked to have hashes alike under the kit's fast hasher, and on other names as long.
 
-Build the program first, by `bin/build`. bin/attacks.py tells how names are picked. Each trace puts an address under NAMES such names, and
+Build the program first, by `bin/build`. tests/hostile/attacks.py tells how names are picked. Each trace puts an address under NAMES such names, and
 asks for each. Each time is the least of RUNS runs in turn, of processor time. It fails where the picked names take more than 1.5 times as
 long as the others.
 """

@@ -7,7 +7,7 @@ together, and their waits are taken. Meanwhile one client asks for ATTACK names 
 this process, by one of these ways:
   none       nobody asks for others
   harmless   an address for each name
-  collisions an address for each name, and the hashes of names are alike under a hasher with a known number (bin/attacks.py)
+  collisions an address for each name, and the hashes of names are alike under a hasher with a known number (tests/hostile/attacks.py)
   one part   an address for each name, and all names lie in one part by `part_of`, which has no key
   sets       an RRset of some 16,000 octets for each name, which is kept, over TCP
   messages   a message of 64 kB for each name, of which little is kept, over TCP

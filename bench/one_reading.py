@@ -6,8 +6,8 @@ times what one shelf takes.
 
 It also tells the longest share of a shelf, for which that shelf's lock is held. Build the library
 for C first, by `bin/build-c`. Times are of a processor, the least of RUNS: of a usual response,
-which names four servers with their addresses, and of the hostile ones of bin/attacks.py. `--write`
-writes them to docs/PERFORMANCE.md.
+which names four servers with their addresses, and of the hostile ones of tests/hostile/attacks.py.
+`--write` writes them to docs/PERFORMANCE.md.
 """
 import argparse
 import pathlib

@@ -2,7 +2,7 @@
 # SPDX-License-Identifier: MIT
 """Times a shared cache by several threads, and replays by several workers, and writes their section of docs/PERFORMANCE.md with its picture.
 
-Build the programs first, by `rt run` in crates/bench_cache and `bin/rrcache < rows/first-trace/trace`. Each number is the median of RUNS runs, in
+Build the programs first, by `rt run` in crates/bench_cache and `bin/rrcache < tests/rows/trust/first-trace/trace`. Each number is the median of RUNS runs, in
 millions of calls or of lines a second of passed time, on a machine that should do nothing else. `--write` writes the section and
 docs/performance.svg; without it the table is only printed.
 """

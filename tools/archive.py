@@ -1,6 +1,6 @@
 # SPDX-License-Identifier: MIT
-"""bin/archive.py [--capacity N] [--chapter N] [--stale N] < TRACE: the history of a part, as an
-archive (docs/FORMATS.md).
+"""python3 -m tools.archive [--capacity N] [--chapter N] [--stale N] < TRACE: the history of a part,
+as an archive (docs/FORMATS.md).
 
 The trace is replayed by the model of the rules (model.py), which is apart from the program, by one
 worker and on one part. All chapters are printed, the open one last. The options are the program's.

@@ -1,7 +1,7 @@
 # SPDX-License-Identifier: MIT
 """What a response says and what it offers to a cache (docs/RULES.md), read strictly.
 
-It stands apart from the program and from dns.py, which makes messages. Names are octets in wire
+It stands apart from the program and from wire.py, which makes messages. Names are octets in wire
 form, with no pointer. Of several faults the first in the order of reading is raised.
 """
 import struct

@@ -1,7 +1,7 @@
 # SPDX-License-Identifier: MIT
 """Archives (docs/FORMATS.md) that the model of the rules makes of drawn traces, and changes of them
 in one place: those by which a known event is not legal, those of which the model says what is wrong
-(audits.py), and those by which a known line is none. bin/test-archives has the program audit them.
+(audits.py), and those by which a known line is none. tests/archives/run has the program audit them.
 """
 import re
 from typing import NamedTuple

@@ -1,8 +1,9 @@
 # SPDX-License-Identifier: MIT
-"""Tests of the library through Python (the package rrcache), which bin/test-forwarder runs: what it
-refuses, how names in data are read, what of a response is relevant, the examples of its docstrings,
-many threads, the package once it is installed, archives, and the rows that it can be told, each of
-whose lines is compared with the row's report, and whose history with that of the Python model.
+"""Tests of the library through Python (the package rrcache), which tests/forwarder/run runs: what
+it refuses, how names in data are read, what of a response is relevant, the examples of its
+docstrings, many threads, the package once it is installed, archives, and the rows that it can be
+told, each of whose lines is compared with the row's report, and whose history with that of the
+Python model.
 """
 import io
 import itertools
@@ -522,7 +523,7 @@ def test_refusals_by_python():
 
 
 def test_archives_are_read_by_python():
-    """The archive by hand of bin/tested_model.py."""
+    """The archive by hand of tests/tools/model.py."""
     chapters = rrcache.read_archive(ARCHIVE)
     same("".join(it.text for it in chapters), ARCHIVE, "the text of chapters")
     numbers = [(it.number, it.first, it.capacity, it.chapter, it.stale) for it in chapters]

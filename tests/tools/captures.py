@@ -1,7 +1,8 @@
 # SPDX-License-Identifier: MIT
-"""Tests of bin/from-capture, on the capture in captures/ and on made and broken ones.
+"""Tests of bin/from-capture, on the capture in tests/captures/ and on made and broken ones.
 
-tshark wrote captures/small.asks and small.responses, unbound the zones in captures/small.dnstap."""
+tshark wrote tests/captures/small.asks and small.responses, unbound the zones in
+tests/captures/small.dnstap."""
 import fcntl
 import io
 import json

@@ -1,8 +1,8 @@
 # SPDX-License-Identifier: MIT
 """Tests of bin/why and bin/what-if: what they say of small traces follows from docs/RULES.md. Of
-bin/fuzz, bin/test-archives, bin/schedules and bin/refusals: that they find what is wrong with a
-wrong program. Of bin/archive.py: what it refuses. And of the program's options: that they are those
-of docs/FORMATS.md."""
+bin/fuzz, tests/archives/run, tests/schedules/run and tests/refusals/run: that they find what is
+wrong with a wrong program. Of tools/archive.py: what it refuses. And of the program's options: that
+they are those of docs/FORMATS.md."""
 import csv
 import importlib.machinery
 import importlib.util
@@ -525,7 +525,7 @@ def test_an_interrupt_ends_a_tool_without_a_traceback():
                 yield f"{words}: {ended}"
 
 
-# ---- bin/fuzz, bin/schedules and bin/refusals
+# ---- bin/fuzz, tests/schedules/run and tests/refusals/run
 
 # What makes a wrong program of the right one, the words of the lines of its least trace, and by which
 # check it is found.
@@ -601,7 +601,7 @@ def test_refusals_say_that_nothing_was_tried():
             yield f"{words}: status {run.returncode}: {run.stdout}{run.stderr}"
 
 
-# ---- bin/archive.py and bin/test-archives
+# ---- tools/archive.py and tests/archives/run
 
 
 def test_archive_refuses_what_it_cannot_replay():

@@ -1,6 +1,6 @@
 # SPDX-License-Identifier: MIT
 """Tests of the model on each row, whose reports are written by hand, and of its archives. bin/fuzz
-and bin/test-archives compare it with the program on random traces."""
+and tests/archives/run compare it with the program on random traces."""
 import io
 import re
 from pathlib import Path
