@@ -1,5 +1,5 @@
 # SPDX-License-Identifier: MIT
-"""The Rattle kit's command `rt` as a module, for the scripts beside this file.
+"""The Rattle kit's command `rt` as a module, for bin/build and tools/proof-times.
 
 They ask it which crates there are, lowest first, what words a check of each has and how much memory it takes, so that no word of the prover's
 command line stands here. They replace nothing of it.

@@ -1,8 +1,6 @@
 # SPDX-License-Identifier: MIT
 """Names of the DNS as octets in wire form (RFC 1035 section 3.1), and their text (docs/FORMATS.md).
-
-For the scripts beside this file; nothing here is the program's.
-"""
+Nothing here is the program's."""
 
 WIRE_MOST = 255
 LABEL_MOST = 63

@@ -1,5 +1,5 @@
 # SPDX-License-Identifier: MIT
-"""DNS messages as octets (RFC 1035 section 4), for the scripts beside this file and in bench/.
+"""DNS messages as octets (RFC 1035 section 4), for bin/fuzz, tests/ and bench/.
 
 A name is given as a text (docs/FORMATS.md), of which the last dot may be left out, or as octets,
 which stay as they are: so a pointer is given.
