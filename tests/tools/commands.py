@@ -22,6 +22,7 @@ from pathlib import Path
 
 from tests.tools.model import ARCHIVE, PROGRAM
 from tools.traces import Replay
+from tools.version import VERSION
 
 TOP = Path(__file__).resolve().parents[2]
 # How many seconds a tool may take, also on a machine that does much else.
