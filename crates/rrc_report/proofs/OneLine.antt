@@ -259,10 +259,10 @@ response_same law snapshot config questions pasts number response answer other o
 response_same law snapshot config questions pasts number response answer other operations others events also some (inr one) (inl two) done other_done =
     absurd (not_both law response.octets two.1.0.message one.1.0.0 two.1.0.begins one.1.0.1.0)
 response_same law snapshot config questions pasts number response answer other operations others events also some (inr one) (inr two) done other_done =
-    let number : two.0 ≡ one.0 = one_number law response.octets two.0 one.0 two.1.0 one.1.0 in
-    let same_number : IsMade (Unit {0}) (λ unit. answers.Refused one.0) other others [] = subst (λ n. IsMade (Unit {0}) (λ unit. answers.Refused n) other others []) number two.1.1 in
+    let of_fault : two.0 ≡ one.0 = one_number law response.octets two.0 one.0 two.1.0 one.1.0 in
+    let same_fault : IsMade (Unit {0}) (λ unit. answers.Refused one.0) other others [] = subst (λ n. IsMade (Unit {0}) (λ unit. answers.Refused n) other others []) of_fault two.1.1 in
     made_same (Unit {0}) (λ unit. answers.Refused one.0) [] snapshot config questions pasts number (lines.Response response) answer other operations others events also
-    (λ x y es left right. refl) tt one.1.1 same_number done other_done
+    (λ x y es left right. refl) tt one.1.1 same_fault done other_done
 
 -- ---- fetches
 
