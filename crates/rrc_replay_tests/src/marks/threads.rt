@@ -8,8 +8,8 @@ use std::alloc::Global;
 use std::process::Abort;
 use std::sync::atomic::Ordering::SeqCst;
 use std::sync::atomic::{AtomicBool, AtomicU64};
-use std::thread;
 use std::thread::Threads;
+use std::{hint, thread};
 
 /// Draws until no number is answered or no turn is left, and counts each answer.
 fn draw_on(marks: &Marks, mut pass: Pass, answers: &[AtomicU64]) -> Pass
@@ -128,13 +128,14 @@ enum Met {
     Taken,
 }
 
-/// Whether the flag was raised within so many looks, which are some tenths of a second of a
-/// processor. It never yields: how long that takes depends on what else runs there.
+/// Whether the flag was raised within so many turns, which are some tenths of a second of a
+/// processor. No turn yields: how long that takes depends on what else runs there.
 fn wait_for(flag: &AtomicBool) -> bool {
-    for _ in 0..300_000_000 {
+    for _ in 0..10_000_000 {
         if flag.load(SeqCst) {
             return true;
         }
+        hint::spin_loop();
     }
     false
 }
