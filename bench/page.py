@@ -1,10 +1,13 @@
 # SPDX-License-Identifier: MIT
-"""docs/PERFORMANCE.md, of which each script beside this one writes a section of its own."""
+"""docs/PERFORMANCE.md, of which each suite with a TITLE writes a section of its own."""
 import os
 import re
+import textwrap
 from pathlib import Path
 
-PAGE = Path(__file__).resolve().parent.parent / "docs" / "PERFORMANCE.md"
+from bench.setup import TOP
+
+PAGE = TOP / "docs" / "PERFORMANCE.md"
 HEADING = re.compile(r"^## (.*)$", re.MULTILINE)
 
 
@@ -16,15 +19,37 @@ def machine():
     return f"{os.cpu_count()} processors ({kind}) and {round(size / 2**30)} GiB of memory"
 
 
-def write_section(title, text):
-    """Puts a text in the place of the section with this title, or behind all others."""
+def of_threads(count):
+    return f"{count} {'thread' if count == 1 else 'threads'}"
+
+
+def table(head, rows):
+    """A table of these cells."""
+    cells = [[str(it) for it in row] for row in (head, *rows)]
+    lines = ["| " + " | ".join(row) + " |" for row in cells]
+    return "\n".join([lines[0], "|" + "---|" * len(head), *lines[1:]])
+
+
+def filled(text):
+    """A text in lines of at most 100 columns, none of which ends within code."""
+    whole = re.sub("`.*?`", lambda it: it[0].replace(" ", "\0"), text)
+    return textwrap.fill(whole, 100, break_on_hyphens=False).replace("\0", " ")
+
+
+def write_section(args, title, text, *parts):
+    """Where the words of a suite ask for it, puts a section in the place of the one with this
+    title, or behind all others: what wrote it and where, with this text behind that, and then
+    these parts."""
+    if not args.write:
+        return
+    text = f"Written by `bench/run {args.suite} --write` on {machine()}{text}"
+    section = "\n\n".join([f"## {title}", filled(text), *parts])
     page = PAGE.read_text()
     starts = [*((it[1], it.start()) for it in HEADING.finditer(page)), ("", len(page))]
     for (found, start), (_, end) in zip(starts, starts[1:]):
         if found == title:
-            page = page[:start], page[end:]
+            before, behind = page[:start], page[end:]
             break
     else:
-        page = page.rstrip("\n") + "\n\n", ""
-    before, behind = page
-    PAGE.write_text(f"{before}## {title}\n\n{text.strip()}\n" + ("\n" + behind if behind else ""))
+        before, behind = page.rstrip("\n") + "\n\n", ""
+    PAGE.write_text(before + section + "\n" + ("\n" + behind if behind else ""))

@@ -2,7 +2,7 @@
 /* c_threads THREADS CALLS shared|own ask|put|both: times the library for C. So many threads make so
    many calls in all on 16 shelves, each shelf under a lock: `shared`, each thread picks the shelf
    of each name; `own`, each thread has 16 shelves of its own and takes no lock. It prints how many
-   calls there were and the nanoseconds that they took, by the clock. bench/c.py runs it. */
+   calls there were and the nanoseconds that they took, by the clock. `bench/run c` runs it. */
 #include <pthread.h>
 #include <stdio.h>
 #include <stdlib.h>

@@ -1,5 +1,5 @@
 /* SPDX-License-Identifier: MIT */
-/* What a cache of RRsets does under bench/beside/work.c. */
+/* What a cache of RRsets does under work.c. */
 #ifndef WORK_H
 #define WORK_H
 

@@ -1,6 +1,6 @@
 /* SPDX-License-Identifier: MIT */
-/* The RRset cache of unbound under bench/beside/work.c, with 64 slabs, as its resolver calls it.
-   bench/unbound.py builds it beside unbound's own source. */
+/* The RRset cache of unbound under work.c, with 64 slabs, as its resolver calls it.
+   `bench/run unbound` builds it beside unbound's own source. */
 #include "config.h"
 
 #include "services/cache/rrset.h"

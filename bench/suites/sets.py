@@ -1,22 +1,24 @@
-#!/usr/bin/env python3
 # SPDX-License-Identifier: MIT
-"""Times what a message offers: usual messages, and hostile ones of growing size, whose sets and data are made to be sought for long.
+"""Times what a message offers: usual messages, and hostile ones of growing size.
 
-Build the program first, by `rt run` in crates/bench_sets. Each number is the least of RUNS runs, since all else that runs only adds to it, in
-microseconds of processor time for the offers of one message, which is read beforehand. Behind each time of a hostile message stands how
-many times that of half its size it is, and last how many times on the mean; the exit status is 1 where one such mean is more than MOST.
+Build the program first, by `bin/build bench_sets`. The sets and data of hostile ones are made to be
+sought for long. Each number is the least of RUNS runs, since all else that runs only adds to it, in
+microseconds of processor time for the offers of one message, which is read beforehand. Behind each
+time of a hostile message stands how many times that of half its size it is, and last how many times
+on the mean; the exit status is 1 where one such mean is more than MOST.
 """
-import argparse
-import pathlib
-import subprocess
-import sys
-import tempfile
+from bench.setup import files, over, program, ran
+from tools.wire import (A, CNAME, MINFO, NS, PTR, SOA, pointer, question, record, response,
+                        soa_data, wire)
 
-sys.path.insert(0, str(pathlib.Path(__file__).resolve().parent.parent))
-from tools.wire import (A, CNAME, MINFO, NS, PTR, SOA, pointer, question, record,  # noqa: E402
-                        response, soa_data, wire)
-
-PROGRAM = pathlib.Path(__file__).resolve().parent.parent / "crates" / "bench_sets" / "out" / "bench_sets"
+PROGRAM = program("bench_sets")
+NEEDS = (PROGRAM,)
+OPTIONS = {
+    "runs": (9, "runs of each"), "seconds": (0.05, "seconds of a run, about"),
+    "most": (2.6, "the most that a time may grow by for twice the octets, on the mean"),
+    "sizes": ([8192, 16384, 32768, 65535], "octets of the hostile messages, two sizes at least and "
+              "each twice the one before"),
+}
 QUESTION = question("a.example.", A)
 # The names of the question, a.example., and of its zone, as pointers to them.
 ASKED, ZONE = pointer(12), pointer(14)
@@ -58,7 +60,8 @@ def nxdomain():
 
 
 def filled(size, make, asked=QUESTION):
-    """A message of no more than `size` octets with as many records as it holds, each made of its number."""
+    """A message of no more than `size` octets with as many records as it holds, each made of its
+    number."""
     records, left = [], size - 12 - len(asked)
     while left >= len(made := make(len(records))):
         records.append(made)
@@ -87,10 +90,12 @@ def types(size):
 
 
 def spellings(size):
-    """Name servers of one name whose data differ in the case of letters alone: one set with one datum."""
+    """Name servers of one name whose data differ in the case of letters alone: one set with one
+    datum."""
 
     def spelled(number):
-        return "".join(letter.upper() if number >> place & 1 else letter for place, letter in enumerate("abcdefghijklmnop"))
+        return "".join(letter.upper() if number >> place & 1 else letter
+                       for place, letter in enumerate("abcdefghijklmnop"))
 
     return filled(size, lambda number: record(ASKED, NS, 60, wire(spelled(number), ZONE)))
 
@@ -115,46 +120,32 @@ def aliases(size):
     return filled(size, lambda number: record(ASKED, CNAME, 60, numbered(number, ZONE)))
 
 
-def nanoseconds(path, passes):
-    """Runs the program once, and answers how long it took for one message."""
-    done = subprocess.run([PROGRAM, "offer", str(passes), path], capture_output=True, text=True, check=True)
-    return int(done.stderr) / passes
-
-
-def microseconds(octets, runs, enough):
+def microseconds(octets, args):
     """The least of some runs, each of as many passes as take long enough."""
-    with tempfile.TemporaryDirectory() as folder:
-        path = pathlib.Path(folder) / "message"
-        path.write_text(octets.hex() + "\n")
-        passes = max(1, int(enough * 1e9 / max(nanoseconds(path, 1), 100)))
-        return min(nanoseconds(path, passes) for _ in range(runs)) / 1000
+    def nanoseconds(passes):
+        return int(ran(PROGRAM, "offer", passes, paths["message"]).stderr) / passes
+    with files(message=octets.hex() + "\n") as paths:
+        passes = max(1, int(args.seconds * 1e9 / max(nanoseconds(1), 100)))
+        return min(nanoseconds(passes) for _ in range(args.runs)) / 1000
 
 
-def main():
-    parser = argparse.ArgumentParser(description=__doc__.splitlines()[0])
-    parser.add_argument("--runs", type=int, default=9, help="runs of each (default 9)")
-    parser.add_argument("--seconds", type=float, default=0.05, help="seconds of a run, about (default 0.05)")
-    parser.add_argument("--most", type=float, default=2.6, help="the most that a time may grow by for twice the octets, on the mean (default 2.6)")
-    parser.add_argument("--sizes", type=int, nargs="+", default=[8192, 16384, 32768, 65535], help="octets of the hostile messages, two sizes at least and each twice the one before")
-    args = parser.parse_args()
-    if not PROGRAM.exists():
-        sys.exit("build the program first: `rt run` in crates/bench_sets")
+def tell_growth(make, args):
+    """How many times as long twice the octets of a hostile message take, on the mean."""
+    line, times = f"{make.__name__:12}", []
+    for size in args.sizes:
+        times.append(microseconds(make(size), args))
+        line += f"{times[-1]:10,.0f}"
+        line += (f" ({times[-1] / times[-2]:4.2f})" if times[1:] else "").ljust(8)
+    grown = (times[-1] / times[0]) ** (1 / (len(times) - 1))
+    print(f"{line}{grown:6.2f}", flush=True)
+    return grown
+
+
+def main(args):
     for make in (one, ten, referral, nxdomain):
-        print(f"{make.__name__:12}{microseconds(make(), args.runs, args.seconds):10.2f}")
+        print(f"{make.__name__:12}{microseconds(make(), args):10.2f}")
     print(" " * 12 + "".join(f"{size:>10,}{'':8}" for size in args.sizes) + "  mean")
-    worst = 0
-    for make in (addresses, owners, long_owners, types, spellings, pointers, mailboxes, chain, aliases):
-        line, times = f"{make.__name__:12}", []
-        for size in args.sizes:
-            times.append(microseconds(make(size), args.runs, args.seconds))
-            line += f"{times[-1]:10,.0f}" + (f" ({times[-1] / times[-2]:4.2f})" if times[1:] else "").ljust(8)
-        grown = (times[-1] / times[0]) ** (1 / (len(times) - 1))
-        worst = max(worst, grown)
-        print(f"{line}{grown:6.2f}", flush=True)
+    worst = max(tell_growth(make, args) for make in (
+        addresses, owners, long_owners, types, spellings, pointers, mailboxes, chain, aliases))
     print(f"for twice the octets {worst:.2f} times as long, at most")
-    if worst > args.most:
-        sys.exit(f"that is more than {args.most} times")
-
-
-if __name__ == "__main__":
-    main()
+    return over(worst, args.most)

@@ -1,36 +1,39 @@
-#!/usr/bin/env python3
 # SPDX-License-Identifier: MIT
 """Tells what hostile messages, names and traces cost: octets of memory, and time.
 
 Build the library for C first, by `bin/build-c`, or name it in RRCACHE_LIBRARY, and for traces the
 program, by `bin/build`, or name it in RRCACHE_PROGRAM. Each message has no more than SIZE octets
 and is offered to an empty shelf. A shelf records its history where events or chapters are measured,
-and nowhere else. What stays is what the C library's allocator has given out more
-than before (mallinfo2, of glibc). Times are milliseconds of the thread's processor time: of a
-message the least of RUNS, of a full part those of one call each. A caller spends them under the
-lock of the shelf, but for what only reads a message. All runs in a thread whose stack has STACK KB,
-since no proof says how deep the stack gets.
+and nowhere else. What stays is what the C library's allocator has given out more than before
+(mallinfo2, of glibc). Times are milliseconds of the thread's processor time: of a message the least
+of RUNS, of a full part those of one call each. A caller spends them under the lock of the shelf,
+but for what only reads a message. All runs in a thread whose stack has STACK KB, since no proof
+says how deep the stack gets.
 """
-import argparse
 import concurrent.futures
 import os
-import pathlib
-import sys
 import threading
+from pathlib import Path
 
-TOP = pathlib.Path(__file__).resolve().parent.parent
-sys.path[:0] = [str(TOP), str(TOP / "python")]
-LIBRARY = os.environ.setdefault("RRCACHE_LIBRARY", str(TOP / "build" / "librrcache.so"))
-PROGRAM = os.environ.get("RRCACHE_PROGRAM", TOP / "crates" / "rrcache" / "out" / "rrcache")
-if not pathlib.Path(LIBRARY).exists():
-    sys.exit("build the library first: `bin/build-c`")
-import rrcache  # noqa: E402
-from tests.hostile.attacks import (ASKED, ENDS, LONG, MESSAGES, ROOT, label,  # noqa: E402
-                                   many_keys, many_types, one_key)
-from tests.hostile.costs import memory, timed, used_by  # noqa: E402
-from tools.wire import A, MINFO, TXT, question, record, response, wire  # noqa: E402
+from bench.setup import BUILD, program
+from tests.hostile.attacks import (ASKED, ENDS, LONG, MESSAGES, ROOT, label, many_keys, many_types,
+                                   one_key)
+from tests.hostile.costs import memory, timed, used_by
+from tools.wire import A, MINFO, TXT, question, record, response, wire
+
+try:
+    import rrcache
+except ImportError:
+    # `bench/run` tells of what is needed, and has to tell of the options without it.
+    rrcache = None
 
 MOST_KEYS, SEED = 65_536, bytes(range(16))
+NEEDS = (Path(os.environ.get("RRCACHE_LIBRARY", BUILD / "librrcache.so")),)
+PROGRAM = Path(os.environ.get("RRCACHE_PROGRAM", program("rrcache")))
+OPTIONS = {
+    "size": (65_535, "octets of a message"), "keys": (MOST_KEYS, "keys of a part"),
+    "runs": (5, "runs of each message"), "stack": (64, "KB of the thread's stack"),
+}
 
 
 def tell_message(make, size, runs):
@@ -178,7 +181,7 @@ def tell_trace(name, text, *options):
 
 
 def tell_traces(size):
-    if not pathlib.Path(PROGRAM).exists():
+    if not PROGRAM.exists():
         print("the program is not built, so no trace is replayed")
         return
     response_line = "response 0 . {}\n".format
@@ -268,17 +271,7 @@ def tell_all(size, keys, runs):
         tell_sweep(kind, keys)
 
 
-def main():
-    parser = argparse.ArgumentParser(description=__doc__.splitlines()[0])
-    parser.add_argument("--size", type=int, default=65_535, help="octets of a message (65,535)")
-    parser.add_argument("--keys", type=int, default=MOST_KEYS, help="keys of a part (65,536)")
-    parser.add_argument("--runs", type=int, default=5, help="runs of each message (5)")
-    parser.add_argument("--stack", type=int, default=64, help="KB of the thread's stack (64)")
-    args = parser.parse_args()
+def main(args):
     threading.stack_size(1024 * args.stack)
     with concurrent.futures.ThreadPoolExecutor(1) as pool:
         pool.submit(tell_all, args.size, args.keys, args.runs).result()
-
-
-if __name__ == "__main__":
-    main()

@@ -3,7 +3,7 @@
    shelves by one reading of it, and to 16 shelves by a reading for each. It prints the nanoseconds
    of processor time of each, the least of so many runs of so many times, and then those of the
    longest call of `rrcache_offer_read`, for which a shelf's lock is held, in the run in which that
-   took least. bench/one_reading.py runs it. */
+   took least. `bench/run one-reading` runs it. */
 #include <stdio.h>
 #include <stdlib.h>
 #include <time.h>

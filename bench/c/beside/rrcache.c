@@ -1,7 +1,6 @@
 /* SPDX-License-Identifier: MIT */
-/* rrcache under bench/beside/work.c: 64 shelves, each with a lock, that record no history. A lock
-   is a mutex that spins a while before it sleeps; with SPINS defined it is a spin lock, as
-   unbound's are. */
+/* rrcache under work.c: 64 shelves, each with a lock, that record no history. A lock is a mutex
+   that spins a while before it sleeps; with SPINS defined it is a spin lock, as unbound's are. */
 #define _GNU_SOURCE
 #include <pthread.h>
 

@@ -1,0 +1,70 @@
+# SPDX-License-Identifier: MIT
+"""Times the library for C: asks and puts by threads of C, and asks through Python.
+
+It takes the library as bin/build-c made it and compiles bench/c/c_threads.c. The threads have
+shelves of their own, and shared ones under locks. Each number is the best of RUNS runs of CALLS
+calls on 16 shelves with 16,384 names, of which no history is recorded. Asks all hit; of `both` one
+half are puts, which replace. Rates are calls a second by the clock, of all threads together.
+"""
+import sys
+import time
+
+from bench.page import of_threads, table, write_section
+from bench.setup import ARCHIVE, SOURCES, compiled, ran, undisturbed
+
+NEEDS, TITLE = (ARCHIVE,), "The library for C"
+OPTIONS = {
+    "calls": (1_000_000, "calls of each run"), "threads": ([1, 2, 4], "threads"),
+    "runs": (3, "runs of each"),
+}
+KINDS = {"ask": "asks that hit", "put": "puts that replace", "both": "one ask to one put"}
+SHELVES = {"own": "of each thread's own", "shared": "under locks"}
+
+
+def rate(*command):
+    count, _, took, _ = ran(*command).stdout.split()
+    return int(count) / int(took) * 1e9
+
+
+def python_rate(calls):
+    """Asks a second through the package python/rrcache, on one shelf."""
+    import rrcache
+    names = [b"\6n%05d\7example\0" % number for number in range(4096)]
+    with rrcache.Shelf(capacity=4096, chapter=65536) as shelf:
+        for name in names:
+            shelf.offer_set(name, 1, 4, 3600, [b"\xc0\0\2\1", b"\xc0\0\2\2"], 100)
+        began = time.perf_counter()
+        for call in range(calls):
+            if shelf.ask(names[call % 4096], 1, 100).kind != rrcache.Kind.FRESH:
+                sys.exit("an ask found nothing fresh")
+        return calls / (time.perf_counter() - began)
+
+
+def best(runs, call, *words):
+    return max(undisturbed(call, *words) for _ in range(runs))
+
+
+def rates(program, args, what, whose):
+    """Millions of calls a second of a kind on a kind of shelves, by so many threads each."""
+    for threads in args.threads:
+        found = best(args.runs, rate, program, threads, args.calls, whose, what)
+        print(f"{what}, {whose} shelves, {threads} threads: {found:,.0f} a second", flush=True)
+        yield found / 1e6
+
+
+def main(args):
+    rows, program = [], compiled("c_threads", SOURCES / "c_threads.c", ARCHIVE)
+    for what, title in KINDS.items():
+        for whose, kind in SHELVES.items():
+            by = list(rates(program, args, what, whose))
+            rows.append([title, kind, *(f"{it:.2f}" for it in by), f"{by[-1] / by[0]:.2f}"])
+    by_python = best(args.runs, python_rate, args.calls // 20)
+    print(f"ask, through Python: {by_python:,.0f} a second")
+    head = ["What", "Shelves", *map(of_threads, args.threads),
+            f"{args.threads[-1]} to {args.threads[0]}"]
+    write_section(
+        args, TITLE,
+        ": millions of calls a second by threads of C (`bench/c/c_threads.c`), the best of "
+        f"{args.runs} runs of {args.calls} calls on 16 shelves with 16,384 names.",
+        table(head, rows),
+        f"Through Python (`python/rrcache`) one thread asks {by_python:,.0f} times a second.")

@@ -1,0 +1,62 @@
+# SPDX-License-Identifier: MIT
+"""Times the program on put and ask lines over 500 names, up to 1,000,000 of them.
+
+Build the program first, by `bin/build`. The traces have 10,000, 100,000 and 1,000,000 lines. Prints
+for each trace the seconds, the lines a second and the peak memory, and then how much longer the
+trace of 1,000,000 lines took than that of 100,000. Ends with status 1 where that is more than 12
+times, or a run failed.
+"""
+import random
+import sys
+import tempfile
+
+from bench.setup import files, program, used_by
+
+PROGRAM = program("rrcache")
+NEEDS, OPTIONS = (PROGRAM,), {}
+SIZES = [10_000, 100_000, 1_000_000]
+NAMES, MOST_GROWTH, SEED = 500, 12, 20
+
+
+def trace(lines):
+    """A trace: puts and asks in turn by chance, of A, TXT and AAAA records, at moments that
+    rise."""
+    chance = random.Random(SEED)
+    text = []
+    for moment in range(lines):
+        name = f"host{chance.randrange(NAMES)}.example.net."
+        rtype = chance.choice((1, 16, 28))
+        if chance.random() < 0.5:
+            size = {1: 4, 16: 20, 28: 16}[rtype]
+            items = ",".join(chance.randbytes(size).hex() for _ in range(chance.randint(1, 3)))
+            text.append(f"put {moment} {name} {rtype} {chance.randint(1, 4)}"
+                        f" {chance.randint(0, 600)} {items}\n")
+        else:
+            purpose = chance.choice(("any", "answer"))
+            text.append(f"ask {moment} {name} {rtype} {purpose}"
+                        f" {chance.choice(('none', 'failed', 'now'))}\n")
+    return "".join(text)
+
+
+def timed(lines):
+    """What the program takes of a trace of so many lines."""
+    with files(trace=trace(lines)) as paths, tempfile.TemporaryFile() as report:
+        used = used_by(PROGRAM, "--capacity", "65536", "--chapter", "1048576",
+                       source=paths["trace"], report=report)
+        report.seek(0)
+        if (told := sum(1 for _ in report)) != lines:
+            sys.exit(f"the program failed: {told} lines of a report")
+    return used
+
+
+def main(_):
+    took = {}
+    for size in SIZES:
+        used = timed(size)
+        took[size] = used.clock
+        print(f"{size:>9} lines: {used.clock:8.2f} s, {size / used.clock:>9.0f} lines a second,"
+              f" {used.octets / 2**20:7.0f} MiB")
+    growth = took[SIZES[2]] / took[SIZES[1]]
+    print(f"ten times the lines took {growth:.1f} times as long; at most {MOST_GROWTH} times is"
+          " wanted")
+    return growth > MOST_GROWTH

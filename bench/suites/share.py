@@ -1,0 +1,129 @@
+# SPDX-License-Identifier: MIT
+"""Times a shared cache by several threads, and replays by several workers.
+
+Build the programs first, by `bin/build rrcache bench_cache`. Each number is the median of RUNS
+runs, in millions of calls or of lines a second of passed time. `--write` writes also
+docs/performance.svg; without it the table is only printed.
+"""
+from functools import partial
+from statistics import median
+
+from bench.page import filled, of_threads, table, write_section
+from bench.setup import TOP, counted, files, in_turn, median_of, program, undisturbed, used_by
+
+REPLAY, CALLS = NEEDS = program("rrcache"), program("bench_cache")
+OPTIONS = {
+    "runs": (3, "runs of each"), "calls": (1_000_000, "calls of each run, over all threads"),
+    "lines": (1_000_000, "lines of the trace"),
+}
+TASKS = {
+    "hit": "asks that hit, random names",
+    "put": "puts that replace",
+    "mix": "nine asks to one put",
+    "hot": "asks of one hot name",
+    "replay": "lines of a replay, nine asks to one put",
+}
+THREADS, PARTS = (1, 2, 4), (1, 4, 64)
+NAMES, TITLE = 65_536, "A shared cache, and replays"
+# Of the picture: the colors of the bars, how wide it is, and how tall the bars of a task.
+SHADES, WIDTH, HEIGHT = ("#9ecae1", "#4292c6", "#084594"), 760, 120
+
+
+def seconds_of_calls(task, threads, parts, calls):
+    return counted(f"{task}: {threads * calls} served",
+                   CALLS, "shared", task, threads, parts, calls) / 1e9
+
+
+def trace(lines):
+    """Puts of all names first, and then nine asks to one put, in no order that shows."""
+    state, text = 1, []
+    for line in range(lines):
+        state = (state * 6_364_136_223_846_793_005 + 1_442_695_040_888_963_407) % 2**64
+        number = (state >> 33) % NAMES
+        name = f"www{number % 7}.zone{number}.example."
+        text.append(f"ask 120 {name} 1 answer none\n" if line % 10 else
+                    f"put 100 {name} 1 4 600 c0000201\n")
+    return "".join(text)
+
+
+def seconds_of_replay(workers, parts, path):
+    return used_by(REPLAY, f"--workers={workers}", f"--parts={parts}", "--capacity=65536",
+                   "--chapter=1048576", source=path).clock
+
+
+def rate(task, parts, threads, args, path):
+    """Millions a second."""
+    calls = args.calls // threads
+    count, call = calls * threads, partial(seconds_of_calls, task, threads, parts, calls)
+    if task == "replay":
+        count, call = args.lines, partial(seconds_of_replay, threads, parts, path)
+    found = count / median_of(args.runs, undisturbed, call) / 1e6
+    print(f"{task}, {parts} parts, {threads} threads: {found:.2f} millions a second", flush=True)
+    return found
+
+
+def lock_costs(calls=100_000):
+    """Nanoseconds that a call of one thread takes, on lent parts and on a shared cache: the medians
+    of short runs in turn."""
+    took = in_turn(16, {it: partial(undisturbed, seconds_of_calls, it, 1, 64, calls)
+                        for it in ("lent", "hit")})
+    return [median(it) / calls * 1e9 for it in took.values()]
+
+
+def bars(rates, task, top):
+    """The bars of a task: over 1, 4 and 64 parts by 1, 2 and 4 threads."""
+    most = max(rates[task, parts, threads] for parts in PARTS for threads in THREADS)
+    yield (f'<text x="10" y="{top + 5}" font-weight="bold">{TASKS[task]}, millions a second'
+           '</text>')
+    for group, parts in enumerate(PARTS):
+        left = 60 + group * 230
+        for bar, threads in enumerate(THREADS):
+            found = rates[task, parts, threads]
+            tall = found / most * (HEIGHT - 30)
+            x, y = left + bar * 62, top + HEIGHT - tall
+            yield (f'<rect x="{x}" y="{y:.1f}" width="54" height="{tall:.1f}"'
+                   f' fill="{SHADES[bar]}"/>')
+            yield f'<text x="{x + 27}" y="{y - 4:.1f}" text-anchor="middle">{found:.2f}</text>'
+        yield (f'<text x="{left + 89}" y="{top + HEIGHT + 15}" text-anchor="middle">{parts}'
+               f' {"part" if parts == 1 else "parts"}</text>')
+
+
+def picture(rates):
+    """The bars of all tasks, one below the other."""
+    rows = [it for row, task in enumerate(TASKS)
+            for it in bars(rates, task, 20 + row * (HEIGHT + 50))]
+    tall = 20 + len(TASKS) * (HEIGHT + 50) + 20
+    for bar, threads in enumerate(THREADS):
+        rows += [f'<rect x="{60 + bar * 120}" y="{tall - 24}" width="14" height="14"'
+                 f' fill="{SHADES[bar]}"/>',
+                 f'<text x="{80 + bar * 120}" y="{tall - 12}">{of_threads(threads)}</text>']
+    inner = "\n".join(rows)
+    return (f'<svg xmlns="http://www.w3.org/2000/svg" width="{WIDTH}" height="{tall}"'
+            f' font-family="sans-serif" font-size="12">\n{inner}\n</svg>\n')
+
+
+def main(args):
+    rates, rows = {}, []
+    with files(trace=trace(args.lines)) as paths:
+        for task, title in TASKS.items():
+            for parts in PARTS:
+                by = [rate(task, parts, it, args, paths["trace"]) for it in THREADS]
+                rates |= {(task, parts, it): found for it, found in zip(THREADS, by)}
+                rows.append([title, parts, *(f"{it:.2f}" for it in by), f"{by[-1] / by[0]:.2f}"])
+    lent, shared = lock_costs()
+    print(f"an ask that hits: {lent:.0f} ns on lent parts, {shared:.0f} ns on a shared cache")
+    if args.write:
+        (TOP / "docs" / "performance.svg").write_text(picture(rates))
+    write_section(
+        args, TITLE,
+        f". Each number is the median of {args.runs} runs, in millions a second by the clock. A "
+        "run during which the host took processors away from the machine was made again. The calls "
+        f"are those of a shared cache with {NAMES} names, {args.calls} of them over all threads "
+        f"(`bench_cache shared`). The lines are those of a trace of {args.lines} lines, read, "
+        "replayed, collated and reported (`rrcache`).",
+        "![Millions a second](performance.svg)",
+        table(["What", "Parts", *map(of_threads, THREADS), "four to one"], rows),
+        filled(
+            f"An ask that hits takes one thread {lent:.0f} ns on lent parts and {shared:.0f} ns on "
+            "a shared cache (medians of 16 short runs each, in turn). The lock and finding the "
+            f"part cost {shared - lent:.0f} ns."))

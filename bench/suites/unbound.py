@@ -1,0 +1,129 @@
+# SPDX-License-Identifier: MIT
+"""Times the library for C beside unbound's RRset cache: the same work by the same program.
+
+It takes the library as bin/build-c made it, fetches the source package of Debian's unbound into
+build/unbound (apt-get with lists of its own; nothing is installed), builds it (2 minutes; it needs
+libssl-dev and libexpat1-dev), and compiles bench/c/beside against both. The two run in turn on
+NAMES names with one A record each, in random order, in 64 shards with room for twice the names:
+asks that hit and copy, one name that is always asked, puts that replace, and puts that evict in a
+cache with no room. The locks of rrcache's shards are mutexes, and spin locks, as unbound's are, in
+runs of their own. Each ratio is that of the medians of RUNS runs; ratios count, since machines
+differ.
+"""
+import os
+import shutil
+import subprocess
+import sys
+from functools import partial
+from pathlib import Path
+from statistics import median
+
+from bench.page import of_threads, table, write_section
+from bench.setup import ARCHIVE, BUILD, SOURCES, compiled, in_turn, ran, undisturbed
+
+NEEDS, TITLE = (ARCHIVE,), "Beside unbound"
+OPTIONS = {
+    "names": (50_000, "names"), "calls": (1_000_000, "calls of each run"),
+    "threads": ([1, 2, 4], "threads"), "runs": (5, "runs of each"),
+}
+FOLDER, BESIDE = BUILD / "unbound", SOURCES / "beside"
+LIST = """\
+Types: deb-src
+URIs: http://deb.debian.org/debian
+Suites: bookworm
+Components: main
+Signed-By: /usr/share/keyrings/debian-archive-keyring.gpg
+"""
+KINDS = {"hit": "asks that hit", "hot": "asks for one name", "replace": "puts that replace",
+         "evict": "puts that evict"}
+
+
+def fetch():
+    """The folder of unbound's source."""
+    (FOLDER / "lists" / "partial").mkdir(parents=True, exist_ok=True)
+    (FOLDER / "cache" / "archives" / "partial").mkdir(parents=True, exist_ok=True)
+    (FOLDER / "unbound.sources").write_text(LIST)
+    options = {"Dir::Etc::sourcelist": FOLDER / "unbound.sources",
+               "Dir::Etc::sourceparts": "/dev/null", "Dir::State::lists": FOLDER / "lists",
+               "Dir::Cache": FOLDER / "cache"}
+    words = ["apt-get", "-q", *(f"-o{name}={value}" for name, value in options.items())]
+    for command in (["update"], ["source", "--download-only", "unbound"]):
+        subprocess.run([*words, *command], cwd=FOLDER, check=True, stdout=subprocess.DEVNULL)
+    archive = next(FOLDER.glob("unbound_*.orig.tar.gz"))
+    subprocess.run(["tar", "-xf", archive], cwd=FOLDER, check=True)
+    return FOLDER / archive.name.removesuffix(".orig.tar.gz").replace("_", "-")
+
+
+def built():
+    """The folder of unbound's source, built."""
+    made = next(FOLDER.glob("unbound-*/.libs/libunbound.a"), None)
+    if made is not None:
+        return made.parent.parent
+    print("fetching and building unbound (2 minutes)", flush=True)
+    folder = fetch()
+    configure = ["./configure", "--disable-shared", "--with-pthreads", "CFLAGS=-O2"]
+    for command in (configure, ["make", f"-j{os.cpu_count()}", "libunbound.la"]):
+        run = subprocess.run(command, cwd=folder, capture_output=True, text=True)
+        if run.returncode:
+            sys.exit(f"{' '.join(command)} failed:\n{run.stdout[-2000:]}{run.stderr[-2000:]}")
+    return folder
+
+
+def programs():
+    """The programs, by the name of what is in them."""
+    unbound, work, own = built(), BESIDE / "work.c", (BESIDE / "rrcache.c", ARCHIVE)
+    return {
+        "rrcache": compiled("beside_rrcache", work, *own),
+        "spinning": compiled("beside_spinning", "-DSPINS", work, *own),
+        # Warnings of its headers are nobody's business here.
+        "unbound": compiled("beside_unbound", "-w", f"-I{unbound}", work, BESIDE / "unbound.c",
+                            unbound / ".libs" / "libunbound.a", "-lssl", "-lcrypto")}
+
+
+def run(*command, **environment):
+    """The nanoseconds of a call by the clock, and those of processor time."""
+    calls, took, processor = map(int, ran(*command, **environment).stdout.split())
+    return took / calls, processor / calls
+
+
+def ratios(own, unbound, threads, kind, args, preload):
+    """The medians of both, and of rrcache the share of unbound's time and of its rate."""
+    environment = {"LD_PRELOAD": preload} if preload else {}
+    found = in_turn(args.runs, {
+        it: partial(undisturbed, partial(run, it, threads, args.calls, kind, args.names,
+                                         **environment)) for it in (own, unbound)})
+    (own_took, own_time), (took, time) = (
+        [median(column) for column in zip(*each)] for each in found.values())
+    which = own.name.removeprefix("beside_")
+    print(f"{which}: {kind}, {threads} threads{', jemalloc' if preload else ''}: {own_time:.0f} and"
+          f" {time:.0f} ns of processor time a call ({own_time / time:.2f}), rate"
+          f" {took / own_took:.2f} of unbound's", flush=True)
+    return f"{own_time / time:.2f}", f"{took / own_took:.2f}"
+
+
+def ratio_table(own, unbound, args, preload=None):
+    head = [f"{what}, {of_threads(it)}" for it in args.threads for what in ("time", "rate")]
+    return table(["What", *head], ([title, *(
+        cell for threads in args.threads
+        for cell in ratios(own, unbound, threads, kind, args, preload))]
+        for kind, title in KINDS.items()))
+
+
+def main(args):
+    if shutil.which("apt-get") is None:
+        return "unbound's source comes by apt-get, which is not on this machine"
+    made = programs()
+    jemalloc = next(Path("/usr/lib").glob("*/libjemalloc.so.2"), None)
+    parts = ["With mutexes and glibc's malloc:",
+             ratio_table(made["rrcache"], made["unbound"], args),
+             "With spin locks, as unbound's are:",
+             ratio_table(made["spinning"], made["unbound"], args)]
+    if jemalloc:
+        parts += ["With mutexes and jemalloc:",
+                  ratio_table(made["rrcache"], made["unbound"], args, str(jemalloc))]
+    write_section(
+        args, TITLE,
+        f": {args.names:,} names with one A record each, 64 shards, {args.calls:,} calls a run, "
+        f"medians of {args.runs} runs of each in turn. Time is processor time a call as a multiple "
+        "of that of unbound's RRset cache, of which less is better; rate is calls a second by the "
+        "clock as a share of unbound's.", *parts)
