@@ -5,16 +5,14 @@
 
 use rrc_history::{Ask, Mode, Purpose, Reply, Rules, Tag};
 use rrc_name::Name;
+use rrc_name::class::IN;
+use rrc_name::rtype::A;
 use rrc_sets::{Limits, Query, RelevanceLimits, relevant_offers_in};
 use rrc_share::{Recording, SharedCache};
 use rrc_wire::Question;
 use std::alloc::{AllocError, Global};
 use std::random::RandomSource;
 use std::sync::Wait;
-
-const A: u16 = 1;
-
-const IN: u16 = 1;
 
 /// The response of a server of `example.` to query 0x1234 for the addresses of `WWW.example.`:
 /// authoritative, 192.0.2.1 with a TTL of 300.

@@ -9,7 +9,7 @@ ghost use Rattle.rrc_history.specs.Views.{ask_in, reply_in};
 ghost use Rattle.rrc_name.specs.Wire.{IsWireForm};
 
 use crate::question::question_of;
-use crate::reply_record::{ReplyRecord, data_of, lent, owner_of, told_of};
+use crate::reply_record::{ReplyRecord, data_of, owner_of, told_of};
 use crate::status::Status;
 use crate::text::fill;
 use rrc_history::{Ask, AskRef, Reply, ReplyRef, Tag};
@@ -103,7 +103,8 @@ fn answer_sized(
     let is_written = has_room(buffer, &record);
     if is_written {
         let reply = write_ask(shelf, ask, line)?;
-        fill(buffer, owner_of(lent(&reply)), data_of(lent(&reply)));
+        let lent = ReplyRef::of(&reply);
+        fill(buffer, owner_of(lent), data_of(lent));
     }
     *told = record;
     Ok(is_written)

@@ -17,14 +17,12 @@ use crate::counts::{Bounds, Counts};
 use crate::division::{keyed_part_of, seed_of};
 use crate::status::Status;
 use rrc_history::{Body, Offer, Outcome, Tag, Trust};
+use rrc_name::rtype::SOA;
 use rrc_name::{Key, Name, Octets, RdataList, Sequence, Shared, Slot};
 use rrc_sets::Limits;
 use rrc_share::CacheShelf;
 use rrc_wire::{WireFault, is_kept, is_kept_class, plain_rdata};
 use std::alloc::Global;
-
-/// The type of SOA records (RFC 1035 section 3.2.2).
-const SOA: u16 = 6;
 
 fn trust_of(number: u32) -> Trust
     ensures { result ≡ trust_of number }

@@ -4,26 +4,14 @@ ghost use Rattle.std.specs.Option.{option_map};
 ghost use Rattle.rrc_c.specs.Refusals.{StoredDue};
 ghost use Rattle.rrc_c.specs.Statuses.{number_of_call};
 ghost use Rattle.rrc_c.specs.Stored.{stored_in, stored_of};
-ghost use Rattle.rrc_history.specs.Lives.{rank};
 ghost use Rattle.rrc_history.specs.Views.{held_in};
 
 use crate::question::folded_name_of;
 use crate::status::Status;
 use crate::stored::Stored;
-use rrc_history::{Body, Held, Trust};
+use rrc_history::{Body, Held};
 use rrc_name::{KeyRef, NameBuffer, Slot};
 use rrc_share::CacheShelf;
-
-fn rank(trust: Trust) -> u32
-    ensures { result ≡ rank trust }
-{
-    match trust {
-        Trust::Additional => 1,
-        Trust::NonAuthoritativeAnswer => 2,
-        Trust::Authority => 3,
-        Trust::AuthoritativeAnswer => 4,
-    }
-}
 
 fn stored_of(held: Option<Held<'_>>) -> Stored
     ensures { result ≡ stored_of (option_map held_in held.entry) }
@@ -37,7 +25,7 @@ fn stored_of(held: Option<Held<'_>>) -> Stored
     };
     let (trust, ttl) = match held.body {
         Body::Positive { trust, ttl, .. } | Body::Negative { trust, ttl, .. } => {
-            (rank(*trust), *ttl)
+            (u32::from(trust.rank()), *ttl)
         }
         Body::Failure { ttl } => (0, *ttl),
     };

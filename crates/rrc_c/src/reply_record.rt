@@ -4,7 +4,7 @@ ghost use Rattle.rrc_c.specs.ReplyRecord.{owner_of, data_of, kind_of, left_of, r
 ghost use Rattle.rrc_history.specs.Views.{reply_in};
 
 use crate::text::size_of_data;
-use rrc_history::{Reply, ReplyRef, SetRef, SoaRef};
+use rrc_history::ReplyRef;
 use rrc_name::Octets;
 use std::slice;
 
@@ -24,45 +24,6 @@ pub struct ReplyRecord {
     pub owner_size: u64,
     /// The octets of the data, each datum behind the two of its length.
     pub data_size: u64,
-}
-
-/// A reply that is owned, lent.
-pub(crate) fn lent(reply: &Reply) -> ReplyRef<'_>
-    ensures { reply_in result ≡ reply.now }
-{
-    match reply {
-        Reply::Fresh { set, left } => ReplyRef::Fresh {
-            set: SetRef {
-                owner: &set.owner,
-                items: &set.items,
-            },
-            left: *left,
-        },
-        Reply::Stale { set, left } => ReplyRef::Stale {
-            set: SetRef {
-                owner: &set.owner,
-                items: &set.items,
-            },
-            left: *left,
-        },
-        Reply::NoData { soa, left } => ReplyRef::NoData {
-            soa: SoaRef {
-                owner: &soa.owner,
-                octets: &soa.octets,
-            },
-            left: *left,
-        },
-        Reply::NxDomain { soa, left } => ReplyRef::NxDomain {
-            soa: SoaRef {
-                owner: &soa.owner,
-                octets: &soa.octets,
-            },
-            left: *left,
-        },
-        Reply::Miss { retry_from } => ReplyRef::Miss {
-            retry_from: *retry_from,
-        },
-    }
 }
 
 /// The owner of a reply's data, which a miss has none of.

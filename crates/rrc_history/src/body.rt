@@ -1,4 +1,7 @@
 // SPDX-License-Identifier: MIT
+ghost use Rattle.std.specs.Prelude.{◌≡◌};
+ghost use Rattle.rrc_history.specs.Lives.{rank};
+
 use rrc_name::{Name, Octets, RdataList, Shared};
 use std::alloc::AllocError;
 
@@ -14,6 +17,20 @@ pub enum Trust {
     Authority = 3,
     /// The answer section of an authoritative reply, under the name that was asked for.
     AuthoritativeAnswer = 4,
+}
+
+impl Trust {
+    /// The rank, 1 to 4: data replace unexpired data of no higher one (RFC 2181 section 5.4.1).
+    pub fn rank(self) -> u8
+        ensures { result ≡ rank self }
+    {
+        match self {
+            Trust::Additional => 1,
+            Trust::NonAuthoritativeAnswer => 2,
+            Trust::Authority => 3,
+            Trust::AuthoritativeAnswer => 4,
+        }
+    }
 }
 
 /// What a key may hold.

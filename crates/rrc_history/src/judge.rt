@@ -1,7 +1,7 @@
 // SPDX-License-Identifier: MIT
 ghost use Rattle.std.specs.Prelude.{◌≡◌, ◌≤◌, IfSome};
 ghost use Rattle.std.specs.Option.{option_map};
-ghost use Rattle.rrc_history.specs.Lives.{ttl_of, rank, rank_of, is_unexpired, is_fully_expired, span, IsTimely};
+ghost use Rattle.rrc_history.specs.Lives.{ttl_of, rank_of, is_unexpired, is_fully_expired, span, IsTimely};
 ghost use Rattle.rrc_history.specs.Judged.{outranks, verdict, later_governs, governing, is_before, recent_failure, may_be_stale, may_serve, reply_of_living_set, reply_of_living_soa, reply_of_entry, reply_of, reply_by, retry_from, key_in, answering};
 ghost use Rattle.rrc_history.specs.declared.event.Reply.TheVariants.{Miss};
 ghost use Rattle.rrc_history.specs.Past.{is_evicted};
@@ -10,7 +10,7 @@ ghost use Rattle.rrc_history.specs.Views.{ask_in, held_in, found_in, reply_in};
 
 use crate::ask::{Mode, Purpose};
 use crate::ask_ref::AskRef;
-use crate::body::{Body, Trust};
+use crate::body::Body;
 use crate::event::{Outcome, Reply};
 use crate::offer::Offer;
 use crate::reply::{ReplyRef, SetRef, SoaRef};
@@ -53,22 +53,11 @@ impl<'a> Held<'a> {
 /// The seconds that a stale answer is given (RFC 8767 section 4).
 const STALE_TTL: u32 = 30;
 
-fn rank(trust: Trust) -> u8
-    ensures { result ≡ rank trust }
-{
-    match trust {
-        Trust::Additional => 1,
-        Trust::NonAuthoritativeAnswer => 2,
-        Trust::Authority => 3,
-        Trust::AuthoritativeAnswer => 4,
-    }
-}
-
 fn rank_of(body: &Body) -> u8
     ensures { result ≡ rank_of body.now }
 {
     match body {
-        Body::Positive { trust, .. } | Body::Negative { trust, .. } => rank(*trust),
+        Body::Positive { trust, .. } | Body::Negative { trust, .. } => trust.rank(),
         Body::Failure { .. } => 0,
     }
 }

@@ -65,6 +65,47 @@ impl SoaRef<'_> {
     }
 }
 
+impl<'a> ReplyRef<'a> {
+    /// A reply that is owned, lent.
+    pub fn of(reply: &'a Reply) -> ReplyRef<'a>
+        ensures { reply_in result ≡ reply.now }
+    {
+        match reply {
+            Reply::Fresh { set, left } => ReplyRef::Fresh {
+                set: SetRef {
+                    owner: &set.owner,
+                    items: &set.items,
+                },
+                left: *left,
+            },
+            Reply::Stale { set, left } => ReplyRef::Stale {
+                set: SetRef {
+                    owner: &set.owner,
+                    items: &set.items,
+                },
+                left: *left,
+            },
+            Reply::NoData { soa, left } => ReplyRef::NoData {
+                soa: SoaRef {
+                    owner: &soa.owner,
+                    octets: &soa.octets,
+                },
+                left: *left,
+            },
+            Reply::NxDomain { soa, left } => ReplyRef::NxDomain {
+                soa: SoaRef {
+                    owner: &soa.owner,
+                    octets: &soa.octets,
+                },
+                left: *left,
+            },
+            Reply::Miss { retry_from } => ReplyRef::Miss {
+                retry_from: *retry_from,
+            },
+        }
+    }
+}
+
 impl ReplyRef<'_> {
     /// Whether it is just this reply, octet for octet.
     pub fn is(self, reply: &Reply) -> bool

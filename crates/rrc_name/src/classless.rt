@@ -4,14 +4,12 @@ ghost use Rattle.std.specs.Prelude.{◌≡◌, IfOk};
 ghost use Rattle.rrc_name.specs.Wire.{folded};
 ghost use Rattle.rrc_name.specs.Images.{image_of, without_class};
 
+use crate::class::IN;
 use crate::key;
 use crate::name::Name;
 use crate::slot::Slot;
 use std::alloc::AllocError;
 use std::marker::Model;
-
-/// The class IN (RFC 1035 section 3.2.4), which all keys were of before they had one.
-pub const IN: u16 = 1;
 
 /// A folded name, and what of it is kept.
 #[derive(Debug, Drop)]

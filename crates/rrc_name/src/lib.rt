@@ -2,6 +2,7 @@
 //! Names of the DNS, and the keys under which a cache keeps what it knows of them.
 #![tactic(auto)]
 
+pub mod class;
 pub mod classless;
 mod fault;
 mod key;
@@ -16,6 +17,7 @@ mod order;
 mod parts;
 mod printed;
 mod rdata_list;
+pub mod rtype;
 mod sequence;
 mod shared;
 mod slot;

@@ -4,15 +4,10 @@ ghost use Rattle.std.specs.Option.{option_copied};
 ghost use Rattle.rrc_name.specs.Wire.{same_name, IsWireForm};
 ghost use Rattle.rrc_sets.specs.Aliases.{is_of, target_of, end_of_chain, final_name, chain, question_names};
 
+use rrc_name::rtype::{ANY, CNAME};
 use rrc_name::{Name, Octets, Shared};
 use rrc_wire::{Message, Rr};
 use std::alloc::{AllocError, Global};
-
-/// The type of aliases.
-const CNAME: u16 = 5;
-
-/// The type of questions about every type.
-const ANY: u16 = 255;
 
 /// The most names of a chain of aliases: the question's, and 16 behind it.
 const MOST_NAMES: u8 = 17;

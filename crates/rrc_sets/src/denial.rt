@@ -14,15 +14,11 @@ use crate::rank::{Section, section_rank};
 use crate::times::life;
 use byteorder::{BigEndian, ByteOrder};
 use rrc_history::{Body, Offer};
+use rrc_name::rtype::SOA;
 use rrc_name::{Key, Name, Shared, Slot};
+use rrc_wire::rcode::NXDOMAIN;
 use rrc_wire::{Message, Rr, is_kept};
 use std::alloc::{AllocError, Global};
-
-/// The type of SOA records.
-const SOA: u16 = 6;
-
-/// The RCODE that says that a name does not exist.
-const NXDOMAIN: u8 = 3;
 
 /// Whether some records have one of a name.
 fn owns(records: &[Rr], name: &Name) -> bool

@@ -5,14 +5,8 @@ ghost use Rattle.rrc_sets.specs.Relevant.{host_place, hosts_of, hosts_named};
 use crate::measure::{is_set_of, items_of};
 use rrc_history::Offer;
 use rrc_name::Octets;
+use rrc_name::rtype::{MX, NS, SRV};
 use std::alloc::{AllocError, Global};
-
-/// The types whose data name a host.
-pub(crate) const NS: u16 = 2;
-
-const MX: u16 = 15;
-
-const SRV: u16 = 33;
 
 /// Where the name of a host stands in the data of an RRset, if they name one.
 fn host_place(offer: &Offer) -> Option<usize>

@@ -5,15 +5,9 @@ ghost use Rattle.rrc_sets.specs.Relevant.{is_set_of, items_of, length_of, has_le
 
 use crate::relevance::RelevanceLimits;
 use rrc_history::{Body, Offer};
+use rrc_name::class::IN;
+use rrc_name::rtype::{A, AAAA};
 use rrc_name::{Octets, Slot};
-
-/// The class of the Internet (RFC 1035 section 3.2.4).
-const IN: u16 = 1;
-
-/// The types of addresses (RFC 1035 section 3.4.1, RFC 3596 section 2.1).
-pub(crate) const A: u16 = 1;
-
-pub(crate) const AAAA: u16 = 28;
 
 /// Whether an offer is one of an RRset of a type.
 pub(crate) fn is_set_of(rtype: u16, offer: &Offer) -> bool

@@ -14,28 +14,19 @@ ghost use Rattle.rrc_sets.specs.Relevant.{is_owned_by, is_above, is_asked_for, i
 use crate::alias::{final_name, question_names, same};
 use crate::class::{has_one_class, in_own_class};
 use crate::denial::negative_offer;
-use crate::host::{NS, hosts_named};
+use crate::host::hosts_named;
 use crate::limits::Limits;
-use crate::measure::{A, AAAA, is_measured, is_set_of};
+use crate::measure::{is_measured, is_set_of};
 use crate::query::{Query, QueryFault, mismatch};
 use crate::rank::Section;
 use crate::relevance::RelevanceLimits;
-use crate::reply::{NOERROR, NXDOMAIN, add, add_section, failure_offers, is_silent};
+use crate::reply::{add, add_section, failure_offers, is_silent};
 use rrc_history::Offer;
+use rrc_name::rtype::{A, AAAA, ANY, CNAME, DNAME, DS, NS, SOA};
 use rrc_name::{Name, Octets};
 use rrc_wire::Message;
+use rrc_wire::rcode::{NOERROR, NXDOMAIN};
 use std::alloc::{AllocError, Global};
-
-const CNAME: u16 = 5;
-
-const SOA: u16 = 6;
-
-const DNAME: u16 = 39;
-
-const DS: u16 = 43;
-
-/// The type of questions about every type.
-const ANY: u16 = 255;
 
 /// Whether the owner of an offer is one of these names.
 fn is_owned_by(names: &[Name], offer: &Offer) -> bool

@@ -16,16 +16,12 @@ use crate::set::Set;
 use crate::times::set_life;
 use rrc_history::{Body, Offer};
 use rrc_name::{Key, Name, RdataList, Shared, Slot};
+use rrc_wire::rcode::{NOERROR, NXDOMAIN};
 use rrc_wire::{Message, Rr, is_kept, is_kept_class};
 use std::alloc::{AllocError, Global};
 
 /// The opcode of a standard query.
 const QUERY: u8 = 0;
-
-/// The RCODEs of replies that answer.
-pub(crate) const NOERROR: u8 = 0;
-
-pub(crate) const NXDOMAIN: u8 = 3;
 
 /// The offer of a set of the zone that has a life.
 fn set_offer(

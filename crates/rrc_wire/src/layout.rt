@@ -4,11 +4,8 @@ ghost use Rattle.std.specs.Option.{option_map};
 ghost use Rattle.rrc_wire.specs.Shown.{as_layout};
 ghost use Rattle.rrc_wire.specs.Layout.{layout_of, is_kept_type, is_kept_class, is_kept};
 
-/// The type of addresses.
-const A: u16 = 1;
-
-/// The class of Chaosnet.
-const CH: u16 = 3;
+use rrc_name::class::CH;
+use rrc_name::rtype::A;
 
 /// How the data of a type stand in a message: fixed octets, names, fixed octets.
 #[derive(Clone, Copy, Debug, PartialEq, Eq)]

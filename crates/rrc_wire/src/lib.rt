@@ -29,6 +29,7 @@ mod message;
 mod name;
 mod plain;
 mod question;
+pub mod rcode;
 mod record;
 mod same;
 mod source;

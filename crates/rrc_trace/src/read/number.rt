@@ -6,11 +6,12 @@ ghost use Rattle.rrc_trace.specs.Fields.{said_at};
 ghost use Rattle.rrc_trace.specs.Gives.{Gives};
 ghost use Rattle.rrc_trace.specs.Numbers.{number_of, at_most, moment_of, ttl_of, word_of, slash_in, kind_of, rtype_of, trust_of};
 
-use crate::kind::{IN, Kind};
+use crate::kind::Kind;
 use crate::read::field::field_at;
 use crate::read::line_fault::LineFault;
 use memchr::memchr;
 use rrc_history::{LAST_MOMENT, Trust};
+use rrc_name::class::IN;
 use rrc_wire::is_kept;
 use std::str;
 

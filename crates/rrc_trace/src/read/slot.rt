@@ -7,11 +7,11 @@ ghost use Rattle.rrc_trace.specs.Fields.{said_at};
 ghost use Rattle.rrc_trace.specs.Gives.{Gives};
 ghost use Rattle.rrc_trace.specs.Names.{name_of};
 
-use crate::kind::IN;
 use crate::read::field::field_at;
 use crate::read::line_fault::LineFault;
 use crate::read::name::name_in;
 use crate::read::number::{first_slash, word_in};
+use rrc_name::class::IN;
 use rrc_name::{Key, Name, Slot};
 use std::alloc::Global;
 

@@ -14,18 +14,6 @@ use rrc_history::{Body, Mode, Purpose, Tag, Trust};
 use rrc_name::{Key, Name};
 use std::io::Write;
 
-/// The rank of trust, 1 to 4 (RFC 2181 section 5.4.1).
-fn rank(trust: Trust) -> u64
-    ensures { result ≡ rank trust }
-{
-    match trust {
-        Trust::Additional => 1,
-        Trust::NonAuthoritativeAnswer => 2,
-        Trust::Authority => 3,
-        Trust::AuthoritativeAnswer => 4,
-    }
-}
-
 pub(crate) fn purpose_word(purpose: Purpose) -> &'static str
     ensures { result.now ≡ purpose_word purpose }
 {
@@ -69,7 +57,7 @@ pub(crate) fn put_tag<W: Write>(output: &mut Output<'_, W>, tag: Tag)
 fn put_source<W: Write>(output: &mut Output<'_, W>, trust: Trust, ttl: u32, owner: &Name)
     ensures { Puts W.contents output.old output.new (decimal (rank trust) ++ (32 ∷ (decimal ttl ++ (32 ∷ (text_of owner.now ++ 32 ∷ []))))) }
 {
-    put_number(output, rank(trust));
+    put_number(output, u64::from(trust.rank()));
     put_word(output, " ");
     put_number(output, u64::from(ttl));
     put_word(output, " ");

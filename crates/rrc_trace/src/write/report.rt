@@ -7,11 +7,11 @@ ghost use Rattle.rrc_trace.specs.Report.{outcome_text, item_text, items_text, se
 
 use crate::answer::{Answer, Told};
 use crate::fault::ReplayFault;
-use crate::kind::IN;
 use crate::write::buffer::Buffer;
 use crate::write::output::Output;
 use crate::write::pieces::{put_name, put_number, put_octets, put_word};
 use rrc_history::{Outcome, Reply, RrSet, Soa};
+use rrc_name::class::IN;
 use rrc_name::{Key, Octets, Slot};
 use std::alloc::Global;
 use std::io::Write;
