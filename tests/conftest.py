@@ -1,0 +1,40 @@
+# SPDX-License-Identifier: MIT
+"""What tests in Python share. They run under pytest: `pytest tests/PART -k NAME`."""
+import subprocess
+import sys
+from pathlib import Path
+
+import pytest
+
+TOP = Path(__file__).resolve().parents[1]
+PROGRAM = TOP / "crates" / "rrcache" / "out" / "rrcache"
+LIBRARY = TOP / "build" / "librrcache.so"
+
+sys.dont_write_bytecode = True
+pytest.register_assert_rewrite("tests.forwarder.harness")
+
+
+def pytest_addoption(parser):
+    parser.addoption("--seconds", type=int, default=60,
+                     help="how long tests go on that draw what they try (60)")
+
+
+@pytest.fixture(scope="session")
+def program():
+    """The program that was built last."""
+    assert PROGRAM.exists(), "bin/build builds the program"
+    return PROGRAM
+
+
+@pytest.fixture(scope="session")
+def library():
+    """The shared library for C that was built last, or is built now."""
+    if not LIBRARY.exists():
+        subprocess.run([TOP / "bin" / "build-c"], check=True)
+    return LIBRARY
+
+
+@pytest.fixture(scope="session")
+def seconds(request):
+    """How long a test goes on that draws what it tries."""
+    return request.config.getoption("seconds")
