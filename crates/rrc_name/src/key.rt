@@ -49,8 +49,7 @@ impl Key {
         ensures folded { IsFolded self.now.name }
         ensures name { IsWireForm self.now.name }
     {
-        // The length is read for what it tells: the name is a wire form.
-        let _ = self.name.len();
+        self.name.is_a_wire_form();
         &self.name
     }
 }

@@ -88,6 +88,13 @@ impl Name {
         printed::text_in(self.wire.alloc(), self.wire.as_slice())
     }
 
+    /// That the name is a wire form, for proofs; it does nothing.
+    pub(crate) fn is_a_wire_form(&self)
+        ensures { IsWireForm self.now }
+    {
+        let _ = &self.wire;
+    }
+
     /// The octets of the wire form, at most 255.
     pub fn len(&self) -> usize
         ensures octets { result ≡ length self.now }
