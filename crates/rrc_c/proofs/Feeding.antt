@@ -1,6 +1,6 @@
 -- SPDX-License-Identifier: MIT
 -- Calls that offer failures and what responses bring leave few octets.
-use Rattle.std.proofs.Common.{◌≡◌, ◌⊎◌, ℕ, ◌/◌, ◌≤◌, ◌==◌, Bool, true, false, cond, List, [], ◌∷◌, ◌++◌, length, map, filter, reverse, sym, subst, inl, inr, arith}
+use Rattle.std.proofs.Common.{◌⊎◌, ℕ, ◌/◌, ◌≤◌, ◌==◌, Bool, true, false, cond, List, [], ◌∷◌, ◌++◌, length, map, filter, reverse, sym, subst, inl, inr, arith}
 use Rattle.std.proofs.lemmas.List.{length-map}
 use Rattle.std.proofs.lemmas.List.Elements.{recursion_from_All}
 use Rattle.std.proofs.Math.Nat.{div-mul-le_self}

@@ -10,7 +10,7 @@ use Rattle.rrc_c.specs.Refusals.{Because, IsSeed, OffersRefused, SeedRefused, Th
 use Rattle.rrc_c.specs.declared.counts.Bounds.{Bounds}
 use Rattle.rrc_c.specs.declared.status.Status.TheVariants.{BadRules}
 
--- the offers under names that lie by a seed in a part, so many being all
+-- the offers under names that lie in a part, of so many parts, by a seed
 abbrev pub lying_in : ℕ → List ℕ → ℕ → List OfferOf → List OfferOf
 lying_in parts seed part offers = filter (λ offer. keyed_part_of seed offer.key.name parts == part) offers
 

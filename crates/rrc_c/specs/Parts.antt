@@ -14,7 +14,7 @@ number_of_seed seed = from_le_bytes w128 seed
 abbrev pub keyed_hash : List ℕ → List ℕ → ℕ
 keyed_hash seed octets = sip.finish (sip.write (sip.with_keys (number_of_seed seed % 2 ^ 64) (number_of_seed seed / 2 ^ 64)) octets)
 
--- the part of a name, so many being all, whatever its case (ours): by the upper 32 bits of its hash,
--- since by the lower ones a part places what it holds
+-- the part, of so many parts, that a name lies in, whatever its case (ours): by the upper 32 bits
+-- of its hash, since by the lower ones a part places what it holds
 abbrev pub keyed_part_of : List ℕ → List ℕ → ℕ → ℕ
 keyed_part_of seed name parts = keyed_hash seed (folded name) / 2 ^ 32 % parts

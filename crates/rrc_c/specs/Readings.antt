@@ -17,7 +17,7 @@ use Rattle.rrc_c.specs.declared.status.Status.TheVariants.{BadRules}
 
 -- ---- reading
 
--- an offer, and the part that its name lies in by a seed, so many being all
+-- an offer, and the part, of so many parts, that its name lies in by a seed
 abbrev pub placed_in : ℕ → List ℕ → OfferOf → Placed
 placed_in parts seed offer = record { part = keyed_part_of seed offer.key.name parts; offer = offer }
 

@@ -358,7 +358,7 @@ pub(crate) fn offer_message(
     take_each(shelf, line, offered, counts)
 }
 
-/// The offers whose names lie by a seed in a part, so many being all.
+/// The offers whose names lie in a part, of so many parts, by a seed.
 fn offers_of_part(offers: Vec<Offer>, parts: usize, seed: &[u8; 16], part: usize) -> Vec<Offer>
     requires some { 1 ≤ parts }
     requires few { parts ≤ 64 }

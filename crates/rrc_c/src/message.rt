@@ -13,7 +13,7 @@ use crate::status::Status;
 use rrc_history::Offer;
 use std::alloc::Global;
 
-/// Each offer beside the part of its name by a seed, so many being all.
+/// Each offer beside the part, of so many parts, that its name lies in by a seed.
 fn placed_in(
     alloc: Global,
     offers: Vec<Offer>,
@@ -61,8 +61,8 @@ pub(crate) fn reading_of(
     )?)
 }
 
-/// Reads a message that was received from a zone into what it offers, so many parts being all, by a
-/// seed.
+/// Reads a message that was received from a zone into what it offers, each offer beside the part,
+/// of so many parts, that its name lies in by a seed.
 pub(crate) fn read(
     alloc: Global,
     octets: &[u8],

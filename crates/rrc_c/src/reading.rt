@@ -11,8 +11,8 @@ pub struct Placed {
     pub offer: Offer,
 }
 
-/// What a message offers, all at the moment of its reading, each offer beside its part, so many
-/// being all: 1 to 64.
+/// What a message offers, all at the moment of its reading, each offer beside the part, of 1 to 64
+/// parts, that its name lies in.
 #[derive(Drop)]
 pub struct Reading {
     pub parts: u64,

@@ -58,8 +58,8 @@ fn relevant_in(
     }
 }
 
-/// Reads a response to a query that a zone's server sent, so many parts being all, by a seed;
-/// `None` where it answers another query.
+/// Reads a response to a query that a zone's server sent into what it offers, each offer beside the
+/// part, of so many parts, that its name lies in by a seed; `None` where it answers another query.
 pub(crate) fn read_response(
     alloc: Global,
     octets: &[u8],

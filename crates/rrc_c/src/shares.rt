@@ -27,8 +27,7 @@ fn bit_of(placed: &[Placed], part: u64) -> u64
     if has_part(placed, part) { 1 << part } else { 0 }
 }
 
-/// The parts in which offers lie, so many being all, as bits: 1 for part 0, 2 for part 1, and so
-/// on.
+/// The parts, of so many, in which offers lie, as bits: 1 for part 0, 2 for part 1, and so on.
 pub(crate) fn parts_concerned(placed: &[Placed], parts: u64) -> u64
     requires { parts ≤ 64 }
     ensures { result ≡ parts_below placed.now parts }

@@ -115,7 +115,7 @@ pub(crate) fn fault_in(alloc: Global, octets: &[u8]) -> Result<u32, Status>
     }
 }
 
-/// The part that a name lies in by a seed, so many being all.
+/// The part, of so many parts, that a name lies in by a seed.
 pub(crate) fn part_in(name: &[u8], parts: u64, seed: &[u8]) -> Result<u64, Status>
     ensures value { IfOk result (λ part. part ≡ keyed_part_of seed.now name.now parts) }
     ensures below { IfOk result (λ part. part < parts) }
