@@ -1,7 +1,7 @@
 // SPDX-License-Identifier: MIT
 // What is called, and how often.
 
-use crate::numbers::Numbers;
+use crate::cache::numbers::Numbers;
 use rrc_share::Recording;
 
 /// How many names a shared cache holds an address of.

@@ -1,23 +1,22 @@
 // SPDX-License-Identifier: MIT
-//! Calls parts of the cache many times and prints what it counted, and on standard error the
-//! nanoseconds of processor time that the calls took, for a script that compares: `bench_cache TASK
-//! KEYS CALLS [PARTS]`, where TASK is `hit`, `ask`, `shelf`, `miss`, `would`, `room`, `replace`,
-//! `evict`, `sweep`, `load`, `audit` or `recheck`. KEYS is how many each part holds. A call of
-//! `ask` is one that hits, whose reply the caller owns; of `shelf`, an ask of a shelf that lets a
-//! chapter go after each 4,096; of `sweep`, one of one part, after a tenth of its keys expired; of
-//! `load`, one load from a random place of 8 MiB. `audit` and `recheck` find each once that the
-//! history of CALLS puts and asks of a part that may hold KEYS keys is legal.
-//!
-//! `bench_cache shared TASK THREADS PARTS CALLS` calls a shared cache by several threads at once,
-//! each of which makes CALLS, and prints on standard error the nanoseconds that passed. TASK is
-//! `hit`, which asks for names that are held, `put`, which replaces what is held, `mix`, which is
-//! nine asks to one put, `hot`, which asks for one name alone, or `lent`, which is `hit` by one
-//! thread on parts with no lock. Without arguments it does a few of each.
-//!
-//! With `lean` before these words the parts record nothing: then `hit` and `miss` are asks in two
-//! halves, which take no memory, what is evicted is not counted, and there is no `shelf`, no
-//! `audit` and no `recheck`.
-#![tactic(auto)]
+// Calls parts of the cache many times and prints what it counted, and on standard error the
+// nanoseconds of processor time that the calls took, for a script that compares: `bench cache TASK
+// KEYS CALLS [PARTS]`, where TASK is `hit`, `ask`, `shelf`, `miss`, `would`, `room`, `replace`,
+// `evict`, `sweep`, `load`, `audit` or `recheck`. KEYS is how many each part holds. A call of `ask`
+// is one that hits, whose reply the caller owns; of `shelf`, an ask of a shelf that lets a chapter
+// go after each 4,096; of `sweep`, one of one part, after a tenth of its keys expired; of `load`,
+// one load from a random place of 8 MiB. `audit` and `recheck` find each once that the history of
+// CALLS puts and asks of a part that may hold KEYS keys is legal.
+//
+// `bench cache shared TASK THREADS PARTS CALLS` calls a shared cache by several threads at once,
+// each of which makes CALLS, and prints on standard error the nanoseconds that passed. TASK is
+// `hit`, which asks for names that are held, `put`, which replaces what is held, `mix`, which is
+// nine asks to one put, `hot`, which asks for one name alone, or `lent`, which is `hit` by one
+// thread on parts with no lock. Without these words it does a few of each.
+//
+// With `lean` before these words the parts record nothing: then `hit` and `miss` are asks in two
+// halves, which take no memory, what is evicted is not counted, and there is no `shelf`, no `audit`
+// and no `recheck`.
 
 mod calls;
 mod inputs;
@@ -26,19 +25,22 @@ mod part;
 mod shared;
 mod task;
 
-use crate::calls::{Counts, Done, ask_all, ask_shelf, audit_all, load_all, offer_all, sweep_all};
-use crate::inputs::{PickedAsk, add_asks, add_each, add_offers, add_parts, fill, places, write};
-use crate::part::CachePart;
-use crate::task::{KINDS, Kind, Task, kind_of};
+use crate::cache::calls::{
+    Counts, Done, ask_all, ask_shelf, audit_all, load_all, offer_all, sweep_all,
+};
+use crate::cache::inputs::{
+    PickedAsk, add_asks, add_each, add_offers, add_parts, fill, places, write,
+};
+use crate::cache::part::CachePart;
+use crate::cache::task::{KINDS, Kind, Task, kind_of};
+use crate::words::{number, word};
 use rrc_share::{Recording, Shelf};
 use std::alloc::Global;
-use std::env;
-use std::rt::Env;
 use std::sync::Wait;
 use std::thread::Threads;
 use std::time::{Clock, CpuClock};
 
-const FAILED: &str =
+pub const FAILED: &str =
     "it takes [lean] TASK KEYS CALLS [PARTS], [lean] shared TASK THREADS PARTS CALLS, and memory";
 
 fn asked<R: CpuClock>(
@@ -151,7 +153,7 @@ where
 }
 
 /// A few of each.
-fn report_each<R>(rt: &R) -> Option<()>
+pub fn report_each<R>(rt: &R) -> Option<()>
 where
     R: Print + Eprint + AllocGlobal + CpuClock + Clock + Threads + Wait + Sync,
 {
@@ -168,19 +170,6 @@ where
         report(rt, &task)?;
     }
     Some(())
-}
-
-/// The word at a place, or none.
-fn word(words: &[String], place: usize) -> &str {
-    match words.get(place) {
-        Some(word) => word.as_str(),
-        None => "",
-    }
-}
-
-/// The number that the word at a place tells.
-fn number(words: &[String], place: usize) -> Option<u32> {
-    word(words, place).parse::<u32>().ok()
 }
 
 /// The task of the words `TASK KEYS CALLS [PARTS]`.
@@ -215,7 +204,7 @@ fn shared_task(words: &[String], recording: Recording) -> Option<Task<'_>> {
     })
 }
 
-/// The task of the words behind the program's name and `lean`.
+/// The task of the words behind `lean`, or of all.
 fn task_of(words: &[String], recording: Recording) -> Option<Task<'_>> {
     match word(words, 0) {
         "shared" => shared_task(words, recording),
@@ -224,25 +213,13 @@ fn task_of(words: &[String], recording: Recording) -> Option<Task<'_>> {
 }
 
 /// Does what the words tell.
-fn report_told<R>(rt: &R, words: &[String]) -> Option<()>
+pub fn report_told<R>(rt: &R, words: &[String]) -> Option<()>
 where
     R: Print + Eprint + AllocGlobal + CpuClock + Clock + Threads + Wait + Sync,
 {
-    match word(words, 1) {
+    match word(words, 0) {
         "" => report_each(rt),
-        "lean" => report(rt, &task_of(words.get(2..)?, Recording::Off)?),
-        _ => report(rt, &task_of(words.get(1..)?, Recording::On)?),
+        "lean" => report(rt, &task_of(words.get(1..)?, Recording::Off)?),
+        _ => report(rt, &task_of(words, Recording::On)?),
     }
-}
-
-fn run<R>(rt: &R) -> Option<()>
-where
-    R: Env + Print + Eprint + AllocGlobal + CpuClock + Clock + Threads + Wait + Sync,
-{
-    let words = env::args(rt).ok()?.collect::<Vec<String>>(rt.alloc()).ok()?;
-    report_told(rt, words.as_slice())
-}
-
-fn main(rt: HostRuntime) -> Result<(), &'static str> {
-    run(&rt).ok_or(FAILED)
 }

@@ -1,25 +1,24 @@
 // SPDX-License-Identifier: MIT
-//! Draws and marks by one, two or four threads at once, counted, for a script that times them:
-//! `bench_marks WHAT THREADS COUNT`, where WHAT is `draws`, `pairs` or `shares` and each thread
-//! does COUNT. Without arguments it does a few of each.
-#![tactic(auto)]
+// Draws and marks by one, two or four threads at once, counted, for a script that times them:
+// `bench marks WHAT THREADS COUNT`, where WHAT is `draws`, `pairs` or `shares` and each thread does
+// COUNT. Without these words it does a few of each.
 
 mod work;
 
-use crate::work::{Task, by_four, by_one, by_two};
+use crate::marks::work::{Task, by_four, by_one, by_two};
+use crate::words::word;
 use rrc_marks::Marks;
 use std::alloc::Global;
-use std::env::{self, Args};
-use std::rt::Env;
 use std::sync::atomic::AtomicU64;
 use std::sync::atomic::Ordering::SeqCst;
 use std::thread::Threads;
 
 const MOST_COUNT: u64 = 1 << 32;
 
-const USAGE: &str = "it takes draws, pairs or shares, 1, 2 or 4 threads, and a count of 1 to 2^32";
+pub const FAILED: &str =
+    "it takes draws, pairs or shares, 1, 2 or 4 threads, and a count of 1 to 2^32";
 
-/// What is done without arguments.
+/// What is done without words.
 const TASKS: &[&str] = &["draws", "pairs", "shares"];
 
 /// How many numbers the threads drew, or how often they began a mark or gave a turn away.
@@ -57,7 +56,7 @@ fn task(what: &str, threads: u64, count: u64) -> Option<(Task, u64)> {
     }
 }
 
-fn report<R: Print + Alloc<A = Global> + Threads + Sync>(
+fn report<R: Print + AllocGlobal + Threads + Sync>(
     rt: &R,
     what: &str,
     threads: u64,
@@ -69,38 +68,25 @@ fn report<R: Print + Alloc<A = Global> + Threads + Sync>(
 }
 
 /// A few of each.
-fn report_each<R: Print + Alloc<A = Global> + Threads + Sync>(rt: &R) -> Option<()> {
+pub fn report_each<R: Print + AllocGlobal + Threads + Sync>(rt: &R) -> Option<()> {
     for &what in TASKS {
         report(rt, what, 4, 1000)?;
     }
     Some(())
 }
 
-/// The number that the next argument tells.
-fn number(args: &mut Args) -> Option<u64> {
-    let word = args.next()?;
-    word.as_str().parse::<u64>().ok()
+/// The number that the word at a place tells.
+fn number(words: &[String], place: usize) -> Option<u64> {
+    word(words, place).parse::<u64>().ok()
 }
 
-/// Does what the arguments behind its name tell.
-fn report_told<R: Print + Alloc<A = Global> + Threads + Sync>(
+/// Does what the words tell.
+pub fn report_told<R: Print + AllocGlobal + Threads + Sync>(
     rt: &R,
-    what: &str,
-    args: &mut Args,
+    words: &[String],
 ) -> Option<()> {
-    let threads = number(args)?;
-    let count = number(args)?;
-    report(rt, what, threads, count)
-}
-
-fn run<R: Env + Print + Alloc<A = Global> + Threads + Sync>(rt: &R) -> Option<()> {
-    let mut args = env::args(rt).ok()?;
-    match args.nth(1) {
-        Some(what) => report_told(rt, what.as_str(), &mut args),
-        None => report_each(rt),
+    match word(words, 0) {
+        "" => report_each(rt),
+        what => report(rt, what, number(words, 1)?, number(words, 2)?),
     }
-}
-
-fn main(rt: HostRuntime) -> Result<(), &'static str> {
-    run(&rt).ok_or(USAGE)
 }

@@ -2,9 +2,9 @@
 // What is asked and offered, each made before the time is taken, for the addresses of
 // `www{n % 7}.zone{n}.example.` for numbers n. `None` is that memory was refused, or a call.
 
-use crate::numbers::Numbers;
-use crate::part::CachePart;
-use crate::task::Task;
+use crate::cache::numbers::Numbers;
+use crate::cache::part::CachePart;
+use crate::cache::task::Task;
 use rrc_history::{Ask, Body, Mode, Offer, Purpose, Rules, Trust};
 use rrc_name::{Key, Name, Octets, RdataList, Shared, Slot};
 use rrc_share::Recording;

@@ -2,10 +2,10 @@
 // The calls whose time is taken. A call that was refused counts as nothing, so what is printed
 // shows it.
 
-use crate::inputs::{PickedAsk, PickedOffer, put_tenth};
-use crate::numbers::Numbers;
-use crate::part::{CachePart, TAG, is_answer};
-use crate::task::Kind;
+use crate::cache::inputs::{PickedAsk, PickedOffer, put_tenth};
+use crate::cache::numbers::Numbers;
+use crate::cache::part::{CachePart, TAG, is_answer};
+use crate::cache::task::Kind;
 use rrc_cache::{Part, Refusal, recheck};
 use rrc_history::{Event, Outcome, Reply, audit};
 use rrc_share::{Shelf, on_shelf_ask, on_shelf_checkpoint};

@@ -1,11 +1,11 @@
 // SPDX-License-Identifier: MIT
 // Calls a shared cache by several threads at once, or parts that no lock guards by one.
 
-use crate::calls::{Counts, Done, NONE, answered};
-use crate::inputs::{CHAPTER, PickedAsk, TTL, add_each, add_parts, fill, numbered, offer};
-use crate::numbers::Numbers;
-use crate::part::{CachePart, TAG};
-use crate::task::{Kind, NAMES, Task};
+use crate::cache::calls::{Counts, Done, NONE, answered};
+use crate::cache::inputs::{CHAPTER, PickedAsk, TTL, add_each, add_parts, fill, numbered, offer};
+use crate::cache::numbers::Numbers;
+use crate::cache::part::{CachePart, TAG};
+use crate::cache::task::{Kind, NAMES, Task};
 use rrc_history::{Offer, Outcome, Rules};
 use rrc_share::SharedCache;
 use std::alloc::Global;

@@ -1,7 +1,7 @@
 -- SPDX-License-Identifier: MIT
 use Rattle.std.proofs.Common.{◌≤◌}
 use Rattle.rrc_marks.specs.Seen.{KeepsShare}
-use Rattle.bench_marks.proofs.work.share_often.Given as goal
+use Rattle.bench.proofs.marks.work.begin_often.Given as goal
 
 abbrev pub invariant-loop : goal.invariant-loop
 invariant-loop l = KeepsShare l.initial.pass l.pass × (l.mine ≤ l.counter)
