@@ -14,7 +14,6 @@ use clap::ArgMatches;
 use clap::error::ErrorKind;
 use rrc_replay::trace::ReplayFault;
 use rrc_replay::{Gate, OpenGate};
-use std::io::BufReader;
 use std::process::ExitCode;
 use std::random::RandomSource;
 use std::sync::Wait;
@@ -103,12 +102,11 @@ fn replayed<T: Threads + Wait + Sync, G: Gate + Sync>(
     seed: [u8; 16],
     gate: &G,
 ) -> Result<(), ReplayFault> {
-    let alloc = rt.alloc();
-    let mut reader = BufReader::new(alloc, rt.reader()).map_err(|_| ReplayFault::Memory)?;
+    let mut reader = rt.reader();
     let mut writer = io::writer(rt);
     rrc_replay::run(
         threads,
-        alloc,
+        rt.alloc(),
         &mut reader,
         &mut writer,
         &asked.config,
