@@ -66,8 +66,7 @@ impl ChapterEntries {
         ensures ok { OnOk result (self.new ≡ record self.old { entries = entry ∷ staying (goes entry.key None) self.old.entries }) }
         ensures err { OnErr result (self.new ≡ self.old) }
     {
-        // The length is read for what it tells: no two entries have the same key.
-        let _ = self.map.len();
+        self.map.has_distinct_keys();
         let number = entry.number;
         let old = self.map.put(hash, entry)?;
         opening_tail::note_put(&mut self.tail, number_of(&old), number);
@@ -89,8 +88,7 @@ impl ChapterEntries {
         ensures ok { OnOk result (self.new ≡ record self.old { entries = entry_of offer.now number ∷ staying (goes offer.now.key None) self.old.entries }) }
         ensures err { OnErr result (self.new ≡ self.old) }
     {
-        // The length is read for what it tells: no two entries have the same key.
-        let _ = self.map.len();
+        self.map.has_distinct_keys();
         self.map.overwrite(hash, offer, number, replaced.octets)?;
         opening_tail::note_put(&mut self.tail, Some(replaced.number), number);
         Ok(())
@@ -101,8 +99,7 @@ impl ChapterEntries {
     pub(crate) fn promote(&mut self, hint: u64, key: KeyRef<'_>)
         ensures { self.new ≡ record self.old { entries = promoted (key_of key.entry) self.old.entries } }
     {
-        // The length is read for what it tells: no two entries have the same key.
-        let _ = self.map.len();
+        self.map.has_distinct_keys();
         let moved = self.map.promote(hint, key);
         opening_tail::note_gone(&mut self.tail, moved);
     }
@@ -112,8 +109,7 @@ impl ChapterEntries {
         requires { hash ≡ name_hash self.old.seeded (key_of key).name }
         ensures { self.new ≡ record self.old { entries = staying (goes (key_of key.entry) None) self.old.entries } }
     {
-        // The length is read for what it tells: no two entries have the same key.
-        let _ = self.map.len();
+        self.map.has_distinct_keys();
         let gone = self.map.remove(hash, key);
         opening_tail::note_gone(&mut self.tail, gone);
     }
@@ -123,8 +119,7 @@ impl ChapterEntries {
         ensures value { result ≡ last_key self.old.entries }
         ensures entries { self.new ≡ record self.old { entries = take (length self.old.entries - 1) self.old.entries } }
     {
-        // The length is read for what it tells: no two entries have the same key.
-        let _ = self.map.len();
+        self.map.has_distinct_keys();
         let (key, number) = self.map.remove_last()?;
         opening_tail::note_move(&mut self.tail, number);
         Some(key)

@@ -38,8 +38,7 @@ fn place(
     ensures stale { store.new.stale ≡ store.old.stale }
     ensures err { OnErr result (store.new ≡ store.old) }
 {
-    // The length is read for what it tells: no two entries have the same key.
-    let _ = store.len();
+    store.has_distinct_keys();
     store.put(hash, entry)?;
     if store.len() as u64 > capacity {
         Ok(store.remove_last())

@@ -57,6 +57,13 @@ impl EntryMap {
         self.holdings.len()
     }
 
+    /// That no two entries have the same key, for proofs; it does nothing.
+    pub(crate) fn has_distinct_keys(&self)
+        ensures { AreApart self.now.entries }
+    {
+        self.holdings.has_distinct_keys();
+    }
+
     /// The octets of all entries, modulo 2^64. They are counted already.
     pub(crate) fn octets(&self) -> u64
         ensures { result ≡ octets_of self.now.entries % 2 ^ 64 }
@@ -105,9 +112,8 @@ impl EntryMap {
         ensures ok { OnOk result (self.new ≡ record self.old { entries = entry ∷ staying (goes entry.key None) self.old.entries }) }
         ensures err { OnErr result (self.new ≡ self.old) }
     {
-        // The length is read for what it tells: there is room, and no two entries have the same
-        // key.
-        let _ = self.holdings.len();
+        self.holdings.fits_memory();
+        self.holdings.has_distinct_keys();
         let key = entry.key.clone()?;
         let old = self.holdings.push(hash, key, entry)?;
         Ok(old)
@@ -127,9 +133,8 @@ impl EntryMap {
         ensures ok { OnOk result (self.new ≡ record self.old { entries = entry_of offer.now number ∷ staying (goes offer.now.key None) self.old.entries }) }
         ensures err { OnErr result (self.new ≡ self.old) }
     {
-        // The length is read for what it tells: there is room, and no two entries have the same
-        // key.
-        let _ = self.holdings.len();
+        self.holdings.fits_memory();
+        self.holdings.has_distinct_keys();
         self.holdings.overwrite(hash, offer, number, octets)?;
         Ok(())
     }
@@ -140,8 +145,7 @@ impl EntryMap {
         ensures number { result ≡ option_map (λ entry. entry.number) (entry_at (key_of key.entry) self.old.entries) }
         ensures entries { self.new ≡ record self.old { entries = promoted (key_of key.entry) self.old.entries } }
     {
-        // The length is read for what it tells: no two entries have the same key.
-        let _ = self.holdings.len();
+        self.holdings.has_distinct_keys();
         promote(&mut self.holdings, hint, key)
     }
 
@@ -151,8 +155,7 @@ impl EntryMap {
         ensures number { result ≡ option_map (λ entry. entry.number) (entry_at (key_of key.entry) self.old.entries) }
         ensures entries { self.new ≡ record self.old { entries = staying (goes (key_of key.entry) None) self.old.entries } }
     {
-        // The length is read for what it tells: no two entries have the same key.
-        let _ = self.holdings.len();
+        self.holdings.has_distinct_keys();
         number_of(&self.holdings.pop(hash, key))
     }
 
@@ -162,8 +165,7 @@ impl EntryMap {
         ensures number { IfSome result (λ gone. option_map (λ entry. entry.number) (entry_at gone.0 self.old.entries) ≡ Some gone.1) }
         ensures entries { self.new ≡ record self.old { entries = take (length self.old.entries - 1) self.old.entries } }
     {
-        // The length is read for what it tells: no two entries have the same key.
-        let _ = self.holdings.len();
+        self.holdings.has_distinct_keys();
         let (key, entry) = self.holdings.pop_lru()?;
         Some((key, entry.number))
     }

@@ -54,8 +54,7 @@ impl Store {
         ensures expired { IfOk result (λ keys. (key : KeyOf) → is_among key keys.items ≡ is_among key (fully_expired_keys self.old.stale moment self.old.entries)) }
         ensures same { self.new ≡ self.old }
     {
-        // The length is read for what it tells: no two entries have the same key.
-        let _ = self.filtered.map().len();
+        self.filtered.map().has_distinct_keys();
         find_due(&mut self.queue, self.filtered.map(), self.stale, moment)?;
         expired_among(
             alloc,

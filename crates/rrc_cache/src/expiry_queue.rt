@@ -215,6 +215,7 @@ impl ExpiryQueue {
         ensures soonest { self.new.soonest ≡ self.old.soonest }
         ensures one_more { (key : KeyOf) (time : ℕ) → (list_any (is_by key time) self.new.waiting || list_any (is_by key time) self.new.due) ≡ (is_by key time expiry || (list_any (is_by key time) self.old.waiting || list_any (is_by key time) self.old.due)) }
     {
+        // There is room for it, so no memory is refused.
         let _ = self.waiting.push(expiry);
     }
 

@@ -1,6 +1,7 @@
 // SPDX-License-Identifier: MIT
 ghost use Rattle.std.specs.Prelude.{◌≡◌, ◌-◌, ◌<◌, ◌^◌, ◌%◌, [], Some, length, is_some, slice_get, take, IfOk, OnOk, OnErr, IsSome};
-ghost use Rattle.std.specs.Map.{lookup, remove_entry};
+ghost use Rattle.std.specs.List.{IsDistinct};
+ghost use Rattle.std.specs.Map.{keys_of, lookup, remove_entry};
 ghost use Rattle.std.specs.Map.Iter.{deref_pair};
 ghost use Rattle.std.specs.Option.{option_copied, option_map};
 ghost use Rattle.lru.specs.LruCache.{IsValid, last_entry, lru_cache, promoted, put_entries};
@@ -84,6 +85,22 @@ impl Holdings {
         ensures valid { IsValid key_eq self.now.map }
     {
         self.keyed.len()
+    }
+
+    /// That no two entries have the same key, for proofs; it does nothing.
+    pub(crate) fn has_distinct_keys(&self)
+        ensures { IsDistinct key_eq (keys_of self.now.map.entries) }
+    {
+        // The contract of `Keyed::len` tells it.
+        let _ = self.keyed.len();
+    }
+
+    /// That memory holds the entries, which so are fewer than 2^63, for proofs; it does nothing.
+    pub(crate) fn fits_memory(&self)
+        ensures { length self.now.map.entries < 2 ^ 63 }
+    {
+        // The contract of `Keyed::len` tells it.
+        let _ = self.keyed.len();
     }
 
     pub(crate) fn allocator(&self) -> Global {

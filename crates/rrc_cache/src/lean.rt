@@ -121,6 +121,13 @@ impl LeanPart {
         self.number
     }
 
+    /// That the history is legal and has numbers left, for proofs; it does nothing.
+    pub(crate) fn has_legal_history(&self)
+        ensures { IsLeanSound self.now }
+    {
+        let _ = &self.history;
+    }
+
     /// How many keys the part holds. Those that are fully expired and not yet swept are counted
     /// too.
     pub fn len(&self) -> usize

@@ -106,8 +106,7 @@ impl Part {
         ensures value { result.now ≡ self.now.events }
         ensures sound { IsSound self.now }
     {
-        // The number is read for what it tells: the history is legal.
-        let _ = self.lean.number();
+        self.lean.has_legal_history();
         self.events.as_slice()
     }
 
@@ -116,8 +115,7 @@ impl Part {
         ensures value { result.now ≡ self.now.snapshot }
         ensures sound { IsSound self.now }
     {
-        // The number is read for what it tells: the history is legal.
-        let _ = self.lean.number();
+        self.lean.has_legal_history();
         &self.snapshot
     }
 

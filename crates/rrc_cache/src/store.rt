@@ -91,6 +91,13 @@ impl Store {
         self.filtered.map().len()
     }
 
+    /// That no two entries have the same key, for proofs; it does nothing.
+    pub(crate) fn has_distinct_keys(&self)
+        ensures { AreApart self.now.entries }
+    {
+        self.filtered.map().has_distinct_keys();
+    }
+
     /// The octets of all entries, modulo 2^64. They are counted already.
     pub(crate) fn octets(&self) -> u64
         ensures { result ≡ octets_of self.now.entries % 2 ^ 64 }
@@ -264,8 +271,7 @@ impl Store {
         ensures value { result ≡ last_key self.old.entries }
         ensures entries { self.new ≡ record self.old { entries = take (length self.old.entries - 1) self.old.entries } }
     {
-        // The length is read for what it tells: no two entries have the same key.
-        let _ = self.filtered.map().len();
+        self.filtered.map().has_distinct_keys();
         self.filtered.remove_last()
     }
 

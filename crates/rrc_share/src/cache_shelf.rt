@@ -87,16 +87,24 @@ impl CacheShelf {
         ensures lean { IfNone result (self.now.shelf.closed ≡ []) }
         ensures sound { IsSoundBy self.now.records self.now.shelf }
     {
+        self.is_sound();
+        match &self.state {
+            ShelfState::Lean(_) => None,
+            ShelfState::Recorded(shelf) => Some(shelf),
+        }
+    }
+
+    /// That the part is sound, for proofs; it does nothing.
+    pub(crate) fn is_sound(&self)
+        ensures { IsSoundBy self.now.records self.now.shelf }
+    {
+        // The contracts of these calls tell it.
         match &self.state {
             ShelfState::Lean(part) => {
-                // The number is read for what it tells: the history is legal.
                 let _ = part.number();
-                None
             }
             ShelfState::Recorded(shelf) => {
-                // The number is read for what it tells: the shelf and its history are sound.
                 let _ = shelf.part().number();
-                Some(shelf)
             }
         }
     }

@@ -67,8 +67,7 @@ fn unlocked(lock: Locked) -> CacheShelf
     ensures { IsSoundBy result.records result.shelf }
 {
     let kept = lock.into_inner().into_inner();
-    // The record is read for what it tells: the part is sound.
-    let _ = kept.recorded();
+    kept.is_sound();
     kept
 }
 
@@ -156,8 +155,7 @@ impl SharedCache {
         ensures { IsSoundBy (mutex_guard_value result).records (mutex_guard_value result).shelf }
     {
         let part = self.locks[part].lock(rt);
-        // The record is read for what it tells: the part is sound.
-        let _ = part.recorded();
+        part.is_sound();
         part
     }
 

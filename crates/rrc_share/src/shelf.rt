@@ -1,5 +1,6 @@
 // SPDX-License-Identifier: MIT
 ghost use Rattle.std.specs.Prelude.{◌≡◌, [], Err, IfOk, OnErr};
+ghost use Rattle.rrc_history.specs.Sound.{AreSound};
 
 use rrc_cache::{Part, Refusal};
 use rrc_history::{Ask, Chapter, Reply};
@@ -35,8 +36,7 @@ impl Shelf {
     pub fn new(alloc: Global, part: Part) -> Shelf
         ensures { result ≡ record { closed = []; part = part } }
     {
-        // The rules are read for what they tell: the entries of the snapshot are sound.
-        let _ = part.snapshot().rules();
+        has_sound_snapshot(&part);
         Shelf {
             closed: Vec::new(alloc),
             part,
@@ -76,9 +76,16 @@ impl Shelf {
         ensures before { AreBefore result.items self.old.part }
         ensures left { self.new ≡ record { closed = []; part = self.old.part } }
     {
-        // The rules are read for what they tell: the entries of the snapshot are sound.
-        let _ = self.part.snapshot().rules();
+        has_sound_snapshot(&self.part);
         let alloc = *self.closed.allocator();
         mem::replace(&mut self.closed, Vec::new(alloc))
     }
+}
+
+/// That the entries of the part's snapshot are sound, for proofs; it does nothing.
+fn has_sound_snapshot(part: &Part)
+    ensures { AreSound part.now.snapshot.rules.capacity part.now.snapshot.first part.now.snapshot.entries }
+{
+    // The contract of `Snapshot::rules` tells it.
+    let _ = part.snapshot().rules();
 }

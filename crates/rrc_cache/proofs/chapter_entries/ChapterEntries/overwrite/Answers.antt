@@ -15,5 +15,5 @@ invariant_of-self-2 c =
     let numbered : option_map (λ e. e.number) (entry_at entry.key entries) ≡ Some c.args.replaced.number =
     ap (λ (map : EntriesOf). option_map (λ (e : Entry). e.number) (entry_at entry.key map.entries)) c.self.view_is ∙ c.requires.number in
     subst (EndsWithTail c.note_put.new.tail) (sym (ap (λ (map : EntriesOf). map.entries) c.in_ok-overwrite.ensures.ok))
-    (put_tail entry entries (entry_at entry.key entries) c.self.inside.tail c.note_put.new.tail c.len.ensures.apart refl
+    (put_tail entry entries (entry_at entry.key entries) c.self.inside.tail c.note_put.new.tail c.has_distinct_keys.ensures refl
     (subst (λ number. IsPut number entry.number c.self.inside.tail c.note_put.new.tail) (sym numbered) c.note_put.ensures) c.self.invariant)

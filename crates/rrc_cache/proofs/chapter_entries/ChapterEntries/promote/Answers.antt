@@ -14,5 +14,5 @@ invariant_of-self c =
     let key : KeyOf = key_of c.args.key in
     let entries : List Entry = c.self.inside.map.entries in
     subst (EndsWithTail c.note_gone.new.tail) (sym (ap (λ (map : EntriesOf). map.entries) c.promote-moved.ensures.entries))
-    (promoted_way key entries (entry_at key entries) c.self.inside.tail c.note_gone.new.tail c.len.ensures.apart refl
+    (promoted_way key entries (entry_at key entries) c.self.inside.tail c.note_gone.new.tail c.has_distinct_keys.ensures refl
     (subst (λ number. HasGivenWay number c.self.inside.tail c.note_gone.new.tail) c.promote-moved.ensures.number c.note_gone.ensures) c.self.invariant)

@@ -13,4 +13,4 @@ invariant_of-self-2 c =
     let put : IsPut (option_map (λ e. e.number) c.in_ok-old.old) entry.number c.self.inside.tail c.note_put.new.tail =
     subst (λ number. IsPut number entry.number c.self.inside.tail c.note_put.new.tail) c.number_of.ensures c.note_put.ensures in
     subst (EndsWithTail c.note_put.new.tail) (sym (ap (λ (map : EntriesOf). map.entries) c.in_ok-old.ensures.ok))
-    (put_tail entry c.self.inside.map.entries c.in_ok-old.old c.self.inside.tail c.note_put.new.tail c.len.ensures.apart (sym c.in_ok-old.ensures.old) put c.self.invariant)
+    (put_tail entry c.self.inside.map.entries c.in_ok-old.old c.self.inside.tail c.note_put.new.tail c.has_distinct_keys.ensures (sym c.in_ok-old.ensures.old) put c.self.invariant)

@@ -14,5 +14,5 @@ invariant_of-self c =
     let key : KeyOf = key_of c.args.key in
     let entries : List Entry = c.self.inside.map.entries in
     subst (EndsWithTail c.note_gone.new.tail) (sym (ap (λ (map : EntriesOf). map.entries) c.remove-gone.ensures.entries))
-    (given_way key entries (entry_at key entries) c.self.inside.tail c.note_gone.new.tail c.len.ensures.apart refl
+    (given_way key entries (entry_at key entries) c.self.inside.tail c.note_gone.new.tail c.has_distinct_keys.ensures refl
     (subst (λ number. HasGivenWay number c.self.inside.tail c.note_gone.new.tail) c.remove-gone.ensures.number c.note_gone.ensures) c.self.invariant)

@@ -15,8 +15,8 @@ invariant_of-self-2 c =
     let key : KeyOf = c.in_ok-key.key in
     let entries : List Entry = c.self.inside.map.entries in
     let last : last_key entries ≡ Some key = sym c.remove_last.ensures.key ∙ ap (option_map (λ gone. gone.0)) c.in_ok-key.was in
-    subst (EndsWithTail c.note_move.new.tail) (last_leaves key entries c.len.ensures.apart last ∙ sym (ap (λ (map : EntriesOf). map.entries) c.remove_last.ensures.entries))
-    (given_way key entries (entry_at key entries) c.self.inside.tail c.note_move.new.tail c.len.ensures.apart refl
+    subst (EndsWithTail c.note_move.new.tail) (last_leaves key entries c.has_distinct_keys.ensures last ∙ sym (ap (λ (map : EntriesOf). map.entries) c.remove_last.ensures.entries))
+    (given_way key entries (entry_at key entries) c.self.inside.tail c.note_move.new.tail c.has_distinct_keys.ensures refl
     (subst (λ number. HasGivenWay number c.self.inside.tail c.note_move.new.tail) (sym c.in_ok-key.ensures.number) c.note_move.ensures) c.self.invariant)
 
 pub invariant_of-self : goal.invariant_of-self

@@ -1,5 +1,5 @@
 -- SPDX-License-Identifier: MIT
-use Rattle.std.proofs.Common.{refl, ap, sym, ◌∙◌, arith}
+use Rattle.std.proofs.Common.{refl, ap, sym, ◌∙◌}
 use Rattle.std.specs.Option.{option_map}
 use Rattle.rrc_name.specs.Key.{KeyOf}
 use Rattle.rrc_history.specs.declared.snapshot.Entry.{Entry}
@@ -23,7 +23,7 @@ overwrite-requires-clause-held c =
 pub invariant_of-self-2 : goal.invariant_of-self-2
 invariant_of-self-2 c =
     let entry : Entry = entry_of c.args.offer.now c.args.number in
-    put_map c.self.inside.holdings.map c.overwrite.new.self.map entry.key entry c.self.invariant c.len.ensures.valid.0 (omega (arith, c.len.ensures.len, c.len.ensures.fits))
+    put_map c.self.inside.holdings.map c.overwrite.new.self.map entry.key entry c.self.invariant c.has_distinct_keys.ensures c.fits_memory.ensures
     refl c.in_ok-overwrite.ensures.ok
 
 pub returns-clause-ok : goal.returns-clause-ok
@@ -31,5 +31,5 @@ returns-clause-ok c =
     let entry : Entry = entry_of c.args.offer.now c.args.number in
     edited (with_entry entry) c.self.inside.holdings.seeded c.overwrite.new.self.seeded (entries_in c.self.inside.holdings.map.entries) (entries_in c.overwrite.new.self.map.entries) c.args.self.now
     c.overwrite.ensures.seeded
-    (after c.self.inside.holdings.map c.overwrite.new.self.map entry.key entry c.self.invariant c.len.ensures.valid.0 (omega (arith, c.len.ensures.len, c.len.ensures.fits)) refl c.in_ok-overwrite.ensures.ok)
+    (after c.self.inside.holdings.map c.overwrite.new.self.map entry.key entry c.self.invariant c.has_distinct_keys.ensures c.fits_memory.ensures refl c.in_ok-overwrite.ensures.ok)
     c.self.view_is

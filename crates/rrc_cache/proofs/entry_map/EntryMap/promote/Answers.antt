@@ -29,5 +29,5 @@ returns-clause-entries c =
     let key : KeyOf = key_of c.args.key in
     let pairs : List (KeyOf × Entry) = c.self.inside.holdings.map.entries in
     edited (promoted key) c.self.inside.holdings.seeded c.promote.new.holdings.seeded (entries_in pairs) (entries_in c.promote.new.holdings.map.entries) c.args.self.now c.promote.ensures.seeded
-    (ap (λ (now : LruCache KeyOf Entry). entries_in now.entries) c.promote.ensures.map ∙ promoted_in key pairs c.self.invariant.own (apart_in pairs c.self.invariant.own c.len.ensures.valid.0))
+    (ap (λ (now : LruCache KeyOf Entry). entries_in now.entries) c.promote.ensures.map ∙ promoted_in key pairs c.self.invariant.own (apart_in pairs c.self.invariant.own c.has_distinct_keys.ensures))
     c.self.view_is

@@ -17,11 +17,11 @@ push-requires-clause-hash c =
     ∙ ap (λ (key : KeyOf). name_hash c.self.inside.holdings.seeded key.name) (sym c.in_ok-key.ensures.cases))
 
 pub push-requires-clause-room : goal.push-requires-clause-room
-push-requires-clause-room c = omega (arith, c.self.invariant.wide, c.len.ensures.len, c.len.ensures.fits)
+push-requires-clause-room c = omega (arith, c.self.invariant.wide, c.fits_memory.ensures)
 
 pub invariant_of-self-2 : goal.invariant_of-self-2
 invariant_of-self-2 c =
-    put_map c.self.inside.holdings.map c.push.new.self.map c.in_ok-key.key c.args.entry c.self.invariant c.len.ensures.valid.0 (omega (arith, c.len.ensures.len, c.len.ensures.fits))
+    put_map c.self.inside.holdings.map c.push.new.self.map c.in_ok-key.key c.args.entry c.self.invariant c.has_distinct_keys.ensures c.fits_memory.ensures
     c.in_ok-key.ensures.cases c.in_ok-old.ensures.entries
 
 pub returns-clause-old : goal.returns-clause-old
@@ -35,6 +35,6 @@ pub returns-clause-ok : goal.returns-clause-ok
 returns-clause-ok c =
     edited (with_entry c.args.entry) c.self.inside.holdings.seeded c.push.new.self.seeded (entries_in c.self.inside.holdings.map.entries) (entries_in c.push.new.self.map.entries) c.args.self.now
     c.push.ensures.seeded
-    (after c.self.inside.holdings.map c.push.new.self.map c.in_ok-key.key c.args.entry c.self.invariant c.len.ensures.valid.0 (omega (arith, c.len.ensures.len, c.len.ensures.fits))
+    (after c.self.inside.holdings.map c.push.new.self.map c.in_ok-key.key c.args.entry c.self.invariant c.has_distinct_keys.ensures c.fits_memory.ensures
     c.in_ok-key.ensures.cases c.in_ok-old.ensures.entries)
     c.self.view_is

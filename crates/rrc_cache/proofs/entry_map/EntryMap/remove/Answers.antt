@@ -33,5 +33,5 @@ returns-clause-entries c =
     let key : KeyOf = key_of c.args.key in
     let pairs : List (KeyOf × Entry) = c.self.inside.holdings.map.entries in
     edited (staying (goes key None)) c.self.inside.holdings.seeded c.pop.new.self.seeded (entries_in pairs) (entries_in c.pop.new.self.map.entries) c.args.self.now c.pop.ensures.seeded
-    (ap (λ (now : LruCache KeyOf Entry). entries_in now.entries) c.pop.ensures.entries ∙ removed_in key pairs c.self.invariant.own (apart_in pairs c.self.invariant.own c.len.ensures.valid.0))
+    (ap (λ (now : LruCache KeyOf Entry). entries_in now.entries) c.pop.ensures.entries ∙ removed_in key pairs c.self.invariant.own (apart_in pairs c.self.invariant.own c.has_distinct_keys.ensures))
     c.self.view_is

@@ -38,7 +38,7 @@ returns-clause-number c =
     let pairs : List (KeyOf × Entry) = c.self.inside.holdings.map.entries in
     let pair : KeyOf × Entry = (c.in_ok-key.key, c.in_ok-key.entry) in
     let is : last_entry pairs ≡ Some pair = sym c.pop_lru.ensures.value ∙ c.in_ok-key.was in
-    let apart : AreApart (entries_in pairs) = apart_in pairs c.self.invariant.own c.len.ensures.valid.0 in
+    let apart : AreApart (entries_in pairs) = apart_in pairs c.self.invariant.own c.has_distinct_keys.ensures in
     let found : entry_at c.in_ok-key.key (entries_in pairs) ≡ Some c.in_ok-key.entry =
     ap (λ key. entry_at key (entries_in pairs)) (sym (last_own pairs pair c.self.invariant.own is)) ∙ last_found pairs pair apart is in
     ap (λ (map : EntriesOf). option_map (λ (entry : Entry). entry.number) (entry_at c.in_ok-key.key map.entries)) (sym c.self.view_is) ∙ ap (option_map (λ entry. entry.number)) found

@@ -26,7 +26,7 @@ returns-clause-expired c =
     let entries : List Entry = c.self.inside.filtered.entries in
     let are : AreQueued stale entries queue = subst (λ (map : EntriesOf). AreQueued stale map.entries c.self.inside.queue → AreQueued stale map.entries queue) c.map-2.ensures
     c.find_due.ensures.queued c.self.invariant.queued in
-    let apart : AreApart entries = subst (λ (map : EntriesOf). AreApart map.entries) c.map.ensures c.len.ensures.apart in
+    let apart : AreApart entries = subst (λ (map : EntriesOf). AreApart map.entries) c.map.ensures c.has_distinct_keys.ensures in
     let listed : (key : KeyOf) → is_among key (expired_among stale c.args.moment c.map-3.result.now.entries c.due.result.now) ≡ is_among key (fully_expired_keys c.args.self.now.stale c.args.moment c.args.self.now.entries) = λ key.
     ap (λ (map : EntriesOf). is_among key (expired_among stale c.args.moment map.entries c.due.result.now)) c.map-3.ensures
     ∙ (ap (λ (expiries : List Expiry). is_among key (expired_among stale c.args.moment entries expiries)) c.due.ensures

@@ -12,7 +12,7 @@ use Rattle.rrc_cache.proofs.store.Store.remove_last.Goals as goal
 pub invariant_of-self : goal.invariant_of-self
 invariant_of-self c =
     let entries : List Entry = c.self.inside.filtered.entries in
-    let apart : AreApart entries = subst (λ (map : EntriesOf). AreApart map.entries) c.map.ensures c.len.ensures.apart in
+    let apart : AreApart entries = subst (λ (map : EntriesOf). AreApart map.entries) c.map.ensures c.has_distinct_keys.ensures in
     record {
       limit = c.self.invariant.limit;
       queued = subst (λ (map : EntriesOf). AreQueued c.self.inside.stale map.entries c.self.inside.queue) (sym c.remove_last.ensures.entries)

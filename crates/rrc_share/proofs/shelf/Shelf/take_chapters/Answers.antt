@@ -1,11 +1,6 @@
 -- SPDX-License-Identifier: MIT
-use Rattle.std.proofs.Common.{subst}
-use Rattle.rrc_history.specs.declared.snapshot.Snapshot.{Snapshot}
-use Rattle.rrc_history.specs.Sound.{AreSound}
 use Rattle.rrc_share.proofs.Shelved.{shelf_of}
 use Rattle.rrc_share.proofs.shelf.Shelf.take_chapters.Goals as goal
 
 pub invariant_of-self : goal.invariant_of-self
-invariant_of-self c =
-    let P : Snapshot → Type 0 = λ snapshot. AreSound snapshot.rules.capacity snapshot.first snapshot.entries in
-    rw (c.replace.ensures.after, c.new.ensures.items) (shelf_of c.self.inside.part (subst P c.snapshot.ensures.value c.rules.ensures.sound))
+invariant_of-self c = rw (c.replace.ensures.after, c.new.ensures.items) (shelf_of c.self.inside.part c.has_sound_snapshot.ensures)
