@@ -5,7 +5,7 @@ use Rattle.rrc_history.specs.Chapters.{ChapterOf}
 use Rattle.rrc_share.specs.CacheShelf.{CacheShelfOf, lean_shelf}
 use Rattle.rrc_share.specs.Shelf.{AreBefore}
 use Rattle.rrc_share.specs.Switches.{Stops}
-use Rattle.rrc_trace.specs.Archive.{lines_of, written_of}
+use Rattle.rrc_archive.specs.Archive.{lines_of, written_of}
 use Rattle.rrc_c.specs.Refusals.{IsDoneOrMemory, OutOfMemory, RecordDueBy}
 use Rattle.rrc_c.specs.ReplyRecord.{IsFilled}
 use Rattle.rrc_c.specs.declared.chapter_lines.Line.{Line}

@@ -1,7 +1,7 @@
 // SPDX-License-Identifier: MIT
 ghost use Rattle.std.specs.Prelude.{◌≡◌, ◌∷◌, ◌++◌, [], length, take, drop, IfOk, IfErr};
 ghost use Rattle.std.specs.Option.{option_map};
-ghost use Rattle.rrc_trace.specs.Archive.{line_text};
+ghost use Rattle.rrc_archive.specs.Archive.{line_text};
 ghost use Rattle.rrc_c.specs.Chapters.{line_at, LineDue, TellsLine};
 ghost use Rattle.rrc_c.specs.Refusals.{OutOfMemory};
 ghost use Rattle.rrc_c.specs.Statuses.{number_of, OnDone, OnRefused};
@@ -9,8 +9,8 @@ ghost use Rattle.rrc_c.specs.ReplyRecord.{IsFilled};
 
 use crate::status::{NO_LINE, Status};
 use crate::text::put;
+use rrc_archive::{ArchiveLine, archive_line, write_archive_line};
 use rrc_history::Chapter;
-use rrc_trace::{ArchiveLine, archive_line, write_archive_line};
 use std::alloc::Global;
 
 /// How many octets a line of a chapter has, with its LF, and how many of them were written.

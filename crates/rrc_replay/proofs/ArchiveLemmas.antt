@@ -15,9 +15,9 @@ use Rattle.rrc_history.specs.Chapters.{ChapterOf}
 use Rattle.rrc_history.specs.Equality.{entry_eq, rules_eq, snapshot_eq}
 use Rattle.rrc_history.specs.Snapshots.{SnapshotOf}
 use Rattle.rrc_history.specs.lemmas.EqualityLaws.{entry_eq-Decides, snapshot_eq-Decides}
-use Rattle.rrc_trace.specs.Archive.{WrittenOf, written_of, archive_text, chapter_text, entry_text, event_text, lines_of, text_of_lines}
-use Rattle.rrc_replay.specs.declared.archive.HistoryFault.{HistoryFault}
-use Rattle.rrc_replay.specs.declared.archive.HistoryFault.TheVariants.{Empty, BadLine, BadEntry, BadNumber, NotLegal, Broken, Memory}
+use Rattle.rrc_archive.specs.Archive.{WrittenOf, written_of, archive_text, chapter_text, entry_text, event_text, lines_of, text_of_lines}
+use Rattle.rrc_replay.specs.declared.history.HistoryFault.{HistoryFault}
+use Rattle.rrc_replay.specs.declared.history.HistoryFault.TheVariants.{Empty, BadLine, BadEntry, BadNumber, NotLegal, Broken, Memory}
 use Rattle.rrc_replay.specs.Archives.{AreLinesFew, HasBadEvent, IsArchiveOf, TellsChapter, IsWhyNoHistory, IsFaultBehind, line_of}
 
 told : (before : List WrittenOf) (chapter : WrittenOf) (behind all : List WrittenOf) (place : ℕ) (Holds : List WrittenOf → WrittenOf → Type 0)

@@ -3,8 +3,8 @@
 use Rattle.std.proofs.Common.{◌≡◌, ℕ, ◌<◌, ◌≤◌, List, ◌∷◌, ◌+◌, length, drop, get_or, ap, ◌∙◌, Bool, true, false, cond, nat_lt, if◌then◌else◌, Option, Some, None, option_map, refl, subst, sym, arith}
 use Rattle.std.proofs.lemmas.List.{drop_all, drop_more}
 use Rattle.std.proofs.lemmas.Bool.Decides.{nat_tests}
-use Rattle.rrc_trace.specs.declared.fault.ReplayFault.{ReplayFault}
-use Rattle.rrc_trace.specs.declared.fault.ReplayFault.TheVariants.{Spent, Strayed}
+use Rattle.rrc_text.specs.declared.fault.ReplayFault.{ReplayFault}
+use Rattle.rrc_text.specs.declared.fault.ReplayFault.TheVariants.{Spent, Strayed}
 use Rattle.rrc_replay.specs.declared.calls.Refused.{Refused}
 use Rattle.rrc_replay.specs.declared.calls.Refused.TheVariants as refused
 use Rattle.rrc_replay.specs.declared.worker.Stop.{Stop}

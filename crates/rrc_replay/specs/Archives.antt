@@ -17,14 +17,14 @@ use Rattle.rrc_history.specs.Chains.{WholeOf, IsWhole, chain_fault}
 use Rattle.rrc_history.specs.Chapters.{ChapterOf, IsChapter}
 use Rattle.rrc_history.specs.Faults.{chain_fault_text, snapshot_fault_text}
 use Rattle.rrc_history.specs.Snapshots.{snapshot_fault}
-use Rattle.rrc_trace.specs.Archive.{WrittenOf, written_of, archive_text, lines_of}
-use Rattle.rrc_trace.specs.ArchiveFaults.{StopsAt}
-use Rattle.rrc_trace.specs.ArchiveLaw.{HoldsChapter, IsOnlyArchive}
+use Rattle.rrc_archive.specs.Archive.{WrittenOf, written_of, archive_text, lines_of}
+use Rattle.rrc_archive.specs.ArchiveFaults.{StopsAt}
+use Rattle.rrc_archive.specs.ArchiveLaw.{HoldsChapter, IsOnlyArchive}
 use Rattle.rrc_replay.specs.declared.unlawful.Reason.{Reason}
 use Rattle.rrc_replay.specs.Unlawful.{IsWhyUnlawful}
-use Rattle.rrc_replay.specs.declared.archive.Counted.{Counted}
-use Rattle.rrc_replay.specs.declared.archive.HistoryFault.{HistoryFault}
-use Rattle.rrc_replay.specs.declared.archive.HistoryFault.TheVariants.{Empty, BadLine, BadEntry, BadNumber, NotLegal, Broken, Memory}
+use Rattle.rrc_replay.specs.declared.history.Counted.{Counted}
+use Rattle.rrc_replay.specs.declared.history.HistoryFault.{HistoryFault}
+use Rattle.rrc_replay.specs.declared.history.HistoryFault.TheVariants.{Empty, BadLine, BadEntry, BadNumber, NotLegal, Broken, Memory}
 
 -- the octets are what is written of these chapters, which Rust can hold, and of no others that it can
 pub record IsArchiveOf (octets : List ℕ) (chapters : List WrittenOf) : Type 0 where

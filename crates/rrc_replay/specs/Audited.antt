@@ -5,15 +5,15 @@ use Rattle.std.specs.Fmt.{decimal}
 use Rattle.std.specs.List.{flat_map}
 use Rattle.rrc_history.specs.declared.event.Event.{Event}
 use Rattle.rrc_history.specs.declared.snapshot.Entry.{Entry}
-use Rattle.rrc_trace.specs.Archive.{event_text, entry_text}
+use Rattle.rrc_archive.specs.Archive.{event_text, entry_text}
 use Rattle.rrc_replay.specs.declared.unlawful.Due.{Due}
 use Rattle.rrc_replay.specs.declared.unlawful.Reason.{Reason}
 use Rattle.rrc_history.specs.Chains.{WholeOf}
 use Rattle.rrc_history.specs.Chapters.{ChapterOf}
 use Rattle.rrc_history.specs.Right.{IsLegal}
 use Rattle.rrc_replay.specs.Archives.{AreHistory, IsWhyNoHistory, fault_text}
-use Rattle.rrc_replay.specs.declared.archive.HistoryFault.{HistoryFault}
-use Rattle.rrc_replay.specs.declared.archive.HistoryFault.TheVariants.{Empty, BadLine, BadEntry, BadNumber, NotLegal, Broken, Memory}
+use Rattle.rrc_replay.specs.declared.history.HistoryFault.{HistoryFault}
+use Rattle.rrc_replay.specs.declared.history.HistoryFault.TheVariants.{Empty, BadLine, BadEntry, BadNumber, NotLegal, Broken, Memory}
 use Rattle.rrc_replay.specs.declared.audited.Finding.{Finding}
 use Rattle.rrc_replay.specs.declared.audited.Finding.TheVariants as found
 

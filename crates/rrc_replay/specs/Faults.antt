@@ -1,8 +1,8 @@
 -- SPDX-License-Identifier: MIT
 -- What may stop a replay.
 use Rattle.std.specs.Prelude.{ℕ, ◌≤◌}
-use Rattle.rrc_trace.specs.declared.fault.ReplayFault.{ReplayFault}
-use Rattle.rrc_trace.specs.declared.fault.ReplayFault.TheVariants.{BadLine, TooManyLines, Read, Write, Strayed, Memory, Spent, TooManyQuestions, NotLegal}
+use Rattle.rrc_text.specs.declared.fault.ReplayFault.{ReplayFault}
+use Rattle.rrc_text.specs.declared.fault.ReplayFault.TheVariants.{BadLine, TooManyLines, Read, Write, Strayed, Memory, Spent, TooManyQuestions, NotLegal}
 
 -- a fault of workers, of memory or threads, or of a part whose numbers are spent, told with a line or with the number of lines; no
 -- fault of a text, of a read or of a write

@@ -2,13 +2,13 @@
 //! What an audit of an archive tells.
 ghost use Rattle.std.specs.Prelude.{◌≡◌, ◌++◌, ◌∷◌, [], length, IfOk, OnOk};
 ghost use Rattle.std.specs.List.{flat_map};
-ghost use Rattle.rrc_trace.specs.Archive.{line_text};
+ghost use Rattle.rrc_archive.specs.Archive.{line_text};
 ghost use Rattle.rrc_replay.specs.Audited.{IsAudit, IsToldLegal, due_text, held_line, legal_text, place_text, reason_text, refusal_text, why_text};
 
-use crate::archive::{Counted, HistoryFault, counted_in};
+use crate::history::{Counted, HistoryFault, counted_in};
 use crate::unlawful::{Due, Reason};
+use rrc_archive::{ArchiveLine, write_archive_line};
 use rrc_history::Entry;
-use rrc_trace::{ArchiveLine, write_archive_line};
 use std::alloc::{AllocError, Global};
 
 /// What an audit found of an archive.

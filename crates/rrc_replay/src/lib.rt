@@ -4,22 +4,23 @@
 #![tactic(auto)]
 
 mod answers;
-mod archive;
 mod audit;
 mod audited;
 mod calls;
 mod gate;
+mod history;
 mod limits;
 mod unlawful;
 mod whole_run;
 mod worker;
 mod workers;
 
-pub use archive::{HistoryFault, history_in};
 pub use audit::Audit;
 pub use audited::{Audited, Finding, audit_archive};
 pub use gate::{Gate, OpenGate};
+pub use history::{HistoryFault, history_in};
 pub use limits::usual_limits;
+pub use rrc_archive as archive;
 pub use rrc_report as report;
 pub use rrc_trace as trace;
 pub use unlawful::{Due, Reason};

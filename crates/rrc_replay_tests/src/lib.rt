@@ -1,8 +1,10 @@
 // SPDX-License-Identifier: MIT
-//! Tests of `rrc_wire`, `rrc_sets`, `rrc_trace`, `rrc_report`, `rrc_marks` and `rrc_replay`, by
-//! their public calls, and of `rrc_collate` by those of `rrc_report`.
+//! Tests of `rrc_wire`, `rrc_sets`, `rrc_trace`, `rrc_archive`, `rrc_report`, `rrc_marks` and
+//! `rrc_replay`, by their public calls, and of `rrc_collate` by those of `rrc_report`.
 #![tactic(auto)]
 
+#[cfg(test)]
+mod archive;
 #[cfg(test)]
 mod marks;
 #[cfg(test)]

@@ -107,7 +107,7 @@ script_below config questions (lines.Fail failed) (answers.Fail told) script som
     (part_below (folded failed.name) config.parts some))
 script_below config questions (lines.Response response) (answers.Response told) script some is =
     of_same config.parts script _ is.is (offers_below config.parts is.offers some)
-script_below config questions (lines.Response response) (answers.Refused fault) script some is =
+script_below config questions (lines.Response response) (answers.Refused number) script some is =
     of_same config.parts script _ is.1 (All-nil (GoesTo config.parts))
 script_below config questions (lines.Fetch fetch) (answers.Hit reply) script some is =
     of_same config.parts script _ is (one_below config.parts (first_ask config.parts fetch) (part_below (folded fetch.name) config.parts some))
@@ -146,7 +146,7 @@ script_numbered config questions (lines.Put put) (answers.Put told) script is = 
 script_numbered config questions (lines.Ask ask) (answers.Ask reply) script is = fate_same (length questions) script _ is tt
 script_numbered config questions (lines.Fail failed) (answers.Fail told) script is = fate_same (length questions) script _ is tt
 script_numbered config questions (lines.Response response) (answers.Response told) script is = fate_same (length questions) script _ is.is tt
-script_numbered config questions (lines.Response response) (answers.Refused fault) script is = fate_same (length questions) script _ is.1 tt
+script_numbered config questions (lines.Response response) (answers.Refused number) script is = fate_same (length questions) script _ is.1 tt
 script_numbered config questions (lines.Fetch fetch) (answers.Hit reply) script is = fate_same (length questions) script _ is tt
 script_numbered config questions (lines.Fetch fetch) (answers.Held moment) script is = fate_same (length questions) script _ is tt
 script_numbered config questions (lines.Fetch fetch) answers.Joined script is =

@@ -244,7 +244,7 @@ complete-told answers.Joined answer events h =
     plain-complete answers.Joined answer events (replies_alone (Miss None) events) refl (alone-told (Miss None) events) h
 complete-told (answers.Swept removed) answer events h =
     plain-complete (answers.Swept removed) answer events (all_count removed events) refl (count-told removed events) h
-complete-told (answers.Refused fault) answer events h = plain-complete (answers.Refused fault) answer events (is_empty events) refl (nothing-told events) h
+complete-told (answers.Refused number) answer events h = plain-complete (answers.Refused number) answer events (is_empty events) refl (nothing-told events) h
 complete-told answers.Closed answer events h = plain-complete answers.Closed answer events (is_empty events) refl (nothing-told events) h
 
 -- an answer that events tell is the one that they complete
@@ -259,7 +259,7 @@ found (answers.Hit reply) events tells =
 found (answers.Held moment) events tells = ap (λ told. only_where told (answers.Held moment)) (alone-found (Miss (Some moment)) events tells)
 found answers.Joined events tells = ap (λ told. only_where told answers.Joined) (alone-found (Miss None) events tells)
 found (answers.Swept removed) events tells = ap (λ told. only_where told (answers.Swept removed)) (count-found removed events tells)
-found (answers.Refused fault) events tells = ap (λ told. only_where told (answers.Refused fault)) (nothing-found events tells)
+found (answers.Refused number) events tells = ap (λ told. only_where told (answers.Refused number)) (nothing-found events tells)
 found answers.Closed events tells = ap (λ told. only_where told answers.Closed) (nothing-found events tells)
 
 pub complete-found : (given answer : Answer) (events : List Event) → Completes given answer events → complete given events ≡ Some answer

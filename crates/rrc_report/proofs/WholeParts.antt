@@ -16,8 +16,8 @@ use Rattle.rrc_history.specs.Equality.{snapshot_eq}
 use Rattle.rrc_history.specs.lemmas.EqualityLaws.{snapshot_eq-Decides}
 use Rattle.rrc_cache.specs.Part.{PartOf}
 use Rattle.rrc_share.specs.Shelf.{ShelfOf, AreBefore, ShelvesChapter, first_snapshot}
-use Rattle.rrc_trace.specs.declared.fault.ReplayFault.{ReplayFault}
-use Rattle.rrc_trace.specs.declared.fault.ReplayFault.TheVariants.{BadLine, TooManyLines, Read, Write, Strayed, Memory, Spent, TooManyQuestions, NotLegal}
+use Rattle.rrc_text.specs.declared.fault.ReplayFault.{ReplayFault}
+use Rattle.rrc_text.specs.declared.fault.ReplayFault.TheVariants.{BadLine, TooManyLines, Read, Write, Strayed, Memory, Spent, TooManyQuestions, NotLegal}
 use Rattle.rrc_report.specs.Reports.{IsOfShelf, IsPartOf, empty_under}
 use Rattle.rrc_report.specs.Steps.{ArePartHistories, CanNotClose}
 use Rattle.rrc_report.specs.Wholes.{IsKeptBy}

@@ -4,8 +4,8 @@ use Rattle.std.specs.Prelude.{◌≡◌, ◌^◌, List, length}
 use Rattle.std.specs.List.{Any}
 use Rattle.rrc_share.specs.Shelf.{ShelfOf}
 use Rattle.rrc_trace.specs.declared.line.Line.{Line}
-use Rattle.rrc_trace.specs.declared.fault.ReplayFault.{ReplayFault}
-use Rattle.rrc_trace.specs.declared.fault.ReplayFault.TheVariants.{BadLine, TooManyLines, Read, Write, Strayed, Memory, Spent, TooManyQuestions, NotLegal}
+use Rattle.rrc_text.specs.declared.fault.ReplayFault.{ReplayFault}
+use Rattle.rrc_text.specs.declared.fault.ReplayFault.TheVariants.{BadLine, TooManyLines, Read, Write, Strayed, Memory, Spent, TooManyQuestions, NotLegal}
 use Rattle.rrc_script.specs.declared.config.Config.{Config}
 use Rattle.rrc_report.specs.declared.done.Done.{Done}
 use Rattle.rrc_report.specs.declared.report.Report.{Report}

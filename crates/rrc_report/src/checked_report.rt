@@ -1,7 +1,7 @@
 // SPDX-License-Identifier: MIT
 ghost use Rattle.std.specs.Prelude.{◌≡◌, List, length, map, IfOk, IfErr, IfSome, IfNone};
 ghost use Rattle.rrc_history.specs.declared.event.Event.{Event};
-ghost use Rattle.rrc_trace.specs.declared.fault.ReplayFault.TheVariants as faults;
+ghost use Rattle.rrc_text.specs.declared.fault.ReplayFault.TheVariants as faults;
 ghost use Rattle.rrc_collate.specs.Collated.{histories_of};
 ghost use Rattle.rrc_report.specs.Reports.{IsCollated, Holds, lines_done};
 ghost use Rattle.rrc_report.specs.Collates.{IsWhy};

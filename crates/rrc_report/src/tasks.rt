@@ -1,6 +1,6 @@
 // SPDX-License-Identifier: MIT
 ghost use Rattle.std.specs.Prelude.{◌≡◌, List, map, IfOk, IfErr, IfSome, IfNone};
-ghost use Rattle.rrc_trace.specs.declared.fault.ReplayFault.TheVariants as faults;
+ghost use Rattle.rrc_text.specs.declared.fault.ReplayFault.TheVariants as faults;
 ghost use Rattle.rrc_collate.specs.declared.task.Task.{Task};
 ghost use Rattle.rrc_report.specs.Steps.{given_by, given_from, IsTaskOfLine, AreTasks};
 

@@ -2,7 +2,7 @@
 ghost use Rattle.std.specs.Prelude.{◌≡◌, [], ◌∷◌, ◌++◌, map, IfOk, IfErr, IfSome, IfNone};
 ghost use Rattle.rrc_wire.specs.FirstFault.{FirstFault};
 ghost use Rattle.rrc_trace.specs.Lawful.{IsLawful};
-ghost use Rattle.rrc_trace.specs.declared.fault.ReplayFault.TheVariants as faults;
+ghost use Rattle.rrc_text.specs.declared.fault.ReplayFault.TheVariants as faults;
 ghost use Rattle.rrc_script.specs.declared.script.Script.{Script};
 ghost use Rattle.rrc_script.specs.Scripts.{offer_of, failure_of, offering, asking, sweeping, plain, first_ask, fetching, Joins, Gets, Responds, HasFaultOf, HasScript, OneScript};
 

@@ -7,21 +7,24 @@ use Rattle.rrc_history.specs.declared.ask.Purpose.{Purpose}
 use Rattle.rrc_history.specs.declared.body.Trust.{Trust}
 use Rattle.rrc_trace.specs.declared.line.Line.{Line}
 use Rattle.rrc_trace.specs.declared.line.Line.TheVariants as lines
-use Rattle.rrc_trace.specs.declared.read.word.Form.{Form}
-use Rattle.rrc_trace.specs.declared.read.word.Form.TheVariants as forms
-use Rattle.rrc_trace.specs.Gives.{◌>>=◌}
-use Rattle.rrc_trace.specs.Fields.{said_at}
-use Rattle.rrc_trace.specs.Names.{name_of}
-use Rattle.rrc_trace.specs.Numbers.{moment_of, ttl_of, trust_of, rtype_of}
-use Rattle.rrc_trace.specs.Words.{form_of, purpose_of, mode_of}
+use Rattle.rrc_trace.specs.declared.read.form.Form.{Form}
+use Rattle.rrc_trace.specs.declared.read.form.Form.TheVariants as forms
+use Rattle.rrc_text.specs.Gives.{◌>>=◌}
+use Rattle.rrc_text.specs.Fields.{said_at}
+use Rattle.rrc_text.specs.Names.{name_of}
+use Rattle.rrc_trace.specs.Numbers.{moment_of, rtype_of}
+use Rattle.rrc_text.specs.Numbers.{ttl_of, trust_of}
+use Rattle.rrc_trace.specs.Forms.{form_of}
+use Rattle.rrc_text.specs.Words.{purpose_of, mode_of}
 use Rattle.rrc_trace.specs.Items.{items_of}
-use Rattle.rrc_trace.specs.Octets.{message_of, fetched_of}
-use Rattle.rrc_trace.specs.declared.kind.Kind.{Kind}
+use Rattle.rrc_trace.specs.Messages.{message_of, fetched_of}
+use Rattle.rrc_text.specs.declared.kind.Kind.{Kind}
 use Rattle.rrc_trace.specs.Lines.{ended, question_at, kept_of, put_of, manner_of, ask_of, fail_of, response_of, sent_of, fetch_of, sweep_of, said_as, line_of}
-use Rattle.rrc_trace.specs.Grammar.{IsMoment, IsRtype, IsTrust, IsTtl, AreItems, SpellsFetched, purpose_word, mode_word, FieldsOf, put, ask, response, fail, fetch, sweep, checkpoint, HasFields}
-use Rattle.rrc_trace.proofs.FieldLemmas.{says_first, first_said, says_last, last_said}
-use Rattle.rrc_trace.proofs.NameLemmas.{says_what_is_spelled}
-use Rattle.rrc_trace.proofs.SaidLemmas.{said_first, said_last}
+use Rattle.rrc_trace.specs.Grammar.{IsMoment, IsRtype, IsTrust, IsTtl, AreItems, SpellsFetched, FieldsOf, put, ask, response, fail, fetch, sweep, checkpoint, HasFields}
+use Rattle.rrc_text.specs.Grammar.{purpose_word, mode_word}
+use Rattle.rrc_trace.proofs.SaysLemmas.{says_first, first_said, says_last, last_said}
+use Rattle.rrc_text.proofs.NameLemmas.{says_what_is_spelled}
+use Rattle.rrc_text.proofs.SaidLemmas.{said_first, said_last}
 use Rattle.rrc_trace.proofs.SpelledLemmas.{moment-says, says_moment, ttl-says, says_ttl, rtype-says, says_rtype, trust-says, says_trust, purpose-says, says_purpose, mode-says, says_mode, form_word, form-says}
 use Rattle.rrc_trace.proofs.SpelledItems.{octets-say, say_octets, fetched-says, says_fetched, items-say, say_items}
 

@@ -4,11 +4,11 @@ use Rattle.std.proofs.Common.{◌≡◌, ◌==◌, ◌<◌, ◌≤◌, ◌↔◌
 use Rattle.std.proofs.lemmas.Bool.Decides.{nat_tests}
 use Rattle.std.proofs.lemmas.List.{take_more}
 use Rattle.rrc_trace.specs.declared.line.Line.{Line}
-use Rattle.rrc_trace.specs.Gives.{◌>>=◌}
+use Rattle.rrc_text.specs.Gives.{◌>>=◌}
 use Rattle.rrc_trace.specs.Lines.{line_of, before_last, without_cr, bounded, line_ended, line_of_piece}
 use Rattle.rrc_trace.specs.Grammar.{MOST_OCTETS, EndsWith, EndsLine, lf, cr_lf, text_end, IsLine}
 use Rattle.rrc_trace.proofs.FormLemmas.{line-says, line-read}
-use Rattle.rrc_trace.proofs.SaidLemmas.{said_first, said_last}
+use Rattle.rrc_text.proofs.SaidLemmas.{said_first, said_last}
 
 no_length : (octets : List ℕ) → (length octets == 0) ≡ false → 0 < length octets
 no_length octets some = grind (arith, nat_tests, some)

@@ -8,8 +8,8 @@ use Rattle.std.proofs.lemmas.Bool.Decides.{nat_tests}
 use Rattle.std.proofs.lemmas.List.{append-nil}
 use Rattle.std.proofs.lemmas.List.Elements.{All-nil, All-push}
 use Rattle.rrc_trace.specs.declared.line.Line.{Line}
-use Rattle.rrc_trace.specs.declared.fault.ReplayFault.{ReplayFault}
-use Rattle.rrc_trace.specs.declared.fault.ReplayFault.TheVariants.{BadLine, TooManyLines, TooManyQuestions}
+use Rattle.rrc_text.specs.declared.fault.ReplayFault.{ReplayFault}
+use Rattle.rrc_text.specs.declared.fault.ReplayFault.TheVariants.{BadLine, TooManyLines, TooManyQuestions}
 use Rattle.rrc_trace.specs.Lines.{before_last, line_ended, line_of_piece}
 use Rattle.rrc_name.specs.Key.{KeyOf}
 use Rattle.rrc_trace.specs.Questions.{fetched_by, with_question, questions_of}
@@ -19,8 +19,9 @@ use Rattle.rrc_trace.proofs.TraceLemmas.{lines_from, trace_of, lines_behind, one
 use Rattle.rrc_trace.specs.declared.read.trace.Ending.TheVariants.{Lf, Last, Endless}
 use Rattle.rrc_trace.specs.Lawful.{IsLawful, AreLawful}
 use Rattle.rrc_trace.proofs.LawfulLemmas.{says_lawful}
-use Rattle.rrc_trace.specs.declared.fault.ReplayFault.TheVariants as faults
-use Rattle.rrc_trace.specs.Pieces.{IsUnended, ReadsPiece, IsOfReading, GivesLine, IsTraceFrom, IsFaultOfTrace}
+use Rattle.rrc_text.specs.declared.fault.ReplayFault.TheVariants as faults
+use Rattle.rrc_text.specs.Cuts.{IsUnended}
+use Rattle.rrc_trace.specs.Pieces.{ReadsPiece, IsOfReading, GivesLine, IsTraceFrom, IsFaultOfTrace}
 
 -- what is left to read says, behind the lines so far, what the whole trace says
 abbrev pub IsReadTo : Option (List ℕ) → Option (List ℕ) → List Line → ℕ → Type 0

@@ -9,7 +9,7 @@ use Rattle.rrc_name.specs.Key.{KeyOf, key_eq, key_order}
 use Rattle.rrc_name.specs.lemmas.KeyLaws.{key_eq-laws, key_eq-same, key_order-ties}
 use Rattle.rrc_trace.specs.Questions.{with_question, questions_behind, fetched_by, FindsNumbers}
 use Rattle.rrc_trace.specs.declared.line.Line.{Line}
-use Rattle.rrc_trace.proofs.SearchLemmas.{position-cons}
+use Rattle.rrc_text.proofs.SearchLemmas.{position-cons}
 
 -- there is a place exactly where one passes
 position-any : {X : Type 0} (p : X → Bool) (xs : List X) → is_some (position p xs) ≡ list_any p xs

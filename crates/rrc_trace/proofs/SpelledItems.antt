@@ -11,11 +11,13 @@ use Rattle.hex.specs.Hex.{is_hex_digit, decode_of}
 use Rattle.hex.proofs.HexLemmas.{decode_of-ok}
 use Rattle.rrc_wire.specs.Plain.{IsPlain, is_plain}
 use Rattle.rrc_wire.proofs.PlainParts.{is_plain-Decides}
-use Rattle.rrc_trace.specs.Gives.{◌>>=◌}
-use Rattle.rrc_trace.specs.Octets.{octets_of, fetched_of}
-use Rattle.rrc_trace.specs.Items.{plain_of, item_of, with_piece, items_behind, is_comma, items_of}
+use Rattle.rrc_text.specs.Gives.{◌>>=◌}
+use Rattle.rrc_text.specs.Octets.{octets_of}
+use Rattle.rrc_trace.specs.Messages.{fetched_of}
+use Rattle.rrc_trace.specs.Items.{plain_of, item_of, with_piece, items_behind, items_of}
+use Rattle.rrc_text.specs.Commas.{is_comma}
 use Rattle.rrc_trace.specs.Grammar.{IsHex, SpellsOctets, dash, hex, SpellsFetched, no_message, message, AreItems, with_item}
-use Rattle.rrc_trace.proofs.SaidLemmas.{said_first, said_last}
+use Rattle.rrc_text.proofs.SaidLemmas.{said_first, said_last}
 
 ok_of : (spelled : Result (List ℕ) FromHexError) (octets : List ℕ) → result_ok spelled ≡ Some octets → spelled ≡ Ok octets
 ok_of (Ok found) octets is = ap (λ (o : List ℕ). ok o) (said_last is)

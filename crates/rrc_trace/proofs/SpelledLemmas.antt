@@ -1,9 +1,8 @@
 -- SPDX-License-Identifier: MIT
 -- What a field says as it is read is what it says by the grammar: numbers and words.
-use Rattle.std.proofs.Common.{◌≡◌, ◌≢◌, ◌⊎◌, ◌==◌, ◌≤◌, ◌^◌, ℕ, suc, ◌+◌, ◌-◌, ◌*◌, List, [], ◌∷◌, ◌++◌, Option, Some, None, Bool, true, false, cond, option_and_then, refl, sym, ap, subst, ◌∙◌, arith, inl, inr, nat_le, bytes_eq, codes, if◌then◌else◌, length, take, drop, option_map, append-nil, append_assoc, eqb-true, ne_eqb, leb-true, le-leb}
+use Rattle.std.proofs.Common.{◌≡◌, ◌≢◌, ◌⊎◌, ◌==◌, ◌≤◌, ◌^◌, ℕ, suc, ◌+◌, ◌-◌, ◌*◌, List, [], ◌∷◌, ◌++◌, Option, Some, None, Bool, true, false, cond, option_and_then, refl, sym, ap, subst, ◌∙◌, arith, inl, inr, bytes_eq, codes, if◌then◌else◌, length, take, drop, option_map, append-nil, append_assoc, eqb-true}
 use Rattle.std.specs.Char.{is_ascii_digit}
 use Rattle.std.specs.List.{AllByRecursion}
-use Rattle.std.proofs.lemmas.Bool.{and_parts, and_from}
 use Rattle.std.proofs.lemmas.Slice.Eq.{bytes_eq-Decides}
 use Rattle.rrc_history.specs.Lives.{rank as rank_of_trust, LAST_MOMENT}
 use Rattle.rrc_history.specs.declared.ask.Mode.{Mode}
@@ -13,30 +12,17 @@ use Rattle.rrc_history.specs.declared.ask.Purpose.TheVariants.{Any, Answer}
 use Rattle.rrc_history.specs.declared.body.Trust.{Trust}
 use Rattle.rrc_history.specs.declared.body.Trust.TheVariants.{Additional, NonAuthoritativeAnswer, Authority, AuthoritativeAnswer}
 use Rattle.rrc_wire.specs.Layout.{is_kept}
-use Rattle.rrc_trace.specs.declared.read.word.Form.{Form}
-use Rattle.rrc_trace.specs.declared.read.word.Form.TheVariants as forms
-use Rattle.rrc_trace.specs.Numbers.{number_behind, number_of, at_most, moment_of, ttl_of, word_of, slash_in, kind_at, kind_of, kept_kind, rtype_of, rank, trust_of}
-use Rattle.rrc_trace.specs.Words.{form_of, purpose_of, mode_of}
-use Rattle.rrc_trace.specs.Grammar.{SpellsNumber, one_digit, digit_more, IsMoment, IsWord, SpellsRtype, in_alone, with_class, IsRtype, IsTrust, IsTtl, purpose_word, mode_word}
-use Rattle.rrc_trace.specs.declared.kind.Kind.{Kind}
-use Rattle.rrc_trace.proofs.SaidLemmas.{said_first, said_last}
-use Rattle.rrc_trace.proofs.SearchLemmas.{position-cons}
-
--- a decimal digit has a value of at most 9
-pub record HasValue (digit : ℕ) : Type 0 where
-  pub small : digit - 48 ≤ 9
-  pub same : 48 + (digit - 48) ≡ digit
-
-pub digit-value : (digit : ℕ) → is_ascii_digit digit ≡ true → HasValue digit
-digit-value digit is =
-    let within = and_parts (nat_le 48 digit) (nat_le digit 57) is in
-    let low : 48 ≤ digit = leb-true 48 digit within.0 in
-    let high : digit ≤ 57 = leb-true digit 57 within.1 in
-    record { small = omega (arith, low, high); same = omega (arith, low) }
-
-pub value-digit : (value : ℕ) → value ≤ 9 → is_ascii_digit (48 + value) ≡ true
-value-digit value small =
-    and_from (nat_le 48 (48 + value)) (nat_le (48 + value) 57) (le-leb 48 (48 + value) (omega arith)) (le-leb (48 + value) 57 (omega (arith, small)))
+use Rattle.rrc_trace.specs.declared.read.form.Form.{Form}
+use Rattle.rrc_trace.specs.declared.read.form.Form.TheVariants as forms
+use Rattle.rrc_text.specs.Numbers.{number_behind, number_of, at_most, ttl_of, word_of, slash_in, kind_at, kind_of, rank, trust_of}
+use Rattle.rrc_trace.specs.Numbers.{moment_of, kept_kind, rtype_of}
+use Rattle.rrc_trace.specs.Forms.{form_of}
+use Rattle.rrc_text.specs.Words.{purpose_of, mode_of}
+use Rattle.rrc_trace.specs.Grammar.{SpellsNumber, one_digit, digit_more, IsMoment, IsWord, SpellsRtype, in_alone, with_class, IsRtype, IsTrust, IsTtl}
+use Rattle.rrc_text.specs.Grammar.{purpose_word, mode_word}
+use Rattle.rrc_text.specs.declared.kind.Kind.{Kind}
+use Rattle.rrc_text.proofs.SaidLemmas.{said_first, said_last}
+use Rattle.rrc_text.proofs.NumeralLemmas.{digit-value, value-digit, at_most-says, within-is, slash_from, one_more, slash-cons, slash-behind, drop-front, take-front, slash-none, rank-small, rank-ranked}
 
 behind-spells : (digits front : List ℕ) (number result : ℕ) → SpellsNumber front number → number_behind number digits ≡ Some result → SpellsNumber (front ++ digits) result
 behind-spells [] front number result spells is =
@@ -92,24 +78,6 @@ spelled-number digits number (one_digit {value = value} small) = rw (value-digit
 spelled-number digits number (digit_more {digits = front} {number = before} {value = value} spells small) =
     number-more front before value (spelled-number front before spells) small
 
--- a number that is not too large
-pub record IsWithin (most : ℕ) (number : Option ℕ) (value : ℕ) : Type 0 where
-  pub is : number ≡ Some value
-  pub few : value ≤ most
-
-pub at_most-says : (most : ℕ) (number : Option ℕ) (value : ℕ) → at_most most number ≡ Some value → IsWithin most number value
-at_most-says most None value said = absurd cc
-at_most-says most (Some number) value said = by (nat_le number most) refl
-  where
-    by : (few : Bool) → nat_le number most ≡ few → IsWithin most (Some number) value
-    by true few =
-        let same : number ≡ value = said_last (rw few at said) in
-        record { is = ap Some same; few = subst (λ n. n ≤ most) same (leb-true number most few) }
-    by false few = let never : None ≡ Some value = rw few at said in absurd cc
-
-pub within-is : (most : ℕ) (number : Option ℕ) (value : ℕ) → number ≡ Some value → value ≤ most → at_most most number ≡ Some value
-within-is most number value is few = rw (is, le-leb value most few) refl
-
 pub moment-says : (field : List ℕ) (moment : ℕ) → moment_of field ≡ Some moment → IsMoment field moment
 moment-says field moment is =
     let within = at_most-says LAST_MOMENT (number_of field) moment is in
@@ -147,36 +115,6 @@ unslashed : (digits : List ℕ) (number : ℕ) → SpellsNumber digits number �
 unslashed digits number (one_digit {value = value} small) = no_slash value
 unslashed digits number (digit_more {digits = front} {number = before} {value = value} spells small) =
     unslashed-append front ((48 + value) ∷ []) (unslashed front before spells) (no_slash value)
-
--- how a field is cut at its first slash
-abbrev slash_from : ℕ → List ℕ → Bool → Option ℕ
-slash_from octet octets is = cond is (Some 0) (option_map suc (slash_in octets))
-
-slash-cons : (octet : ℕ) (octets : List ℕ) → slash_in (octet ∷ octets) ≡ slash_from octet octets (octet == 47)
-slash-cons octet octets = position-cons (λ other. other == 47) octet octets
-
-pub slash-none : (octets : List ℕ) → AllByRecursion (λ octet. octet ≢ 47) octets → slash_in octets ≡ None
-slash-none [] none = refl
-slash-none (octet ∷ octets) none =
-    slash-cons octet octets ∙ (ap (slash_from octet octets) (ne_eqb octet 47 none.0) ∙ ap (option_map suc) (slash-none octets none.1))
-
-pub slash-behind : (front behind : List ℕ) → AllByRecursion (λ octet. octet ≢ 47) front → slash_in (front ++ 47 ∷ behind) ≡ Some (length front)
-slash-behind [] behind none = slash-cons 47 behind
-slash-behind (octet ∷ front) behind none =
-    slash-cons octet (front ++ 47 ∷ behind)
-    ∙ (ap (slash_from octet (front ++ 47 ∷ behind)) (ne_eqb octet 47 none.0) ∙ ap (option_map suc) (slash-behind front behind none.1))
-
-pub take-front : (front behind : List ℕ) → take (length front) (front ++ behind) ≡ front
-take-front [] behind = refl
-take-front (octet ∷ front) behind = ap (λ octets. octet ∷ octets) (take-front front behind)
-
-one_more : (n : ℕ) → suc (n + 1) ≡ suc n + 1
-one_more n = omega arith
-
-pub drop-front : (front behind : List ℕ) (octet : ℕ) → drop (length front + 1) (front ++ octet ∷ behind) ≡ behind
-drop-front [] behind octet = refl
-drop-front (first ∷ front) behind octet =
-    ap (λ (n : ℕ). drop n (first ∷ (front ++ octet ∷ behind))) (sym (one_more (length front))) ∙ drop-front front behind octet
 
 slash-cut : (field : List ℕ) (place : ℕ) → slash_in field ≡ Some place → field ≡ take place field ++ 47 ∷ drop (place + 1) field
 slash-cut [] place is = absurd cc
@@ -267,18 +205,6 @@ trust-says field trust is =
     let number = said_first (at_most 4 (number_of field)) rank trust is in
     let within = at_most-says 4 (number_of field) number.0 number.1.0 in
     subst (SpellsNumber field) (rank-says number.0 trust number.1.1) (number-spells field number.0 within.is)
-
-pub rank-ranked : (trust : Trust) → rank (rank_of_trust trust) ≡ Some trust
-rank-ranked Additional = refl
-rank-ranked NonAuthoritativeAnswer = refl
-rank-ranked Authority = refl
-rank-ranked AuthoritativeAnswer = refl
-
-pub rank-small : (trust : Trust) → rank_of_trust trust ≤ 4
-rank-small Additional = omega arith
-rank-small NonAuthoritativeAnswer = omega arith
-rank-small Authority = omega arith
-rank-small AuthoritativeAnswer = omega arith
 
 pub says_trust : (field : List ℕ) (trust : Trust) → IsTrust field trust → trust_of field ≡ Some trust
 says_trust field trust is =

@@ -2,7 +2,7 @@
 -- Every text is the text of one list of lines, or it has one first fault, and never both: what is read of it is the one or the other.
 use Rattle.std.proofs.Common.{◌≡◌, ℕ, ◌⊎◌, List, Result, Ok, Err, refl, inl, inr}
 use Rattle.rrc_trace.specs.declared.line.Line.{Line}
-use Rattle.rrc_trace.specs.declared.fault.ReplayFault.{ReplayFault}
+use Rattle.rrc_text.specs.declared.fault.ReplayFault.{ReplayFault}
 use Rattle.rrc_trace.specs.Trace.{TraceOf, IsFirstFault, OneTraceOrFault}
 use Rattle.rrc_trace.proofs.TraceLemmas.{trace_of, trace_of-says, trace_of-fault, trace-read, fault-read}
 

@@ -5,8 +5,8 @@ use Rattle.std.specs.List.{AllZip}
 use Rattle.std.proofs.lemmas.Bool.Decides.{nat_tests}
 use Rattle.rrc_name.specs.Key.{KeyOf}
 use Rattle.rrc_trace.specs.declared.line.Line.{Line}
-use Rattle.rrc_trace.specs.declared.fault.ReplayFault.{ReplayFault}
-use Rattle.rrc_trace.specs.declared.fault.ReplayFault.TheVariants.{BadLine, TooManyLines, TooManyQuestions}
+use Rattle.rrc_text.specs.declared.fault.ReplayFault.{ReplayFault}
+use Rattle.rrc_text.specs.declared.fault.ReplayFault.TheVariants.{BadLine, TooManyLines, TooManyQuestions}
 use Rattle.rrc_trace.specs.Lines.{line_of_piece}
 use Rattle.rrc_trace.specs.Grammar.{IsLine}
 use Rattle.rrc_trace.specs.Questions.{fetched_by, with_question, questions_of}

@@ -1,16 +1,12 @@
 -- SPDX-License-Identifier: MIT
 -- The lines of a trace, apart from how they are read: the tables of docs/FORMATS.md, "Traces".
-use Rattle.std.specs.Prelude.{◌≡◌, ◌≢◌, ◌≤◌, ◌⊎◌, ℕ, ◌+◌, ◌*◌, List, [], ◌∷◌, ◌++◌, length, Option, Some, None, Ok, true, fold, codes, if◌then◌else◌}
+use Rattle.std.specs.Prelude.{◌≡◌, ◌≤◌, ℕ, ◌+◌, ◌*◌, List, [], ◌∷◌, ◌++◌, length, Option, Some, None, Ok, true, fold, codes, if◌then◌else◌}
 use Rattle.std.specs.List.{AllZip, AllByRecursion, join_with_byte, list_any}
 use Rattle.hex.specs.Hex.{decode_of}
 use Rattle.rrc_name.specs.Text.{Spells}
 use Rattle.rrc_name.specs.Wire.{folded}
 use Rattle.rrc_history.specs.Asked.{AskOf}
 use Rattle.rrc_history.specs.Lives.{rank, LAST_MOMENT}
-use Rattle.rrc_history.specs.declared.ask.Mode.{Mode}
-use Rattle.rrc_history.specs.declared.ask.Mode.TheVariants.{NoStale, Failed, Now}
-use Rattle.rrc_history.specs.declared.ask.Purpose.{Purpose}
-use Rattle.rrc_history.specs.declared.ask.Purpose.TheVariants.{Any, Answer}
 use Rattle.rrc_history.specs.declared.body.Trust.{Trust}
 use Rattle.rrc_wire.specs.Layout.{is_kept}
 use Rattle.rrc_wire.specs.Plain.{IsPlain}
@@ -21,6 +17,7 @@ use Rattle.rrc_trace.specs.declared.line.Put.{Put as PutLine}
 use Rattle.rrc_trace.specs.declared.line.Failed.{Failed as FailedLine}
 use Rattle.rrc_trace.specs.declared.line.Response.{Response as ResponseLine}
 use Rattle.rrc_trace.specs.declared.line.Fetch.{Fetch as FetchLine}
+use Rattle.rrc_text.specs.Grammar.{mode_word, purpose_word, AreSpaces, IsField, StandsApart}
 
 -- digits spell a number in decimal: one digit or more, with zeros in front or none, and no sign
 pub data SpellsNumber : List ℕ → ℕ → Type 0 where
@@ -90,17 +87,6 @@ pub record AreItems (rtype : ℕ) (field : List ℕ) (items : List (List ℕ)) :
   pub plain : AllByRecursion (IsPlain rtype) written
   pub firsts : items ≡ fold (with_item rtype) [] written
 
--- what an answer is for
-abbrev pub purpose_word : Purpose → List ℕ
-purpose_word Any = codes "any"
-purpose_word Answer = codes "answer"
-
--- whether a stale answer will do (RFC 8767 5)
-abbrev pub mode_word : Mode → List ℕ
-mode_word NoStale = codes "none"
-mode_word Failed = codes "failed"
-mode_word Now = codes "now"
-
 -- fields are a line of one of these forms: the form's word, and behind it what it says, in order
 pub data FieldsOf : List (List ℕ) → Line → Type 0 where
   put : {moment name rtype trust ttl items : List ℕ} {line : PutLine}
@@ -127,19 +113,6 @@ pub data FieldsOf : List (List ℕ) → Line → Type 0 where
   sweep : {field : List ℕ} {moment : ℕ} → IsMoment field moment
       → FieldsOf (codes "sweep" ∷ field ∷ []) (lines.Sweep moment)
   checkpoint : FieldsOf (codes "checkpoint" ∷ []) lines.Checkpoint
-
--- spaces, any number of them
-abbrev pub AreSpaces : List ℕ → Type 0
-AreSpaces octets = AllByRecursion (λ octet. octet ≡ 32) octets
-
--- octets 32 alone are spaces: a field has one octet or more, and no space
-pub record IsField (octets : List ℕ) : Type 0 where
-  pub some : 1 ≤ length octets
-  pub unspaced : AllByRecursion (λ octet. octet ≢ 32) octets
-
--- octets end, or go on with a space
-abbrev pub StandsApart : List ℕ → Type 0
-StandsApart behind = (behind ≡ []) ⊎ ((rest : List ℕ) × (behind ≡ 32 ∷ rest))
 
 -- the fields of octets: they stand apart by one or more spaces, and any number of spaces stands
 -- at either end

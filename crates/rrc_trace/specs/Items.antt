@@ -1,11 +1,12 @@
 -- SPDX-License-Identifier: MIT
 -- How the items of a put are read, piece by piece: what private contracts say.
-use Rattle.std.specs.Prelude.{ℕ, List, Bool, option_map, [], ◌∷◌, length, take, drop, position, ◌+◌, Option, Some, None, ◌==◌, nat_le, if◌then◌else◌}
+use Rattle.std.specs.Prelude.{ℕ, List, option_map, [], ◌∷◌, length, Option, Some, None, nat_le, if◌then◌else◌}
 use Rattle.std.specs.List.{slice_split}
 use Rattle.rrc_wire.specs.Plain.{is_plain}
-use Rattle.rrc_trace.specs.Octets.{octets_of}
-use Rattle.rrc_trace.specs.Gives.{◌>>=◌}
+use Rattle.rrc_text.specs.Octets.{octets_of}
+use Rattle.rrc_text.specs.Gives.{◌>>=◌}
 use Rattle.rrc_trace.specs.Grammar.{with_item}
+use Rattle.rrc_text.specs.Commas.{is_comma}
 
 -- octets where they are plain data of a type: they fill its layout, with no pointer in their names (RFC 1035 3.3, RFC 3597 4)
 abbrev pub plain_of : ℕ → List ℕ → Option (List ℕ)
@@ -23,17 +24,6 @@ with_piece rtype items piece = option_map (with_item rtype items) (item_of rtype
 abbrev pub items_behind : ℕ → List (List ℕ) → List (List ℕ) → Option (List (List ℕ))
 items_behind rtype items [] = Some items
 items_behind rtype items (piece ∷ pieces) = with_piece rtype items piece >>= λ more. items_behind rtype more pieces
-
-abbrev pub is_comma : ℕ → Bool
-is_comma octet = octet == 44
-
--- the octets before a place, and those behind it
-abbrev pub cut_round : List ℕ → ℕ → List ℕ × List ℕ
-cut_round octets place = (take place octets, drop (place + 1) octets)
-
--- the octets before the first comma, and those behind it
-abbrev pub cut_at_comma : List ℕ → Option (List ℕ × List ℕ)
-cut_at_comma octets = option_map (cut_round octets) (position is_comma octets)
 
 -- at most 256 items of a type, repeats counted
 abbrev pub items_of : ℕ → List ℕ → Option (List (List ℕ))

@@ -7,16 +7,18 @@ use Rattle.rrc_history.specs.declared.ask.Purpose.{Purpose}
 use Rattle.rrc_history.specs.declared.body.Trust.{Trust}
 use Rattle.rrc_trace.specs.declared.line.Line.{Line}
 use Rattle.rrc_trace.specs.declared.line.Line.TheVariants as lines
-use Rattle.rrc_trace.specs.declared.kind.Kind.{Kind}
-use Rattle.rrc_trace.specs.declared.read.word.Form.{Form}
-use Rattle.rrc_trace.specs.declared.read.word.Form.TheVariants as forms
-use Rattle.rrc_trace.specs.Gives.{◌>>=◌}
-use Rattle.rrc_trace.specs.Fields.{said_at, has_field}
-use Rattle.rrc_trace.specs.Numbers.{moment_of, rtype_of, trust_of, ttl_of}
-use Rattle.rrc_trace.specs.Names.{name_of}
+use Rattle.rrc_text.specs.declared.kind.Kind.{Kind}
+use Rattle.rrc_trace.specs.declared.read.form.Form.{Form}
+use Rattle.rrc_trace.specs.declared.read.form.Form.TheVariants as forms
+use Rattle.rrc_text.specs.Gives.{◌>>=◌}
+use Rattle.rrc_text.specs.Fields.{said_at, has_field}
+use Rattle.rrc_trace.specs.Numbers.{moment_of, rtype_of}
+use Rattle.rrc_text.specs.Numbers.{trust_of, ttl_of}
+use Rattle.rrc_text.specs.Names.{name_of}
 use Rattle.rrc_trace.specs.Items.{items_of}
-use Rattle.rrc_trace.specs.Octets.{message_of, fetched_of}
-use Rattle.rrc_trace.specs.Words.{form_of, purpose_of, mode_of}
+use Rattle.rrc_trace.specs.Messages.{message_of, fetched_of}
+use Rattle.rrc_trace.specs.Forms.{form_of}
+use Rattle.rrc_text.specs.Words.{purpose_of, mode_of}
 
 -- what is said by fields behind the last of which no other stands
 abbrev pub ended : {X : Type 0} → List ℕ → X → Option X

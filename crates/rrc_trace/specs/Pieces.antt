@@ -1,25 +1,16 @@
 -- SPDX-License-Identifier: MIT
 -- Reading a trace, piece by piece.
-use Rattle.std.specs.Prelude.{◌≡◌, ◌≢◌, ◌<◌, ◌≤◌, ℕ, Bool, true, false, List, [], ◌∷◌, ◌++◌, length, ⊤, Option, Some, None, IfSome, Result, Ok, Err}
+use Rattle.std.specs.Prelude.{◌≡◌, ◌<◌, ◌≤◌, ℕ, Bool, List, [], ◌∷◌, ◌++◌, length, ⊤, Option, Some, None, IfSome, Result, Ok, Err}
 use Rattle.std.specs.Io.KnownBytes.{IsAtEnd}
-use Rattle.std.specs.List.{AllByRecursion}
-use Rattle.rrc_trace.specs.declared.fault.ReplayFault.{ReplayFault}
-use Rattle.rrc_trace.specs.declared.fault.ReplayFault.TheVariants.{BadLine, TooManyLines, Read, Write, Memory, Strayed, Spent, TooManyQuestions, NotLegal}
+use Rattle.rrc_text.specs.declared.fault.ReplayFault.{ReplayFault}
+use Rattle.rrc_text.specs.declared.fault.ReplayFault.TheVariants.{BadLine, TooManyLines, Read, Write, Memory, Strayed, Spent, TooManyQuestions, NotLegal}
 use Rattle.rrc_trace.specs.declared.read.trace.Ending.{Ending}
 use Rattle.rrc_trace.specs.declared.read.trace.Ending.TheVariants.{Lf, Last, Endless}
 use Rattle.rrc_trace.specs.declared.line.Line.{Line}
 use Rattle.rrc_name.specs.Key.{KeyOf}
 use Rattle.rrc_trace.specs.Questions.{fetched_by, with_question}
 use Rattle.rrc_trace.specs.Trace.{TraceOf, IsFirstFault, MOST_QUESTIONS}
-
--- no octet ends a line
-abbrev pub IsUnended : List ℕ → Type 0
-IsUnended octets = AllByRecursion (λ octet. octet ≢ 10) octets
-
--- octets cut behind an LF, or with none
-abbrev pub IsCut : Bool → List ℕ → Type 0
-IsCut true octets = (front : List ℕ) × IsUnended front × (octets ≡ front ++ 10 ∷ [])
-IsCut false octets = IsUnended octets
+use Rattle.rrc_text.specs.Cuts.{IsCut, IsUnended}
 
 -- octets in front of those ahead went behind those of a piece, and are cut behind an LF or have none
 pub record MovesPart (ahead left piece longer : List ℕ) (ended : Bool) : Type 0 where

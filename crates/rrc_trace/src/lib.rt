@@ -1,12 +1,9 @@
 // SPDX-License-Identifier: MIT
-//! The texts of the cache: traces of its operations, which are read, reports of their answers,
-//! which are written, and archives of its histories, which are both.
+//! The texts of the replay: traces of the operations of the cache, which are read, and reports of
+//! their answers, which are written.
 #![tactic(auto)]
 
 mod answer;
-mod archive;
-mod fault;
-mod kind;
 mod line;
 mod questions;
 mod read;
@@ -14,13 +11,9 @@ mod trace;
 mod write;
 
 pub use answer::{Answer, Told};
-pub use archive::{ArchiveFault, ArchiveLine, WrittenChapter, archive_line};
-pub use fault::ReplayFault;
 pub use line::{Failed, Fetch, Line, Put, Response};
 pub use questions::Questions;
-pub use read::archive::{one_archive, read_archive};
-pub use read::name::names_are_spelled;
 pub use read::trace::{one_trace_or_fault, read_trace};
+pub use rrc_text::ReplayFault;
 pub use trace::Trace;
-pub use write::archive::{write_archive_line, write_chapter};
 pub use write::report::write_report;

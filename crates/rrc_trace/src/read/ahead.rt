@@ -2,7 +2,7 @@
 ghost use Rattle.std.specs.Prelude.{◌≡◌, ℕ, ◌≤◌, ◌<◌, List, [], drop, length, slice_range, vec_len, take, Err, IfOk, IfErr, OnOk, OnErr, IsTrue, IsFalse, ◌↔◌};
 ghost use Rattle.std.specs.Io.KnownBytes.{Keeps, Consumes, IsAtEnd, prepend_known};
 
-use crate::fault::ReplayFault;
+use rrc_text::ReplayFault;
 use std::alloc::{AllocError, Global};
 use std::io;
 use std::io::Read;

@@ -1,17 +1,15 @@
 // SPDX-License-Identifier: MIT
-ghost use Rattle.std.specs.Prelude.{◌≡◌, ◌==◌, ◌<◌, ℕ, [], length, position, option_map, not, IfSome, IfOk, OnOk};
+ghost use Rattle.std.specs.Prelude.{◌≡◌, ◌==◌, ℕ, [], not, IfOk, OnOk};
 ghost use Rattle.std.specs.List.{list_any};
 ghost use Rattle.rrc_wire.specs.SameRdata.{same_rdata};
 ghost use Rattle.rrc_trace.specs.Grammar.{with_item};
 ghost use Rattle.rrc_trace.specs.Repeats.{FindsRepeats};
-ghost use Rattle.rrc_trace.specs.Items.{is_comma, cut_at_comma, item_of, with_piece, items_of};
-ghost use Rattle.rrc_trace.specs.Fields.{said_at};
-ghost use Rattle.rrc_trace.specs.Gives.{Gives};
+ghost use Rattle.rrc_trace.specs.Items.{item_of, with_piece, items_of};
+ghost use Rattle.rrc_text.specs.Fields.{said_at};
+ghost use Rattle.rrc_text.specs.Gives.{Gives};
 
-use crate::read::field::field_at;
-use crate::read::line_fault::LineFault;
-use crate::read::octets::octets_in;
 use rrc_name::{Octets, Sequence};
+use rrc_text::{LineFault, cut_at_comma, field_at, octets_in};
 use rrc_wire::{WireFault, lowered_rdata, plain_rdata, same_rdata};
 use std::alloc::{AllocError, Global};
 use std::collections::BTreeSet;
@@ -42,21 +40,6 @@ fn has_same(rtype: u16, items: &[Octets], item: &[u8]) -> bool
     items
         .iter()
         .any(|other| same_rdata(rtype, item, other.as_slice()))
-}
-
-fn first_comma(octets: &[u8]) -> Option<usize>
-    ensures place { result ≡ position is_comma octets.now }
-    ensures inside { IfSome result (λ place. place < length octets.now) }
-{
-    octets.iter().position(|&octet| octet == b',')
-}
-
-/// The octets before the first comma, and those behind it.
-pub(crate) fn cut_at_comma(octets: &[u8]) -> Option<(&[u8], &[u8])>
-    ensures { option_map (λ cut. (cut.0.now, cut.1.now)) result ≡ cut_at_comma octets.now }
-{
-    let end = first_comma(octets)?;
-    Some((&octets[..end], &octets[end + 1..]))
 }
 
 /// How many commas there are. It says only what room to ask for.

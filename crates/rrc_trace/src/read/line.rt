@@ -1,19 +1,17 @@
 // SPDX-License-Identifier: MIT
 ghost use Rattle.std.specs.Prelude.{◌≡◌, option_map, IfOk, IfErr};
-ghost use Rattle.rrc_trace.specs.Gives.{Gives};
+ghost use Rattle.rrc_text.specs.Gives.{Gives};
 ghost use Rattle.rrc_trace.specs.Lines.{question_at, kept_of, put_of, manner_of, ask_of, fail_of, response_of, sent_of, fetch_of, sweep_of, ended, line_of, before_last, without_cr, bounded, line_of_piece};
 
-use crate::kind::Kind;
 use crate::line::{Failed, Fetch, Line, Put, Response};
-use crate::read::field::has_field;
+use crate::read::form::{Form, form_at};
 use crate::read::item::items_at;
-use crate::read::line_fault::LineFault;
+use crate::read::message::{fetched_at, message_at};
 use crate::read::names::{Names, name_at};
-use crate::read::number::{moment_at, rtype_at, trust_at, ttl_at};
-use crate::read::octets::{fetched_at, message_at};
-use crate::read::word::{Form, form_at, mode_at, purpose_at};
+use crate::read::number::{moment_at, rtype_at};
 use rrc_history::{Ask, Mode, Purpose, Trust};
 use rrc_name::{Name, Octets, RdataList, Sequence, Shared};
+use rrc_text::{Kind, LineFault, has_field, mode_at, purpose_at, trust_at, ttl_at};
 use std::alloc::Global;
 
 /// The most octets of a line, its LF not counted.

@@ -1,13 +1,11 @@
 // SPDX-License-Identifier: MIT
 ghost use Rattle.std.specs.Prelude.{◌≡◌, Some, IfSome};
-ghost use Rattle.rrc_trace.specs.Fields.{said_at};
-ghost use Rattle.rrc_trace.specs.Gives.{Gives};
-ghost use Rattle.rrc_trace.specs.Names.{name_of};
+ghost use Rattle.rrc_text.specs.Fields.{said_at};
+ghost use Rattle.rrc_text.specs.Gives.{Gives};
+ghost use Rattle.rrc_text.specs.Names.{name_of};
 
-use crate::read::field::field_at;
-use crate::read::line_fault::LineFault;
-use crate::read::name::name_in;
 use rrc_name::{Name, Octets};
+use rrc_text::{LineFault, field_at, name_in};
 use std::alloc::{AllocError, Global};
 use std::hash::{FoldHasher, Hasher};
 use std::marker::Model;
@@ -27,7 +25,7 @@ struct Spelling {
 
 impl Model for Spelling {
     ghost use Rattle.std.specs.Prelude.{◌≡◌, ⊤, Some};
-    ghost use Rattle.rrc_trace.specs.Names.{name_of};
+    ghost use Rattle.rrc_text.specs.Names.{name_of};
 
     ghost Value = { ⊤ };
 

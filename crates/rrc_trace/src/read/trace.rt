@@ -1,22 +1,21 @@
 // SPDX-License-Identifier: MIT
-ghost use Rattle.std.specs.Prelude.{◌≡◌, ◌==◌, ◌<◌, ◌≤◌, [], Some, Ok, Err, length, position, take, vec_len, IfOk, IfErr, IfSome, OnOk};
+ghost use Rattle.std.specs.Prelude.{◌≡◌, ◌<◌, ◌≤◌, [], Some, Ok, Err, length, take, vec_len, IfOk, IfErr, OnOk};
 ghost use Rattle.std.specs.Io.KnownBytes.{IsAtEnd, prepend_known};
 ghost use Rattle.rrc_trace.specs.Lines.{line_of_piece};
 ghost use Rattle.rrc_trace.specs.Trace.{OneTraceOrFault};
-ghost use Rattle.rrc_trace.specs.Pieces.{IsCut, MovesPart, ReadsPiece, LeavesNothing, IsOfReading, GivesLine, AddsLine, IsTraceFrom, IsFaultOfTrace};
+ghost use Rattle.rrc_text.specs.Cuts.{IsCut};
+ghost use Rattle.rrc_trace.specs.Pieces.{MovesPart, ReadsPiece, LeavesNothing, IsOfReading, GivesLine, AddsLine, IsTraceFrom, IsFaultOfTrace};
 ghost use Rattle.rrc_trace.specs.Lawful.{AreLawful};
 ghost use Rattle.rrc_trace.specs.Questions.{questions_of};
 
-use crate::fault::ReplayFault;
 use crate::line::Line;
 use crate::questions::Questions;
 use crate::read::ahead::Ahead;
 use crate::read::line::{MOST_OCTETS, line_of_piece};
-use crate::read::line_fault::LineFault;
 use crate::read::names::Names;
 use crate::trace::Trace;
-use memchr::memchr;
 use rrc_name::Sequence;
+use rrc_text::{LineFault, ReplayFault, first_lf};
 use std::alloc::{AllocError, Global};
 use std::io::Read;
 
@@ -35,13 +34,6 @@ pub(crate) enum Ending {
     Last,
     /// Not within the octets that a line may have.
     Endless,
-}
-
-pub(crate) fn first_lf(octets: &[u8]) -> Option<usize>
-    ensures place { result ≡ position (λ octet. octet == 10) octets.now }
-    ensures inside { IfSome result (λ place. place < length octets.now) }
-{
-    memchr(b'\n', octets)
 }
 
 /// The octets to the first LF and with it, or all where there is none, and whether there is one.

@@ -1,6 +1,6 @@
 -- SPDX-License-Identifier: MIT
 use Rattle.std.proofs.Common.{sym, ◌∙◌}
-use Rattle.rrc_trace.proofs.CutLemmas.{cut_at, uncut}
+use Rattle.rrc_text.proofs.CutLemmas.{cut_at, uncut}
 use Rattle.rrc_trace.proofs.read.trace.cut.Goals as goal
 
 pub returns-in-Some-clause-cut : goal.returns-in-Some-clause-cut

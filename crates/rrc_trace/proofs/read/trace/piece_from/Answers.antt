@@ -1,6 +1,6 @@
 -- SPDX-License-Identifier: MIT
 use Rattle.std.specs.Io.KnownBytes.{prepend_known}
-use Rattle.rrc_trace.proofs.CutLemmas.{at_end, consumes_part, piece_cut, reads_to_lf}
+use Rattle.rrc_trace.proofs.GrowthLemmas.{at_end, consumes_part, piece_cut, reads_to_lf}
 use Rattle.rrc_trace.proofs.read.trace.piece_from.Goals as goal
 
 pub returns-then-branch-clause-ok : goal.returns-then-branch-clause-ok

@@ -2,7 +2,7 @@
 -- octets were read, none of which ends a line
 use Rattle.std.proofs.Common.{◌-◌, ◌≤◌, length}
 use Rattle.std.specs.Io.KnownBytes.{Consumes, prepend_known}
-use Rattle.rrc_trace.specs.Pieces.{IsUnended}
+use Rattle.rrc_text.specs.Cuts.{IsUnended}
 use Rattle.rrc_trace.proofs.read.trace.piece_from.Given as goal
 
 abbrev pub invariant-loop-ahead : goal.invariant-loop-ahead

@@ -1,8 +1,9 @@
 -- SPDX-License-Identifier: MIT
 use Rattle.std.proofs.Common.{◌∷◌, ◌++◌, subst, decimal}
-use Rattle.rrc_trace.specs.Output.{Puts}
-use Rattle.rrc_trace.specs.Report.{offers_text, reply_text}
-use Rattle.rrc_trace.proofs.OutputLemmas.{then}
+use Rattle.rrc_text.specs.Output.{Puts}
+use Rattle.rrc_trace.specs.Report.{offers_text}
+use Rattle.rrc_text.specs.Replies.{reply_text}
+use Rattle.rrc_text.proofs.OutputLemmas.{then}
 use Rattle.rrc_trace.proofs.write.report.put_answer.Goals as goal
 
 pub returns-in-Refused : goal.returns-in-Refused

@@ -3,7 +3,7 @@ use Rattle.std.proofs.Common.{◌≡◌, ◌+◌, ◌∷◌, ◌++◌, decimal, 
 use Rattle.std.proofs.lemmas.Grind.{common_steps}
 use Rattle.std.proofs.Math.ListN.{get_or}
 use Rattle.rrc_trace.specs.Report.{counts_text}
-use Rattle.rrc_trace.proofs.OutputLemmas.{then, less_left}
+use Rattle.rrc_text.proofs.OutputLemmas.{then, less_left}
 use Rattle.rrc_trace.proofs.write.report.put_counts.Goals as goal
 
 pub loop-count-preserved : goal.loop-count-preserved

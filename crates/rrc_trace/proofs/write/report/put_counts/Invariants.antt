@@ -2,7 +2,7 @@
 -- the counts so far were put, and the others are left
 use Rattle.std.proofs.Common.{drop}
 use Rattle.rrc_trace.specs.Report.{counts_text}
-use Rattle.rrc_trace.proofs.OutputLemmas.{Leaves}
+use Rattle.rrc_text.proofs.OutputLemmas.{Leaves}
 use Rattle.rrc_trace.proofs.write.report.put_counts.Given as goal
 
 abbrev pub invariant-loop-count : goal.invariant-loop-count

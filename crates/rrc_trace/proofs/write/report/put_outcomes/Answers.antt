@@ -1,7 +1,7 @@
 -- SPDX-License-Identifier: MIT
 use Rattle.std.proofs.Common.{ap}
 use Rattle.rrc_trace.specs.Report.{outcomes_text}
-use Rattle.rrc_trace.proofs.OutputLemmas.{then, front_left, less_left}
+use Rattle.rrc_text.proofs.OutputLemmas.{then, front_left, less_left}
 use Rattle.rrc_trace.proofs.write.report.put_outcomes.Goals as goal
 
 pub loop-told-preserved : goal.loop-told-preserved

@@ -2,7 +2,7 @@
 -- the offers so far were put, and the others are left
 use Rattle.std.proofs.Common.{drop}
 use Rattle.rrc_trace.specs.Report.{outcomes_text}
-use Rattle.rrc_trace.proofs.OutputLemmas.{Leaves}
+use Rattle.rrc_text.proofs.OutputLemmas.{Leaves}
 use Rattle.rrc_trace.proofs.write.report.put_outcomes.Given as goal
 
 abbrev pub invariant-loop-told : goal.invariant-loop-told

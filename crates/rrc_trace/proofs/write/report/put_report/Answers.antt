@@ -1,7 +1,7 @@
 -- SPDX-License-Identifier: MIT
 use Rattle.std.proofs.Common.{ap}
 use Rattle.rrc_trace.specs.Report.{lines_text}
-use Rattle.rrc_trace.proofs.OutputLemmas.{front_left, less_left}
+use Rattle.rrc_text.proofs.OutputLemmas.{front_left, less_left}
 use Rattle.rrc_trace.proofs.write.report.put_report.Goals as goal
 
 pub loop-number-preserved : goal.loop-number-preserved

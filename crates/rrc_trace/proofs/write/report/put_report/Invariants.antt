@@ -2,7 +2,7 @@
 -- the lines so far were put, and the others are left
 use Rattle.std.proofs.Common.{drop}
 use Rattle.rrc_trace.specs.Report.{lines_text}
-use Rattle.rrc_trace.proofs.OutputLemmas.{Leaves}
+use Rattle.rrc_text.proofs.OutputLemmas.{Leaves}
 use Rattle.rrc_trace.proofs.write.report.put_report.Given as goal
 
 abbrev pub invariant-loop-number : goal.invariant-loop-number

@@ -4,8 +4,8 @@ use Rattle.std.proofs.lemmas.Result.{on_ok_weaker, on_err_weaker}
 use Rattle.std.specs.Prelude.{OnOk, IfErr}
 use Rattle.std.specs.Io.KnownBytes.{Appends}
 use Rattle.rrc_trace.specs.Report.{report_text}
-use Rattle.rrc_trace.specs.Writer.{LeavesText}
-use Rattle.rrc_trace.proofs.OutputLemmas.{nothing_given, leaves_front}
+use Rattle.rrc_text.specs.Writer.{LeavesText}
+use Rattle.rrc_text.proofs.OutputLemmas.{nothing_given, leaves_front}
 use Rattle.rrc_trace.proofs.write.report.write_report.Goals as goal
 
 pub returns-clause-ok : goal.returns-clause-ok

@@ -1,7 +1,7 @@
 -- SPDX-License-Identifier: MIT
 use Rattle.std.proofs.Common.{◌≡◌, ◌+◌, [], ◌∷◌, ◌++◌, sym, ◌∙◌, arith}
 use Rattle.std.specs.Io.KnownBytes.{prepend_known}
-use Rattle.rrc_trace.proofs.CutLemmas.{reader_at_end, at_end}
+use Rattle.rrc_trace.proofs.GrowthLemmas.{reader_at_end, at_end}
 use Rattle.std.proofs.lemmas.Result.{err_from_is_err_and}
 use Rattle.rrc_trace.proofs.PieceLemmas.{so_far_none, so_far_more, are_lawful, reads_lf, reads_last, stops, ends, endless, goes_on, nothing, no_octets, stays, some_octets}
 use Rattle.rrc_trace.proofs.read.trace.Reading.read_lines.Goals as goal

@@ -1,0 +1,15 @@
+-- SPDX-License-Identifier: MIT
+pub mod ArchiveLemmas
+pub mod CancelChapters
+pub mod CancelEvents
+pub mod CancelFields
+pub mod CancelLemmas
+pub mod CountLemmas
+pub mod FitsLemmas
+pub mod GoesOnLemmas
+pub mod HeldLemmas
+pub mod LfLemmas
+pub mod ReadEvents
+pub mod ReadFields
+pub mod ReadLines
+pub mod WrittenLemmas

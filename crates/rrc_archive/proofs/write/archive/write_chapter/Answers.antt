@@ -1,0 +1,36 @@
+-- SPDX-License-Identifier: MIT
+use Rattle.std.proofs.Common.{[], rules, ◌∙◌}
+use Rattle.std.proofs.lemmas.Result.{on_ok_weaker, on_err_weaker}
+use Rattle.std.specs.Prelude.{OnOk, IfErr}
+use Rattle.std.specs.Io.KnownBytes.{Appends}
+use Rattle.rrc_archive.specs.Archive.{chapter_text, written_of}
+use Rattle.rrc_text.specs.Writer.{LeavesText}
+use Rattle.rrc_text.proofs.OutputLemmas.{nothing_given, leaves_front}
+use Rattle.rrc_archive.proofs.write.archive.write_chapter.Goals as goal
+
+pub returns-clause-ok : goal.returns-clause-ok
+returns-clause-ok g c =
+    let contents = g.W.Write.contents in
+    let start = contents c.args.writer.now in
+    let text = chapter_text (written_of c.args.chapter.now) in
+    let same = c.finish.ensures.same ∙ c.put_chapter.ensures.same in
+    let empty = nothing_given start c.in_ok-buffer.buffer c.in_ok-buffer.ensures in
+    let given = c.put_chapter.ensures.stands start [] empty in
+    let bytes : OnOk c.finish.result (Appends start (contents c.finish.new.self.writer.now) text) =
+    on_ok_weaker c.finish.result (λ ends. ends start text given) c.finish.ensures.ok in
+    search rules
+
+pub returns-clause-err : goal.returns-clause-err
+returns-clause-err g c =
+    let contents = g.W.Write.contents in
+    let start = contents c.args.writer.now in
+    let after = contents c.finish.new.self.writer.now in
+    let text = chapter_text (written_of c.args.chapter.now) in
+    let same = c.finish.ensures.same ∙ c.put_chapter.ensures.same in
+    let empty = nothing_given start c.in_ok-buffer.buffer c.in_ok-buffer.ensures in
+    let given = c.put_chapter.ensures.stands start [] empty in
+    let finished = c.finish.result in
+    let front = on_err_weaker finished (λ ends. ends start text given) c.finish.ensures.front in
+    let leaves : IfErr finished (LeavesText start after text) =
+    leaves_front finished start after text c.finish.ensures.err front in
+    search rules

@@ -1,0 +1,9 @@
+-- SPDX-License-Identifier: MIT
+pub mod Archive
+pub mod ArchiveFaults
+pub mod ArchiveFields
+pub mod ArchiveFits
+pub mod ArchiveLaw
+pub mod ArchiveLines
+pub mod ArchiveSaid
+pub mod Tells

@@ -1,0 +1,4 @@
+// SPDX-License-Identifier: MIT
+mod chapters;
+mod lines;
+mod reader;

@@ -1,0 +1,12 @@
+-- SPDX-License-Identifier: MIT
+pub mod CommaLemmas
+pub mod CutLemmas
+pub mod DigitLemmas
+pub mod FieldLemmas
+pub mod NameLemmas
+pub mod NumberLemmas
+pub mod NumeralLemmas
+pub mod OutputLemmas
+pub mod SaidLemmas
+pub mod SearchLemmas
+pub mod WriterLemmas

@@ -1,0 +1,14 @@
+-- SPDX-License-Identifier: MIT
+pub mod Commas
+pub mod Cuts
+pub mod Faults
+pub mod Fields
+pub mod Gives
+pub mod Grammar
+pub mod Names
+pub mod Numbers
+pub mod Octets
+pub mod Output
+pub mod Replies
+pub mod Words
+pub mod Writer

@@ -1,6 +1,0 @@
--- SPDX-License-Identifier: MIT
-use Rattle.rrc_trace.proofs.SearchLemmas.{found_place}
-use Rattle.rrc_trace.proofs.read.field.first_space.Goals as goal
-
-pub returns-clause-place : goal.returns-clause-place
-returns-clause-place c = found_place 32 c.args.octets.now c.memchr.result c.memchr.ensures

@@ -1,6 +1,0 @@
--- SPDX-License-Identifier: MIT
-use Rattle.rrc_trace.proofs.NameLemmas.{says_what_is_spelled}
-use Rattle.rrc_trace.proofs.read.name.names_are_spelled.Goals as goal
-
-pub returns : goal.returns
-returns c = says_what_is_spelled

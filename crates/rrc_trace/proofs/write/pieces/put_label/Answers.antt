@@ -1,6 +1,0 @@
--- SPDX-License-Identifier: MIT
-use Rattle.rrc_trace.proofs.OutputLemmas.{then}
-use Rattle.rrc_trace.proofs.write.pieces.put_label.Goals as goal
-
-pub returns : goal.returns
-returns g c = then c.put_spelled.ensures c.put_word.ensures

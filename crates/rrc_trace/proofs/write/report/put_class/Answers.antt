@@ -1,6 +1,0 @@
--- SPDX-License-Identifier: MIT
-use Rattle.std.proofs.Common.{rules}
-use Rattle.rrc_trace.proofs.write.report.put_class.Goals as goal
-
-pub returns-else-class-ne-IN : goal.returns-else-class-ne-IN
-returns-else-class-ne-IN g c = search rules fits 100
