@@ -22,10 +22,12 @@
      by `rrcache_free_chapters`.
 
    Which lock to hold
-   - That of the shelf, for the whole of every call that takes a handle, `rrcache_peek` and
-     `rrcache_sizes` too, which also write into the handle for a while. Two threads in one handle
-     are a fault of the caller that nothing tests. A call takes one shelf, so no second lock is ever
-     needed beside it.
+   - That of the shelf, for the whole of every call that takes its handle. What only looks,
+     `rrcache_peek`, `rrcache_tell_stored`, `rrcache_sizes` and `rrcache_next_expiry`, takes a const
+     handle and writes nothing that another thread reads: any number of threads may look at one
+     shelf at once, under a lock for readers, while no other call has that shelf. Any other call
+     wants it alone, under the lock for writers, `rrcache_ask` too. That two threads keep to this
+     nothing tests. A call takes one shelf, so no second lock is ever needed beside it.
    - `rrcache_read_message`, `rrcache_read_response` and `rrcache_free_offers` take no shelf, and so
      need no lock of one. Of a handle of offers the same is true as of a shelf's: one call at a
      time, and `rrcache_offer_read` writes into both of its handles for a while.
@@ -445,7 +447,8 @@ enum { RRCACHE_RECORD_OCTETS = 48 };
 /* How many octets a sink is handed at most. */
 enum { RRCACHE_PIECE_OCTETS = 4096 };
 
-/* The functions of the library proper. A size stands behind its pointer. */
+/* The functions of the library proper. A size stands behind its pointer. What only looks takes a
+   copy of a handle, `look`, which is the call's alone: the call writes into it for a while. */
 uint32_t rrc_make(struct rrcache_shelf *shelf, uint64_t capacity, uint64_t chapter, uint64_t stale,
                   const uint8_t *seed, size_t seed_size);
 uint32_t rrc_free(struct rrcache_shelf *shelf);
@@ -487,13 +490,13 @@ uint32_t rrc_offer_failure(struct rrcache_shelf *shelf, const uint8_t *name, siz
 uint32_t rrc_ask(struct rrcache_shelf *shelf, const uint8_t *name, size_t name_size, uint16_t rtype,
                  uint16_t rclass, uint64_t moment, uint32_t purpose, uint32_t mode, uint64_t line,
                  struct rrcache_told *told, uint8_t *buffer, size_t buffer_size);
-uint32_t rrc_peek(struct rrcache_shelf *shelf, const uint8_t *name, size_t name_size,
-                  uint16_t rtype, uint16_t rclass, uint64_t moment, uint32_t purpose, uint32_t mode,
+uint32_t rrc_peek(struct rrcache_shelf *look, const uint8_t *name, size_t name_size, uint16_t rtype,
+                  uint16_t rclass, uint64_t moment, uint32_t purpose, uint32_t mode,
                   struct rrcache_told *told, uint8_t *buffer, size_t buffer_size);
 uint32_t rrc_sweep(struct rrcache_shelf *shelf, uint64_t moment, uint64_t line, uint64_t *removed);
-uint32_t rrc_stored(struct rrcache_shelf *shelf, const uint8_t *name, size_t name_size,
+uint32_t rrc_stored(struct rrcache_shelf *look, const uint8_t *name, size_t name_size,
                     uint16_t rtype, uint16_t rclass, struct rrcache_stored *stored);
-uint32_t rrc_next_expiry(struct rrcache_shelf *shelf, uint64_t *moment);
+uint32_t rrc_next_expiry(struct rrcache_shelf *look, uint64_t *moment);
 uint32_t rrc_drop_chapters(struct rrcache_shelf *shelf, uint64_t *dropped);
 uint32_t rrc_take_chapters(struct rrcache_shelf *shelf, struct rrcache_chapters *chapters,
                            uint64_t *count);
@@ -503,8 +506,8 @@ uint32_t rrc_chapter_line(struct rrcache_chapters *chapters, uint64_t chapter, u
                           uint64_t from, uint8_t *buffer, size_t buffer_size,
                           struct rrcache_line *told);
 uint32_t rrc_free_chapters(struct rrcache_chapters *chapters);
-uint32_t rrc_sizes(struct rrcache_shelf *shelf, uint64_t *keys, uint64_t *events,
-                   uint64_t *chapters, uint64_t *octets);
+uint32_t rrc_sizes(struct rrcache_shelf *look, uint64_t *keys, uint64_t *events, uint64_t *chapters,
+                   uint64_t *octets);
 uint32_t rrc_fault(const uint8_t *octets, size_t size, uint32_t *fault);
 uint32_t rrc_part_of(const uint8_t *name, size_t name_size, uint64_t parts, const uint8_t *seed,
                      size_t seed_size, uint64_t *part);
@@ -874,16 +877,18 @@ static inline enum rrcache_status rrcache_ask(struct rrcache_shelf *shelf,
 
 /* What `rrcache_ask` would answer. No event is written and no key touched. It is not refused for
    its moment, which may be above 2^40, nor where numbers are spent. It takes no memory. */
-static inline enum rrcache_status rrcache_peek(struct rrcache_shelf *shelf,
+static inline enum rrcache_status rrcache_peek(const struct rrcache_shelf *shelf,
                                                const struct rrcache_query *query,
                                                struct rrcache_told *told, uint8_t *buffer,
                                                size_t buffer_size)
 {
+    struct rrcache_shelf look;
     uint8_t none;
     if (!rrcache_can_tell(shelf, query, told, buffer, buffer_size))
         return RRCACHE_NULL;
+    look = *shelf;
     return (enum rrcache_status)rrc_peek(
-        shelf, rrcache_octets(query->name, query->name_size), query->name_size, query->rtype,
+        &look, rrcache_octets(query->name, query->name_size), query->name_size, query->rtype,
         query->rclass, query->moment, (uint32_t)query->purpose, (uint32_t)query->mode, told,
         buffer_size == 0 ? &none : buffer, buffer_size);
 }
@@ -893,17 +898,19 @@ static inline enum rrcache_status rrcache_peek(struct rrcache_shelf *shelf,
    name does not exist is not told, also where an ask is answered so: a set that the shelf still
    holds is told, or zeros. Nor are failures. No event is written and no key touched. It
    takes no memory. */
-static inline enum rrcache_status rrcache_tell_stored(struct rrcache_shelf *shelf,
+static inline enum rrcache_status rrcache_tell_stored(const struct rrcache_shelf *shelf,
                                                       const struct rrcache_query *query,
                                                       struct rrcache_stored *stored)
 {
+    struct rrcache_shelf look;
     if (shelf == NULL || query == NULL || stored == NULL
         || !rrcache_is_there(query->name, query->name_size)
         || rrcache_holds(shelf, stored, sizeof *stored)
         || rrcache_touch(shelf, sizeof *shelf, stored, sizeof *stored, query->name,
                          query->name_size))
         return RRCACHE_NULL;
-    return (enum rrcache_status)rrc_stored(shelf, rrcache_octets(query->name, query->name_size),
+    look = *shelf;
+    return (enum rrcache_status)rrc_stored(&look, rrcache_octets(query->name, query->name_size),
                                            query->name_size, query->rtype, query->rclass, stored);
 }
 
@@ -980,11 +987,14 @@ static inline enum rrcache_status rrcache_sweep(struct rrcache_shelf *shelf, uin
    that were kept. After a sweep at a moment, with no offer since and no chapter closed since, a
    later one is told, so that sweeps as long as it is no later than now come to an end. It is
    2^64 - 1 exactly where the shelf holds no key. No event is written. */
-static inline enum rrcache_status rrcache_next_expiry(struct rrcache_shelf *shelf, uint64_t *moment)
+static inline enum rrcache_status rrcache_next_expiry(const struct rrcache_shelf *shelf,
+                                                      uint64_t *moment)
 {
+    struct rrcache_shelf look;
     if (shelf == NULL || moment == NULL || rrcache_holds(shelf, moment, sizeof *moment))
         return RRCACHE_NULL;
-    return (enum rrcache_status)rrc_next_expiry(shelf, moment);
+    look = *shelf;
+    return (enum rrcache_status)rrc_next_expiry(&look, moment);
 }
 
 /* Sweeps in steps, so that no call is long: at each moment up to this one that
@@ -1158,10 +1168,11 @@ static inline enum rrcache_status rrcache_free_chapters(struct rrcache_chapters 
    at most 302,830 for each of its keys: 510 for two names, 16,384 for data, and 48 for each 11
    octets of a response, which has room for no more records. Where no response of more than 1,232
    octets is read, that is 22,270. */
-static inline enum rrcache_status rrcache_sizes(struct rrcache_shelf *shelf, uint64_t *keys,
+static inline enum rrcache_status rrcache_sizes(const struct rrcache_shelf *shelf, uint64_t *keys,
                                                 uint64_t *events, uint64_t *chapters,
                                                 uint64_t *octets)
 {
+    struct rrcache_shelf look;
     if (shelf == NULL || keys == NULL || events == NULL || chapters == NULL || octets == NULL
         || rrcache_holds(shelf, keys, sizeof *keys) || rrcache_holds(shelf, events, sizeof *events)
         || rrcache_holds(shelf, chapters, sizeof *chapters)
@@ -1171,7 +1182,8 @@ static inline enum rrcache_status rrcache_sizes(struct rrcache_shelf *shelf, uin
         || rrcache_touch(keys, sizeof *keys, events, sizeof *events, chapters, sizeof *chapters)
         || rrcache_touch(keys, sizeof *keys, events, sizeof *events, octets, sizeof *octets))
         return RRCACHE_NULL;
-    return (enum rrcache_status)rrc_sizes(shelf, keys, events, chapters, octets);
+    look = *shelf;
+    return (enum rrcache_status)rrc_sizes(&look, keys, events, chapters, octets);
 }
 
 /* Tells why octets are no response: 0 they are one, 1 they end too soon, 2 a length octet has

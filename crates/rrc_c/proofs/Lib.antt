@@ -11,3 +11,6 @@ pub mod Sharing
 pub mod Bounding
 pub mod Holding
 pub mod Feeding
+pub mod Loan
+pub mod Looking
+pub mod Lending

@@ -19,3 +19,4 @@ pub mod Bounds
 pub mod SealedChapters
 pub mod Chapters
 pub mod Fed
+pub mod Looked

@@ -15,6 +15,7 @@ use crate::asks::{ask_shelf, peek_at_shelf};
 use crate::counts::{Bounds, Counts};
 use crate::handle::Handle;
 use crate::intake::{offer_message, offer_part, take_failure, take_negative, take_set};
+use crate::look::Look;
 use crate::lookup::stored_in;
 use crate::reply_record::ReplyRecord;
 use crate::status::{NO_SHELF, SMALL_BUFFER, Status};
@@ -73,8 +74,7 @@ pub extern "C" fn rrc_ask(
 /// Tells what a shelf would answer, and writes no event.
 #[unsafe(no_mangle)]
 pub extern "C" fn rrc_peek(
-    alloc: Global,
-    handle: &mut Handle,
+    look: &mut Look,
     name: &[u8],
     rtype: u16,
     class: u16,
@@ -84,22 +84,31 @@ pub extern "C" fn rrc_peek(
     told: &mut ReplyRecord,
     buffer: &mut [u8],
 ) -> u32
-    ensures none { TellsNone handle.old.seal.shelf result }
-    ensures done { OnDone result (BothHold handle.old.seal.shelf handle.new.seal.shelf (Shows (asked name.now rtype class moment purpose mode) told.new buffer.old buffer.new)) }
-    ensures small { OnSmall result (BothHold handle.old.seal.shelf handle.new.seal.shelf (TellsSizeAlone (asked name.now rtype class moment purpose mode) told.new buffer.old buffer.new)) }
-    ensures kept { handle.new.seal.shelf ≡ handle.old.seal.shelf }
+    ensures kept { look.new.sight.shelf ≡ look.old.sight.shelf }
+    ensures life { look.new.sight.life ≡ look.old.sight.life }
+    ensures none { TellsNone look.old.sight.shelf result }
+    ensures done { OnDone result (BothHold look.old.sight.shelf look.new.sight.shelf (Shows (asked name.now rtype class moment purpose mode) told.new buffer.old buffer.new)) }
+    ensures small { OnSmall result (BothHold look.old.sight.shelf look.new.sight.shelf (TellsSizeAlone (asked name.now rtype class moment purpose mode) told.new buffer.old buffer.new)) }
     ensures buffer { OnRefused result (buffer.new ≡ buffer.old) }
     ensures told { OnUntold result (told.new ≡ told.old) }
     ensures fit { OnDone result (IsQuestion name.now purpose mode) }
-    ensures due { IfHeld handle.old.seal.shelf (λ shelf. PeekDue name.now rtype class moment purpose mode (length buffer.old) shelf result) }
+    ensures due { IfHeld look.old.sight.shelf (λ shelf. PeekDue name.now rtype class moment purpose mode (length buffer.old) shelf result) }
 {
-    let Some(shelf) = handle.take(alloc) else {
+    let Some(glance) = look.take() else {
         return NO_SHELF;
     };
     let fits = peek_at_shelf(
-        &shelf, name, rtype, class, moment, purpose, mode, told, buffer,
+        glance.get(),
+        name,
+        rtype,
+        class,
+        moment,
+        purpose,
+        mode,
+        told,
+        buffer,
     );
-    handle.put(shelf);
+    look.put(glance);
     number_of_reply(fits)
 }
 
@@ -378,18 +387,19 @@ pub extern "C" fn rrc_drop_chapters(alloc: Global, handle: &mut Handle, dropped:
 /// may remove one, or 2^64 - 1 exactly where the shelf holds no key. After a sweep, until an offer
 /// comes or the chapter ends, it is later than the sweep's moment.
 #[unsafe(no_mangle)]
-pub extern "C" fn rrc_next_expiry(alloc: Global, handle: &mut Handle, moment: &mut u64) -> u32
-    ensures none { TellsNone handle.old.seal.shelf result }
-    ensures done { OnDone result (BothHold handle.old.seal.shelf handle.new.seal.shelf (TellsExpiry moment.new)) }
-    ensures kept { handle.new.seal.shelf ≡ handle.old.seal.shelf }
+pub extern "C" fn rrc_next_expiry(look: &mut Look, moment: &mut u64) -> u32
+    ensures kept { look.new.sight.shelf ≡ look.old.sight.shelf }
+    ensures life { look.new.sight.life ≡ look.old.sight.life }
+    ensures none { TellsNone look.old.sight.shelf result }
+    ensures done { OnDone result (BothHold look.old.sight.shelf look.new.sight.shelf (TellsExpiry moment.new)) }
     ensures moment { OnRefused result (moment.new ≡ moment.old) }
-    ensures due { OnRefused result (handle.old.seal.shelf ≡ None) }
+    ensures due { OnRefused result (look.old.sight.shelf ≡ None) }
 {
-    let Some(shelf) = handle.take(alloc) else {
+    let Some(glance) = look.take() else {
         return NO_SHELF;
     };
-    *moment = expiry_of(&shelf);
-    handle.put(shelf);
+    *moment = expiry_of(glance.get());
+    look.put(glance);
     0
 }
 
@@ -398,30 +408,30 @@ pub extern "C" fn rrc_next_expiry(alloc: Global, handle: &mut Handle, moment: &m
 /// of the keys have.
 #[unsafe(no_mangle)]
 pub extern "C" fn rrc_sizes(
-    alloc: Global,
-    handle: &mut Handle,
+    look: &mut Look,
     keys: &mut u64,
     events: &mut u64,
     chapters: &mut u64,
     octets: &mut u64,
 ) -> u32
-    ensures none { TellsNone handle.old.seal.shelf result }
-    ensures done { OnDone result (BothHold handle.old.seal.shelf handle.new.seal.shelf (TellsSizes keys.new events.new chapters.new octets.new)) }
-    ensures kept { handle.new.seal.shelf ≡ handle.old.seal.shelf }
+    ensures kept { look.new.sight.shelf ≡ look.old.sight.shelf }
+    ensures life { look.new.sight.life ≡ look.old.sight.life }
+    ensures none { TellsNone look.old.sight.shelf result }
+    ensures done { OnDone result (BothHold look.old.sight.shelf look.new.sight.shelf (TellsSizes keys.new events.new chapters.new octets.new)) }
     ensures keys { OnRefused result (keys.new ≡ keys.old) }
     ensures events { OnRefused result (events.new ≡ events.old) }
     ensures chapters { OnRefused result (chapters.new ≡ chapters.old) }
     ensures octets { OnRefused result (octets.new ≡ octets.old) }
-    ensures due { OnRefused result (handle.old.seal.shelf ≡ None) }
+    ensures due { OnRefused result (look.old.sight.shelf ≡ None) }
 {
-    let Some(shelf) = handle.take(alloc) else {
+    let Some(glance) = look.take() else {
         return NO_SHELF;
     };
-    *keys = shelf.len() as u64;
-    *events = events_of(&shelf);
-    *chapters = chapters_of(&shelf);
-    *octets = shelf.octets();
-    handle.put(shelf);
+    *keys = glance.get().len() as u64;
+    *events = events_of(glance.get());
+    *chapters = chapters_of(glance.get());
+    *octets = glance.get().octets();
+    look.put(glance);
     0
 }
 
@@ -429,24 +439,24 @@ pub extern "C" fn rrc_sizes(
 /// live and when it was stored.
 #[unsafe(no_mangle)]
 pub extern "C" fn rrc_stored(
-    alloc: Global,
-    handle: &mut Handle,
+    look: &mut Look,
     name: &[u8],
     rtype: u16,
     class: u16,
     stored: &mut Stored,
 ) -> u32
-    ensures none { TellsNone handle.old.seal.shelf result }
-    ensures done { OnDone result (BothHold handle.old.seal.shelf handle.new.seal.shelf (TellsStored name.now rtype class stored.new)) }
-    ensures kept { handle.new.seal.shelf ≡ handle.old.seal.shelf }
+    ensures kept { look.new.sight.shelf ≡ look.old.sight.shelf }
+    ensures life { look.new.sight.life ≡ look.old.sight.life }
+    ensures none { TellsNone look.old.sight.shelf result }
+    ensures done { OnDone result (BothHold look.old.sight.shelf look.new.sight.shelf (TellsStored name.now rtype class stored.new)) }
     ensures stored { OnRefused result (stored.new ≡ stored.old) }
-    ensures due { IfHeld handle.old.seal.shelf (λ shelf. StoredDue name.now result) }
+    ensures due { IfHeld look.old.sight.shelf (λ shelf. StoredDue name.now result) }
 {
-    let Some(shelf) = handle.take(alloc) else {
+    let Some(glance) = look.take() else {
         return NO_SHELF;
     };
-    let found = stored_in(&shelf, name, rtype, class);
-    handle.put(shelf);
+    let found = stored_in(glance.get(), name, rtype, class);
+    look.put(glance);
     match found {
         Ok(found) => {
             *stored = found;

@@ -8,6 +8,6 @@ use Rattle.rrc_c.proofs.calls.rrc_peek.Goals as goal
 
 pub returns-clause-due : goal.returns-clause-due
 returns-clause-due c =
-    told_of_held c.args.handle.now.seal.shelf c.deref.result.now c.number_of_reply.result (number_of_reply c.peek_at_shelf-fits.result)
-    (PeekDue c.args.name.now c.args.rtype c.args.class c.args.moment c.args.purpose c.args.mode (length c.args.buffer.now)) (ap (λ (shelf : CacheShelfOf). Some shelf) c.deref.ensures ∙ c.in-Some.ensures.taken)
+    told_of_held c.args.look.now.sight.shelf c.get.result.now c.number_of_reply.result (number_of_reply c.peek_at_shelf-fits.result)
+    (PeekDue c.args.name.now c.args.rtype c.args.class c.args.moment c.args.purpose c.args.mode (length c.args.buffer.now)) (ap (λ (shelf : CacheShelfOf). Some shelf) c.get.ensures ∙ c.in-Some.ensures.taken)
     c.number_of_reply.ensures.value c.peek_at_shelf-fits.ensures.due
