@@ -10,6 +10,7 @@ pub mod Aliases
 pub mod Denials
 pub mod Offers
 pub mod Message
+pub mod Response
 pub mod Gathering
 pub mod Trees
 pub mod Relevance

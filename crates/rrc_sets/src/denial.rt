@@ -7,10 +7,12 @@ ghost use Rattle.rrc_wire.specs.Plain.{IsPlain};
 ghost use Rattle.rrc_sets.specs.Aliases.{is_of};
 ghost use Rattle.rrc_sets.specs.Denials.{denied_name, denied_type, denied, soa_of, minimum_of, negative_life, denial, negative_offer};
 ghost use Rattle.rrc_sets.specs.Kept.{IsOfRecords};
+ghost use Rattle.rrc_sets.specs.Response.{of_response};
 
 use crate::alias::{final_name, is_of};
 use crate::limits::Limits;
 use crate::rank::{Section, section_rank};
+use crate::response::Response;
 use crate::times::life;
 use byteorder::{BigEndian, ByteOrder};
 use rrc_history::{Body, Offer};
@@ -118,26 +120,22 @@ fn denial(message: &Message, limits: &Limits, name: &Name, soa: &Rr) -> Result<B
 
 /// The negative answer of a reply, if it gives one (RFC 2308).
 #[tactic(auto, unfolding(crate::specs::Denials::negative_offer))]
-pub(crate) fn negative_offer(
-    alloc: Global,
-    message: &Message,
-    zone: &Name,
-    moment: u64,
-    limits: &Limits,
-) -> Result<Option<Offer>, AllocError>
-    ensures value { IfOk result (λ offer. offer ≡ negative_offer message.now zone.now moment limits.now) }
+pub(crate) fn negative_offer(alloc: Global, response: Response) -> Result<Option<Offer>, AllocError>
+    ensures value { IfOk result (λ offer. offer ≡ of_response negative_offer response.entry) }
     ensures kept { IfOk result (λ offer. IfSome offer IsOfRecords) }
 {
+    let message = response.message;
+    let moment = response.moment;
     let Some(name) = final_name(alloc, message)? else {
         return Ok(None);
     };
     let Some(slot) = denied(message, &name) else {
         return Ok(None);
     };
-    let Some(soa) = soa_of(message, zone, &name) else {
+    let Some(soa) = soa_of(message, response.zone, &name) else {
         return Ok(None);
     };
     let key = Key::of(&name, message.question.qclass, slot)?;
-    let body = denial(message, limits, &name, soa)?;
+    let body = denial(message, response.limits, &name, soa)?;
     Ok(Some(Offer { key, body, moment }))
 }

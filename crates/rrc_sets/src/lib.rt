@@ -17,6 +17,7 @@ mod rank;
 mod relevance;
 mod relevant;
 mod reply;
+mod response;
 mod section;
 mod set;
 mod times;

@@ -4,15 +4,15 @@ ghost use Rattle.std.specs.Option.{unwrap_or};
 ghost use Rattle.std.specs.List.{All, list_any};
 ghost use Rattle.rrc_sets.specs.Uniques.{uniques, AreSomeOf};
 ghost use Rattle.rrc_sets.specs.Gathering.{with_value};
-ghost use Rattle.rrc_sets.specs.Classes.{in_own_class};
 ghost use Rattle.rrc_sets.specs.Kept.{IsOfRecords};
+ghost use Rattle.rrc_sets.specs.Response.{of_response};
 ghost use Rattle.rrc_sets.specs.Octets.{HasWithin};
 ghost use Rattle.rrc_sets.specs.Offers.{section_offers, offers_of};
 ghost use Rattle.rrc_sets.specs.Queries.{mismatch};
 ghost use Rattle.rrc_sets.specs.Relevant.{is_owned_by, is_above, is_asked_for, is_on_chain, has_below, is_of_final_zone, same_type, is_address_of, relevant_answer, relevant_authority, relevant_additional, relevant_offers, relevant_of};
 
 use crate::alias::{final_name, question_names, same};
-use crate::class::{has_one_class, in_own_class};
+use crate::class::in_own_class;
 use crate::denial::negative_offer;
 use crate::host::hosts_named;
 use crate::limits::Limits;
@@ -21,6 +21,7 @@ use crate::query::{Query, QueryFault, mismatch};
 use crate::rank::Section;
 use crate::relevance::RelevanceLimits;
 use crate::reply::{add, add_section, failure_offers, is_silent};
+use crate::response::Response;
 use rrc_history::Offer;
 use rrc_name::rtype::{A, AAAA, ANY, CNAME, DNAME, DS, NS, SOA};
 use rrc_name::{Name, Octets};
@@ -130,16 +131,13 @@ fn first_of_each_type(alloc: Global, offers: Vec<Offer>) -> Result<Vec<Offer>, A
 fn section_offers(
     alloc: Global,
     section: Section,
-    message: &Message,
-    zone: &Name,
-    moment: u64,
-    limits: &Limits,
+    response: Response,
 ) -> Result<Vec<Offer>, AllocError>
-    ensures value { IfOk result (λ offers. offers.items ≡ section_offers section message.now zone.now moment limits.now) }
+    ensures value { IfOk result (λ offers. offers.items ≡ of_response (section_offers section) response.entry) }
     ensures kept { IfOk result (λ offers. All IsOfRecords offers.items) }
 {
     let mut offers = Vec::new(alloc);
-    add_section(alloc, &mut offers, section, message, zone, moment, limits)?;
+    add_section(alloc, &mut offers, section, response)?;
     Ok(offers)
 }
 
@@ -147,18 +145,15 @@ fn section_offers(
 #[tactic(auto, unfolding(crate::specs::Relevant::relevant_answer))]
 fn relevant_answer(
     alloc: Global,
-    message: &Message,
-    zone: &Name,
-    moment: u64,
-    limits: &Limits,
+    response: Response,
     relevance: &RelevanceLimits,
 ) -> Result<Vec<Offer>, AllocError>
-    ensures value { IfOk result (λ offers. offers.items ≡ relevant_answer message.now zone.now moment limits.now relevance.now) }
+    ensures value { IfOk result (λ offers. offers.items ≡ of_response relevant_answer response.entry relevance.now) }
     ensures kept { IfOk result (λ offers. All IsOfRecords offers.items) }
 {
-    let qtype = message.question.qtype;
-    let names = question_names(alloc, message, relevance.aliases)?;
-    let mut offers = section_offers(alloc, Section::Answer, message, zone, moment, limits)?;
+    let qtype = response.message.question.qtype;
+    let names = question_names(alloc, response.message, relevance.aliases)?;
+    let mut offers = section_offers(alloc, Section::Answer, response)?;
     offers.retain(|offer| {
         is_on_chain(qtype, names.as_slice(), offer) && is_measured(relevance, offer)
     });
@@ -169,17 +164,14 @@ fn relevant_answer(
 #[tactic(auto, unfolding(crate::specs::Relevant::relevant_authority))]
 fn relevant_authority(
     alloc: Global,
-    message: &Message,
-    zone: &Name,
-    moment: u64,
-    limits: &Limits,
+    response: Response,
     relevance: &RelevanceLimits,
 ) -> Result<Vec<Offer>, AllocError>
-    ensures value { IfOk result (λ offers. offers.items ≡ relevant_authority message.now zone.now moment limits.now relevance.now) }
+    ensures value { IfOk result (λ offers. offers.items ≡ of_response relevant_authority response.entry relevance.now) }
     ensures kept { IfOk result (λ offers. All IsOfRecords offers.items) }
 {
-    let name = final_name(alloc, message)?;
-    let mut offers = section_offers(alloc, Section::Authority, message, zone, moment, limits)?;
+    let name = final_name(alloc, response.message)?;
+    let mut offers = section_offers(alloc, Section::Authority, response)?;
     offers.retain(|offer| is_of_final_zone(&name, offer) && is_measured(relevance, offer));
     let firsts = first_of_each_type(alloc, offers)?;
     Ok(firsts)
@@ -190,89 +182,61 @@ fn relevant_authority(
 fn relevant_additional(
     alloc: Global,
     naming: &[Offer],
-    message: &Message,
-    zone: &Name,
-    moment: u64,
-    limits: &Limits,
+    response: Response,
     relevance: &RelevanceLimits,
 ) -> Result<Vec<Offer>, AllocError>
-    ensures value { IfOk result (λ offers. offers.items ≡ relevant_additional naming.now message.now zone.now moment limits.now relevance.now) }
+    ensures value { IfOk result (λ offers. offers.items ≡ of_response (relevant_additional naming.now) response.entry relevance.now) }
     ensures kept { IfOk result (λ offers. All IsOfRecords offers.items) }
 {
     let hosts = hosts_named(alloc, naming, relevance.hosts)?;
-    let mut offers = section_offers(alloc, Section::Additional, message, zone, moment, limits)?;
+    let mut offers = section_offers(alloc, Section::Additional, response)?;
     offers.retain(|offer| is_address_of(hosts.as_slice(), offer) && is_measured(relevance, offer));
     Ok(offers)
 }
 
 /// The relevant offers of a reply that answers.
 #[tactic(auto, unfolding(crate::specs::Relevant::relevant_offers))]
-fn answer_offers(
+fn relevant_answer_offers(
     alloc: Global,
-    message: &Message,
-    zone: &Name,
-    moment: u64,
-    limits: &Limits,
+    response: Response,
     relevance: &RelevanceLimits,
 ) -> Result<Vec<Offer>, AllocError>
-    ensures value { IfOk result (λ offers. offers.items ≡ relevant_offers message.now zone.now moment limits.now relevance.now) }
+    ensures value { IfOk result (λ offers. offers.items ≡ of_response relevant_offers response.entry relevance.now) }
     ensures kept { IfOk result (λ offers. All IsOfRecords offers.items) }
 {
-    let mut offers = relevant_answer(alloc, message, zone, moment, limits, relevance)?;
-    let mut authority = relevant_authority(alloc, message, zone, moment, limits, relevance)?;
+    let mut offers = relevant_answer(alloc, response, relevance)?;
+    let mut authority = relevant_authority(alloc, response, relevance)?;
     offers.append(&mut authority)?;
     let naming = offers.as_slice();
-    let mut additional = relevant_additional(
-        alloc, naming, message, zone, moment, limits, relevance,
-    )?;
+    let mut additional = relevant_additional(alloc, naming, response, relevance)?;
     offers.append(&mut additional)?;
-    add(
-        &mut offers,
-        negative_offer(alloc, message, zone, moment, limits)?,
-    )?;
+    add(&mut offers, negative_offer(alloc, response)?)?;
     Ok(offers)
-}
-
-/// The relevant offers of a reply that answers, by its records of its question's class.
-fn own_offers(
-    alloc: Global,
-    message: &Message,
-    zone: &Name,
-    moment: u64,
-    limits: &Limits,
-    relevance: &RelevanceLimits,
-) -> Result<Vec<Offer>, AllocError>
-    ensures value { IfOk result (λ offers. offers.items ≡ relevant_offers (in_own_class message.now) zone.now moment limits.now relevance.now) }
-    ensures kept { IfOk result (λ offers. All IsOfRecords offers.items) }
-{
-    if has_one_class(message) {
-        return answer_offers(alloc, message, zone, moment, limits, relevance);
-    }
-    let own = in_own_class(alloc, message)?;
-    answer_offers(alloc, &own, zone, moment, limits, relevance)
 }
 
 /// The relevant offers of a message, whatever was asked.
 #[tactic(auto, unfolding(crate::specs::Relevant::relevant_of))]
 fn relevant_of(
     alloc: Global,
-    message: &Message,
-    zone: &Name,
-    moment: u64,
-    limits: &Limits,
+    response: Response,
     relevance: &RelevanceLimits,
 ) -> Result<Vec<Offer>, AllocError>
-    ensures value { IfOk result (λ offers. offers.items ≡ relevant_of message.now zone.now moment limits.now relevance.now) }
+    ensures value { IfOk result (λ offers. offers.items ≡ of_response relevant_of response.entry relevance.now) }
     ensures kept { IfOk result (λ offers. All IsOfRecords offers.items) }
 {
-    if is_silent(message, zone) {
+    if is_silent(response) {
         return Ok(Vec::new(alloc));
     }
-    if message.rcode == NOERROR || message.rcode == NXDOMAIN {
-        own_offers(alloc, message, zone, moment, limits, relevance)
-    } else {
-        failure_offers(alloc, message, moment, limits)
+    let rcode = response.message.rcode;
+    if rcode != NOERROR && rcode != NXDOMAIN {
+        return failure_offers(alloc, response);
     }
+    let own = in_own_class(alloc, response.message)?;
+    let response = Response {
+        message: own.as_ref(),
+        ..response
+    };
+    relevant_answer_offers(alloc, response, relevance)
 }
 
 /// Those of the offers of a response, as `offers` makes them and in their order, that are relevant
@@ -311,5 +275,11 @@ pub fn relevant_offers(
     if let Some(fault) = mismatch(query, message) {
         return Err(fault);
     }
-    Ok(relevant_of(alloc, message, zone, moment, limits, relevance)?)
+    let response = Response {
+        message,
+        zone,
+        moment,
+        limits,
+    };
+    Ok(relevant_of(alloc, response, relevance)?)
 }

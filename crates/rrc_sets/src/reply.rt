@@ -3,14 +3,15 @@ ghost use Rattle.std.specs.Prelude.{◌≡◌, ◌++◌, IfOk, IfErr, OnOk, IfSo
 ghost use Rattle.std.specs.Option.{option_to_list};
 ghost use Rattle.std.specs.List.{All};
 ghost use Rattle.rrc_sets.specs.Offers.{set_offer, records_of, section_offers, answer_offers, failure_offers, is_silent, offers_of};
-ghost use Rattle.rrc_sets.specs.Classes.{in_own_class};
 ghost use Rattle.rrc_sets.specs.Kept.{IsOfRecords};
+ghost use Rattle.rrc_sets.specs.Response.{of_response};
 
-use crate::class::{has_one_class, in_own_class};
+use crate::class::in_own_class;
 use crate::denial::negative_offer;
 use crate::fault::SetsFault;
 use crate::limits::Limits;
 use crate::rank::{Section, section_rank};
+use crate::response::Response;
 use crate::section::sets_of;
 use crate::set::Set;
 use crate::times::set_life;
@@ -27,19 +28,18 @@ const QUERY: u8 = 0;
 fn set_offer(
     alloc: Global,
     section: Section,
-    message: &Message,
-    zone: &Name,
-    moment: u64,
-    limits: &Limits,
+    response: Response,
     set: Set,
 ) -> Result<Option<Offer>, AllocError>
-    ensures value { IfOk result (λ offer. offer ≡ set_offer section message.now zone.now moment limits.now set) }
+    ensures value { IfOk result (λ offer. offer ≡ of_response (set_offer section) response.entry set) }
     ensures kept { IfOk result (λ offer. IfSome offer IsOfRecords) }
 {
-    if !set.owner.is_at_or_below(zone) {
+    if !set.owner.is_at_or_below(response.zone) {
         return Ok(None);
     }
-    let Some(ttl) = set_life(set.ttls.as_slice(), message.aa, limits) else {
+    let message = response.message;
+    let moment = response.moment;
+    let Some(ttl) = set_life(set.ttls.as_slice(), message.aa, response.limits) else {
         return Ok(None);
     };
     let key = Key::of(&set.owner, set.class, Slot::Set(set.rtype))?;
@@ -82,17 +82,14 @@ pub(crate) fn add_section(
     alloc: Global,
     offers: &mut Vec<Offer>,
     section: Section,
-    message: &Message,
-    zone: &Name,
-    moment: u64,
-    limits: &Limits,
+    response: Response,
 ) -> Result<(), AllocError>
     requires { All IsOfRecords offers.old.items }
-    ensures value { OnOk result (offers.new.items ≡ offers.old.items ++ section_offers section message.now zone.now moment limits.now) }
+    ensures value { OnOk result (offers.new.items ≡ offers.old.items ++ of_response (section_offers section) response.entry) }
     ensures kept { OnOk result (All IsOfRecords offers.new.items) }
 {
-    for set in sets_of(alloc, records_of(section, message))? {
-        let offer = set_offer(alloc, section, message, zone, moment, limits, set)?;
+    for set in sets_of(alloc, records_of(section, response.message))? {
+        let offer = set_offer(alloc, section, response, set)?;
         add(offers, offer)?;
     }
     Ok(())
@@ -100,113 +97,68 @@ pub(crate) fn add_section(
 
 /// The offers of a reply that answers.
 #[tactic(auto, unfolding(crate::specs::Offers::answer_offers))]
-fn answer_offers(
-    alloc: Global,
-    message: &Message,
-    zone: &Name,
-    moment: u64,
-    limits: &Limits,
-) -> Result<Vec<Offer>, AllocError>
-    ensures value { IfOk result (λ offers. offers.items ≡ answer_offers message.now zone.now moment limits.now) }
+fn answer_offers(alloc: Global, response: Response) -> Result<Vec<Offer>, AllocError>
+    ensures value { IfOk result (λ offers. offers.items ≡ of_response answer_offers response.entry) }
     ensures kept { IfOk result (λ offers. All IsOfRecords offers.items) }
 {
     let mut offers = Vec::new(alloc);
     let made = &mut offers;
-    add_section(alloc, made, Section::Answer, message, zone, moment, limits)?;
-    add_section(
-        alloc,
-        made,
-        Section::Authority,
-        message,
-        zone,
-        moment,
-        limits,
-    )?;
-    add_section(
-        alloc,
-        made,
-        Section::Additional,
-        message,
-        zone,
-        moment,
-        limits,
-    )?;
-    add(made, negative_offer(alloc, message, zone, moment, limits)?)?;
+    add_section(alloc, made, Section::Answer, response)?;
+    add_section(alloc, made, Section::Authority, response)?;
+    add_section(alloc, made, Section::Additional, response)?;
+    add(made, negative_offer(alloc, response)?)?;
     Ok(offers)
 }
 
-/// The offers of a reply that answers, by its records of its question's class. Most replies have no
-/// others, and are not copied.
-fn own_offers(
-    alloc: Global,
-    message: &Message,
-    zone: &Name,
-    moment: u64,
-    limits: &Limits,
-) -> Result<Vec<Offer>, AllocError>
-    ensures value { IfOk result (λ offers. offers.items ≡ answer_offers (in_own_class message.now) zone.now moment limits.now) }
-    ensures kept { IfOk result (λ offers. All IsOfRecords offers.items) }
-{
-    if has_one_class(message) {
-        return answer_offers(alloc, message, zone, moment, limits);
-    }
-    let own = in_own_class(alloc, message)?;
-    answer_offers(alloc, &own, zone, moment, limits)
-}
-
 /// The offer of a reply that failed (RFC 8767 section 5).
-pub(crate) fn failure_offers(
-    alloc: Global,
-    message: &Message,
-    moment: u64,
-    limits: &Limits,
-) -> Result<Vec<Offer>, AllocError>
-    ensures value { IfOk result (λ offers. offers.items ≡ failure_offers message.now moment limits.now) }
+pub(crate) fn failure_offers(alloc: Global, response: Response) -> Result<Vec<Offer>, AllocError>
+    ensures value { IfOk result (λ offers. offers.items ≡ failure_offers response.entry.message.now response.entry.moment response.entry.limits.now) }
     ensures kept { IfOk result (λ offers. All IsOfRecords offers.items) }
 {
-    let question = &message.question;
+    let question = &response.message.question;
+    let moment = response.moment;
     let mut offers = Vec::new(alloc);
     if is_kept(question.qtype, question.qclass) {
         let slot = Slot::Failed(question.qtype);
         let key = Key::of(&question.name, question.qclass, slot)?;
         let body = Body::Failure {
-            ttl: limits.recheck,
+            ttl: response.limits.recheck,
         };
         offers.push(Offer { key, body, moment })?;
     }
     Ok(offers)
 }
 
-/// Whether a message offers nothing to a zone.
-pub(crate) fn is_silent(message: &Message, zone: &Name) -> bool
-    ensures { result ≡ is_silent message.now zone.now }
+/// Whether a response offers nothing.
+pub(crate) fn is_silent(response: Response) -> bool
+    ensures { result ≡ is_silent response.entry.message.now response.entry.zone.now }
 {
+    let message = response.message;
     message.tc
         || message.opcode != QUERY
         || !is_kept_class(message.question.qclass)
-        || !message.question.name.is_at_or_below(zone)
+        || !message.question.name.is_at_or_below(response.zone)
 }
 
 /// What a response offers, as `offers` answers it.
 #[tactic(auto, unfolding(crate::specs::Offers::offers_of))]
-fn offers_of(
-    alloc: Global,
-    message: &Message,
-    zone: &Name,
-    moment: u64,
-    limits: &Limits,
-) -> Result<Vec<Offer>, AllocError>
-    ensures value { IfOk result (λ offers. offers.items ≡ offers_of message.now zone.now moment limits.now) }
+fn offers_of(alloc: Global, response: Response) -> Result<Vec<Offer>, AllocError>
+    ensures value { IfOk result (λ offers. offers.items ≡ of_response offers_of response.entry) }
     ensures kept { IfOk result (λ offers. All IsOfRecords offers.items) }
 {
-    if is_silent(message, zone) {
+    if is_silent(response) {
         return Ok(Vec::new(alloc));
     }
-    if message.rcode == NOERROR || message.rcode == NXDOMAIN {
-        own_offers(alloc, message, zone, moment, limits)
-    } else {
-        failure_offers(alloc, message, moment, limits)
+    let rcode = response.message.rcode;
+    if rcode != NOERROR && rcode != NXDOMAIN {
+        return failure_offers(alloc, response);
     }
+    let own = in_own_class(alloc, response.message)?;
+    let response = Response {
+        message: own.as_ref(),
+        ..response
+    };
+    answer_offers(alloc, response)
 }
 
 /// What a response offers to a cache for a zone, at a moment in seconds: its RRsets from the zone,
@@ -228,5 +180,11 @@ pub fn offers(
     ensures kept { IfOk result (λ offers. All IsOfRecords offers.items) }
     ensures err { IfErr result (λ fault. fault ≡ SetsFault.Memory) }
 {
-    Ok(offers_of(alloc, message, zone, moment, limits)?)
+    let response = Response {
+        message,
+        zone,
+        moment,
+        limits,
+    };
+    Ok(offers_of(alloc, response)?)
 }

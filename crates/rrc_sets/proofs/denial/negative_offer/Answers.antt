@@ -10,16 +10,16 @@ use Rattle.rrc_sets.proofs.denial.negative_offer.Goals as goal
 
 pub invariant_of-result : goal.invariant_of-result
 invariant_of-result c =
-    let message = c.args.message.now in let name = c.in-Some.name in let key = c.in_ok-key.key in
+    let message = c.args.response.message.now in let name = c.in-Some.name in let key = c.in_ok-key.key in
     let kept : is_failed key.slot ≡ false =
     ap (λ (k : KeyOf). is_failed k.slot) c.in_ok-key.ensures ∙ denied-kept message name c.in-Some-denied.slot (sym c.in-Some-denied.ensures) in
-    ap (fits key) c.in_ok-body.ensures.value ∙ fits-denial message c.args.limits.now name c.in-Some-soa_of.soa.now key kept
+    ap (fits key) c.in_ok-body.ensures.value ∙ fits-denial message c.args.response.limits.now name c.in-Some-soa_of.soa.now key kept
 
 pub returns-clause-kept : goal.returns-clause-kept
 returns-clause-kept c =
     let slot = c.in-Some-denied.slot in
     record {
-      kept_type = subst (λ (k : KeyOf). HasKeptType k.class k.slot) (sym c.in_ok-key.ensures) (denied_kept_type c.args.message.now c.in-Some.name slot (sym c.in-Some-denied.ensures));
+      kept_type = subst (λ (k : KeyOf). HasKeptType k.class k.slot) (sym c.in_ok-key.ensures) (denied_kept_type c.args.response.message.now c.in-Some.name slot (sym c.in-Some-denied.ensures));
       plain_data = subst (HasPlainData c.in_ok-key.key.slot) (sym c.in_ok-body.ensures.value) c.in_ok-body.ensures.plain;
     }
 

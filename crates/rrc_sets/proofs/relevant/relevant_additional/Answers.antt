@@ -6,6 +6,7 @@ use Rattle.rrc_history.specs.Fits.{OfferOf}
 use Rattle.rrc_sets.specs.declared.rank.Section.TheVariants.{Additional}
 use Rattle.rrc_sets.specs.Kept.{IsOfRecords}
 use Rattle.rrc_sets.specs.Offers.{section_offers}
+use Rattle.rrc_sets.specs.Response.{of_response}
 use Rattle.rrc_sets.specs.Relevant.{is_address_of, is_measured, relevant_additional}
 use Rattle.rrc_sets.proofs.Subsets.{All-filter_same}
 use Rattle.rrc_sets.proofs.relevant.relevant_additional.Goals as goal
@@ -14,7 +15,7 @@ pub returns-clause-value : goal.returns-clause-value
 unfolding relevant_additional
 returns-clause-value c =
     let passes : List (List ℕ) → OfferOf → Bool = λ hosts offer. is_address_of hosts offer && is_measured c.args.relevance.now offer in
-    let offers = section_offers Additional c.args.message.now c.args.zone.now c.args.moment c.args.limits.now in
+    let offers = of_response (section_offers Additional) c.args.response in
     filter_same _ (passes c.in_ok-hosts.hosts.items) _ (λ offer b f' k. search rules) _ _ c.retain.ensures.filtered
     ∙ (ap (filter (passes c.in_ok-hosts.hosts.items)) c.in_ok-offers.ensures.value
     ∙ ap (λ hosts. filter (passes hosts) offers) c.in_ok-hosts.ensures)

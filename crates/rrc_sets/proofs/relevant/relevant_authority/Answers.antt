@@ -7,6 +7,7 @@ use Rattle.rrc_sets.specs.declared.rank.Section.TheVariants.{Authority}
 use Rattle.rrc_sets.specs.Uniques.{uniques}
 use Rattle.rrc_sets.specs.Kept.{IsOfRecords}
 use Rattle.rrc_sets.specs.Offers.{section_offers}
+use Rattle.rrc_sets.specs.Response.{of_response}
 use Rattle.rrc_sets.specs.Relevant.{is_of_final_zone, is_measured, same_type, relevant_authority}
 use Rattle.rrc_sets.proofs.Subsets.{All-filter_same, All-uniques_same}
 use Rattle.rrc_sets.proofs.relevant.relevant_authority.Goals as goal
@@ -15,7 +16,7 @@ pub returns-clause-value : goal.returns-clause-value
 unfolding relevant_authority
 returns-clause-value c =
     let passes : Option (List ℕ) → OfferOf → Bool = λ final offer. is_of_final_zone final offer && is_measured c.args.relevance.now offer in
-    let offers = section_offers Authority c.args.message.now c.args.zone.now c.args.moment c.args.limits.now in
+    let offers = of_response (section_offers Authority) c.args.response in
     c.in_ok-firsts.ensures
     ∙ ap (uniques same_type) (filter_same _ (passes c.in_ok-name.name) _ (λ offer b f' k. search rules) _ _ c.retain.ensures.filtered
     ∙ (ap (filter (passes c.in_ok-name.name)) c.in_ok-offers.ensures.value

@@ -3,7 +3,7 @@ use Rattle.std.proofs.Common.{◌++◌}
 use Rattle.std.specs.List.{All}
 use Rattle.std.proofs.lemmas.List.Elements.{All-append, All-same}
 use Rattle.rrc_sets.specs.Kept.{IsOfRecords}
-use Rattle.rrc_sets.proofs.relevant.answer_offers.Goals as goal
+use Rattle.rrc_sets.proofs.relevant.relevant_answer_offers.Goals as goal
 
 pub add-requires-clause-all : goal.add-requires-clause-all
 add-requires-clause-all c =
