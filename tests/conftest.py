@@ -17,13 +17,16 @@ pytest.register_assert_rewrite("tests.forwarder.harness")
 def pytest_addoption(parser):
     parser.addoption("--seconds", type=int, default=60,
                      help="how long tests go on that draw what they try (60)")
+    parser.addoption("--program", type=lambda it: Path(it).absolute(), default=PROGRAM,
+                     metavar="PATH", help="the program that is tested (the one built last)")
 
 
 @pytest.fixture(scope="session")
-def program():
-    """The program that was built last."""
-    assert PROGRAM.exists(), "bin/build builds the program"
-    return PROGRAM
+def program(request):
+    """The program that is tested: the one that was built last, where no other is named."""
+    path = request.config.getoption("program")
+    assert path.exists(), f"there is no {path}: bin/build builds the program"
+    return path
 
 
 @pytest.fixture(scope="session")
