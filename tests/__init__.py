@@ -1,8 +1,8 @@
 # SPDX-License-Identifier: MIT
-"""The tests around the program and the libraries. `run` in a folder runs what the folder tests, and
+"""The tests around the program and the libraries. `pytest tests/NAME` runs what a folder tests, and
 bin/test runs all.
 
-  rows       worked traces with their reports, which bin/test runs
+  rows       worked traces with their reports
   c          the library for C
   forwarder  the forwarder of examples/forwarder, and then the package for Python
   python     that package; what is here is run with the forwarder's tests
@@ -13,5 +13,5 @@ bin/test runs all.
   hostile    what hostile messages, names and traces cost
   schedules  random traces by several workers
   refusals   requests for memory and threads that are refused
-  documents  widths, links and paths of the documents
+  documents  widths, links and paths of the documents, and how sources are laid out
 """

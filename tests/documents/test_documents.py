@@ -1,15 +1,11 @@
-#!/usr/bin/env python3
 # SPDX-License-Identifier: MIT
-"""tests/documents/run [DOCUMENT ..]: tests the documents, which are the repository's *.md files.
+"""The documents, which are the repository's *.md files, and how its sources are laid out.
 
 A line has at most 100 columns, and a row of a table 120; README.md has at most 130 lines. Every
 link leads to a file, and to a heading where it names one. Every path that a document names exists.
 Every definition that a row of docs/DEFINITIONS.md names behind its first cell stands in the file
 that the row names. Every name in code, of letters in both cases or of words joined by _, occurs in
-some source outside of comments, or in a path. Without names it also tests that each source file
-names its licence in its first two lines, that no comment of a Rattle source has a line of more
-than 100 columns, and, where clang-format 14 is installed, that all C is formatted. The last line
-is 'N passed, M failed', of documents and of these.
+some source outside of comments, or in a path.
 """
 import re
 import shutil
@@ -18,11 +14,10 @@ import sys
 from functools import cache
 from pathlib import Path
 
+import pytest
+
 TOP = Path(__file__).resolve().parents[2]
 COLUMNS, TABLE_COLUMNS, README_LINES = 100, 120, 130
-SOURCES = ("crates/*/src/**/*.rt", "crates/*/specs/**/*.antt", "crates/*/proofs/**/*.antt",
-           "tools/**/*.py", "bench/**/*.[ch]", "bench/**/*.py", "lib/*.c", "include/*.h",
-           "examples/**/*.[ch]", "tests/**/*.[ch]", "tests/**/*.py", "python/**/*.py")
 FOLDERS = {it.name for it in TOP.iterdir() if it.is_dir()}
 CRATES = {it.name for it in (TOP / "crates").iterdir()}
 # What commands make, and words of a path that stand for any name.
@@ -39,10 +34,6 @@ def listed(*patterns):
     command = ["git", "ls-files", "--cached", "--others", "--exclude-standard", *patterns]
     found = subprocess.run(command, cwd=TOP, capture_output=True, text=True, check=True).stdout
     return sorted(it for it in set(found.split("\n")) - {""} if (TOP / it).exists())
-
-
-def documents(names):
-    return [TOP / it for it in names or listed("*.md")]
 
 
 def slug(heading):
@@ -75,7 +66,8 @@ def bad_links(path, text):
 
 def named_paths(text):
     """The paths in code: those that begin with a folder of the repository or with a crate."""
-    for span in re.findall(r"`([^`\n]+)`", text) + re.findall(r"^```sh\n(.*?)^```", text, re.M | re.S):
+    shell = re.findall(r"^```sh\n(.*?)^```", text, re.M | re.S)
+    for span in re.findall(r"`([^`\n]+)`", text) + shell:
         for word in re.split(r"[\s,;:()\"']+", span):
             if word.split("/")[0] in FOLDERS | CRATES and "/" in word:
                 yield word.rstrip(".")
@@ -129,55 +121,55 @@ def faults(path):
     yield from unknown_names(text)
     if path.name == "DEFINITIONS.md":
         yield from missing_definitions(text)
-    if path == TOP / "README.md" and text.count("\n") > README_LINES:
-        yield f"it has {text.count(chr(10))} lines, and {README_LINES} are the most"
+    lines = text.count("\n")
+    if path == TOP / "README.md" and lines > README_LINES:
+        yield f"it has {lines} lines, and {README_LINES} are the most"
 
 
-def unlicensed():
-    """The sources whose first two lines do not name their licence."""
-    for pattern in SOURCES:
-        for path in sorted(TOP.glob(pattern)):
-            if "SPDX-License-Identifier: MIT" not in "".join(path.read_text().splitlines()[:2]):
-                yield f"{path.relative_to(TOP)} does not name its licence in its first two lines"
+@pytest.mark.parametrize("name", listed("*.md"))
+def test_document(name):
+    found = list(faults(TOP / name))
+    assert not found, "\n".join(found)
 
 
-def wide_comments():
-    """The lines of comments in Rattle's sources that have too many columns."""
-    for path in sorted(TOP.glob("crates/*/src/**/*.rt")):
-        for number, line in enumerate(path.read_text().split("\n"), 1):
-            if line.lstrip().startswith("//") and len(line) > COLUMNS:
-                yield f"{path.relative_to(TOP)}:{number}: a comment of {len(line)} columns"
+def python_files():
+    """The Python sources. Commands have no ending, and tell it in their first line."""
+    for name in listed():
+        with (TOP / name).open("rb") as source:
+            if name.endswith(".py") or re.match(rb"#!.*python", source.readline()):
+                yield name
 
 
-def unformatted():
-    """The C that bin/format would change, where its version of clang-format is installed."""
-    told = shutil.which("clang-format") and subprocess.run(["clang-format", "--version"],
-                                                           capture_output=True, text=True).stdout
-    if not told or not re.search(r"version 14\.", told):
-        print("SKIPPED that C is formatted: apt-get install clang-format, version 14")
-        return
-    ran = subprocess.run([TOP / "bin" / "format", "--check"], capture_output=True, text=True)
-    yield from re.findall(r"^(\S+?:\d+):\d+: error", ran.stderr, re.M)
+def test_sources_name_their_licence():
+    found = [name for name in [*listed("*.rt", "*.antt", "*.c", "*.h"), *python_files()]
+             if "SPDX-License-Identifier: MIT" not in
+             "".join((TOP / name).read_text().splitlines()[:2])]
+    assert not found, "\n".join(found)
 
 
-def main(names):
-    if names and names[0] in ("-h", "--help"):
-        print(__doc__)
-        return 0
-    passed = failed = 0
-    for path in documents([Path(it).resolve() for it in names]):
-        found = list(faults(path))
-        for it in found:
-            print(f"FAIL {path.relative_to(TOP)}: {it}")
-        passed, failed = passed + (not found), failed + bool(found)
-    for faults_of_sources in () if names else (unlicensed, wide_comments, unformatted):
-        found = list(faults_of_sources())
-        for it in found:
-            print(f"FAIL {it}")
-        passed, failed = passed + (not found), failed + bool(found)
-    print(f"{passed} passed, {failed} failed")
-    return 1 if failed else 0
+def test_comments_of_rattle_are_narrow():
+    found = [f"{name}:{number}: {len(line)} columns" for name in listed("*.rt")
+             for number, line in enumerate((TOP / name).read_text().split("\n"), 1)
+             if line.lstrip().startswith("//") and len(line) > COLUMNS]
+    assert not found, "\n".join(found)
 
 
-if __name__ == "__main__":
-    sys.exit(main(sys.argv[1:]))
+def said(*words):
+    """The status of a command, and what it prints."""
+    ran = subprocess.run(words, cwd=TOP, stdout=subprocess.PIPE, stderr=subprocess.STDOUT,
+                         text=True)
+    return ran.returncode, ran.stdout
+
+
+def test_python_passes_flake8():
+    pytest.importorskip("flake8", reason="bin/setup installs flake8")
+    status, text = said(sys.executable, "-m", "flake8", *python_files())
+    assert status == 0, text
+
+
+def test_c_is_formatted():
+    if not shutil.which("clang-format") or " version 14." not in said(
+            "clang-format", "--version")[1]:
+        pytest.skip("there is no clang-format of version 14 here (bin/setup installs it)")
+    status, text = said("bin/format", "--check")
+    assert status == 0, text

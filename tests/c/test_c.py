@@ -1,0 +1,52 @@
+# SPDX-License-Identifier: MIT
+"""tests.c on the library for C as bin/build-c makes it: on the archive, on the shared library, on
+the archive with each malloc and realloc refused in turn and those of calls that only look counted,
+and under the sanitizers of addresses and of undefined behaviour."""
+import re
+import subprocess
+from pathlib import Path
+
+import pytest
+
+TOP = Path(__file__).resolve().parents[2]
+FLAGS = ["-std=c99", "-O1", "-g", "-Wall", "-Wextra", "-Werror", f"-I{TOP / 'include'}"]
+# Each build: its library, and further words for the compiler.
+BUILDS = {
+    "archive": ["librrcache.a"],
+    "shared": ["librrcache.so", f"-Wl,-rpath,{TOP / 'build'}"],
+    "refused": ["librrcache.a", "-DREFUSE",
+                *(f"-Wl,--wrap={it}" for it in ("malloc", "calloc", "realloc", "free"))],
+    "sanitized": ["librrcache.a", "-fsanitize=address,undefined", "-fno-sanitize-recover=all"],
+}
+SECONDS = 120
+
+
+@pytest.fixture(scope="session")
+def libraries():
+    """The folder of the libraries for C, made anew."""
+    subprocess.run([TOP / "bin" / "build-c"], check=True)
+    return TOP / "build"
+
+
+def has(words, folder):
+    """Whether the compiler makes a program with these words that runs."""
+    program = folder / "program"
+    made = subprocess.run(["cc", *words, "-xc", "-", "-o", program], capture_output=True,
+                          input=b"int main(void) { return 0; }")
+    return made.returncode == 0 and subprocess.run([program]).returncode == 0
+
+
+@pytest.mark.parametrize("build", BUILDS)
+def test_library(build, libraries, tmp_path, capsys):
+    library, *words = BUILDS[build]
+    if build == "sanitized" and not has(words, tmp_path):
+        pytest.skip("the compiler has no sanitizers (bin/setup installs gcc, which has)")
+    source, program = TOP / "tests" / "c" / "tests.c", tmp_path / "tests"
+    subprocess.run(["cc", *FLAGS, source, libraries / library, *words, "-o", program], check=True)
+    ran = subprocess.run([program], capture_output=True, text=True, errors="replace",
+                         timeout=SECONDS)
+    last = ran.stdout.splitlines()[-1:]
+    with capsys.disabled():
+        print(f"\n{build}:", *last)
+    is_right = last and re.fullmatch(r"[1-9]\d* passed, 0 failed", last[0])
+    assert is_right and ran.returncode == 0, ran.stdout + ran.stderr
