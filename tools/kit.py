@@ -1,8 +1,8 @@
 # SPDX-License-Identifier: MIT
 """The Rattle kit's command `rt` as a module, for bin/build and tools/proof-times.
 
-They ask it which crates there are, lowest first, what words a check of each has and how much memory it takes, so that no word of the prover's
-command line stands here. They replace nothing of it.
+They ask it which crates there are, lowest first, what words a check of each has and how much memory
+it takes, so that no word of the prover's command line stands here. They replace nothing of it.
 """
 import importlib.machinery
 import importlib.util
@@ -31,17 +31,21 @@ def load():
 
 
 def made_by_ci(crate):
-    """Whether a crate has a library as `rt ci` leaves it, with no stamp, that came to its place behind all of its sources."""
-    made = Path(crate.rlib)
+    """Whether a crate has a library as `rt ci` leaves it, with no stamp, that came to its place
+    behind all of its sources."""
+    made, folder = Path(crate.rlib), Path(crate.folder)
     if not (made / "format").is_file() or (made.parent / "stamp").exists():
         return False
-    sources = [TOP / "crates.txt", *(it for part in ("src", "specs", "proofs") for it in (Path(crate.folder) / part).rglob("*"))]
-    # of the folder, since what is in it may be an older file of another checkout, of which `rt ci` knows that it is the same
-    return all(it.stat().st_mtime <= made.stat().st_mtime for it in sources)
+    sources = [it for part in ("src", "specs", "proofs") for it in (folder / part).rglob("*")]
+    # The time of the folder, since what is in it may be an older file of another checkout, of which
+    # `rt ci` knows that it is the same.
+    moment = made.stat().st_mtime
+    return all(it.stat().st_mtime <= moment for it in [TOP / "crates.txt", *sources])
 
 
 def is_ready(crate):
-    """Whether a crate's library is built of its present files, by `rt ci`, or by `rt lib` and what builds as that does."""
+    """Whether a crate's library is built of its present files, by `rt ci`, or by `rt lib` and what
+    builds as that does."""
     return crate.is_built() or made_by_ci(crate)
 
 
@@ -51,16 +55,20 @@ def archive_of(crate):
 
 
 def stamp_of(rt, made, stamp):
-    """What tells that a program or an archive was made of files of this stamp, and is still what was made then."""
+    """What tells that a program or an archive was made of files of this stamp, and is still what
+    was made then."""
     return stamp + rt.rtlib.sum_of(str(made))
 
 
 def stamp_archive(rt, crate, stamp):
-    """Writes beside the archive of a static library the stamp of what it was made of, as `rt run` does beside a program."""
+    """Writes beside the archive of a static library the stamp of what it was made of, as `rt run`
+    does beside a program."""
     archive = archive_of(crate)
     Path(f"{archive}.stamp").write_text(stamp_of(rt, archive, stamp))
 
 
 def is_archived(rt, crate):
-    """Whether the archive of a static library stands there that was made of its present files, once they were proved."""
-    return rt.rtlib.text_of(f"{archive_of(crate)}.stamp") == stamp_of(rt, archive_of(crate), crate.stamp())
+    """Whether the archive of a static library stands there that was made of its present files, once
+    they were proved."""
+    archive = archive_of(crate)
+    return rt.rtlib.text_of(f"{archive}.stamp") == stamp_of(rt, archive, crate.stamp())

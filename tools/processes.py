@@ -19,26 +19,24 @@ def kind_of(command):
     return "edits" if b"/rt-edits-" in command else "proof"
 
 
-def used_by(pid):
-    """When a process began, in ticks, and the seconds that it and the children that it waited for have used."""
-    fields = (Path("/proc") / pid / "stat").read_bytes().rpartition(b")")[2].split()
-    return fields[19], sum(map(int, fields[11:15])) / TICKS
-
-
 class Watch(threading.Thread):
-    """Looks at the prover's processes until it is left. `crates` is the processor seconds of each crate by kind."""
+    """Looks at the prover's processes until it is left. `crates` is the processor seconds of each
+    crate by kind."""
 
     def __init__(self):
         super().__init__(daemon=True)
         self.ended, self.seen = threading.Event(), {}
 
     def look(self):
-        for pid in filter(str.isdigit, os.listdir("/proc")):
+        for process in Path("/proc").glob("[0-9]*"):
             try:
-                command = (Path("/proc") / pid / "cmdline").read_bytes()
+                command = (process / "cmdline").read_bytes()
                 if found := CRATE.search(command):
-                    begun, used = used_by(pid)
-                    self.seen[pid, begun] = found[2].decode(), kind_of(command), used
+                    # In proc(5) from field 3 on: the times of the process and of the children that
+                    # it waited for are fields 14 to 17, and when it began is 22.
+                    fields = (process / "stat").read_bytes().rpartition(b")")[2].split()
+                    used = sum(map(int, fields[11:15])) / TICKS
+                    self.seen[process.name, fields[19]] = found[2].decode(), kind_of(command), used
             except OSError:
                 # it has ended meanwhile
                 continue
