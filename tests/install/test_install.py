@@ -104,7 +104,7 @@ def test_library(it):
 @pytest.mark.skipif(shutil.which("man") is None,
                     reason="there is no man here (bin/setup installs it)")
 def test_manual(it):
-    named = calls(it.header())
+    named = calls()
     assert set(pages()) == {"rrcache.3", *(f"{name}.3" for name in named)}
     assert set(named) == set(re.findall(
         r"^static inline (?:uint32_t|enum rrcache_status)\s+(rrcache_\w+)\(", it.header(), re.M))
