@@ -8,7 +8,6 @@ from pathlib import Path
 from bench.setup import TOP
 
 PAGE = TOP / "docs" / "PERFORMANCE.md"
-HEADING = re.compile(r"^## (.*)$", re.MULTILINE)
 
 
 def machine():
@@ -43,13 +42,7 @@ def write_section(args, title, text, *parts):
     if not args.write:
         return
     text = f"Written by `bench/run {args.suite} --write` on {machine()}{text}"
-    section = "\n\n".join([f"## {title}", filled(text), *parts])
-    page = PAGE.read_text()
-    starts = [*((it[1], it.start()) for it in HEADING.finditer(page)), ("", len(page))]
-    for (found, start), (_, end) in zip(starts, starts[1:]):
-        if found == title:
-            before, behind = page[:start], page[end:]
-            break
-    else:
-        before, behind = page.rstrip("\n") + "\n\n", ""
-    PAGE.write_text(before + section + "\n" + ("\n" + behind if behind else ""))
+    section = "\n\n".join([f"## {title}", filled(text), *parts]) + "\n"
+    before, *sections = re.split(r"^(?=## )", PAGE.read_text(), flags=re.MULTILINE)
+    found = {it.split("\n", 1)[0][3:]: it.rstrip("\n") + "\n" for it in sections} | {title: section}
+    PAGE.write_text("\n".join([before.rstrip("\n") + "\n", *found.values()]))

@@ -13,28 +13,23 @@ from typing import NamedTuple
 TOP = Path(__file__).resolve().parent.parent
 BUILD, SOURCES = TOP / "build", TOP / "bench" / "c"
 ARCHIVE = BUILD / "librrcache.a"
+# The program, and that which makes calls of the crates and counts what they did.
+REPLAY, BENCH = (TOP / "crates" / name / "out" / name for name in ("rrcache", "bench"))
 # How often a run is made, at most, where the host takes processors away.
 TRIES = 20
 
 
-def program(crate):
-    """The program of a crate."""
-    return TOP / "crates" / crate / "out" / crate
+def builder(path):
+    """The command that builds what a suite needs."""
+    return "bin/build-c" if path.suffix else f"bin/build {path.name}"
 
 
-def need(*paths):
-    """Ends the command where one of these is not built."""
-    for path in paths:
-        if not path.exists():
-            command = "bin/build-c" if path.suffix else f"bin/build {path.name}"
-            sys.exit(f"there is no {path}: build it first, by `{command}`")
-
-
-def compiled(name, *words):
-    """The program that the C compiler makes in build/ of these sources and options."""
+def compiled(name, *words, compiler="cc"):
+    """What the C compiler makes in build/ of these sources and options."""
+    BUILD.mkdir(exist_ok=True)
     made = BUILD / name
     common = ["-std=gnu11", "-O2", "-Wall", "-Wextra", "-pthread", f"-I{TOP / 'include'}"]
-    subprocess.run(["cc", *common, *words, "-o", made], check=True)
+    subprocess.run([compiler, *common, *words, "-o", made], check=True)
     return made
 
 
@@ -54,9 +49,10 @@ def ran(*command, **environment):
                           env=os.environ | environment)
 
 
-def counted(wanted, *command):
-    """The number that a program wrote to standard error, once it counted what is wanted."""
-    done = ran(*command)
+def counted(wanted, *words):
+    """The number that the program of the crates wrote to standard error, once it counted what is
+    wanted."""
+    done = ran(BENCH, *words)
     if done.stdout != f"{wanted}\n":
         sys.exit(f"the program counted {done.stdout!r}, and not {wanted!r}")
     return int(done.stderr or 0)
@@ -75,13 +71,30 @@ def used_by(*command, source=os.devnull, report=subprocess.DEVNULL):
     """What a program takes that reads this file."""
     with open(source, "rb") as text:
         began = time.monotonic()
-        child = subprocess.Popen(command, stdin=text, stdout=report, stderr=subprocess.DEVNULL)
+        child = subprocess.Popen([str(it) for it in command], stdin=text, stdout=report,
+                                 stderr=subprocess.DEVNULL)
         _, status, used = os.wait4(child.pid, 0)
         clock = time.monotonic() - began
     child.returncode = os.waitstatus_to_exitcode(status)
     if status:
         sys.exit(f"{command[0]} ended with {child.returncode}")
     return Used(used.ru_utime + used.ru_stime, 1024 * used.ru_maxrss, clock)
+
+
+def replayed(trace, report=subprocess.DEVNULL, **options):
+    """What the program takes of a trace, by its options."""
+    words = [f"--{name}={value}" for name, value in options.items()]
+    return used_by(REPLAY, *words, source=trace, report=report)
+
+
+def answered(trace, lines, ending=b"\n", **options):
+    """The same where the report is written, of which so many lines have to end so."""
+    with tempfile.TemporaryFile() as report:
+        used = replayed(trace, report, **options)
+        report.seek(0)
+        if (count := sum(line.endswith(ending) for line in report)) != lines:
+            sys.exit(f"the program answered {count} of {lines} lines")
+    return used
 
 
 def in_turn(runs, calls):

@@ -1,17 +1,16 @@
 # SPDX-License-Identifier: MIT
-"""Measures anew all that docs/PERFORMANCE.md tells, and writes it, in some 12 minutes.
-
-The programs and the library have to be built: `bin/build`, `bin/build bench_cache`, `bin/build-c`.
-"""
+"""Measures anew all that docs/PERFORMANCE.md tells, and writes it, in some 12 minutes."""
 import subprocess
+import sys
 
-from bench.setup import ARCHIVE, TOP, program
+from bench.setup import ARCHIVE, BENCH, REPLAY, TOP
 
-NEEDS, OPTIONS = (program("rrcache"), program("bench_cache"), ARCHIVE), {}
+NEEDS, OPTIONS = (REPLAY, BENCH, ARCHIVE), {}
 SUITES = ("unbound", "share", "c", "one-reading", "latency")
 
 
 def main(_):
     for name in SUITES:
-        if status := subprocess.run([TOP / "bench" / "run", name, "--write"]).returncode:
+        words = [sys.executable, TOP / "bench" / "run", name, "--write"]
+        if status := subprocess.run(words).returncode:
             return status

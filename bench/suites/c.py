@@ -8,6 +8,8 @@ half are puts, which replace. Rates are calls a second by the clock, of all thre
 """
 import sys
 import time
+from functools import partial
+from itertools import product
 
 from bench.page import of_threads, table, write_section
 from bench.setup import ARCHIVE, SOURCES, compiled, ran, undisturbed
@@ -40,31 +42,25 @@ def python_rate(calls):
         return calls / (time.perf_counter() - began)
 
 
-def best(runs, call, *words):
-    return max(undisturbed(call, *words) for _ in range(runs))
-
-
-def rates(program, args, what, whose):
-    """Millions of calls a second of a kind on a kind of shelves, by so many threads each."""
-    for threads in args.threads:
-        found = best(args.runs, rate, program, threads, args.calls, whose, what)
-        print(f"{what}, {whose} shelves, {threads} threads: {found:,.0f} a second", flush=True)
-        yield found / 1e6
+def best(what, runs, call):
+    """The best of some runs, in calls a second."""
+    found = max(undisturbed(call) for _ in range(runs))
+    print(f"{what}: {found:,.0f} a second", flush=True)
+    return found
 
 
 def main(args):
     rows, program = [], compiled("c_threads", SOURCES / "c_threads.c", ARCHIVE)
-    for what, title in KINDS.items():
-        for whose, kind in SHELVES.items():
-            by = list(rates(program, args, what, whose))
-            rows.append([title, kind, *(f"{it:.2f}" for it in by), f"{by[-1] / by[0]:.2f}"])
-    by_python = best(args.runs, python_rate, args.calls // 20)
-    print(f"ask, through Python: {by_python:,.0f} a second")
-    head = ["What", "Shelves", *map(of_threads, args.threads),
-            f"{args.threads[-1]} to {args.threads[0]}"]
+    for (what, title), (whose, kind) in product(KINDS.items(), SHELVES.items()):
+        by = [best(f"{what}, {whose} shelves, {threads} threads", args.runs,
+                   partial(rate, program, threads, args.calls, whose, what)) / 1e6
+              for threads in args.threads]
+        rows.append([title, kind, *(f"{it:.2f}" for it in by), f"{by[-1] / by[0]:.2f}"])
+    by_python = best("ask, through Python", args.runs, partial(python_rate, args.calls // 20))
     write_section(
         args, TITLE,
         ": millions of calls a second by threads of C (`bench/c/c_threads.c`), the best of "
         f"{args.runs} runs of {args.calls} calls on 16 shelves with 16,384 names.",
-        table(head, rows),
+        table(["What", "Shelves", *map(of_threads, args.threads),
+               f"{args.threads[-1]} to {args.threads[0]}"], rows),
         f"Through Python (`python/rrcache`) one thread asks {by_python:,.0f} times a second.")

@@ -1,18 +1,17 @@
 # SPDX-License-Identifier: MIT
 """Times a trace in one chapter and in short ones, and weighs a shelf that lets them go.
 
-Build both programs first, by `bin/build rrcache bench_cache`. Short chapters have 4,096 events. The
-trace puts one address under each of KEYS names, and then asks for them in an order that does not
-show, LINES lines in all, in one part that holds them all. Each time is the least of RUNS runs, of
-processor time, and memory is the most that a run held. It fails where a shelf whose closed chapters
-are let go grows with what is asked of it.
+Short chapters have 4,096 events. The trace puts one address under each of KEYS names, and then asks
+for them in an order that does not show, LINES lines in all, in one part that holds them all. Each
+time is the least of RUNS runs, of processor time, and memory is the most that a run held. It fails
+where a shelf whose closed chapters are let go grows with what is asked of it.
 """
 import random
 from functools import partial
 
-from bench.setup import files, in_turn, program, used_by
+from bench.setup import BENCH, REPLAY, files, in_turn, replayed, used_by
 
-REPLAY, CALLS = NEEDS = program("rrcache"), program("bench_cache")
+NEEDS = REPLAY, BENCH
 OPTIONS = {
     "keys": (50_000, "keys of the part"), "lines": (1_000_000, "lines of the trace"),
     "asks": (10_000_000, "asks of the shelf"), "runs": (3, "runs of each"),
@@ -33,7 +32,7 @@ def trace(keys, lines):
 
 def shelf(asks):
     """The octets of so many asks of a shelf of 1,000 keys that lets its chapters go."""
-    used = used_by(CALLS, "shelf", "1000", str(asks))
+    used = used_by(BENCH, "cache", "shelf", 1000, asks)
     print(f"{asks:,} asks of a shelf of 1,000 keys: {used.seconds:.2f} s,"
           f" {used.octets / 1e6:,.1f} MB")
     return used.octets
@@ -41,15 +40,13 @@ def shelf(asks):
 
 def main(args):
     with files(trace=trace(args.keys, args.lines)) as paths:
-        command = partial(used_by, REPLAY, source=paths["trace"])
         took = in_turn(args.runs, {
-            it: partial(command, "--capacity", str(args.keys), "--chapter", str(it))
+            it: partial(replayed, paths["trace"], capacity=args.keys, chapter=it)
             for it in (ONE_CHAPTER, SHORT_CHAPTERS)})
-    for chapter, each in took.items():
-        least = min(each)
-        print(f"chapters of {chapter:,} events: {least.seconds:.2f} s,"
-              f" {least.octets / 1e6:,.0f} MB")
-    ratio = min(took[SHORT_CHAPTERS]).seconds / min(took[ONE_CHAPTER]).seconds
-    print(f"chapters of {SHORT_CHAPTERS:,} events take {ratio:.2f} times as long as one")
+    one, short = least = [min(it) for it in took.values()]
+    for chapter, it in zip(took, least):
+        print(f"chapters of {chapter:,} events: {it.seconds:.2f} s, {it.octets / 1e6:,.0f} MB")
+    print(f"chapters of {SHORT_CHAPTERS:,} events take {short.seconds / one.seconds:.2f} times as"
+          " long as one")
     if shelf(args.asks) > shelf(args.asks // 100) + SMALL:
         return "the shelf grows with what was asked of it"

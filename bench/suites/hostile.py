@@ -1,21 +1,20 @@
 # SPDX-License-Identifier: MIT
 """Tells what hostile messages, names and traces cost: octets of memory, and time.
 
-Build the library for C first, by `bin/build-c`, or name it in RRCACHE_LIBRARY, and for traces the
-program, by `bin/build`, or name it in RRCACHE_PROGRAM. Each message has no more than SIZE octets
-and is offered to an empty shelf. A shelf records its history where events or chapters are measured,
-and nowhere else. What stays is what the C library's allocator has given out more than before
-(mallinfo2, of glibc). Times are milliseconds of the thread's processor time: of a message the least
-of RUNS, of a full part those of one call each. A caller spends them under the lock of the shelf,
-but for what only reads a message. All runs in a thread whose stack has STACK KB, since no proof
-says how deep the stack gets.
+RRCACHE_LIBRARY may name another library for C, and RRCACHE_PROGRAM another program, which traces
+are for. Each message has no more than SIZE octets and is offered to an empty shelf. A shelf records
+its history where events or chapters are measured, and nowhere else. What stays is what the C
+library's allocator has given out more than before (mallinfo2, of glibc). Times are milliseconds of
+the thread's processor time: of a message the least of RUNS, of a full part those of one call each.
+A caller spends them under the lock of the shelf, but for what only reads a message. All runs in a
+thread whose stack has STACK KB, since no proof says how deep the stack gets.
 """
 import concurrent.futures
 import os
 import threading
 from pathlib import Path
 
-from bench.setup import BUILD, program
+from bench.setup import BUILD, REPLAY
 from tests.hostile.attacks import (ASKED, ENDS, LONG, MESSAGES, ROOT, label, many_keys, many_types,
                                    one_key)
 from tests.hostile.costs import memory, timed, used_by
@@ -27,9 +26,10 @@ except ImportError:
     # `bench/run` tells of what is needed, and has to tell of the options without it.
     rrcache = None
 
-MOST_KEYS, SEED = 65_536, bytes(range(16))
+MOST_KEYS, SEED, ADDRESS = 65_536, bytes(range(16)), bytes(4)
+LONG_NAMES = "names of 255 octets"
 NEEDS = (Path(os.environ.get("RRCACHE_LIBRARY", BUILD / "librrcache.so")),)
-PROGRAM = Path(os.environ.get("RRCACHE_PROGRAM", program("rrcache")))
+PROGRAM = Path(os.environ.get("RRCACHE_PROGRAM", REPLAY))
 OPTIONS = {
     "size": (65_535, "octets of a message"), "keys": (MOST_KEYS, "keys of a part"),
     "runs": (5, "runs of each message"), "stack": (64, "KB of the thread's stack"),
@@ -50,13 +50,53 @@ def tell_message(make, size, runs):
           f" read {read:5.1f} ms, offered {min(offer):5.1f} ms")
 
 
+# ---- Offers of a key for each number.
+
+
+def name(number, kind="short names"):
+    # A factor with no divisor of 36, so that names come in no order and none twice.
+    return label(number * 40_507 % 36**4, 4) + ENDS[kind]
+
+
+def capitals(number, kind=LONG_NAMES):
+    return name(number, kind).upper()
+
+
+def sets_of(data, owner=name, rtype=TXT):
+    return lambda shelf, it, moment: shelf.offer_set(owner(it), rtype, 4, 600, data, moment)
+
+
+def repeated(owner):
+    """Sets of a record that came 15 times."""
+    records = 15 * [record(ASKED, A, 600, ADDRESS)]
+    return lambda shelf, it, moment: shelf.offer_message(
+        response(question(owner(it), A), records), ROOT, moment)
+
+
+def denied(shelf, it, moment):
+    soa = name(it, LONG_NAMES) + name(it + 7, LONG_NAMES) + bytes(20)
+    shelf.offer_negative(capitals(it), A, rrcache.Denial.NAME, 3, 600, capitals(it), soa, moment)
+
+
+def failed(shelf, it, moment):
+    shelf.offer_failure(name(it), A, 300, moment)
+
+
+def fill(shelf, kind, keys):
+    for number in range(keys):
+        shelf.offer_set(name(number, kind), A, 4, 60, [ADDRESS], 0)
+
+
+# ---- What full parts take.
+
+
 def tell_room(what, keys, offer, times=1):
     """What keys take beside the octets that are told of them: while the events of their offers are
     there, and once these were dropped. Of several times as many the last ones stay."""
     before = memory()
     with rrcache.Shelf(keys, keys, record=True) as shelf:
         for number in range(times * keys):
-            offer(shelf, number)
+            offer(shelf, number, 0)
             if number % keys == 0:
                 shelf.drop_chapters()
         first, told = memory() - before, shelf.sizes()
@@ -75,7 +115,8 @@ def tell_evicting(what, keys, offer):
     before, most = memory(), 0
     with rrcache.Shelf(keys, keys // 4, record=True) as shelf:
         for number in range(9 * keys):
-            offer(shelf, number)
+            # The timestamps go up, so that there are expiries of many times.
+            offer(shelf, number, number // 1000)
             if number % (keys // 4) == 0:
                 shelf.drop_chapters()
                 stay, told = memory() - before, shelf.sizes()
@@ -86,43 +127,23 @@ def tell_evicting(what, keys, offer):
 
 
 def tell_rooms(keys, size):
-    short, long = ENDS["short names"], ENDS["names of 255 octets"]
-    data, repeated = data_of(size), 15 * [record(ASKED, A, 600, bytes(4))]
-
-    def name(number, end):
-        # A factor with no divisor of 36, so that names come in no order and none twice.
-        return label(number * 40_507 % 36**4, 4) + end
-    # The timestamps go up, so that there are expiries of many times.
-    tell_evicting("small sets", keys // 16, lambda shelf, it:
-                  shelf.offer_set(name(it, short), A, 4, 600, [bytes(4)], it // 1000))
+    small, data = sets_of([ADDRESS], name, A), data_of(size)
+    long = sets_of([bytes(33)], capitals)
+    tell_evicting("small sets", keys // 16, small)
     tell_evicting("sets of a record that came 15 times, whose owner has 255 octets in capitals",
-                  keys // 16, lambda shelf, it: shelf.offer_message(
-                      response(question(name(it, long).upper(), A), repeated), ROOT, it // 1000))
-    tell_evicting("negative answers of names of 255 octets in capitals", keys // 16,
-                  lambda shelf, it: shelf.offer_negative(
-                      name(it, long).upper(), A, rrcache.Denial.NAME, 3, 600,
-                      name(it, long).upper(), name(it, long) + name(it + 7, long) + bytes(20),
-                      it // 1000))
-    tell_room("small sets", keys, lambda shelf, it:
-              shelf.offer_set(name(it, short), A, 4, 600, [bytes(4)], 0))
-    tell_room("small sets whose owner is in capitals", keys, lambda shelf, it:
-              shelf.offer_set(name(it, short).upper(), A, 4, 600, [bytes(4)], 0))
+                  keys // 16, repeated(capitals))
+    tell_evicting("negative answers of names of 255 octets in capitals", keys // 16, denied)
+    tell_room("small sets", keys, small)
+    tell_room("small sets whose owner is in capitals", keys,
+              sets_of([ADDRESS], lambda it: capitals(it, "short names"), A))
     tell_room("sets of names of 255 octets in capitals, with one rdata of 33 octets", keys // 16,
-              lambda shelf, it: shelf.offer_set(name(it, long).upper(), TXT, 4, 600,
-                                                [bytes(33)], 0))
-    tell_room("such sets after four times as many", keys // 16,
-              lambda shelf, it: shelf.offer_set(name(it, long).upper(), TXT, 4, 600,
-                                                [bytes(33)], 0), 4)
-    tell_room("sets of a record that came 15 times", keys // 4,
-              lambda shelf, it: shelf.offer_message(
-                  response(question(name(it, short), A), repeated), ROOT, 0))
-    tell_room("failures of names", keys, lambda shelf, it:
-              shelf.offer_failure(name(it, short), A, 300, 0))
-    tell_room(f"sets of {len(data):,} rdata of 2 octets", 16, lambda shelf, it:
-              shelf.offer_set(name(it, short), TXT, 4, 600, data, 0))
-    tell_room("sets of 255 rdata of 33 octets", 256, lambda shelf, it:
-              shelf.offer_set(name(it, short), TXT, 4, 600,
-                              [bytes([number]) + bytes(32) for number in range(255)], 0))
+              long)
+    tell_room("such sets after four times as many", keys // 16, long, 4)
+    tell_room("sets of a record that came 15 times", keys // 4, repeated(name))
+    tell_room("failures of names", keys, failed)
+    tell_room(f"sets of {len(data):,} rdata of 2 octets", 16, sets_of(data))
+    tell_room("sets of 255 rdata of 33 octets", 256,
+              sets_of([bytes([number]) + bytes(32) for number in range(255)]))
 
 
 def tell_history(size, offers):
@@ -146,15 +167,13 @@ def tell_drop(size, offers):
 
 def tell_full(size, chapter):
     """What one message does to a full part of 4,096 keys, with chapters of so many events."""
-    names = [label(it, 4) + ENDS["short names"] for it in range(4096)]
     with rrcache.Shelf(4096, chapter, record=True) as shelf:
-        for name in names:
-            shelf.offer_set(name, A, 4, 600, [bytes(4)], 0)
+        fill(shelf, "short names", 4096)
         shelf.drop_chapters()
         before = memory()
         took, _ = timed(shelf.offer_message, many_types(size), ROOT, 1)
         stay, closed = memory() - before, shelf.sizes().chapters
-        left = sum(shelf.peek(it, A, 1).kind == rrcache.Kind.FRESH for it in names)
+        left = sum(shelf.peek(name(it), A, 1).kind == rrcache.Kind.FRESH for it in range(4096))
         print(f"one message of many_types leaves {left} of 4,096 keys, in {took:.0f} ms; it closes"
               f" {closed:,} chapters of {chapter:,} events, and {stay:,} octets stay")
 
@@ -162,11 +181,8 @@ def tell_full(size, chapter):
 def tell_sweep(kind, keys):
     """What a full chapter, its drop and a sweep of a full part take."""
     with rrcache.Shelf(keys, keys, 0, record=True) as shelf:
-        for number in range(keys):
-            # A factor with no divisor of 36, so that names come in no order and none twice.
-            name = label(number * 40_507 % 36**4, 4) + ENDS[kind]
-            shelf.offer_set(name, A, 4, 60, [bytes(4)], 0)
-        closing, _ = timed(shelf.ask, name, A, 1)
+        fill(shelf, kind, keys)
+        closing, _ = timed(shelf.ask, name(keys - 1, kind), A, 1)
         drop, _ = timed(shelf.drop_chapters)
         sweep, removed = timed(shelf.sweep, 100)
         print(f"{removed:,} keys, {kind}: a chapter closed {closing:.1f} ms, dropped {drop:.1f} ms,"
@@ -208,17 +224,17 @@ def offer_apart(message, parts):
             shelf.offer_part(message, ROOT, parts, SEED, part, 0)
 
 
-def worst(inputs, call, *, shelf=None, runs=3):
+def worst(inputs, call, runs, before=None):
     """The milliseconds of the input for which a call takes longest, and its name. Each call has a
-    shelf of its own, which `shelf` fills."""
+    shelf of its own, on which another call may be made before it."""
     found = []
     for name, it in inputs.items():
         took = []
         for _ in range(runs):
-            with rrcache.Shelf(MOST_KEYS, MOST_KEYS) as own:
-                if shelf:
-                    shelf(own, it)
-                took.append(timed(call, own, it)[0])
+            with rrcache.Shelf(MOST_KEYS, MOST_KEYS) as shelf:
+                if before:
+                    before(shelf, it)
+                took.append(timed(call, shelf, it)[0])
         found.append((min(took), name))
     return max(found)
 
@@ -228,31 +244,27 @@ def tell_calls(size, runs):
     long."""
     messages = {it.__name__: it(size) for it in MESSAGES}
     sets = {"one RRset of rdata of two octets": data_of(size), "one rdata": [bytes(size - 2)]}
-    names = {kind: label(0, 4) + end for kind, end in ENDS.items()}
 
     def offered(shelf, message):
         shelf.offer_message(message, ROOT, 0)
 
-    def filled_by(shelf, end):
-        for number in range(4096):
-            shelf.offer_set(label(number * 40_507 % 36**4, 4) + end, A, 4, 60, [bytes(4)], 0)
     calls = {
-        "rrcache_fault": worst(messages, lambda _, it: rrcache.fault(it), runs=runs),
-        "rrcache_offer_message": worst(messages, offered, runs=runs),
-        "rrcache_offer_part, 16 shelves": worst(messages, lambda _, it: offer_apart(it, 16),
-                                                runs=1),
-        "rrcache_offer_set": worst(sets, lambda shelf, it: shelf.offer_set("a.", TXT, 4, 60, it, 0),
-                                   runs=runs),
-        "rrcache_ask": worst({"one_key": messages["one_key"]},
-                             lambda shelf, it: shelf.ask(LONG, MINFO, 1), shelf=offered, runs=runs),
-        "rrcache_part_of": worst(names, lambda _, it: rrcache.part_of(it, 16, SEED), runs=runs),
-        "rrcache_sweep, 4,096 keys": worst(ENDS, lambda shelf, _: shelf.sweep(10**6),
-                                           shelf=filled_by, runs=runs),
-        "rrcache_free": worst(messages, lambda shelf, _: shelf.close(), shelf=offered, runs=runs),
+        "fault": (messages, lambda _, it: rrcache.fault(it), runs),
+        "offer_message": (messages, offered, runs),
+        "offer_part, 16 shelves": (messages, lambda _, it: offer_apart(it, 16), 1),
+        "offer_set": (sets, lambda shelf, it: shelf.offer_set("a.", TXT, 4, 60, it, 0), runs),
+        "ask": ({"one_key": messages["one_key"]}, lambda shelf, _: shelf.ask(LONG, MINFO, 1), runs,
+                offered),
+        "part_of": ({it: name(0, it) for it in ENDS},
+                    lambda _, it: rrcache.part_of(it, 16, SEED), runs),
+        "sweep, 4,096 keys": ({it: it for it in ENDS}, lambda shelf, _: shelf.sweep(10**6), runs,
+                              lambda shelf, it: fill(shelf, it, 4096)),
+        "free": (messages, lambda shelf, _: shelf.close(), runs, offered),
     }
     print(f"the input that each call took longest for, of {size:,} octets where it is a message:")
-    for name, (took, what) in calls.items():
-        print(f"  {name:32}{what:36}{took:8.3f} ms", flush=True)
+    for what, given in calls.items():
+        took, longest = worst(*given)
+        print(f"  {'rrcache_' + what:32}{longest:36}{took:8.3f} ms", flush=True)
 
 
 def tell_all(size, keys, runs):

@@ -1,24 +1,22 @@
 # SPDX-License-Identifier: MIT
 """Times calls on the table of marks: draws, begin and finish, split and join.
 
-Build the program first, by `bin/build bench_marks`. Each thread draws COUNT numbers of one table,
-begins and finishes a mark of its own COUNT times, or gives a turn away and takes it back COUNT
-times; the whole run is timed, thread starts and all. Prints the median of RUNS runs, as what is
-done a second on 1, 2 and 4 threads.
+Each thread draws COUNT numbers of one table, begins and finishes a mark of its own COUNT times, or
+gives a turn away and takes it back COUNT times; the whole run is timed, thread starts and all.
+Prints the median of RUNS runs, as what is done a second on 1, 2 and 4 threads.
 """
 import time
 
-from bench.setup import counted, median_of, program
+from bench.setup import BENCH, counted, median_of
 
-PROGRAM = program("bench_marks")
-NEEDS = (PROGRAM,)
+NEEDS = (BENCH,)
 OPTIONS = {"count": (2_000_000, "what each thread does"), "runs": (5, "runs of each")}
 
 
 def seconds(what, threads, count):
     """Runs the program once, checks what it counted, and answers how long it took."""
     start = time.perf_counter()
-    counted(f"{what}: {threads * count} by {threads} threads", PROGRAM, what, threads, count)
+    counted(f"{what}: {threads * count} by {threads} threads", "marks", what, threads, count)
     return time.perf_counter() - start
 
 

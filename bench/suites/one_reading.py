@@ -3,9 +3,8 @@
 
 Beside both stands what it takes to offer it to one shelf. It fails where one reading for 16 takes
 more than 1.5 times that. It also tells the longest share of a shelf, for which that shelf's lock is
-held. Build the library for C first, by `bin/build-c`. Times are of a processor, the least of RUNS:
-of a usual response, which names four servers with their addresses, and of the hostile ones of
-tests/hostile/attacks.py.
+held. Times are of a processor, the least of RUNS: of a usual response, which names four servers
+with their addresses, and of the hostile ones of tests/hostile/attacks.py.
 """
 from bench.page import table, write_section
 from bench.setup import ARCHIVE, SOURCES, compiled, files, ran
@@ -30,10 +29,10 @@ def usual(_size):
 
 
 def times(program, message, count, runs):
-    """Nanoseconds of one shelf, of 16 by one reading, of 16 by a reading for each, and of the
+    """Microseconds of one shelf, of 16 by one reading, of 16 by a reading for each, and of the
     longest share."""
     with files(message=message) as paths:
-        return [int(it) for it in ran(program, paths["message"], count, runs).stdout.split()]
+        return [int(it) / 1000 for it in ran(program, paths["message"], count, runs).stdout.split()]
 
 
 def main(args):
@@ -43,13 +42,11 @@ def main(args):
         message, name = make(SIZE), make.__name__
         took = times(program, message, 500 if make is usual else 1, args.runs)
         whole, read, each, share = took
-        print(f"{name:12} one shelf {whole / 1000:9,.1f} us, 16 by one reading"
-              f" {read / 1000:9,.1f} us ({read / whole:4.2f}), by a reading for each"
-              f" {each / 1000:9,.1f} us ({each / whole:5.2f}), the longest share"
-              f" {share / 1000:9,.1f} us", flush=True)
-        rows.append([f"`{name}`", f"{len(message):,}", *(f"{it / 1000:,.1f}" for it in took)])
-        if read > MOST * whole:
-            slow.append(name)
+        print(f"{name:12} one shelf {whole:9,.1f} us, 16 by one reading {read:9,.1f} us"
+              f" ({read / whole:4.2f}), by a reading for each {each:9,.1f} us"
+              f" ({each / whole:5.2f}), the longest share {share:9,.1f} us", flush=True)
+        rows.append([f"`{name}`", f"{len(message):,}", *(f"{it:,.1f}" for it in took)])
+        slow += [name] if read > MOST * whole else []
     write_section(
         args, TITLE,
         ": microseconds of a processor that it takes to offer a message to one shelf, to 16 by one "

@@ -1,19 +1,15 @@
 # SPDX-License-Identifier: MIT
 """Times the program on put and ask lines over 500 names, up to 1,000,000 of them.
 
-Build the program first, by `bin/build`. The traces have 10,000, 100,000 and 1,000,000 lines. Prints
-for each trace the seconds, the lines a second and the peak memory, and then how much longer the
-trace of 1,000,000 lines took than that of 100,000. Ends with status 1 where that is more than 12
-times, or a run failed.
+The traces have 10,000, 100,000 and 1,000,000 lines. Prints for each trace the seconds, the lines a
+second and the peak memory, and then how much longer the trace of 1,000,000 lines took than that of
+100,000. Ends with status 1 where that is more than 12 times, or a run failed.
 """
 import random
-import sys
-import tempfile
 
-from bench.setup import files, program, used_by
+from bench.setup import REPLAY, answered, files
 
-PROGRAM = program("rrcache")
-NEEDS, OPTIONS = (PROGRAM,), {}
+NEEDS, OPTIONS = (REPLAY,), {}
 SIZES = [10_000, 100_000, 1_000_000]
 NAMES, MOST_GROWTH, SEED = 500, 12, 20
 
@@ -38,25 +34,15 @@ def trace(lines):
     return "".join(text)
 
 
-def timed(lines):
-    """What the program takes of a trace of so many lines."""
-    with files(trace=trace(lines)) as paths, tempfile.TemporaryFile() as report:
-        used = used_by(PROGRAM, "--capacity", "65536", "--chapter", "1048576",
-                       source=paths["trace"], report=report)
-        report.seek(0)
-        if (told := sum(1 for _ in report)) != lines:
-            sys.exit(f"the program failed: {told} lines of a report")
-    return used
-
-
 def main(_):
-    took = {}
+    clocks = []
     for size in SIZES:
-        used = timed(size)
-        took[size] = used.clock
+        with files(trace=trace(size)) as paths:
+            used = answered(paths["trace"], size, capacity=65_536, chapter=1 << 20)
+        clocks.append(used.clock)
         print(f"{size:>9} lines: {used.clock:8.2f} s, {size / used.clock:>9.0f} lines a second,"
               f" {used.octets / 2**20:7.0f} MiB")
-    growth = took[SIZES[2]] / took[SIZES[1]]
+    growth = clocks[2] / clocks[1]
     print(f"ten times the lines took {growth:.1f} times as long; at most {MOST_GROWTH} times is"
           " wanted")
     return growth > MOST_GROWTH

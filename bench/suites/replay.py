@@ -1,20 +1,17 @@
 # SPDX-License-Identifier: MIT
 """Times the program on lines that put addresses, and on responses that bring them.
 
-Build the program first, by `bin/build`. Each number is the least of RUNS runs, in seconds of
-processor time of the whole program, for LINES lines over a few names, each of which brings so many
-addresses, and last one, two, four and ten by turns. A response is one as servers send it for the
-name: its question, the A records, whose owners are pointers to it, and an OPT record.
+Each number is the least of RUNS runs, in seconds of processor time of the whole program, for LINES
+lines over a few names, each of which brings so many addresses, and last one, two, four and ten by
+turns. A response is one as servers send it for the name: its question, the A records, whose owners
+are pointers to it, and an OPT record.
 """
-import sys
-import tempfile
 from functools import partial
 
-from bench.setup import files, in_turn, program, used_by
+from bench.setup import REPLAY, answered, files, in_turn
 from tools.wire import A, opt, pointer, question, record, response
 
-PROGRAM = program("rrcache")
-NEEDS, NAMES, TTL = (PROGRAM,), 4, 300
+NEEDS, NAMES, TTL = (REPLAY,), 4, 300
 OPTIONS = {"lines": (100_000, "lines of each trace"), "runs": (5, "runs of each")}
 
 
@@ -34,25 +31,14 @@ def response_line(line, counts):
     return f"response {line} example. {response(asked, answer, additional=[opt(4096)]).hex()}\n"
 
 
-def seconds(path, lines):
-    """Runs the program once on a trace, each line of which is kept, and answers its processor
-    time."""
-    with tempfile.TemporaryFile() as report:
-        used = used_by(PROGRAM, "--chapter", "1048576", source=path, report=report)
-        report.seek(0)
-        kept = sum(line.endswith(b" kept\n") for line in report)
-    if kept != lines:
-        sys.exit(f"{kept} of {lines} lines were kept")
-    return used.seconds
-
-
 def main(args):
     for counts in ((1,), (2,), (4,), (10,), (1, 2, 4, 10)):
         traces = {make.__name__: "".join(make(it, counts) for it in range(args.lines))
                   for make in (put_line, response_line)}
         with files(**traces) as paths:
-            took = in_turn(args.runs, {name: partial(seconds, path, args.lines)
-                                       for name, path in paths.items()})
-        put, brought = map(min, took.values())
+            took = in_turn(args.runs, {
+                name: partial(answered, path, args.lines, b" kept\n", chapter=1 << 20)
+                for name, path in paths.items()})
+        put, brought = (min(it).seconds for it in took.values())
         print(f"{args.lines} lines with {', '.join(map(str, counts))} addresses: put {put:.3f} s,"
               f" response {brought:.3f} s, {brought / put:.2f} times as long")

@@ -1,17 +1,17 @@
 # SPDX-License-Identifier: MIT
 """Times a shared cache by several threads, and replays by several workers.
 
-Build the programs first, by `bin/build rrcache bench_cache`. Each number is the median of RUNS
-runs, in millions of calls or of lines a second of passed time. `--write` writes also
-docs/performance.svg; without it the table is only printed.
+Each number is the median of RUNS runs, in millions of calls or of lines a second of passed time.
+`--write` writes also docs/performance.svg; without it the table is only printed.
 """
 from functools import partial
 from statistics import median
 
 from bench.page import filled, of_threads, table, write_section
-from bench.setup import TOP, counted, files, in_turn, median_of, program, undisturbed, used_by
+from bench.setup import (BENCH, REPLAY, TOP, counted, files, in_turn, median_of, replayed,
+                         undisturbed)
 
-REPLAY, CALLS = NEEDS = program("rrcache"), program("bench_cache")
+NEEDS = REPLAY, BENCH
 OPTIONS = {
     "runs": (3, "runs of each"), "calls": (1_000_000, "calls of each run, over all threads"),
     "lines": (1_000_000, "lines of the trace"),
@@ -31,7 +31,7 @@ SHADES, WIDTH, HEIGHT = ("#9ecae1", "#4292c6", "#084594"), 760, 120
 
 def seconds_of_calls(task, threads, parts, calls):
     return counted(f"{task}: {threads * calls} served",
-                   CALLS, "shared", task, threads, parts, calls) / 1e9
+                   "cache", "shared", task, threads, parts, calls) / 1e9
 
 
 def trace(lines):
@@ -47,8 +47,7 @@ def trace(lines):
 
 
 def seconds_of_replay(workers, parts, path):
-    return used_by(REPLAY, f"--workers={workers}", f"--parts={parts}", "--capacity=65536",
-                   "--chapter=1048576", source=path).clock
+    return replayed(path, workers=workers, parts=parts, capacity=65_536, chapter=1 << 20).clock
 
 
 def rate(task, parts, threads, args, path):
@@ -70,22 +69,27 @@ def lock_costs(calls=100_000):
     return [median(it) / calls * 1e9 for it in took.values()]
 
 
+def rect(x, y, width, height, shade):
+    return (f'<rect x="{x}" y="{y:.1f}" width="{width}" height="{height:.1f}"'
+            f' fill="{SHADES[shade]}"/>')
+
+
+def text(x, y, words, form='text-anchor="middle"'):
+    return f'<text x="{x}" y="{y:.1f}" {form}>{words}</text>'
+
+
 def bars(rates, task, top):
     """The bars of a task: over 1, 4 and 64 parts by 1, 2 and 4 threads."""
     most = max(rates[task, parts, threads] for parts in PARTS for threads in THREADS)
-    yield (f'<text x="10" y="{top + 5}" font-weight="bold">{TASKS[task]}, millions a second'
-           '</text>')
+    yield text(10, top + 5, f"{TASKS[task]}, millions a second", 'font-weight="bold"')
     for group, parts in enumerate(PARTS):
         left = 60 + group * 230
         for bar, threads in enumerate(THREADS):
             found = rates[task, parts, threads]
             tall = found / most * (HEIGHT - 30)
             x, y = left + bar * 62, top + HEIGHT - tall
-            yield (f'<rect x="{x}" y="{y:.1f}" width="54" height="{tall:.1f}"'
-                   f' fill="{SHADES[bar]}"/>')
-            yield f'<text x="{x + 27}" y="{y - 4:.1f}" text-anchor="middle">{found:.2f}</text>'
-        yield (f'<text x="{left + 89}" y="{top + HEIGHT + 15}" text-anchor="middle">{parts}'
-               f' {"part" if parts == 1 else "parts"}</text>')
+            yield from (rect(x, y, 54, tall, bar), text(x + 27, y - 4, f"{found:.2f}"))
+        yield text(left + 89, top + HEIGHT + 15, f"{parts} {'part' if parts == 1 else 'parts'}")
 
 
 def picture(rates):
@@ -94,12 +98,10 @@ def picture(rates):
             for it in bars(rates, task, 20 + row * (HEIGHT + 50))]
     tall = 20 + len(TASKS) * (HEIGHT + 50) + 20
     for bar, threads in enumerate(THREADS):
-        rows += [f'<rect x="{60 + bar * 120}" y="{tall - 24}" width="14" height="14"'
-                 f' fill="{SHADES[bar]}"/>',
-                 f'<text x="{80 + bar * 120}" y="{tall - 12}">{of_threads(threads)}</text>']
-    inner = "\n".join(rows)
-    return (f'<svg xmlns="http://www.w3.org/2000/svg" width="{WIDTH}" height="{tall}"'
-            f' font-family="sans-serif" font-size="12">\n{inner}\n</svg>\n')
+        rows += [rect(60 + bar * 120, tall - 24, 14, 14, bar),
+                 text(80 + bar * 120, tall - 12, of_threads(threads), "")]
+    return "\n".join([f'<svg xmlns="http://www.w3.org/2000/svg" width="{WIDTH}" height="{tall}"'
+                      ' font-family="sans-serif" font-size="12">', *rows, "</svg>\n"])
 
 
 def main(args):
@@ -119,7 +121,7 @@ def main(args):
         f". Each number is the median of {args.runs} runs, in millions a second by the clock. A "
         "run during which the host took processors away from the machine was made again. The calls "
         f"are those of a shared cache with {NAMES} names, {args.calls} of them over all threads "
-        f"(`bench_cache shared`). The lines are those of a trace of {args.lines} lines, read, "
+        f"(`bench cache shared`). The lines are those of a trace of {args.lines} lines, read, "
         "replayed, collated and reported (`rrcache`).",
         "![Millions a second](performance.svg)",
         table(["What", "Parts", *map(of_threads, THREADS), "four to one"], rows),

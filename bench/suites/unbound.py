@@ -40,8 +40,8 @@ KINDS = {"hit": "asks that hit", "hot": "asks for one name", "replace": "puts th
 
 def fetch():
     """The folder of unbound's source."""
-    (FOLDER / "lists" / "partial").mkdir(parents=True, exist_ok=True)
-    (FOLDER / "cache" / "archives" / "partial").mkdir(parents=True, exist_ok=True)
+    for name in ("lists", "cache/archives"):
+        (FOLDER / name / "partial").mkdir(parents=True, exist_ok=True)
     (FOLDER / "unbound.sources").write_text(LIST)
     options = {"Dir::Etc::sourcelist": FOLDER / "unbound.sources",
                "Dir::Etc::sourceparts": "/dev/null", "Dir::State::lists": FOLDER / "lists",
@@ -103,9 +103,9 @@ def ratios(own, unbound, threads, kind, args, preload):
 
 def ratio_table(own, unbound, args, preload=None):
     head = [f"{what}, {of_threads(it)}" for it in args.threads for what in ("time", "rate")]
-    return table(["What", *head], ([title, *(
-        cell for threads in args.threads
-        for cell in ratios(own, unbound, threads, kind, args, preload))]
+    return table(["What", *head], (
+        [title, *(cell for threads in args.threads
+                  for cell in ratios(own, unbound, threads, kind, args, preload))]
         for kind, title in KINDS.items()))
 
 
@@ -114,13 +114,12 @@ def main(args):
         return "unbound's source comes by apt-get, which is not on this machine"
     made = programs()
     jemalloc = next(Path("/usr/lib").glob("*/libjemalloc.so.2"), None)
-    parts = ["With mutexes and glibc's malloc:",
-             ratio_table(made["rrcache"], made["unbound"], args),
-             "With spin locks, as unbound's are:",
-             ratio_table(made["spinning"], made["unbound"], args)]
+    ways = [("With mutexes and glibc's malloc:", "rrcache", None),
+            ("With spin locks, as unbound's are:", "spinning", None)]
     if jemalloc:
-        parts += ["With mutexes and jemalloc:",
-                  ratio_table(made["rrcache"], made["unbound"], args, str(jemalloc))]
+        ways.append(("With mutexes and jemalloc:", "rrcache", str(jemalloc)))
+    parts = [part for title, own, preload in ways
+             for part in (title, ratio_table(made[own], made["unbound"], args, preload))]
     write_section(
         args, TITLE,
         f": {args.names:,} names with one A record each, 64 shards, {args.calls:,} calls a run, "

@@ -1,49 +1,33 @@
 # SPDX-License-Identifier: MIT
 """Times the reader of messages on small, usual, crowded and hostile ones.
 
-Build the program first, by `bin/build bench_sets`. They are responses of 43 and of 512 octets, a
-message of many small records, a chain of pointers, a message whose names all go through a chain,
-and one whose names expand most; last comes how much longer the last but one takes than the last,
-and it fails above 3 times. Each line is the median of RUNS runs, less a run of no pass.
+They are responses of 43 and of 512 octets, a message of many small records, a chain of pointers, a
+message whose names all go through a chain, and one whose names expand most; last comes how much
+longer the last but one takes than the last, and it fails above 3 times. Each line is the median of
+RUNS runs, less a run of no pass.
 """
 import sys
 import time
+from itertools import repeat
 
-from bench.setup import files, median_of, over, program, ran
-from tests.hostile.attacks import chained
+from bench.setup import BENCH, files, median_of, over, ran
+from tests.hostile.attacks import chained, filled
 from tools.wire import A, CNAME, MINFO, NS, pointer, question, record, response, wire
 
-PROGRAM = program("bench_sets")
-NEEDS, MOST = (PROGRAM,), 3
+NEEDS, MOST = (BENCH,), 3
 OPTIONS = {"octets": (200_000_000, "octets read in each run"), "runs": (5, "runs of each")}
+MOST_OCTETS = 65_535
 QUESTION = question("a.example.", A)
 # The names of the question, a.example., and of its zone, as pointers to them.
 ASKED, ZONE = pointer(12), pointer(14)
 ADDRESS = record(ASKED, A, 60, bytes([192, 0, 2, 1]))
 
 
-def small():
-    """One address of a.example., 43 octets."""
-    return response(QUESTION, [ADDRESS])
-
-
 def usual():
     """An alias, addresses and name servers of 512 octets in all."""
     alias = record(ASKED, CNAME, 60, wire("www", ZONE))
     server = record(ZONE, NS, 3600, wire("ns1", ZONE))
-    message = response(QUESTION, [alias] + [server] * 9 + [ADDRESS] * 19)
-    return message + bytes(512 - len(message))
-
-
-def crowded():
-    """As many small records as 65,535 octets hold."""
-    return response(QUESTION, [ADDRESS] * ((65535 - 27) // len(ADDRESS)))
-
-
-def chain():
-    """An owner behind 7,999 pointers, each to the one before it."""
-    first, last = chained(7999)
-    return response(question(".", A), [first, last + ADDRESS[2:]])
+    return response(QUESTION, [alias] + [server] * 9 + [ADDRESS] * 19).ljust(512, b"\0")
 
 
 def minfo(name):
@@ -52,23 +36,32 @@ def minfo(name):
     return record(name, MINFO, 60, name + name)
 
 
-def chains():
-    """A chain of 8,178 pointers, and as many records as 65,535 octets hold, whose names all go
-    through it."""
-    first, last = chained(8177)
-    return response(question(".", A), [first] + [minfo(last)] * ((65535 - 16384) // 16))
+def behind(pointers, make, times=1):
+    """A chain of so many pointers, each to the one before it, and records made of the last one."""
+    first, last = chained(pointers)
+    return response(question(".", A), [first] + [make(last)] * times)
 
 
-def expanding():
-    """As many records as 65,535 octets hold, with three names of 255 octets each."""
-    asked = question(".".join("x" * size for size in (63, 63, 63, 61)), A)
-    return response(asked, [minfo(ASKED)] * ((65535 - 12 - len(asked)) // 16))
+MESSAGES = {
+    # One address of a.example., 43 octets.
+    "small": response(QUESTION, [ADDRESS]),
+    "usual": usual(),
+    # As many small records as 65,535 octets hold.
+    "crowded": filled(MOST_OCTETS, QUESTION, repeat(ADDRESS)),
+    # An owner behind 7,999 pointers.
+    "chain": behind(7999, lambda last: last + ADDRESS[2:]),
+    # As many records as 65,535 octets hold, whose names all go through a chain of 8,178 pointers.
+    "chains": behind(8177, minfo, (MOST_OCTETS - 16384) // 16),
+    # As many records as 65,535 octets hold, with three names of 255 octets each.
+    "expanding": filled(MOST_OCTETS, question(".".join("x" * it for it in (63, 63, 63, 61)), A),
+                        repeat(minfo(ASKED))),
+}
 
 
 def seconds(path, passes):
     """How long a run of the program takes."""
     start = time.perf_counter()
-    ran(PROGRAM, "read", passes, path)
+    ran(BENCH, "sets", "read", passes, path)
     return time.perf_counter() - start
 
 
@@ -76,7 +69,7 @@ def tell(name, message, args):
     """The seconds that a message takes."""
     with files(message=message.hex() + "\n") as paths:
         path = paths["message"]
-        said = ran(PROGRAM, "read", 1, path).stdout
+        said = ran(BENCH, "sets", "read", 1, path).stdout
         if not said.startswith("1 messages read, 0 refused"):
             sys.exit(f"{name}: {said}")
         passes = max(1, args.octets // len(message))
@@ -88,8 +81,7 @@ def tell(name, message, args):
 
 
 def main(args):
-    each = {make: tell(make.__name__, make(), args)
-            for make in (small, usual, crowded, chain, chains, expanding)}
-    ratio = each[chains] / each[expanding]
+    each = {name: tell(name, message, args) for name, message in MESSAGES.items()}
+    ratio = each["chains"] / each["expanding"]
     print(f"chains take {ratio:.2f} times as long as expanding")
     return over(ratio, MOST)
