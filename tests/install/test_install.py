@@ -28,7 +28,6 @@ WARNINGS = ["-Wall", "-Wextra", "-Werror"]
 WANTED = "TTL 50\n"
 pytestmark = pytest.mark.skipif(shutil.which("pkg-config") is None,
                                 reason="there is no pkg-config here (bin/setup installs it)")
-each_language = pytest.mark.parametrize("language", LANGUAGES)
 
 
 def said(*words, source=None, **more):
@@ -65,15 +64,13 @@ def it(tmp_path_factory):
     return Installed(tmp_path_factory.mktemp("installed"))
 
 
-@each_language
-def test_shared(language, it, tmp_path):
-    assert it.run(EXAMPLE, tmp_path, LANGUAGES[language], it.flags()) == WANTED
-
-
-@each_language
-def test_static(language, it, tmp_path):
-    words = [word for word in it.flags("--static") if word != "-lrrcache"]
-    words.append(it.lib / "librrcache.a")
+@pytest.mark.parametrize("library", ["shared", "static"])
+@pytest.mark.parametrize("language", LANGUAGES)
+def test_example(language, library, it, tmp_path):
+    words = it.flags()
+    if library == "static":
+        words = [word for word in it.flags("--static") if word != "-lrrcache"]
+        words.append(it.lib / "librrcache.a")
     assert it.run(EXAMPLE, tmp_path, LANGUAGES[language], words) == WANTED
 
 
