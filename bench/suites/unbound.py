@@ -27,13 +27,11 @@ OPTIONS = {
     "threads": ([1, 2, 4], "threads"), "runs": (5, "runs of each"),
 }
 FOLDER, BESIDE = BUILD / "unbound", SOURCES / "beside"
-LIST = """\
-Types: deb-src
-URIs: http://deb.debian.org/debian
-Suites: bookworm
-Components: main
-Signed-By: /usr/share/keyrings/debian-archive-keyring.gpg
-"""
+# Where this machine gets the packages of Debian's release from that the numbers are of. Sources are
+# there too.
+ARCHIVES = ["apt-get", "indextargets", "Created-By: Packages", "Codename: bookworm", "--format",
+            "deb-src [signed-by=/usr/share/keyrings/debian-archive-keyring.gpg]"
+            " $(REPO_URI) $(RELEASE) $(COMPONENT)"]
 KINDS = {"hit": "asks that hit", "hot": "asks for one name", "replace": "puts that replace",
          "evict": "puts that evict"}
 
@@ -42,8 +40,8 @@ def fetch():
     """The folder of unbound's source."""
     for name in ("lists", "cache/archives"):
         (FOLDER / name / "partial").mkdir(parents=True, exist_ok=True)
-    (FOLDER / "unbound.sources").write_text(LIST)
-    options = {"Dir::Etc::sourcelist": FOLDER / "unbound.sources",
+    (FOLDER / "unbound.list").write_text(ran(*ARCHIVES).stdout)
+    options = {"Dir::Etc::sourcelist": FOLDER / "unbound.list",
                "Dir::Etc::sourceparts": "/dev/null", "Dir::State::lists": FOLDER / "lists",
                "Dir::Cache": FOLDER / "cache"}
     words = ["apt-get", "-q", *(f"-o{name}={value}" for name, value in options.items())]
