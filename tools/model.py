@@ -8,7 +8,7 @@ wire form.
 """
 from typing import NamedTuple
 
-from tools.names import fold, parts_of_wire, to_text
+from tools.names import fold, labels_in, to_text
 
 STALE, RECHECK, CAP, NEGATIVE_CAP = 86_400, 30, 604_800, 10_800
 STALE_SECONDS = 30
@@ -39,7 +39,7 @@ class Key(NamedTuple):
         """By which keys are ordered: the labels from the rightmost (RFC 4034 section 6.1), the
         class, and the slot, RRsets by type, NXDOMAIN, failures by type."""
         slots = ("set", "nx", "failed")
-        labels = parts_of_wire(self.name)[::-1]
+        labels = labels_in(self.name)[::-1]
         return labels, self.rclass, slots.index(self.slot), self.rtype
 
 

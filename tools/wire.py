@@ -4,22 +4,19 @@
 A name is given as a text (docs/FORMATS.md), of which the last dot may be left out, or as octets,
 which stay as they are: so a pointer is given.
 """
-import re
 import struct
+
+from rrcache.names import labels_of, to_text, wire_of
 
 A, NS, CNAME, SOA, PTR, MINFO, TXT, OPT, RRSIG, ANY = 1, 2, 5, 6, 12, 14, 16, 41, 46, 255
 IN = 1
-LABEL = re.compile(rb"(?:\\\d{3}|\\.|[^.\\])+", re.DOTALL)
-ESCAPE = re.compile(rb"\\(\d{3}|.)", re.DOTALL)
 
 
 def wire(name, end=b"\0"):
     """A name in wire form: its labels, and behind them the root or a pointer (section 3.1)."""
     if isinstance(name, bytes):
         return name
-    labels = [ESCAPE.sub(lambda it: bytes([int(it[1])]) if it[1][1:] else it[1], label)
-              for label in LABEL.findall(name.encode("latin-1"))]
-    return b"".join(bytes([len(label)]) + label for label in labels) + end
+    return wire_of(labels_of(name.encode("latin-1")))[:-1] + end
 
 
 def pointer(place):
@@ -34,11 +31,9 @@ def name_at(octets, at):
         if size >= 192:
             behind, at = behind or at + 2, (size & 63) << 8 | octets[at + 1]
         else:
-            labels.append("".join(
-                "\\" * (it in b".\\") + chr(it) if 33 <= it <= 126 else f"\\{it:03}"
-                for it in octets[at + 1:at + 1 + size]))
+            labels.append(octets[at + 1:at + 1 + size])
             at += 1 + size
-    return ".".join(labels), behind or at + 1
+    return to_text(wire_of(labels))[:-1], behind or at + 1
 
 
 def question(name, rtype, rclass=IN):

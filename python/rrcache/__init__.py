@@ -8,7 +8,8 @@ their locks, for any number of threads. Names are text, as "www.example.", or oc
 no name compressed. A call that is refused raises a `Refused`.
 
 The library is the one that the environment variable RRCACHE_LIBRARY names, else build/librrcache.so
-of the repository that this package lies in, else what the system's loader finds.
+of the repository that this package lies in, else what the system's loader finds. It is loaded by
+the first call of it.
 """
 from .cache import Cache
 from .choices import Class, Denial, Kind, Mode, Outcome, Purpose, Rank

@@ -2,6 +2,7 @@
 """The library for C by ctypes: where it is, what its calls take, and calls without a shelf."""
 from __future__ import annotations
 
+import functools
 import os
 from ctypes import (CDLL, Structure, byref, c_size_t, c_uint16, c_uint32, c_uint64, c_void_p)
 from pathlib import Path
@@ -56,28 +57,26 @@ def path() -> str:
     return os.environ.get("RRCACHE_LIBRARY") or (str(beside) if beside.exists() else SONAME)
 
 
-def load() -> CDLL:
-    """The library, with what its calls take."""
+@functools.cache
+def library() -> CDLL:
+    """The library, with what its calls take. It is loaded when it is called first."""
     try:
-        library = CDLL(path())
+        loaded = CDLL(path())
     except OSError as fault:
         raise ImportError(f"{path()} cannot be loaded ({fault}): install the library by "
                           "bin/install-c, or name it in RRCACHE_LIBRARY") from fault
     for name, letters in CALLS.items():
-        call = getattr(library, name)
+        call = getattr(loaded, name)
         call.argtypes = [it for letter in letters for it in TYPES[letter]]
         call.restype = c_uint32
-    if (version := library.rrc_version()) >> 16 != MAJOR:
+    if (version := loaded.rrc_version()) >> 16 != MAJOR:
         raise ImportError(f"{path()} has version {version >> 16}, and this package is for {MAJOR}")
-    return library
-
-
-LIBRARY = load()
+    return loaded
 
 
 def call(name: str, *arguments: Any) -> bool:
     """Whether the buffer for a reply was too small. Any other refusal is raised."""
-    status = getattr(LIBRARY, name)(*arguments)
+    status = getattr(library(), name)(*arguments)
     if status not in (Status.DONE, Status.SMALL):
         raise refusal(status)
     return bool(status == Status.SMALL)
@@ -112,5 +111,5 @@ def part_of(name: str | bytes, parts: int, seed: bytes) -> int:
 
 def library_version() -> tuple[int, int, int]:
     """The version of the library: major, minor and patch."""
-    version = LIBRARY.rrc_version()
+    version = library().rrc_version()
     return version >> 16, version >> 8 & 255, version & 255

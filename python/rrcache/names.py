@@ -5,26 +5,38 @@ from __future__ import annotations
 import re
 
 LABEL_MOST, NAME_MOST = 63, 255
-# An octet of a label as text: \\DDD, an escaped one, or any other but a dot.
-OCTET = re.compile(rb"\\([0-9]{3})|\\(.)|([^.\\])", re.S)
+# A backslash and what it escapes, or any other octet but a dot.
+LABEL = re.compile(rb"(?:\\.|[^.\\])+", re.S)
+NAME = re.compile(rb"(?:%b\.)*(?:%b)?" % (LABEL.pattern, LABEL.pattern), re.S)
+ESCAPE = re.compile(rb"\\([0-9]{3}|.)", re.S)
 
 
 class NameFault(ValueError):
     """A text is the text of no name."""
 
 
-def label_of(text: bytes) -> bytes:
-    """The octets of a label as text."""
-    octets, place = bytearray(), 0
-    while place < len(text):
-        found = OCTET.match(text, place)
-        if found is None or found[1] and int(found[1]) > 255:
-            raise NameFault("a backslash escapes nothing")
-        octets += bytes([int(found[1])]) if found[1] else found[2] or found[3]
-        place = found.end()
-    if not 1 <= len(octets) <= LABEL_MOST:
-        raise NameFault("a label is empty or has more than 63 octets")
-    return bytes(octets)
+def octet_of(escape: re.Match[bytes]) -> bytes:
+    """The octet that an escape spells, \\DDD or \\c."""
+    spelled = escape[1]
+    if len(spelled) == 1:
+        return spelled
+    if int(spelled) > 255:
+        raise NameFault("a backslash escapes nothing")
+    return bytes([int(spelled)])
+
+
+def labels_of(text: bytes) -> list[bytes]:
+    """The labels that a text spells, of any size, without the root's."""
+    if text == b".":
+        return []
+    if not NAME.fullmatch(text):
+        raise NameFault("a label is empty, or a backslash escapes nothing")
+    return [ESCAPE.sub(octet_of, it) for it in LABEL.findall(text)]
+
+
+def wire_of(labels: list[bytes]) -> bytes:
+    """The wire form of labels, with the root behind them."""
+    return b"".join(bytes([len(it)]) + it for it in labels) + b"\0"
 
 
 def to_wire(name: str | bytes) -> bytes:
@@ -39,23 +51,24 @@ def to_wire(name: str | bytes) -> bytes:
     if isinstance(name, bytes):
         return name
     try:
-        text = name.encode("latin-1")
+        labels = labels_of(name.encode("latin-1"))
     except UnicodeEncodeError as fault:
         raise NameFault("a character is no octet: give its A-label (RFC 5890)") from fault
-    if text in (b"", b"."):
-        return b"\0"
-    labels = [b""]
-    for piece in re.split(rb"(\\[0-9]{3}|\\.|\.)", text, flags=re.S):
-        if piece == b".":
-            labels.append(b"")
-        else:
-            labels[-1] += piece
-    if not labels[-1]:
-        labels.pop()
-    wire = b"".join(bytes([len(it)]) + it for it in map(label_of, labels)) + b"\0"
+    if any(len(it) > LABEL_MOST for it in labels):
+        raise NameFault("a label has more than 63 octets")
+    wire = wire_of(labels)
     if len(wire) > NAME_MOST:
         raise NameFault("a name has more than 255 octets")
     return wire
+
+
+def labels_in(wire: bytes) -> list[bytes]:
+    """The labels of a name in wire form, without the root's."""
+    labels, place = [], 0
+    while size := wire[place]:
+        labels.append(wire[place + 1:place + 1 + size])
+        place += 1 + size
+    return labels
 
 
 def octet_text(octet: int) -> str:
@@ -70,9 +83,4 @@ def to_text(wire: bytes) -> str:
     >>> to_text(b"\\x03w.w\\x07example\\x00")
     'w\\\\.w.example.'
     """
-    text, place = "", 0
-    while wire[place]:
-        size = wire[place]
-        text += "".join(map(octet_text, wire[place + 1:place + 1 + size])) + "."
-        place += 1 + size
-    return text or "."
+    return "".join("".join(map(octet_text, it)) + "." for it in labels_in(wire)) or "."

@@ -11,7 +11,7 @@ from typing import Any
 
 from .choices import Class, Denial, Kind, Mode, Outcome, Purpose, Rank
 from .history import Chapter, read_archive
-from .library import LIBRARY, Line, StoredNumbers, Told, call, sized, told
+from .library import Line, StoredNumbers, Told, call, library, sized, told
 from .names import to_wire
 from .offers import Offers
 from .refusals import Status, refusal
@@ -36,7 +36,8 @@ def data_of(octets: bytes) -> tuple[bytes, ...]:
 def line_at(chapters: Any, chapter: int, line: int, room: int = LINE_ROOM) -> bytes:
     """A line of a chapter with its LF, of a handle that holds chapters; nothing behind the last."""
     buffer, told_line = create_string_buffer(room), Line()
-    status = LIBRARY.rrc_chapter_line(chapters, chapter, line, 0, buffer, room, byref(told_line))
+    status = library().rrc_chapter_line(chapters, chapter, line, 0, buffer, room,
+                                        byref(told_line))
     if status not in (Status.DONE, Status.NO_LINE):
         raise refusal(status)
     if told_line.size > room:
@@ -96,7 +97,7 @@ class Shelf:
 
     def _offer(self, name: str, *arguments: Any) -> Counts:
         counts = (c_uint64 * 3)()
-        if status := getattr(LIBRARY, name)(self._handle, *arguments, counts):
+        if status := getattr(library(), name)(self._handle, *arguments, counts):
             raise refusal(status, Counts(*counts))
         return Counts(*counts)
 
