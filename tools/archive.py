@@ -4,14 +4,12 @@ as an archive (docs/FORMATS.md).
 
 The trace is replayed by the model of the rules (model.py), which is apart from the program, by one
 worker and on one part. All chapters are printed, the open one last. The options are the program's.
-
-As a module it has chapters and their text; audits.py reads them.
 """
 import argparse
 import sys
 from typing import NamedTuple
 
-from tools.model import IN, Offer, Part, items_text
+from tools.model import IN, Key, Part, items_text
 from tools.names import fold, to_text
 from tools.traces import Replay, TraceFault, lines_in
 from tools.trials import RANGES
@@ -25,63 +23,11 @@ class Rules(NamedTuple):
     stale: int = 86_400
 
 
-class Ask(NamedTuple):
-    """An ask of a folded name."""
-
-    name: bytes
-    rtype: int
-    at: int
-    purpose: str
-    mode: str
-    rclass: int = IN
-
-
-class Sweep(NamedTuple):
-    at: int
-
-
-class Event(NamedTuple):
-    """A call, the line and the place that its caller calls it by, and what came of it, as text: of
-    an offer the outcome, and the key that was evicted; of an ask the reply; of a sweep the keys
-    that were removed."""
-
-    line: int
-    place: int
-    call: Offer | Ask | Sweep
-    result: str
-
-    def __str__(self):
-        word = type(self.call).__name__.lower()
-        fields = word, self.line, self.place, self.call.at, *FIELDS[word](self.call), self.result
-        return " ".join(str(it) for it in fields if it != "")
-
-
-class Chapter(NamedTuple):
-    """A chapter: its number, that of its first event, the rules, what the keys held, the key
-    touched last first, and the events, the oldest first."""
-
-    number: int
-    first: int
-    rules: Rules
-    entries: list
-    events: list
-
-    def lines(self):
-        """Its lines, without their LF."""
-        yield f"chapter {self.number} {self.first} " + " ".join(map(str, self.rules))
-        yield from map(entry_text, self.entries)
-        yield from map(str, self.events)
-
-
 # ---- the text
 
 
 def key_text(key):
     return f"{to_text(key.name)} {key.slot_text}"
-
-
-def keys_text(keys):
-    return " ".join(map(key_text, keys))
 
 
 def body_text(body):
@@ -95,103 +41,83 @@ def entry_text(entry):
     return f"entry {entry.number} {entry.at} {key_text(entry.key)} {body_text(entry.body)}"
 
 
-def outcome_text(outcome):
-    """An offer's outcome, and the key that it evicted."""
-    return f"{outcome.word} {key_text(outcome.evicted.key)}" if outcome.evicted else outcome.word
-
-
-def fields_of_offer(offer):
-    return key_text(offer.key), body_text(offer.body)
-
-
-def fields_of_ask(ask):
-    rtype = f"{ask.rtype}" if ask.rclass == IN else f"{ask.rtype}/{ask.rclass}"
-    return to_text(ask.name), rtype, ask.purpose, ask.mode
-
-
-def fields_of_sweep(sweep):
-    return ()
-
-
-FIELDS = {"offer": fields_of_offer, "ask": fields_of_ask, "sweep": fields_of_sweep}
-
-
-def text_of(chapters):
-    """The archive of chapters."""
-    return "".join(f"{line}\n" for chapter in chapters for line in chapter.lines())
-
-
 # ---- the history of a part
 
 
-def removed_text(entries):
-    """The keys that a sweep removed, in the order of keys."""
-    return keys_text(sorted((it.key for it in entries), key=lambda it: it.place))
+class Recorder(Part):
+    """A part that writes the line of each event. `line` and `place` are what the next one is called
+    by."""
 
+    line = place = 0
 
-def result_of(part, call):
-    """Makes a call, and tells what came of it."""
-    if isinstance(call, Offer):
-        return outcome_text(part.offer(call))
-    return str(part.ask(*call)) if isinstance(call, Ask) else removed_text(part.sweep(call.at))
-
-
-class Recorder:
-    """A part that writes its history; a replay has it in the part's place."""
-
-    def __init__(self, rules):
-        self.part, self.rules, self.chapters = Part(rules.capacity, rules.stale), rules, []
-        self.line = self.operation = 0
-        self.checkpoint()
-
-    def begin_line(self, line):
-        """Says of which line of a trace the next calls are."""
-        self.line, self.operation = line, 0
-
-    def checkpoint(self):
-        """Closes the open chapter and begins the next one."""
-        held = [*reversed(self.part.held.values())]
-        number = len(self.chapters) + 1
-        self.chapters.append(Chapter(number, self.part.number, self.rules, held, []))
+    def __init__(self, rules, entries=(), number=0):
+        super().__init__(rules.capacity, rules.stale, entries, number)
+        self.rules, self.lines = rules, []
 
     def make_room(self):
-        """Closes the open chapter where it is full."""
-        if len(self.chapters[-1].events) == self.rules.chapter:
-            self.checkpoint()
+        """What is done before each event: nothing, as lines that are no chapters have room."""
 
-    def write(self, call, result):
-        self.chapters[-1].events.append(Event(self.line, self.operation, call, result))
-        self.operation += 1
+    def write(self, word, at, *fields):
+        self.lines.append(" ".join(map(str, (word, self.line, self.place, at, *fields))))
+        self.place += 1
 
     def offer(self, offer):
         self.make_room()
-        outcome = self.part.offer(offer)
-        self.write(offer, outcome_text(outcome))
+        outcome = super().offer(offer)
+        evicted = [key_text(outcome.evicted.key)] if outcome.evicted else []
+        self.write("offer", offer.at, key_text(offer.key), body_text(offer.body), outcome.word,
+                   *evicted)
         return outcome
 
-    def ask(self, name, *others):
+    def ask(self, name, rtype, at, purpose, mode, rclass=IN):
         self.make_room()
-        reply = self.part.ask(name, *others)
-        self.write(Ask(fold(name), *others), str(reply))
+        reply = super().ask(name, rtype, at, purpose, mode, rclass)
+        self.write("ask", at, key_text(Key(fold(name), "set", rtype, rclass)), purpose, mode, reply)
         return reply
 
     def sweep(self, at):
         self.make_room()
-        removed = self.part.sweep(at)
-        self.write(Sweep(at), removed_text(removed))
+        removed = super().sweep(at)
+        self.write("sweep", at, *map(key_text, sorted((it.key for it in removed),
+                                                      key=lambda it: it.place)))
         return removed
 
+    def held_lines(self):
+        """The lines of what the keys hold, the key touched last first."""
+        return [*map(entry_text, reversed(self.held.values()))]
 
-def chapters_of(lines, rules=Rules()):
-    """The chapters of the history that the lines of a trace make, the open one last."""
-    recorder, replay = Recorder(rules), Replay()
-    replay.parts = [recorder]
-    for place, line in enumerate(lines):
-        recorder.begin_line(place)
+
+class Chapters(Recorder):
+    """A part that writes its history, in chapters; a replay has it in the part's place."""
+
+    def __init__(self, rules, number):
+        super().__init__(rules)
+        self.chapter = number - 1
+        self.checkpoint()
+
+    def checkpoint(self):
+        """Closes the open chapter and begins the next one."""
+        self.chapter, self.first = self.chapter + 1, self.number
+        self.lines.append(" ".join(map(str, ("chapter", self.chapter, self.first, *self.rules))))
+        self.lines += self.held_lines()
+
+    def make_room(self):
+        """Closes the open chapter where it is full."""
+        if self.number - self.first == self.rules.chapter:
+            self.checkpoint()
+
+
+def archive_of(lines, rules=Rules(), number=1):
+    """The archive of the history that the lines of a trace make, the open chapter last. The first
+    chapter has this number."""
+    replay = Replay()
+    replay.parts = [recorder] = [Chapters(rules, number)]
+    for recorder.line, line in enumerate(lines):
+        recorder.place = 0
         if line.word == "checkpoint":
             recorder.checkpoint()
         replay.line(line)
-    return recorder.chapters
+    return "".join(f"{it}\n" for it in recorder.lines)
 
 
 def rules_given(words):
@@ -211,7 +137,7 @@ def rules_given(words):
 def main(words):
     rules = rules_given(words)
     try:
-        print(text_of(chapters_of(lines_in(sys.stdin.buffer), rules)), end="")
+        print(archive_of(lines_in(sys.stdin.buffer), rules), end="")
     except TraceFault as fault:
         print(f"archive.py: {fault}", file=sys.stderr)
         return 1

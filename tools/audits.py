@@ -1,219 +1,20 @@
 # SPDX-License-Identifier: MIT
-"""Archives (docs/FORMATS.md), read strictly and apart from the program, and audits of them by the
-model of the rules (model.py): whether the history that an archive tells is legal, and where not,
-what is wrong with it first.
+"""Audits of archives (docs/FORMATS.md), which the package for Python reads, by the model of the
+rules (model.py): whether the history that an archive tells is legal, and where not, what is wrong
+with it first.
 """
-import re
 from typing import NamedTuple
 
-from tools.archive import Ask, Chapter, Event, Rules, Sweep, entry_text, result_of
-from tools.model import IN, Body, Entry, Key, Offer, Part
-from tools.names import NameFault, fold, from_text, to_text
-from tools.traces import MODES, MOMENT_MOST, PURPOSES
-from tools.trials import RANGES
+from rrcache.history import MODES, PURPOSES, Ask, Failure, Offer as ToldOffer, Sweep, fits
+from tools.archive import Recorder, Rules, entry_text
+from tools.model import Body, Entry, Key, Offer
+from tools.names import to_wire
+from tools.traces import MOMENT_MOST
 
-NUMBER, SLOT = re.compile(r"0|[1-9][0-9]*"), re.compile(r"(nx)|(failed)?([0-9]+)")
-ITEM = re.compile(r"-|(?:[0-9a-f]{2})+")
 SPENT = 2**62
 NONE_DUE = "none, since the numbers are spent or the moment is above 2^40"
-# Which body goes with which slots of a key.
-FITTING = {"positive": ("set",), "negative": ("set", "nx"), "failure": ("failed",)}
-
-
-class NoLine(ValueError):
-    """A text is no line of an archive."""
-
-
-class BadLine(ValueError):
-    """An archive is none, for the line of this number."""
-
-
-# ---- fields
-
-
-class Fields:
-    """The fields of a line, which are taken one after another."""
-
-    def __init__(self, text):
-        self.left = text.split(" ")[::-1]
-
-    def word(self):
-        """The next field, which is not empty."""
-        if not self.left or not self.left[-1]:
-            raise NoLine
-        return self.left.pop()
-
-    def among(self, words):
-        """A field that is one of these words."""
-        word = self.word()
-        if word not in words:
-            raise NoLine
-        return word
-
-    def number(self, end=2**64):
-        return number_of(self.word(), end)
-
-    def name(self):
-        """A name, written as names are printed."""
-        text = self.word()
-        try:
-            name = from_text(text.encode())
-        except NameFault as fault:
-            raise NoLine from fault
-        if to_text(name) != text:
-            raise NoLine
-        return name
-
-    def folded(self):
-        name = self.name()
-        if fold(name) != name:
-            raise NoLine
-        return name
-
-    def slot(self):
-        """A slot with its type, which is 0 of `nx`, and the class."""
-        text, slash, rclass = self.word().partition("/")
-        found = SLOT.fullmatch(text)
-        if found is None:
-            raise NoLine
-        rtype = 0 if found[1] else number_of(found[3], 2**16)
-        rclass = number_of(rclass, 2**16) if slash else IN
-        if slash and rclass == IN:
-            raise NoLine
-        return found[1] or found[2] or "set", rtype, rclass
-
-    def key(self):
-        name, (slot, rtype, rclass) = self.folded(), self.slot()
-        return Key(name, slot, rtype, rclass)
-
-    def rtype(self):
-        slot, *rtype = self.slot()
-        if slot != "set":
-            raise NoLine
-        return rtype
-
-    def items(self):
-        return tuple(map(item_of, self.word().split(",")))
-
-    def body(self):
-        word = self.among(("set", "negative", "failure"))
-        if word == "failure":
-            return Body("failure", b"", (), 0, self.number(2**32))
-        rank, ttl = int(self.among("1234")), self.number(2**32)
-        owner = self.name()
-        if word == "set":
-            return Body("positive", owner, self.items(), rank, ttl)
-        return Body("negative", owner, (item_of(self.word()),), rank, ttl)
-
-
-def number_of(text, end):
-    """A number below an end, with no zero in front."""
-    if not NUMBER.fullmatch(text) or len(text) > 20 or int(text) >= end:
-        raise NoLine
-    return int(text)
-
-
-def item_of(text):
-    if not ITEM.fullmatch(text):
-        raise NoLine
-    return b"" if text == "-" else bytes.fromhex(text)
-
-
-def fits(key, body):
-    """Whether a body is one that an offer may have under a key (RFC 2181 sections 5 and 8)."""
-    is_own = body.kind != "positive" or body.items and fold(body.owner) == key.name
-    return bool(key.slot in FITTING[body.kind] and is_own and body.ttl < 2**31)
-
-
-# ---- lines
-
-
-def chapter_in(fields):
-    number, first, *rules = (fields.number() for _ in range(5))
-    for name, value in zip(Rules._fields, rules):
-        if not RANGES[name][0] <= value <= RANGES[name][1]:
-            raise NoLine
-    return Chapter(number, first, Rules(*rules), [], [])
-
-
-def entry_in(fields):
-    number, at = fields.number(), fields.number()
-    return Entry(fields.key(), fields.body(), at, number)
-
-
-def offer_in(fields):
-    at = fields.number()
-    call = Offer(fields.key(), fields.body(), at)
-    if not fits(*call[:2]):
-        raise NoLine
-    result = [*fields.left[::-1]]
-    fields.among(("kept", "cleared", "less"))
-    if fields.left:
-        fields.key()
-    return call, result
-
-
-def ask_in(fields):
-    at, name, (rtype, rclass) = fields.number(), fields.folded(), fields.rtype()
-    purpose, mode = (fields.among([it.decode() for it in words]) for words in (PURPOSES, MODES))
-    result = fields.left[::-1]
-    word = fields.among(("fresh", "stale", "nodata", "nxdomain", "miss"))
-    if word != "miss":
-        fields.number(2**32)
-        fields.name()
-        fields.items() if word in ("fresh", "stale") else item_of(fields.word())
-    elif fields.left:
-        fields.number()
-    return Ask(name, rtype, at, purpose, mode, rclass), result
-
-
-def sweep_in(fields):
-    call, result = Sweep(fields.number()), fields.left[::-1]
-    while fields.left:
-        fields.key()
-    return call, result
-
-
-EVENTS = {"offer": offer_in, "ask": ask_in, "sweep": sweep_in}
-
-
-def event_in(word, fields):
-    line, place = fields.number(), fields.number()
-    call, result = EVENTS[word](fields)
-    return Event(line, place, call, " ".join(result))
-
-
-def add_line(chapters, text):
-    """Takes a line behind those before it."""
-    fields = Fields(text)
-    word = fields.among(("chapter", "entry", *EVENTS))
-    if word == "chapter":
-        chapters.append(chapter_in(fields))
-    elif not chapters or word == "entry" and chapters[-1].events:
-        raise NoLine
-    elif word == "entry":
-        chapters[-1].entries.append(entry_in(fields))
-    else:
-        chapters[-1].events.append(event_in(word, fields))
-    if fields.left:
-        raise NoLine
-
-
-def read_archive(octets):
-    """The chapters of an archive; BadLine where it is none."""
-    *texts, last = octets.split(b"\n")
-    chapters = []
-    for number, text in enumerate(texts):
-        try:
-            add_line(chapters, text.decode("ascii"))
-        except (NoLine, UnicodeDecodeError) as fault:
-            raise BadLine(number) from fault
-    if last:
-        raise BadLine(len(texts))
-    return chapters
-
-
-# ---- audits
+PURPOSE_WORDS, MODE_WORDS = ({number: word for word, number in words.items()}
+                             for words in (PURPOSES, MODES))
 
 
 class Unlawful(NamedTuple):
@@ -226,7 +27,7 @@ class Unlawful(NamedTuple):
     line: int
     written: str
     due: str | None
-    held: tuple
+    held: list
 
     def lines(self):
         yield f"not legal: chapter {self.chapter} of the archive, event {self.event}" \
@@ -243,11 +44,60 @@ class Fault(NamedTuple):
     chapter: int
 
 
+# ---- what an archive tells, as the model has it
+
+
+def key_of(told):
+    return Key(to_wire(told.name), told.slot.name.lower(), told.rtype, told.rclass)
+
+
+def body_of(told):
+    if isinstance(told, Failure):
+        return Body("failure", b"", (), 0, told.ttl)
+    kind, items = ("negative", (told.soa,)) if hasattr(told, "soa") else ("positive", told.data)
+    return Body(kind, to_wire(told.owner), items, told.rank, told.ttl)
+
+
+def entry_of(told):
+    return Entry(key_of(told.key), body_of(told.body), told.moment, told.number)
+
+
+def ask_of(told):
+    """What a part is asked, in the order of its call."""
+    purpose, mode = PURPOSE_WORDS[told.purpose], MODE_WORDS[told.mode]
+    return to_wire(told.name), told.rtype, told.moment, purpose, mode, told.rclass
+
+
+def keys_of(event):
+    """The keys that an event's call looks up."""
+    if isinstance(event, ToldOffer):
+        return [key_of(event.key)]
+    if isinstance(event, Sweep):
+        return []
+    return [Key(to_wire(event.name), slot, 0 if slot == "nx" else event.rtype, event.rclass)
+            for slot in ("set", "nx", "failed")]
+
+
+def line_due(part, event):
+    """Makes an event's call, and tells the line that it writes."""
+    part.line, part.place = event.line, event.place
+    if isinstance(event, ToldOffer):
+        part.offer(Offer(key_of(event.key), body_of(event.body), event.moment))
+    elif isinstance(event, Ask):
+        part.ask(*ask_of(event))
+    else:
+        part.sweep(event.moment)
+    return part.lines[-1]
+
+
+# ---- audits
+
+
 def entry_fault(chapter):
     """What is wrong with the first entry of which anything is (SnapshotFault)."""
     keys, numbers = set(), set()
     for place, entry in enumerate(chapter.entries):
-        if place >= chapter.rules.capacity:
+        if place >= chapter.capacity:
             return "TooMany"
         if entry.key in keys:
             return "RepeatedKey"
@@ -255,63 +105,53 @@ def entry_fault(chapter):
             return "BadNumber"
         if not fits(entry.key, entry.body):
             return "WrongBody"
-        if entry.at > MOMENT_MOST:
+        if entry.moment > MOMENT_MOST:
             return "BadMoment"
         keys.add(entry.key)
         numbers.add(entry.number)
     return None
 
 
-def keys_of(call):
-    """The keys that a call looks up."""
-    if isinstance(call, Offer):
-        return [call.key]
-    if isinstance(call, Sweep):
-        return []
-    return [Key(call.name, slot, 0 if slot == "nx" else call.rtype, call.rclass)
-            for slot in ("set", "nx", "failed")]
-
-
-def begun(chapter):
-    """A part that holds what the chapter begins with."""
-    capacity, _, stale = chapter.rules
-    return Part(capacity, stale, reversed(chapter.entries), chapter.first)
-
-
-def wrong_event(part, chapter):
-    """Makes the calls of a chapter's events again: the place of the first event that is not what
-    its call writes, that, if the call may be made, and what its keys held before it."""
-    for place, event in enumerate(chapter.events):
-        if part.number >= SPENT or event.call.at > MOMENT_MOST:
-            return place, None, []
-        held = [part.held[it] for it in keys_of(event.call) if it in part.held]
-        due = event._replace(result=result_of(part, event.call))
-        if due != event:
-            return place, due, held
+def wrong_event(part, events, lines):
+    """Makes the calls of a chapter's events again: the place and the line of the first event that
+    is not what its call writes, that, if the call may be made, and what its keys held before it."""
+    for place, (event, written) in enumerate(zip(events, lines)):
+        if part.number >= SPENT or event.moment > MOMENT_MOST:
+            return place, written, None, []
+        held = [entry_text(part.held[it]) for it in keys_of(event) if it in part.held]
+        if (due := line_due(part, event)) != written:
+            return place, written, due, held
     return None
 
 
 def fault_in(chapter, place, line):
-    """What is wrong with a chapter itself, and what it leads to. It stands at a place of the
-    archive, and begins at a line."""
+    """What is wrong with a chapter itself, and what it leads to: the number of the next event, and
+    the lines of what the keys hold. It stands at a place of the archive, and begins at a line."""
     if kind := entry_fault(chapter):
         return Fault(kind, place), None
     if not 0 < chapter.number < SPENT:
         return Fault("NoNumber", place), None
-    part = begun(chapter)
-    if wrong := wrong_event(part, chapter):
-        event, due, held = wrong
-        line += 1 + len(chapter.entries) + event
-        return Unlawful(place, event, line, str(chapter.events[event]), due and str(due),
-                        tuple(map(entry_text, held))), None
-    return None, (chapter.rules, part.number, [*reversed(part.held.values())])
+    entries = [*map(entry_of, reversed(chapter.entries))]
+    part = Recorder(rules_of(chapter), entries, chapter.first)
+    behind = 1 + len(entries)
+    if wrong := wrong_event(part, chapter.events, chapter.text.splitlines()[behind:]):
+        event, *told = wrong
+        return Unlawful(place, event, line + behind + event, *told), None
+    return None, (part.number, part.held_lines())
+
+
+def rules_of(chapter):
+    return Rules(chapter.capacity, chapter.chapter, chapter.stale)
 
 
 def link_fault(before, closing, chapter):
     """Why a chapter does not go on from the one before it."""
-    if (chapter.number, chapter.first) != (before.number + 1, closing[1]):
+    number, held = closing
+    if (chapter.number, chapter.first) != (before.number + 1, number):
         return "NumberGap"
-    return None if (chapter.rules, chapter.first, chapter.entries) == closing else "OtherContents"
+    entries = chapter.text.splitlines()[1:1 + len(chapter.entries)]
+    is_same = (rules_of(chapter), entries) == (rules_of(before), held)
+    return None if is_same else "OtherContents"
 
 
 def first_fault(chapters):
@@ -325,7 +165,7 @@ def first_fault(chapters):
         if fault:
             return fault
         closings.append(closing)
-        line += 1 + len(chapter.entries) + len(chapter.events)
+        line += chapter.text.count("\n")
     for place, (before, closing, chapter) in enumerate(zip(chapters, closings, chapters[1:]), 1):
         if kind := link_fault(before, closing, chapter):
             return Fault(kind, place)

@@ -1,6 +1,7 @@
 # SPDX-License-Identifier: MIT
 """The rows, tests/rows/TOPIC/NAME: traces with what the program has to answer them
 (tests/rows/README.md)."""
+import re
 from pathlib import Path
 
 ROWS = Path(__file__).resolve().parent.parent / "tests" / "rows"
@@ -23,3 +24,17 @@ def content(row, name, default=b""):
     """What a file of a row has, if it is there."""
     path = row / name
     return path.read_bytes() if path.exists() else default
+
+
+def traces_of(row):
+    """The traces that a row is about: one, or each line of it alone."""
+    text = content(row, "trace")
+    if (row / "each").exists():
+        return re.findall(rb"[^\n]*\n|[^\n]+$", text)
+    return [text * int(content(row, "repeat", b"1"))]
+
+
+def options_of(row):
+    """The options of a row that take a number."""
+    found = re.findall(r"--(\w+)[\s=](\d+)", content(row, "args").decode())
+    return {name: int(value) for name, value in found}

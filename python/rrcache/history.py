@@ -289,7 +289,7 @@ def _item(text: str) -> bytes:
     return b"" if text == "-" else bytes.fromhex(text)
 
 
-def _fits(key: Key, body: Body) -> bool:
+def fits(key: Key, body: Body) -> bool:
     """Whether a body may be offered under a key."""
     if isinstance(body, RRset):
         owner = to_text(to_wire(body.owner).lower())
@@ -308,7 +308,7 @@ def _entry(fields: _Fields) -> Entry:
 def _offer(fields: _Fields) -> Offer:
     offer = Offer(fields.number(), fields.number(), fields.number(), fields.key(), fields.body(),
                   OUTCOMES.get(fields.word()) or _none(), fields.key() if fields else None)
-    return offer if _fits(offer.key, offer.body) else _none()
+    return offer if fits(offer.key, offer.body) else _none()
 
 
 def _ask(fields: _Fields) -> Ask:

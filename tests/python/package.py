@@ -8,7 +8,6 @@ Python model.
 import io
 import itertools
 import os
-import random
 import re
 import subprocess
 import sys
@@ -17,13 +16,11 @@ import threading
 from pathlib import Path
 
 import rrcache
-from tests.archives.changed import bad_texts, lines_drawn, octets_changed, rules_drawn
 from tests.forwarder.harness import (DNAME, NXDOMAIN, SERVFAIL, Skipped, Wrong, address, same, soa,
                                      wanted)
 from tests.tools.model import ARCHIVE
 from tests.tools.model import SOA as SOA_DATA
-from tools.archive import Rules, chapters_of, text_of as text_of_chapters
-from tools.audits import BadLine, read_archive
+from tools.archive import Rules, archive_of
 from tools.model import part_of
 from tools.traces import lines_in
 from tools.wire import (A, ANY, CNAME, NS, OPT, SOA, TXT, message, name_at, pointer, question,
@@ -143,9 +140,9 @@ def replay_row(row):
 def history_of(row, rules):
     """The texts of the chapters that the Python model makes of a row's trace."""
     octets = (row / "trace").read_bytes() * int((row / "repeat").read_text() if (row / "repeat").exists() else 1)
-    chapters = chapters_of(lines_in(io.BytesIO(octets)), Rules(**rules))
     # The first chapter of a shelf is what came before its record, and holds nothing here.
-    return [text_of_chapters([it._replace(number=it.number + 1)]) for it in chapters]
+    archive = archive_of(lines_in(io.BytesIO(octets)), Rules(**rules), number=2)
+    return [it.text for it in rrcache.read_archive(archive)]
 
 
 DOCSTRINGS = """
@@ -590,32 +587,6 @@ def test_texts_that_are_no_archives_by_python():
             same(fault.line, line, f"the line of {text!r}")
         else:
             raise Wrong(f"{text!r} is taken for an archive")
-
-
-def bad_line(read, text):
-    """The line for which a reader refuses an archive, or None."""
-    try:
-        read(text)
-    except rrcache.ArchiveFault as fault:
-        return fault.line
-    except BadLine as fault:
-        return fault.args[0]
-    return None
-
-
-def test_archives_are_read_as_by_the_model():
-    """Drawn archives, and such of which a line or an octet is changed: both readers of the
-    repository take the same ones, and tell the same line of the others."""
-    lines = []
-    for run in range(6):
-        rng = random.Random(f"archives {run}")
-        text = text_of_chapters(chapters_of(lines_drawn(rng), rules_drawn(rng)))
-        changed = [it.octets for it in bad_texts(rng, text.splitlines())]
-        changed += [octets_changed(rng, text.encode()) for _ in range(40)]
-        for octets in [text.encode(), *changed]:
-            lines.append(bad_line(read_archive, octets))
-            same(bad_line(rrcache.read_archive, octets.decode("latin-1")), lines[-1], f"{octets}")
-    wanted(10 < lines.count(None) < len(lines) - 200, f"{lines.count(None)} of {len(lines)} taken")
 
 
 def test_chapters_leave_a_shelf():

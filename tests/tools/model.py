@@ -1,16 +1,17 @@
 # SPDX-License-Identifier: MIT
 """Tests of the model on each row, whose reports are written by hand, and of its archives. bin/fuzz
-and tests/archives/run compare it with the program on random traces."""
+and tests/archives compare it with the program on random traces."""
 import io
 import re
 from pathlib import Path
 
-from tools.archive import Rules, chapters_of, text_of
-from tools.audits import BadLine, first_fault, read_archive
+from tools.archive import Rules, archive_of
+from tools.audits import first_fault
 from tools.captures.reasons import Story
 from tools.rows import content, rows
 from tools.traces import lines_in
 from tools.trials import Answer, by_model
+from rrcache.history import ArchiveFault, read_archive
 
 PROGRAM = Path(__file__).resolve().parents[2] / "crates" / "rrcache" / "out" / "rrcache"
 WRONG_ARGUMENTS = b"2"
@@ -113,29 +114,28 @@ sweep 13 0 0
 
 
 def test_an_archive_of_the_model_is_that_by_hand():
-    chapters = chapters_of(lines_in(io.BytesIO(TRACE.encode())), Rules(2, 4, 100))
-    if text_of(chapters) != ARCHIVE:
-        yield text_of(chapters)
-    if read_archive(ARCHIVE.encode()) != chapters:
-        yield "it is not read as it was written"
-    if first_fault(chapters):
-        yield f"it is not legal: {first_fault(chapters)}"
+    archive = archive_of(lines_in(io.BytesIO(TRACE.encode())), Rules(2, 4, 100))
+    if archive != ARCHIVE:
+        yield archive
+    if fault := first_fault(read_archive(archive)):
+        yield f"it is not legal: {fault}"
 
 
 def histories_of_rows():
-    """The rows with the chapters that the model makes of their traces, of seven events at most."""
+    """The rows with the archives that the model makes of their traces, of chapters of seven events
+    at most."""
     for row, options, texts in rows_to_read():
         if content(row, "stderr") or len(texts) > 1 or texts[0].count(b"\n") > EXPLAINED_MOST:
             continue
         rules = Rules(options.get("capacity", 1024), 7, options.get("stale", 86_400))
-        yield row, chapters_of(lines_in(io.BytesIO(texts[0])), rules)
+        yield row, archive_of(lines_in(io.BytesIO(texts[0])), rules)
 
 
 def test_archives_of_the_model_are_legal_on_each_row():
-    """They are read as they were written, and audited."""
-    for row, chapters in histories_of_rows():
-        if read_archive(text_of(chapters).encode()) != chapters or first_fault(chapters):
-            yield f"row {row.name}: {first_fault(chapters)}"
+    """They are read, and each line is what its call, as it was read, writes."""
+    for row, archive in histories_of_rows():
+        if fault := first_fault(read_archive(archive)):
+            yield f"row {row.name}: {fault}"
 
 
 # The first fault of what a line of the archive above becomes, by hand.
@@ -175,12 +175,12 @@ AUDITED = [
 ]
 
 
-def audited(octets):
+def audited(text):
     """What is wrong with an archive first."""
     try:
-        fault = first_fault(read_archive(octets))
-    except BadLine as bad:
-        return f"line {bad}"
+        fault = first_fault(read_archive(text))
+    except ArchiveFault as bad:
+        return f"line {bad.line}"
     return "\n".join(fault.lines()) if hasattr(fault, "lines") else " ".join(map(str, fault or ()))
 
 
@@ -190,5 +190,5 @@ def test_an_audit_by_the_model_tells_what_is_wrong_first():
         if old not in lines[number]:
             yield f"line {number} has no {old}"
         lines[number] = lines[number].replace(old, new, 1)
-        if (got := audited("".join(lines).encode())) != wanted:
+        if (got := audited("".join(lines))) != wanted:
             yield f"line {number}, {new}: {got}"
