@@ -280,8 +280,7 @@ def in_own_class(message):
 
 def offers_of(message, zone, at):
     """What a response that was read offers for a zone at a moment, in order."""
-    if (message.is_truncated or message.opcode or message.rclass not in KEPT_CLASSES
-            or not is_at_or_below(message.name, zone)):
+    if why_nothing(message, zone):
         return []
     if message.rcode not in (NOERROR, NXDOMAIN):
         told = fold(message.name), message.rtype, at, message.rclass
@@ -307,10 +306,3 @@ def why_nothing(message, zone):
     if not is_at_or_below(message.name, zone):
         return "its question is not at or below the zone"
     return None
-
-
-def offers_in(octets, zone, at):
-    """What octets offer; MessageFault where they are no response."""
-    return offers_of(read(octets), zone, at)
-
-

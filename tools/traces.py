@@ -256,5 +256,3 @@ def report(lines, **rules):
     for place, line in enumerate(lines):
         words, _ = replay.line(line)
         yield " ".join([str(place), line.word, *words])
-
-

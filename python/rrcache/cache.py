@@ -4,21 +4,19 @@ from __future__ import annotations
 
 import os
 import threading
-from types import TracebackType
 from typing import Any
 
 from .choices import Class, Kind, Mode, Purpose
-from .library import part_of
+from .library import Closing, part_of
 from .names import to_wire
 from .offers import Offers
 from .replies import Counts, Limits, Query, Reply
 from .shelf import Name, Shelf
 
-
 LINKS_MOST = 16
 
 
-class Cache:
+class Cache(Closing):
     """1 to 64 shelves, each with a lock: all that is known of a name lies in one of them. Which one
     that is goes by a random seed of the cache's own, or by the one that is given. `capacity` is the
     most keys of each; the other arguments are those of `Shelf`.
@@ -34,25 +32,29 @@ class Cache:
         part_of(".", parts, self._seed)  # refuses a wrong number of them
         self._shelves = [(threading.Lock(), Shelf(**rules)) for _ in range(parts)]
 
+    def _part(self, name: Name) -> tuple[threading.Lock, Shelf]:
+        """The part of a name, and its lock."""
+        return self._shelves[part_of(name, len(self._shelves), self._seed)]
+
     def ask(self, name: Name, rtype: int, moment: int, **more: Any) -> Reply:
         """Asks the part of the name, as `Shelf.ask` does."""
-        lock, shelf = self._shelves[part_of(name, len(self._shelves), self._seed)]
+        lock, shelf = self._part(name)
         with lock:
             return shelf.ask(name, rtype, moment, **more)
 
     def _has_failed(self, name: Name, rtype: int, moment: int, rclass: Class | int = Class.IN,
                     purpose: Purpose | int = Purpose.QUESTION, **_: Any) -> bool:
         """Whether asking for it has failed recently, and nothing fresh is held."""
-        lock, shelf = self._shelves[part_of(name, len(self._shelves), self._seed)]
+        lock, shelf = self._part(name)
         with lock:
             return shelf.peek(name, rtype, moment, purpose, rclass=rclass).kind is Kind.MISS_FAILED
 
     def follow(self, name: Name, rtype: int, moment: int, **more: Any) -> list[Reply]:
         """The reply to a question, or where the name is an alias those along the chain: a CNAME
-        record's for each alias, and last what the chain ends with (RFC 1034 section 3.6.2). Which of
-        both a name has `Shelf.ask_alias` says. They are at most 16; those of a chain that has more,
-        or leads back, end with an alias. Each is one event. A failure of the question is one for
-        all of its chain."""
+        record's for each alias, and last what the chain ends with (RFC 1034 section 3.6.2). Which
+        of both a name has `Shelf.ask_alias` says. They are at most 16; those of a chain that has
+        more, or leads back, end with an alias. Each is one event. A failure of the question is one
+        for all of its chain."""
         if more.get("mode") == Mode.STALE_IF_FAILED:
             more["mode"] = Mode.STALE_NOW if self._has_failed(name, rtype, moment, **more) else (
                 Mode.NO_STALE)
@@ -60,7 +62,7 @@ class Cache:
         seen = set()
         while True:
             name = to_wire(name)
-            lock, shelf = self._shelves[part_of(name, len(self._shelves), self._seed)]
+            lock, shelf = self._part(name)
             with lock:
                 reply, is_alias = shelf.ask_alias(name, rtype, moment, **more)
             replies.append(reply)
@@ -100,10 +102,3 @@ class Cache:
         for lock, shelf in self._shelves:
             with lock:
                 shelf.close()
-
-    def __enter__(self) -> Cache:
-        return self
-
-    def __exit__(self, kind: type[BaseException] | None, fault: BaseException | None,
-                 trace: TracebackType | None) -> None:
-        self.close()

@@ -4,7 +4,7 @@
 from __future__ import annotations
 
 import re
-from collections.abc import Iterable, Iterator
+from collections.abc import Callable, Iterator
 from dataclasses import dataclass, field
 from enum import IntEnum
 from typing import NoReturn
@@ -23,7 +23,7 @@ SLOT = re.compile("(?:(failed)?(0|[1-9][0-9]*)|nx)(?:/(0|[1-9][0-9]*))?")
 NUMBER = re.compile("0|[1-9][0-9]{0,19}")
 ITEM = re.compile("-|(?:[0-9a-f]{2})+")
 # The least and the most keys, events of a chapter, and seconds of max-stale.
-RANGES = (1, 65_536), (1, 1_048_576), (0, 604_800)
+RANGES = {"capacity": (1, 65_536), "chapter": (1, 1_048_576), "stale": (0, 604_800)}
 
 
 class ArchiveFault(ValueError):
@@ -327,54 +327,41 @@ def _sweep(fields: _Fields) -> Sweep:
     return Sweep(fields.number(), fields.number(), fields.number(), tuple(keys()))
 
 
+EVENTS: dict[str, Callable[[_Fields], Event]] = {"offer": _offer, "ask": _ask, "sweep": _sweep}
+
+
 class _Draft:
     """A chapter of which the first lines were read."""
 
     def __init__(self, fields: _Fields) -> None:
-        self._numbers = fields.number(), fields.number()
-        self._rules = fields.number(), fields.number(), fields.number()
-        if any(not least <= it <= most for it, (least, most) in zip(self._rules, RANGES)):
-            _none()
-        self._entries: list[Entry] = []
-        self._events: list[Event] = []
+        self.numbers = [fields.number() for _ in range(5)]
+        for number, (least, most) in zip(self.numbers[2:], RANGES.values()):
+            if not least <= number <= most:
+                _none()
+        self.entries: list[Entry] = []
+        self.events: list[Event] = []
         self.texts: list[str] = []
-
-    def add(self, word: str, fields: _Fields) -> None:
-        """Takes a line behind those before it, the entries before the events."""
-        if word == "entry" and not self._events:
-            self._entries.append(_entry(fields))
-        elif word == "offer":
-            self._events.append(_offer(fields))
-        elif word == "ask":
-            self._events.append(_ask(fields))
-        elif word == "sweep":
-            self._events.append(_sweep(fields))
-        else:
-            _none()
 
     def chapter(self) -> Chapter:
         text = "".join(f"{it}\n" for it in self.texts)
-        return Chapter(*self._numbers, *self._rules, tuple(self._entries), tuple(self._events),
-                       text)
+        return Chapter(*self.numbers, tuple(self.entries), tuple(self.events), text)
 
 
-def _drafts(lines: Iterable[str]) -> list[_Draft]:
-    """What lines tell of chapters."""
-    drafts: list[_Draft] = []
-    for number, text in enumerate(lines):
-        fields = _Fields(text)
-        try:
-            word = fields.word()
-            if word == "chapter":
-                drafts.append(_Draft(fields))
-            elif drafts:
-                drafts[-1].add(word, fields)
-            if fields or not drafts:
-                _none()
-        except _NoLine as fault:
-            raise ArchiveFault(number) from fault
-        drafts[-1].texts.append(text)
-    return drafts
+def _add(drafts: list[_Draft], text: str) -> None:
+    """Takes a line behind those before it: of a chapter the entries before the events."""
+    fields = _Fields(text)
+    word = fields.word()
+    if word == "chapter":
+        drafts.append(_Draft(fields))
+    elif word == "entry" and drafts and not drafts[-1].events:
+        drafts[-1].entries.append(_entry(fields))
+    elif word in EVENTS and drafts:
+        drafts[-1].events.append(EVENTS[word](fields))
+    else:
+        _none()
+    if fields:
+        _none()
+    drafts[-1].texts.append(text)
 
 
 def read_archive(text: str) -> list[Chapter]:
@@ -388,7 +375,12 @@ def read_archive(text: str) -> list[Chapter]:
     ('www.example.', 'MISS')
     """
     *lines, last = text.split("\n")
-    drafts = _drafts(lines)
+    drafts: list[_Draft] = []
+    for number, line in enumerate(lines):
+        try:
+            _add(drafts, line)
+        except _NoLine as fault:
+            raise ArchiveFault(number) from fault
     if last:
         raise ArchiveFault(len(lines))
     return [it.chapter() for it in drafts]

@@ -6,7 +6,7 @@ import functools
 import os
 from ctypes import (CDLL, Structure, byref, c_size_t, c_uint16, c_uint32, c_uint64, c_void_p)
 from pathlib import Path
-from typing import Any
+from typing import Any, TypeVar
 
 from .names import to_wire
 from .refusals import Status, refusal
@@ -91,6 +91,40 @@ def told(name: str, number: type[c_uint32] | type[c_uint64], *arguments: Any) ->
 
 def sized(octets: bytes) -> tuple[bytes, int]:
     return bytes(octets), len(octets)
+
+
+T = TypeVar("T", bound="Closing")
+
+
+class Closing:
+    """What a `with` closes at its end."""
+
+    def close(self) -> None:
+        raise NotImplementedError
+
+    def __enter__(self: T) -> T:
+        return self
+
+    def __exit__(self, *fault: object) -> None:
+        self.close()
+
+
+class Held(Closing):
+    """What the library holds for a handle; one that begins with a null pointer holds nothing."""
+
+    _freed_by: str
+
+    def __init__(self) -> None:
+        self._handle = (c_void_p * 2)()
+
+    def close(self) -> None:
+        """Frees it; it may be closed again. Calls after that are refused."""
+        if self._handle[0]:
+            call(self._freed_by, self._handle)
+
+    def __del__(self) -> None:
+        if hasattr(self, "_handle"):
+            self.close()
 
 
 def fault(message: bytes) -> int:

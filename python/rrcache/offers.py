@@ -2,18 +2,18 @@
 """The offers of a message that was read once, for several parts."""
 from __future__ import annotations
 
-from ctypes import c_uint32, c_uint64, c_void_p
-from types import TracebackType
+from ctypes import c_uint32, c_uint64
 
-from .library import call, sized, told
+from .library import Held, sized, told
 from .names import to_wire
 from .replies import Limits, Query
 
 
-class Offers:
+class Offers(Held):
     """What a response says that servers of a zone sent, read once and for no shelf:
     `Shelf.offer_read` then offers the share of a part. What they are cannot be read here. It is for
-    one thread at a time. A `with` frees it at its end.
+    one thread at a time. A `with` frees it at its end, and offering it after that raises
+    `NoOffers`.
 
     `concerned` are the parts, of 1 to 64, that the response has something for, by the seed that
     `part_of` takes. With the query that was sent only what is relevant to it is taken, and
@@ -26,10 +26,11 @@ class Offers:
     []
     """
 
+    _freed_by = "rrc_free_offers"
+
     def __init__(self, message: bytes, zone: str | bytes, parts: int, seed: bytes, moment: int,
                  limits: Limits = Limits(), query: Query | None = None) -> None:
-        # A handle that begins with a null pointer holds no offers.
-        self._handle = (c_void_p * 2)()
+        super().__init__()
         octets, owner = sized(message), sized(to_wire(zone))
         numbers = parts, *sized(seed), moment, (c_uint32 * 3)(*limits)
         if query is None:
@@ -38,20 +39,3 @@ class Offers:
             bits = told("rrc_read_response", c_uint64, self._handle, *octets, *owner, query.id,
                         *sized(to_wire(query.name)), query.rtype, query.rclass, *numbers)
         self.concerned = [part for part in range(parts) if bits >> part & 1]
-
-    def close(self) -> None:
-        """Frees the offers; they may be closed again. Offering them after that raises
-        `NoOffers`."""
-        if self._handle[0]:
-            call("rrc_free_offers", self._handle)
-
-    def __del__(self) -> None:
-        if hasattr(self, "_handle"):
-            self.close()
-
-    def __enter__(self) -> Offers:
-        return self
-
-    def __exit__(self, kind: type[BaseException] | None, fault: BaseException | None,
-                 trace: TracebackType | None) -> None:
-        self.close()

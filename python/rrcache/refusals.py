@@ -174,10 +174,7 @@ class NoLine(Refused):
     status, reason = Status.NO_LINE, "there is no such line of a chapter"
 
 
-BY_STATUS: dict[int, type[Refused]] = {it.status: it for it in (
-    NoShelf, HasShelf, Memory, HistoryFull, MomentTooLarge, BadRules, BadSeed, BadLimits, BadName,
-    BadMessage, BadChoice, BadType, BadData, WrongBody, Wide, NoOffers, HasOffers, OtherQuery,
-    NoChapters, HasChapters, NoLine)}
+BY_STATUS: dict[int, type[Refused]] = {it.status: it for it in Refused.__subclasses__()}
 
 
 def refusal(status: int, counts: Counts | None = None) -> Refused:

@@ -6,12 +6,11 @@ import itertools
 import os
 from collections.abc import Iterable
 from ctypes import byref, c_uint32, c_uint64, c_void_p, create_string_buffer
-from types import TracebackType
 from typing import Any
 
 from .choices import Class, Denial, Kind, Mode, Outcome, Purpose, Rank
 from .history import Chapter, read_archive
-from .library import Line, StoredNumbers, Told, call, library, sized, told
+from .library import Held, Line, StoredNumbers, Told, call, library, sized, told
 from .names import to_wire
 from .offers import Offers
 from .refusals import Status, refusal
@@ -51,9 +50,10 @@ def text_of(chapters: Any, chapter: int) -> bytes:
     return b"".join(itertools.takewhile(bool, lines))
 
 
-class Shelf:
+class Shelf(Held):
     """A part of the cache, for one thread at a time: ctypes lets other threads of Python run within
-    a call, so two threads need a lock. A `with` closes it at its end.
+    a call, so two threads need a lock. A `with` closes it at its end, and calls after that raise
+    `NoShelf`.
 
     `capacity` is the most keys (1 to 65,536), `chapter` the events of a chapter (1 to 1,048,576),
     `stale` how long a set may answer past its TTL (0 to 604,800), `seed` the 16 secret octets by
@@ -68,30 +68,16 @@ class Shelf:
     ('FRESH', 50, 'www.example.', (b'\\xc0\\x00\\x02\\x01',))
     """
 
+    _freed_by = "rrc_free"
+
     def __init__(self, capacity: int = 1024, chapter: int = 4096, stale: int = 86_400,
                  seed: bytes | None = None, record: bool = False) -> None:
-        # A handle that begins with a null pointer holds no shelf.
-        self._handle, self._room = (c_void_p * 2)(), 1024
+        super().__init__()
+        self._room = 1024
         octets = os.urandom(16) if seed is None else seed
         call("rrc_make", self._handle, capacity, chapter, stale, *sized(octets))
         if record:
             self.record()
-
-    def close(self) -> None:
-        """Frees the shelf; it may be closed again. Calls after that raise `NoShelf`."""
-        if self._handle[0]:
-            call("rrc_free", self._handle)
-
-    def __del__(self) -> None:
-        if hasattr(self, "_handle"):
-            self.close()
-
-    def __enter__(self) -> Shelf:
-        return self
-
-    def __exit__(self, kind: type[BaseException] | None, fault: BaseException | None,
-                 trace: TracebackType | None) -> None:
-        self.close()
 
     # ---- offers
 

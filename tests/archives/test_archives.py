@@ -15,18 +15,19 @@ import random
 import re
 import subprocess
 import time
+from pathlib import Path
 
 import pytest
 
 from rrcache.history import ArchiveFault, read_archive
 from tests.archives.changed import (CHANGES, NO_LINE, UNLAWFUL, archive_drawn, changed,
                                     octet_changed)
-from tests.conftest import TOP
 from tools.archive import Rules, archive_of, entry_text
 from tools.audits import Fault, Unlawful, entry_of, first_fault
 from tools.rows import content, options_of, rows, traces_of
 from tools.traces import lines_in
 
+TOP = Path(__file__).resolve().parents[2]
 SECONDS = 60
 # Of the time for what is drawn, what is for octets, and what is for archives that are not changed.
 OCTETS, UNCHANGED = 0.1, 0.05
