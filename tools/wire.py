@@ -7,6 +7,7 @@ which stay as they are: so a pointer is given.
 import struct
 
 from rrcache.names import labels_of, to_text, wire_of
+from tools import messages
 
 A, NS, CNAME, SOA, PTR, MINFO, TXT, OPT, RRSIG, ANY = 1, 2, 5, 6, 12, 14, 16, 41, 46, 255
 IN = 1
@@ -26,14 +27,8 @@ def pointer(place):
 
 def name_at(octets, at):
     """The text of the name at a place, without the last dot, and the place behind it."""
-    labels, behind = [], None
-    while size := octets[at]:
-        if size >= 192:
-            behind, at = behind or at + 2, (size & 63) << 8 | octets[at + 1]
-        else:
-            labels.append(octets[at + 1:at + 1 + size])
-            at += 1 + size
-    return to_text(wire_of(labels))[:-1], behind or at + 1
+    name, behind = messages.name_at(octets, at, len(octets))
+    return to_text(name)[:-1], behind
 
 
 def question(name, rtype, rclass=IN):
