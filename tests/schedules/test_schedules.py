@@ -1,0 +1,279 @@
+# SPDX-License-Identifier: MIT
+"""Small random traces replayed by several workers, again and again: each report is one of those
+that some schedule of the workers allows. What a schedule allows is told by the model of the rules
+(tools/model.py) and by the steps below, which share nothing with the program: they try every order
+in which the workers can draw lines, make their calls, and begin and finish marks. Each trace takes
+1 to 4 workers and parts. Traces are drawn for --seconds, and are the same each time.
+"""
+import random
+import time
+from collections import Counter
+from typing import NamedTuple
+
+import dns.flags
+import dns.message
+import dns.rcode
+import dns.rrset
+import pytest
+
+from tools.model import Part, failure, part_of
+from tools.traces import line_of, offers_in
+from tools.trials import by_program
+
+# How often each trace is replayed.
+RUNS = 20
+# Of a trace with more states not all schedules are tried.
+STATES_MOST = 400_000
+NAMES = ["a.example.", "b.example.", "c.example."]
+TYPES = [1, 16]
+SOA = "example. example. 1 3600 600 604800 300"
+
+# ---- messages
+
+
+def response_to(name, rtype, rcode=dns.rcode.NOERROR):
+    """A response of an authority, with no records."""
+    query = dns.message.make_query(name, rtype, id=0x1234, flags=0)
+    response = dns.message.make_response(query)
+    response.flags |= dns.flags.AA
+    response.set_rcode(rcode)
+    return response
+
+
+def address_message(name, rtype, data, ttl):
+    """A message with one record for its question."""
+    response = response_to(name, rtype)
+    response.answer.append(dns.rrset.from_text(name, ttl, "IN", rtype, data))
+    return response.to_wire()
+
+
+def denial_message(name, rtype):
+    """A message that there is no such name (RFC 2308 section 2.1)."""
+    response = response_to(name, rtype, dns.rcode.NXDOMAIN)
+    response.authority.append(dns.rrset.from_text("example.", 3600, "IN", "SOA", SOA))
+    return response.to_wire()
+
+
+def failure_message(name, rtype):
+    """A server failure (RFC 2308 section 7)."""
+    return response_to(name, rtype, dns.rcode.SERVFAIL).to_wire()
+
+
+def short_message(name, rtype):
+    """The beginning of a message: no message, by fault 1."""
+    return failure_message(name, rtype)[:-1]
+
+
+def message_drawn(rng, name, rtype):
+    kind = rng.randrange(5)
+    if kind < 2:
+        data = f"192.0.2.{rng.randrange(3)}" if rtype == 1 else rng.choice("ab")
+        return address_message(name, rtype, data, rng.choice([0, 5, 60]))
+    return [denial_message, failure_message, short_message][kind - 2](name, rtype)
+
+
+def line_drawn(rng):
+    """The text of a line."""
+    at, name, rtype = rng.choice([100, 103, 130, 161, 90_000]), rng.choice(NAMES), rng.choice(TYPES)
+    kind = rng.choice(["put", "ask", "fail", "response", "sweep", "checkpoint"] + 5 * ["fetch"])
+    if kind == "put":
+        rank, ttl, data = rng.randrange(1, 5), rng.choice([0, 5, 60]), 98 + rng.randrange(2)
+        return f"put {at} {name} {rtype} {rank} {ttl} 01{data:02x}"
+    if kind == "ask":
+        purpose, mode = rng.choice(["any", "answer"]), rng.choice(["none", "failed", "now"])
+        return f"ask {at} {name} {rtype} {purpose} {mode}"
+    if kind == "response":
+        return f"response {at} example. {message_drawn(rng, name, rtype).hex()}"
+    if kind == "fetch":
+        message = message_drawn(rng, name, rtype).hex() if rng.randrange(4) else "-"
+        return f"fetch {at} {name} {rtype} example. {message}"
+    return {"fail": f"fail {at} {name} {rtype}", "sweep": f"sweep {at}"}.get(kind, kind)
+
+
+# ---- schedules
+
+
+class State(NamedTuple):
+    """How far a replay is: its parts, frozen; the questions whose marks are held; the next line to
+    be drawn; of each worker None where it has no line, "over" where it drew none, or its line, its
+    step and the words so far; and the answers so far."""
+
+    parts: tuple
+    marks: frozenset
+    drawn: int
+    workers: tuple
+    answers: tuple
+
+
+def replaced(values, place, value):
+    return values[:place] + (value,) + values[place + 1:]
+
+
+def offers_of(line):
+    """What a line offers in turn, or None where it is a response that is refused."""
+    if line.word in ("put", "fail"):
+        return line.rest
+    if line.word not in ("response", "fetch"):
+        return ()
+    zone, octets = line.rest
+    offers, fault = offers_in(zone, octets, line.at) if octets is not None else ([], True)
+    if fault and line.word == "fetch":
+        return (failure(line.name, line.rtype, line.at),)
+    return None if fault else tuple(offers)
+
+
+class Step:
+    """A step of a worker that has a line, and what it offers in turn: `words` are those of the
+    answer so far, and `is_last` tells whether the line is over by it."""
+
+    def __init__(self, capacity, state, line, offers, number, words):
+        self.capacity, self.parts, self.marks = capacity, state.parts, state.marks
+        self.line, self.offers, self.number, self.words = line, offers, number, words
+        self.is_last = True
+        getattr(self, f"on_{line.word}")()
+
+    def part(self, place, call):
+        """What a part answers to a call."""
+        entries, number = self.parts[place]
+        part = Part(self.capacity, entries=entries, number=number)
+        answer = call(part)
+        self.parts = replaced(self.parts, place, part.frozen())
+        return answer
+
+    def offer(self, offer):
+        place = part_of(offer.key.name, len(self.parts))
+        self.words += (str(self.part(place, lambda part: part.offer(offer))),)
+
+    def ask(self, *words):
+        ask = self.line.name, self.line.rtype, self.line.at, *words
+        return str(self.part(part_of(ask[0], len(self.parts)), lambda part: part.ask(*ask)))
+
+    def on_put(self):
+        self.offer(self.offers[0])
+
+    on_fail = on_put
+
+    def on_ask(self):
+        self.words = (self.ask(*self.line.rest),)
+
+    def on_checkpoint(self):
+        pass
+
+    def on_sweep(self):
+        removed = self.part(self.number, lambda part: part.sweep(self.line.at))
+        self.words += (str(len(removed)),)
+        self.is_last = self.number + 1 == len(self.parts)
+
+    def on_response(self):
+        if self.offers is None:
+            self.words = "refused", "1"
+            return
+        self.words = self.words or (str(len(self.offers)),)
+        self.offer(self.offers[self.number])
+        self.is_last = self.number + 1 == len(self.offers)
+
+    def on_fetch(self):
+        question, place = (self.line.name, self.line.rtype), self.number - 2
+        self.is_last = False
+        if self.number == 0:
+            reply = self.ask("answer", "failed")
+            self.is_last = reply != "miss"
+            if self.is_last:
+                self.words = (f"held{reply[4:]}" if reply.startswith("miss") else f"hit {reply}",)
+        elif self.number == 1:
+            self.is_last = question in self.marks
+            self.words = ("joined",) if self.is_last else ("fetched", str(len(self.offers)))
+            self.marks |= {question}
+        elif place < len(self.offers):
+            self.offer(self.offers[place])
+        elif place == len(self.offers):
+            self.words += (self.ask("answer", "now"),)
+        else:
+            self.marks -= {question}
+            self.is_last = True
+
+
+def stepped(lines, state, worker, capacity):
+    """The state behind the next step of a worker."""
+    parts, marks, drawn, workers, answers = state
+    if workers[worker] is None:
+        mine = (drawn, 0, ()) if drawn < len(lines) else "over"
+        drawn = min(drawn + 1, len(lines))
+    else:
+        at, number, words = workers[worker]
+        step = Step(capacity, state, *lines[at], number, words)
+        parts, marks, mine = step.parts, step.marks, (at, number + 1, step.words)
+        if step.is_last:
+            mine = None
+            answers = replaced(answers, at, " ".join((lines[at][0].word, *step.words)))
+    workers = sorted(replaced(workers, worker, mine), key=repr)
+    return State(parts, marks, drawn, tuple(workers), answers)
+
+
+def allowed(texts, workers, parts, capacity):
+    """All reports that some schedule allows, or None where there are too many states to try."""
+    lines = [(line, offers_of(line)) for line in (line_of(it.encode()) for it in texts)]
+    start = State((((), 0),) * parts, frozenset(), 0, (None,) * workers, (None,) * len(lines))
+    seen, todo, reports = {start}, [start], set()
+    while todo and len(seen) <= STATES_MOST:
+        state = todo.pop()
+        # Workers are alike: which of those that are as far goes on is all one.
+        able = {it: worker for worker, it in enumerate(state.workers) if it != "over"}
+        if not able:
+            reports.add("".join(f"{number} {it}\n" for number, it in enumerate(state.answers)))
+        for worker in able.values():
+            later = stepped(lines, state, worker, capacity)
+            if later not in seen:
+                seen.add(later)
+                todo.append(later)
+    return None if todo else reports
+
+
+# ---- tests
+
+
+def report_of(program, options, text):
+    """The report of a run, or why it has none."""
+    answer = by_program(program, options, text.encode())
+    if answer.status == 0:
+        return answer.report.decode()
+    return f"status {answer.status}: {answer.fault.decode()}\n"
+
+
+def test_each_report_is_one_that_a_schedule_allows(program, seconds, capsys):
+    rng, end, counts = random.Random(1), time.monotonic() + seconds, Counter()
+    while time.monotonic() < end:
+        options = {"workers": rng.randint(1, 4), "parts": rng.randint(1, 4),
+                   "capacity": rng.choice([1, 2, 8])}
+        most = 6 if options["workers"] < 3 else 5
+        texts = [line_drawn(rng) for _ in range(rng.randint(2, most))]
+        reports = allowed(texts, **options)
+        if reports is None:
+            continue
+        text, got = "".join(f"{it}\n" for it in texts), set()
+        for _ in range(RUNS):
+            got.add(report_of(program, options, text))
+            assert got <= reports, f"{options}\n{text}is answered\n{''.join(got - reports)}"
+        counts.update(tried=1, several=len(reports) > 1, seen=len(reports) > 1 and got == reports)
+    assert counts["tried"]
+    with capsys.disabled():
+        print(f"\n{counts['tried']} traces tried; {counts['several']} have several reports; of"
+              f" {counts['seen']} of them each was seen")
+
+
+def fetches_among_sets(sets, fetches):
+    """Sets that make it take a while to close a chapter, and so many fetches of one question, each
+    of which a chapter is closed behind. What is fetched is not to be kept (RFC 2181 section 8), so
+    that each fetch of the question finds nothing."""
+    message = address_message(NAMES[0], 1, "192.0.2.1", 0).hex()
+    puts = [f"put 1 n{number}.example. 1 4 60 c0000201\n" for number in range(sets)]
+    return "".join(puts) + f"fetch 100 {NAMES[0]} 1 example. {message}\ncheckpoint\n" * fetches
+
+
+@pytest.mark.parametrize("run", range(5))
+def test_workers_hold_their_marks_until_they_have_asked_again(program, run):
+    """They often wait for the part just before that, since others close its chapter all the while.
+    Were the mark free then, another worker would fetch the same in their midst, and the replay
+    would stray."""
+    answer = by_program(program, {"workers": 4}, fetches_among_sets(100, 2000).encode())
+    assert answer.status == 0, answer.fault
