@@ -26,8 +26,7 @@ from tools.names import fold
 from tools.traces import Replay, TraceFault, read_trace, report
 
 SECONDS = 10
-NO_END = f"no end in {SECONDS} seconds".encode()
-DEFAULTS = {"capacity": 1024, "parts": 1, "stale": 86_400}
+NO_END = b"it did not end"
 RANGES = {"workers": (1, 64), "parts": (1, 64), "capacity": (1, 65_536), "chapter": (1, 2**20),
           "stale": (0, 604_800)}
 
@@ -47,8 +46,10 @@ def words_of(options):
 
 
 def by_model(options, text):
-    """What the model answers, where the options are in their ranges."""
-    rules = {name: options.get(name, value) for name, value in DEFAULTS.items()}
+    """What the model answers."""
+    if not all(least <= options.get(it, least) <= most for it, (least, most) in RANGES.items()):
+        return Answer(2, b"", b"")
+    rules = {it: options[it] for it in ("capacity", "parts", "stale") if it in options}
     try:
         lines = report(read_trace(io.BytesIO(text)), **rules)
         return Answer(0, "".join(it + "\n" for it in lines).encode(), b"")
@@ -58,21 +59,20 @@ def by_model(options, text):
         return Answer(None, b"", f"the model fell over {fault!r}".encode())
 
 
-def by_program(program, options, text):
-    """What the program answers; one that does not start or does not end has no status."""
+def run(words, text, seconds=SECONDS, **others):
+    """What a command answers; one that does not start or does not end has no status."""
     try:
-        run = subprocess.run([program, *words_of(options)], input=text, capture_output=True,
-                             timeout=SECONDS)
+        ran = subprocess.run(words, input=text, capture_output=True, timeout=seconds, **others)
     except subprocess.TimeoutExpired:
         return Answer(None, b"", NO_END)
     except OSError as fault:
         return Answer(None, b"", f"it did not start: {fault}".encode())
-    return Answer(run.returncode, run.stdout, run.stderr)
+    return Answer(ran.returncode, ran.stdout, ran.stderr)
 
 
-def are_in_range(options):
-    return all(least <= options.get(name, least) <= most
-               for name, (least, most) in RANGES.items())
+def by_program(program, options, text):
+    """What the program answers."""
+    return run([program, *words_of(options)], text)
 
 
 def with_sums(answer):
@@ -82,25 +82,18 @@ def with_sums(answer):
     return answer._replace(report=re.sub(rb"(?m)^(\d+ sweep )([\d ]+)$", summed, answer.report))
 
 
-def names_called(line):
-    """The names that the calls of a line are on, were it alone."""
-    _, told = Replay(capacity=2**16).line(line)
-    return {it.call.key.name if hasattr(it.call, "key") else fold(it.call[0]) for it in told}
-
-
 def apart(texts):
     """Those of the lines that are lines of a trace, call on no name that an earlier one of them
     calls on, and are no sweeps."""
     found, taken = [], set()
     for text in texts:
         try:
-            lines = read_trace(io.BytesIO(text + b"\n"))
+            (line,) = read_trace(io.BytesIO(text + b"\n"))
         except TraceFault:
             continue
-        if len(lines) != 1 or lines[0].word == "sweep":
-            continue
-        names = names_called(lines[0])
-        if not names & taken:
+        _, told = Replay(capacity=2**16).line(line)
+        names = {it.call.key.name if hasattr(it.call, "key") else fold(it.call[0]) for it in told}
+        if line.word != "sweep" and not names & taken:
             found.append(text)
             taken |= names
     return found
@@ -128,14 +121,9 @@ class Trial(NamedTuple):
             return [(None, self.options), (first, self.options)]
         return [(first, self.options), (second, {**self.options, **self.varied})]
 
-    def asked(self, side):
-        program, options = side
-        if program is not None:
-            return by_program(program, options, self.text)
-        return by_model(options, self.text) if are_in_range(options) else Answer(2, b"", b"")
-
     def answers(self):
-        return [self.asked(it) for it in self.sides()]
+        return [by_program(program, options, self.text) if program else
+                by_model(options, self.text) for program, options in self.sides()]
 
     def may_differ(self, first):
         """Whether the two need not be the same."""
@@ -165,6 +153,7 @@ class Trial(NamedTuple):
 # ---- the least trial that fails
 
 
+FIELD = re.compile(rb"(?<= )[^ \n]+")
 # What a field of a line is tried as, where it is longer.
 SIMPLE = [b"0", b"1", b"-", b".", b"9", b"a.", b"16", b"00", b"100", b"a.b."]
 
@@ -179,11 +168,11 @@ class Shortener:
     def __init__(self, trial, tries=1_000):
         self.trial, self.tries = trial, tries
 
-    def fails(self, trial):
-        """Whether a shorter trial fails too, which is then gone on from."""
+    def fails(self, **changes):
+        """Whether the trial fails with changes too, which are then gone on from."""
         if self.tries <= 0:
             raise Spent
-        begun = time.monotonic()
+        trial, begun = self.trial._replace(**changes), time.monotonic()
         found = trial.fails()
         # where a run did not end, it is the last
         self.tries -= self.tries if time.monotonic() - begun > SECONDS else 1
@@ -191,64 +180,36 @@ class Shortener:
             self.trial = trial
         return found
 
-    def without_pieces(self, pieces, made):
-        """The pieces without those that are not needed, larger runs of them first."""
+    def drop_pieces(self, pieces):
+        """Drops the pieces of the text that are not needed, larger runs of them first."""
         size = max(1, len(pieces) // 2)
-        while pieces:
-            at = len(pieces)
-            while at > 0:
-                at = max(0, at - size)
-                left = pieces[:at] + pieces[at + size:]
-                if len(left) < len(pieces) and self.fails(made(left)):
+        while size:
+            for at in range(len(pieces) - size, -size, -size):
+                left = pieces[:max(at, 0)] + pieces[at + size:]
+                if self.fails(text=b"".join(left)):
                     pieces = left
-            if size == 1:
-                break
             size //= 2
-        return pieces
-
-    def with_text(self, text):
-        return self.trial._replace(text=text)
 
     def drop_options(self):
         for name in [*self.trial.options]:
             left = {it: value for it, value in self.trial.options.items() if it != name}
-            self.fails(self.trial._replace(options=left))
-
-    def drop_lines(self):
-        lines = self.trial.text.splitlines(True)
-        self.without_pieces(lines, lambda left: self.with_text(b"".join(left)))
+            self.fails(options=left)
 
     def simplify_fields(self):
-        for at, line in enumerate(self.trial.text.split(b"\n")):
-            for place in range(1, len(line.split(b" "))):
-                self.simplify_field(at, place)
-
-    def simplify_field(self, at, place):
-        lines = self.trial.text.split(b"\n")
-        fields = lines[at].split(b" ")
-        for simple in [it for it in SIMPLE if len(it) < len(fields[place])]:
-            line = b" ".join([*fields[:place], simple, *fields[place + 1:]])
-            if self.fails(self.with_text(b"\n".join([*lines[:at], line, *lines[at + 1:]]))):
-                break
-
-    def shorten_lines(self):
-        for at in range(len(self.trial.text.splitlines(True))):
-            lines = self.trial.text.splitlines(True)
-            if at >= len(lines):
-                break
-
-            def made(left, lines=lines, at=at):
-                return self.with_text(b"".join([*lines[:at], bytes(left), *lines[at + 1:]]))
-            self.without_pieces(lines[at], made)
+        for at in range(len(FIELD.findall(self.trial.text))):
+            text = self.trial.text
+            start, end = [*FIELD.finditer(text)][at].span()
+            any(self.fails(text=text[:start] + it + text[end:])
+                for it in SIMPLE if len(it) < end - start)
 
     def shortest(self):
         """The shortest that was found."""
         try:
-            self.drop_lines()
+            self.drop_pieces(self.trial.text.splitlines(True))
             self.drop_options()
             self.simplify_fields()
-            self.shorten_lines()
-            self.drop_lines()
+            self.drop_pieces([bytes([it]) for it in self.trial.text])
+            self.drop_pieces(self.trial.text.splitlines(True))
         except Spent:
             pass
         return self.trial

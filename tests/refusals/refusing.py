@@ -8,21 +8,14 @@ import struct
 import subprocess
 import time
 from pathlib import Path
-from typing import NamedTuple
+
+from tools.trials import run
 
 MEMORY, THREAD = 0, 1
 ASKED = struct.Struct("ll")
 PROCESSORS = os.cpu_count() or 1
 # How long a run may take, and all runs of what has to be tried to its end.
 SECONDS, TO_THE_END = 60, 600
-
-
-class Run(NamedTuple):
-    """How a run ended: its status, None where it did not end, and what it wrote."""
-
-    status: int | None
-    out: bytes
-    error: bytes
 
 
 def refuser(folder, compiler):
@@ -33,23 +26,16 @@ def refuser(folder, compiler):
 
 
 def run_refused(library, words, text, kind, request):
-    """How a run ends whose request of that kind and number is refused, none where it is 0, and how
-    often it asked for that kind."""
+    """What a run answers whose request of that kind and number is refused, none where it is 0, and
+    how often it asked for that kind."""
     asked = os.memfd_create("asked")
     os.ftruncate(asked, ASKED.size)
     around = {**os.environ, "LD_PRELOAD": str(library), "ASKED": str(asked),
               "REFUSED": str(request), "KIND": str(kind)}
-    try:
-        ran = subprocess.run(words, input=text, capture_output=True, env=around,
-                             pass_fds=(asked,), timeout=SECONDS)
-        run = Run(ran.returncode, ran.stdout, ran.stderr)
-    except subprocess.TimeoutExpired:
-        run = Run(None, b"", b"no end")
-    except OSError as fault:
-        run = Run(None, b"", str(fault).encode())
+    answer = run(words, text, SECONDS, env=around, pass_fds=(asked,))
     counts = ASKED.unpack(os.pread(asked, ASKED.size, 0))
     os.close(asked)
-    return run, counts[kind]
+    return answer, counts[kind]
 
 
 class Refuser:
@@ -62,12 +48,12 @@ class Refuser:
         """Refuses these requests in turn, one at least, until a run makes fewer. Tells whether it
         came so far before the end."""
         for request in requests:
-            run, asked = run_refused(self.library, words, text, kind, request)
+            answer, asked = run_refused(self.library, words, text, kind, request)
             is_refused = asked >= request
-            verdict = judge(run, is_refused)
+            verdict = judge(answer, is_refused)
             assert verdict or verdict is None and is_refused, (
-                f"{('memory', 'thread')[kind]} {request}: status {run.status}, {len(run.out)}"
-                f" octets of output, {run.error[-300:]!r}, of {text[:100]!r}")
+                f"{('memory', 'thread')[kind]} {request}: status {answer.status},"
+                f" {len(answer.report)} octets of output, {answer.fault[-300:]!r}")
             if not is_refused:
                 break
             self.verdicts[verdict] += 1
@@ -77,9 +63,9 @@ class Refuser:
 
     def refuse(self, words, text, judge, kind, seconds=TO_THE_END):
         """Refuses each request of that kind for so many seconds, shared out to the processors, and
-        behind them all those of higher numbers, since another run may make more. `judge` tells of a
-        run, and of whether something was refused in it, whether it was right (True), wrong (False),
-        or told nothing (None). Tells whether each was tried."""
+        behind them all those of higher numbers, since another run may make more. `judge` tells of
+        an answer, and of whether something was refused, whether it is right (True), wrong (False),
+        or tells nothing (None). Tells whether each was tried."""
         end = time.monotonic() + seconds
         _, asked = run_refused(self.library, words, text, kind, 0)
         shares = [range(first, asked + 1, PROCESSORS) for first in range(1, PROCESSORS + 1)]

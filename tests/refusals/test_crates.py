@@ -52,20 +52,20 @@ TESTS = [(crate, path) for crate in CRATES for path in paths_of(crate) if not WA
 NAMED = [it for it in TESTS if any(named.search(it[1]) for named in NAMED_TESTS)]
 
 
-def has_passed(run):
-    return run.status == 0 and run.out.endswith(b"test result: ok\n")
+def has_passed(answer):
+    return answer.status == 0 and answer.report.endswith(b"test result: ok\n")
 
 
-def judge_leaving_test(run, is_refused):
-    return has_passed(run) or is_refused and LACKS_VALUE.search(run.error) is not None
+def judge_leaving_test(answer, is_refused):
+    return has_passed(answer) or is_refused and LACKS_VALUE.search(answer.fault) is not None
 
 
-def judge_test(run, is_refused):
-    if run.status is None:
+def judge_test(answer, is_refused):
+    if answer.status is None:
         return False
-    if has_passed(run) or is_refused and SAYS_MEMORY.search(run.error):
+    if has_passed(answer) or is_refused and SAYS_MEMORY.search(answer.fault):
         return True
-    return None if run.status == -signal.SIGABRT and ASSERTED in run.out else False
+    return None if answer.status == -signal.SIGABRT and ASSERTED in answer.report else False
 
 
 def refused_in(crate, path, refusals, *seconds):

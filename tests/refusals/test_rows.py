@@ -9,9 +9,10 @@ workers. One row: `pytest tests/refusals -k NAME --seconds N`.
 """
 import pytest
 
-from tests.refusals.refusing import MEMORY, THREAD, Run
+from tests.refusals.refusing import MEMORY, THREAD
 from tests.tools.shared import ARCHIVE, WRONG_ARGUMENTS, texts_of
 from tools.rows import content, rows
+from tools.trials import Answer
 
 NAMED_ROWS = (
     # Names, the reader and what is offered of a message. The first has one address, two with AA and
@@ -50,14 +51,14 @@ LAST_ROWS = (
 )
 # A row with more octets of trace is left out.
 MOST_OCTETS = 300_000
-REFUSED = Run(1, b"", b"rrcache: memory or a thread was refused\n")
+REFUSED = Answer(1, b"", b"rrcache: memory or a thread was refused\n")
 # What an archive by hand becomes where a datum is changed that its second chapter begins with, and
 # how audits of the two end.
 CHANGED = "c0000202\noffer 4", "c0000203\noffer 4"
-LEGAL = Run(0, b"legal: 4 chapters, 16 events from number 0 on\n", b"")
-NOT_LEGAL = Run(1, b"not legal: chapter 1 does not begin with what the one before it ends with\n",
-                b"")
-UNREAD = REFUSED, Run(1, b"", b"rrcache: memory was refused\n")
+LEGAL = 0, b"legal: 4 chapters, 16 events from number 0 on\n", b""
+OTHER_CONTENTS = b"chapter 1 does not begin with what the one before it ends with\n"
+NOT_LEGAL = 1, b"not legal: " + OTHER_CONTENTS, b""
+UNREAD = REFUSED, Answer(1, b"", b"rrcache: memory was refused\n")
 pytestmark = pytest.mark.parametrize("kind", [MEMORY, THREAD], ids=["memory", "thread"])
 
 
@@ -70,14 +71,15 @@ def other_rows():
 
 def refused_on(row, program, refusals, kind, *seconds):
     """Refuses each request on a row, or on each line of it where each is a trace by itself."""
-    whole = Run(int(content(row, "status", b"0")), content(row, "report"), content(row, "stderr"))
+    whole = Answer(int(content(row, "status", b"0")), content(row, "report"),
+                   content(row, "stderr"))
 
-    def judge(run, is_refused):
-        if is_refused and run == REFUSED:
+    def judge(answer, is_refused):
+        if is_refused and answer == REFUSED:
             return True
         if whole.status == WRONG_ARGUMENTS:
-            return run[:2] == whole[:2] and run.error != b""
-        return run == whole
+            return answer[:2] == whole[:2] and answer.fault != b""
+        return answer == whole
     words = [program, *content(row, "args").splitlines()]
     return all(refusals.refuse(words, it, judge, kind, *seconds) for it in texts_of(row))
 
@@ -90,8 +92,8 @@ def test_each_request_on_a_named_row(refusals, program, name, kind):
 @pytest.mark.parametrize("text, whole", [(ARCHIVE, LEGAL), (ARCHIVE.replace(*CHANGED), NOT_LEGAL)],
                          ids=["archive", "changed-archive"])
 def test_each_request_of_an_audit(refusals, program, text, whole, kind):
-    def judge(run, is_refused):
-        return run == whole or is_refused and run in UNREAD
+    def judge(answer, is_refused):
+        return answer == whole or is_refused and answer in UNREAD
     assert refusals.refuse([program, "--audit-history"], text.encode(), judge, kind)
 
 

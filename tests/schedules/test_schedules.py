@@ -10,10 +10,7 @@ import time
 from collections import Counter
 from typing import NamedTuple
 
-import dns.flags
 import dns.message
-import dns.rcode
-import dns.rrset
 import pytest
 
 from tools.model import Part, failure, part_of
@@ -25,56 +22,38 @@ RUNS = 20
 # Of a trace with more states not all schedules are tried.
 STATES_MOST = 400_000
 NAMES = ["a.example.", "b.example.", "c.example."]
-TYPES = [1, 16]
-SOA = "example. example. 1 3600 600 604800 300"
+MESSAGE = """id 4660
+rcode {}
+flags QR AA
+;QUESTION
+{} IN TYPE{}
+{}"""
+DENIAL = ";AUTHORITY\nexample. 3600 IN SOA example. example. 1 3600 600 604800 300"
 
-# ---- messages
-
-
-def response_to(name, rtype, rcode=dns.rcode.NOERROR):
-    """A response of an authority, with no records."""
-    query = dns.message.make_query(name, rtype, id=0x1234, flags=0)
-    response = dns.message.make_response(query)
-    response.flags |= dns.flags.AA
-    response.set_rcode(rcode)
-    return response
+# ---- traces
 
 
-def address_message(name, rtype, data, ttl):
-    """A message with one record for its question."""
-    response = response_to(name, rtype)
-    response.answer.append(dns.rrset.from_text(name, ttl, "IN", rtype, data))
-    return response.to_wire()
-
-
-def denial_message(name, rtype):
-    """A message that there is no such name (RFC 2308 section 2.1)."""
-    response = response_to(name, rtype, dns.rcode.NXDOMAIN)
-    response.authority.append(dns.rrset.from_text("example.", 3600, "IN", "SOA", SOA))
-    return response.to_wire()
-
-
-def failure_message(name, rtype):
-    """A server failure (RFC 2308 section 7)."""
-    return response_to(name, rtype, dns.rcode.SERVFAIL).to_wire()
-
-
-def short_message(name, rtype):
-    """The beginning of a message: no message, by fault 1."""
-    return failure_message(name, rtype)[:-1]
+def message(name, rtype, section="", rcode="NOERROR"):
+    """A response of an authority, with a section of records."""
+    return dns.message.from_text(MESSAGE.format(rcode, name, rtype, section)).to_wire()
 
 
 def message_drawn(rng, name, rtype):
-    kind = rng.randrange(5)
-    if kind < 2:
-        data = f"192.0.2.{rng.randrange(3)}" if rtype == 1 else rng.choice("ab")
-        return address_message(name, rtype, data, rng.choice([0, 5, 60]))
-    return [denial_message, failure_message, short_message][kind - 2](name, rtype)
+    """An answer of one record, a denial (RFC 2308 section 2.1), a server failure (section 7), or
+    the beginning of a message, which is none by fault 1."""
+    kind = rng.choice(["answer", "answer", "denial", "failure", "short"])
+    if kind == "answer":
+        data = f"A 192.0.2.{rng.randrange(3)}" if rtype == 1 else f"TXT {rng.choice('ab')}"
+        return message(name, rtype, f";ANSWER\n{name} {rng.choice([0, 5, 60])} IN {data}")
+    if kind == "denial":
+        return message(name, rtype, DENIAL, "NXDOMAIN")
+    return message(name, rtype, rcode="SERVFAIL")[:-1 if kind == "short" else None]
 
 
 def line_drawn(rng):
     """The text of a line."""
-    at, name, rtype = rng.choice([100, 103, 130, 161, 90_000]), rng.choice(NAMES), rng.choice(TYPES)
+    at = rng.choice([100, 103, 130, 161, 90_000])
+    name, rtype = rng.choice(NAMES), rng.choice([1, 16])
     kind = rng.choice(["put", "ask", "fail", "response", "sweep", "checkpoint"] + 5 * ["fetch"])
     if kind == "put":
         rank, ttl, data = rng.randrange(1, 5), rng.choice([0, 5, 60]), 98 + rng.randrange(2)
@@ -85,8 +64,8 @@ def line_drawn(rng):
     if kind == "response":
         return f"response {at} example. {message_drawn(rng, name, rtype).hex()}"
     if kind == "fetch":
-        message = message_drawn(rng, name, rtype).hex() if rng.randrange(4) else "-"
-        return f"fetch {at} {name} {rtype} example. {message}"
+        octets = message_drawn(rng, name, rtype).hex() if rng.randrange(4) else "-"
+        return f"fetch {at} {name} {rtype} example. {octets}"
     return {"fail": f"fail {at} {name} {rtype}", "sweep": f"sweep {at}"}.get(kind, kind)
 
 
@@ -95,8 +74,8 @@ def line_drawn(rng):
 
 class State(NamedTuple):
     """How far a replay is: its parts, frozen; the questions whose marks are held; the next line to
-    be drawn; of each worker None where it has no line, "over" where it drew none, or its line, its
-    step and the words so far; and the answers so far."""
+    be drawn; the workers that are not done, in order since they are alike, each with its line, its
+    step and the words of its answer so far, or with nothing; and the answers."""
 
     parts: tuple
     marks: frozenset
@@ -193,35 +172,34 @@ class Step:
             self.is_last = True
 
 
-def stepped(lines, state, worker, capacity):
-    """The state behind the next step of a worker."""
+def stepped(lines, state, mine, capacity):
+    """The state behind the next step of a worker, which draws a line where it has none."""
     parts, marks, drawn, workers, answers = state
-    if workers[worker] is None:
-        mine = (drawn, 0, ()) if drawn < len(lines) else "over"
-        drawn = min(drawn + 1, len(lines))
-    else:
-        at, number, words = workers[worker]
+    workers = [*workers]
+    workers.remove(mine)
+    if mine:
+        at, number, words = mine
         step = Step(capacity, state, *lines[at], number, words)
-        parts, marks, mine = step.parts, step.marks, (at, number + 1, step.words)
+        parts, marks = step.parts, step.marks
+        workers.append(() if step.is_last else (at, number + 1, step.words))
         if step.is_last:
-            mine = None
-            answers = replaced(answers, at, " ".join((lines[at][0].word, *step.words)))
-    workers = sorted(replaced(workers, worker, mine), key=repr)
-    return State(parts, marks, drawn, tuple(workers), answers)
+            answers = replaced(answers, at, " ".join((step.line.word, *step.words)))
+    elif drawn < len(lines):
+        workers.append((drawn, 0, ()))
+        drawn += 1
+    return State(parts, marks, drawn, tuple(sorted(workers)), answers)
 
 
 def allowed(texts, workers, parts, capacity):
     """All reports that some schedule allows, or None where there are too many states to try."""
     lines = [(line, offers_of(line)) for line in (line_of(it.encode()) for it in texts)]
-    start = State((((), 0),) * parts, frozenset(), 0, (None,) * workers, (None,) * len(lines))
+    start = State((((), 0),) * parts, frozenset(), 0, ((),) * workers, ("",) * len(lines))
     seen, todo, reports = {start}, [start], set()
     while todo and len(seen) <= STATES_MOST:
         state = todo.pop()
-        # Workers are alike: which of those that are as far goes on is all one.
-        able = {it: worker for worker, it in enumerate(state.workers) if it != "over"}
-        if not able:
+        if not state.workers:
             reports.add("".join(f"{number} {it}\n" for number, it in enumerate(state.answers)))
-        for worker in able.values():
+        for worker in set(state.workers):
             later = stepped(lines, state, worker, capacity)
             if later not in seen:
                 seen.add(later)
@@ -265,9 +243,9 @@ def fetches_among_sets(sets, fetches):
     """Sets that make it take a while to close a chapter, and so many fetches of one question, each
     of which a chapter is closed behind. What is fetched is not to be kept (RFC 2181 section 8), so
     that each fetch of the question finds nothing."""
-    message = address_message(NAMES[0], 1, "192.0.2.1", 0).hex()
+    octets = message(NAMES[0], 1, f";ANSWER\n{NAMES[0]} 0 IN A 192.0.2.1").hex()
     puts = [f"put 1 n{number}.example. 1 4 60 c0000201\n" for number in range(sets)]
-    return "".join(puts) + f"fetch 100 {NAMES[0]} 1 example. {message}\ncheckpoint\n" * fetches
+    return "".join(puts) + f"fetch 100 {NAMES[0]} 1 example. {octets}\ncheckpoint\n" * fetches
 
 
 @pytest.mark.parametrize("run", range(5))
