@@ -6,6 +6,8 @@ odd ones among them.
 import struct
 
 from tools.messages import LAYOUTS, NOT_KEPT
+from tools.names import WIRE_MOST
+from tools.traces import MOMENT_MOST
 from tools.wire import CNAME, NS, SOA, pointer, wire
 
 LABELS = ["a.", "a.", "a.", "A.", "b.a.", "c.", "*.", ""]
@@ -20,10 +22,8 @@ TTLS = [0, 1, 30, 60, 60, 60, 60, 300, 300, 10_800, 10_801, 604_799, 604_800, 60
         2**31, 2**31 + 60, 2**32 - 1]
 STEPS = [0, 0, 0, 0, 1, 1, 5, 29, 30, 31, 59, 60, 61, 300, 10_800, 86_400, 86_460, 604_800, -1, -40]
 STARTS = [0, 1, 1_000, 1_000, 2**31 - 100, 2**32 - 100, 2**40 - 700_000, 2**40 - 100]
-MOMENT_MOST = 2**40
 CHAINS = [1, 1, 2, 3, 15, 16, 17, 18]
 WORDS = ["put"] * 5 + ["ask"] * 9 + ["response"] * 6 + ["fetch"] * 2 + ["fail", "fail"]
-WIRE_MOST = 255
 
 
 class Writer:
@@ -80,12 +80,12 @@ class Drawn:
 
     def long_name(self):
         """A name of 254 to 256 octets in wire form, of which 255 are the most."""
-        left, labels = self.rng.choice([254, 255, 256]) - len(wire(self.base)), []
+        left, labels = self.rng.choice([254, 255, 256]) - len(wire(self.base)), ""
         while left > 0:
-            size = 61 if left == 65 else min(63, left - 1)
-            labels.append("x" * max(size, 1) + ".")
+            size = 61 if left == 65 else max(1, min(63, left - 1))
+            labels += "x" * size + "."
             left -= 1 + size
-        return "".join(labels) + self.base
+        return labels + self.base
 
     def name(self):
         luck = self.rng.random()
@@ -110,16 +110,19 @@ class Drawn:
     def few_octets(self):
         return bytes(self.rng.randrange(2) for _ in range(self.rng.choice([0, 1, 1, 2, 4])))
 
-    def soa_numbers(self):
-        return struct.pack(">5I", 1, 2, 3, 4, self.rng.choice(TTLS))
+    def layout(self, rtype):
+        """The fixed octets before the names of data, how many names there are, and the fixed octets
+        behind them, of a type that has names."""
+        before, names, after = LAYOUTS[rtype]
+        numbers = struct.pack(">5I", 1, 2, 3, 4, self.rng.choice(TTLS))
+        return bytes(before), names, numbers if rtype == SOA else bytes(after)
 
     def plain_data(self, rtype):
         """Data of a type with whole names, as an item has them."""
-        before, names, after = LAYOUTS.get(rtype, (0, 0, None))
-        if after is None:
+        if rtype not in LAYOUTS:
             return wire(self.name()) if rtype == 39 else self.few_octets()
-        data = bytes(before) + b"".join(wire(self.lawful_name()) for _ in range(names))
-        return data + (self.soa_numbers() if rtype == SOA else bytes(after))
+        before, names, after = self.layout(rtype)
+        return before + b"".join(wire(self.lawful_name()) for _ in range(names)) + after
 
     # ---- messages
 
@@ -128,11 +131,11 @@ class Drawn:
         if rtype not in LAYOUTS:
             writer.octets += self.plain_data(rtype)
             return
-        before, names, after = LAYOUTS[rtype]
-        writer.octets += bytes(before)
+        before, names, after = self.layout(rtype)
+        writer.octets += before
         for _ in range(names):
             writer.name(self.name())
-        writer.octets += self.soa_numbers() if rtype == SOA else bytes(after)
+        writer.octets += after
 
     def record(self, writer, owner, rtype, rclass, target=None, ttl=None):
         """A record; of a CNAME record the target may be given. Answers the data's octets."""
@@ -165,17 +168,15 @@ class Drawn:
     def records(self, writer, most, rclass, types=None):
         """Records of a section, of few owners and types so that they make sets; how many."""
         count, ttl = self.rng.randrange(most), self.rng.choice([60, 60, None])
-        made = 0
+        repeated = 0
         for _ in range(count):
             owner, rtype = self.name(), types and self.rng.choice(types) or self.rtype(0.08)
-            own = self.rclass(rclass)
-            data = self.record(writer, owner, rtype, own, None, ttl)
-            made += 1
+            data = self.record(writer, owner, rtype, self.rclass(rclass), None, ttl)
             if self.rng.random() < 0.2:
-                self.record(writer, owner.swapcase() if "\\" not in owner else owner, rtype,
-                            self.rclass(rclass), data, ttl)
-                made += 1
-        return made
+                again = owner if "\\" in owner else owner.swapcase()
+                self.record(writer, again, rtype, self.rclass(rclass), data, ttl)
+                repeated += 1
+        return count + repeated
 
     def flags(self):
         flags = 0x8000 | self.rng.choice([0, 0x400, 0x400]) | self.rng.choice([0, 0x100, 0x1B0])

@@ -2,11 +2,15 @@
 """Traces that come from others by small changes of lines, of fields, and of messages' octets. Many
 of them are almost lines of the grammar (docs/FORMATS.md), or almost messages.
 """
+import re
+
 from tools.grammar import CLASSES, LEFT_OUT, ODD_CLASSES, RARE_TYPES, TTLS
+from tools.traces import LINE_MOST
 
 NUMBERS = [0, 1, 2, 3, 4, 5, 29, 30, 31, 255, 256, 65_535, 65_536, 65_537, 2**31, 2**32 - 1, 2**32,
            2**40 - 1, 2**40, 2**40 + 1, 2**63, 2**64, 2**64 + 1, 10**30, *TTLS]
 OCTETS = [0, 1, 2, 3, 5, 6, 12, 63, 64, 128, 191, 192, 255]
+MESSAGE = re.compile(rb"(?:[\dA-Fa-f]{2}){12,}")
 PIECES = [b"\t", b"\r", b"\0", b" ", b"  ", b",", b"-", b".", b"\\", b"/", b"+1", b"\xb2", b"\xff",
           b"0"]
 ITEMS = [b"-", b",", b"-,-", b"00", b"0", b"0g", b"0A,0a", b"00,,00", b"00,", b",00", b"--", b"00-"]
@@ -15,8 +19,6 @@ TYPE_WORDS = [b"1/1", b"1/3", b"16/3", b"16/4", b"16/", b"/1", b"16//1", b"16/1/
               b"16/-1", b"65535/4", b"65536/1", b"0/1", b"16/65537", b"16/0", b"16/ 1"]
 ODD_LABELS = [b"a", b"A", b"", b"x" * 61, b"x" * 63, b"x" * 64, b"\\065", b"\\256", b"\\0", b"\\",
               b"\\ ", b"\\.", b"\\127", b"\x7f"]
-# A line may have so many octets.
-LINE_MOST = 140_000
 
 
 def changed_octets(rng, octets):
@@ -41,16 +43,8 @@ def changed_octets(rng, octets):
     return bytes(octets)
 
 
-def is_message(field):
-    return len(field) >= 24 and not len(field) % 2 and field.isalnum()
-
-
 def changed_message(rng, field):
-    try:
-        octets = bytes.fromhex(field.decode())
-    except ValueError:
-        return field[1:]
-    text = changed_octets(rng, octets).hex() or "-"
+    text = changed_octets(rng, bytes.fromhex(field.decode())).hex() or "-"
     return (text.upper() if rng.random() < 0.05 else text).encode()
 
 
@@ -80,7 +74,7 @@ def changed_field(rng, field, others):
     """A field that is changed by what it seems to be, or another line's."""
     if rng.random() < 0.15:
         return rng.choice(others)
-    if is_message(field):
+    if MESSAGE.fullmatch(field):
         return changed_message(rng, field)
     if field.isdigit():
         return rng.choice([changed_number, changed_number, changed_type])(rng, field)
@@ -104,7 +98,7 @@ def spaced(rng, fields):
 def changed_line(rng, line, others):
     """A line with a field changed, put in or taken out, or its text."""
     fields = [it for it in line.split(b" ") if it] or [b""]
-    at, how = rng.randrange(len(fields)), rng.randrange(20)
+    at, how, piece = rng.randrange(len(fields)), rng.randrange(20), rng.choice(PIECES)
     if how < 13:
         at = max(at, 1) if len(fields) > 1 and rng.random() < 0.95 else at
         fields[at] = changed_field(rng, fields[at], others)
@@ -115,13 +109,11 @@ def changed_line(rng, line, others):
     elif how == 15:
         return spaced(rng, fields)
     elif how == 16:
-        fields[at] += rng.choice(PIECES)
-    elif how == 17:
-        fields[at] = rng.choice(PIECES) + fields[at]
-    elif how == 18:
-        return rng.choice(PIECES).join(fields)
-    else:
         return changed_octets(rng, line)
+    elif how == 17:
+        return piece.join(fields)
+    else:
+        fields[at] = fields[at] + piece if how == 18 else piece + fields[at]
     return b" ".join(fields)
 
 

@@ -18,8 +18,9 @@ DIGITS = string.digits + string.ascii_lowercase
 # has a folded copy of it.
 LONG = ".".join("X" * size for size in (63, 63, 63, 57))
 # What names of keys end with: in wire form their first label has five octets.
+END = wire("example")
 ENDS = {
-    "short names": wire("example"),
+    "short names": END,
     "names of 255 octets": wire(".".join("x" * size for size in (63, 63, 63, 56))),
     "names of 125 labels": wire(".".join(["xx"] + ["x"] * 123)),
 }
@@ -60,19 +61,16 @@ def one_key(size, ttl=600):
 
 def many_keys(size):
     """Three RRsets of one rdata of two such names for each of many owners of 255 octets."""
-    asked = question(LONG, MINFO)
-
-    def records():
-        place = 12 + len(asked)
-        for number in itertools.count():
-            owner = label(number, 3).upper() + ASKED
-            again = pointer(place) if place < MOST_REACHED else owner
-            own = [record(owner, MINFO, 600, ASKED + ASKED), record(again, RP, 600, ASKED + ASKED),
-                   record(again, PX, 600, bytes(2) + ASKED + ASKED)]
-            place += sum(map(len, own))
-            yield from own
-
-    return filled(size, asked, records())
+    asked, records = question(LONG, MINFO), []
+    place = 12 + len(asked)
+    while place < size:
+        owner = label(len(records) // 3, 3).upper() + ASKED
+        again = pointer(place) if place < MOST_REACHED else owner
+        own = [record(owner, MINFO, 600, ASKED + ASKED), record(again, RP, 600, ASKED + ASKED),
+               record(again, PX, 600, bytes(2) + ASKED + ASKED)]
+        place += sum(map(len, own))
+        records += own
+    return filled(size, asked, records)
 
 
 def many_types(size):
@@ -184,13 +182,9 @@ def labels(number, picked):
         yield made.ljust(LABEL, b"a")
 
 
-def spelled(label):
-    return "".join(chr(octet) if octet in LETTERS else f"\\{octet:03}" for octet in label)
-
-
 def puts_and_asks(number, picked):
     """A trace of a put of each of so many names, and then an ask for each."""
-    names = [spelled(label) + ".example." for label in labels(number, picked)]
+    names = [to_text(bytes([LABEL]) + label + END) for label in labels(number, picked)]
     puts = [f"put 0 {name} 1 4 86400 c0000201\n" for name in names]
     asks = [f"ask 1 {name} 1 answer none\n" for name in names]
     return "".join(puts + asks)

@@ -14,41 +14,24 @@ from tests.tools.shared import ARCHIVE, WRONG_ARGUMENTS, texts_of
 from tools.rows import content, rows
 from tools.trials import Answer
 
-NAMED_ROWS = (
+NAMED_ROWS = [
     # Names, the reader and what is offered of a message. The first has one address, two with AA and
     # without it, NXDOMAIN, an alias to it and one to itself, a truncated one and SERVFAIL.
-    "offers-of-the-nine-messages",
-    "ttl-with-top-bit-is-capped",
-    "referral-glue",
-    "nodata-until-minimum",
-    "earlier-higher-rank-governs-while-unexpired",
-    "chaos-response",
+    "offers-of-the-nine-messages", "ttl-with-top-bit-is-capped", "referral-glue",
+    "nodata-until-minimum", "earlier-higher-rank-governs-while-unexpired", "chaos-response",
     # A part: offers, asks, sweeps and checkpoints.
-    "later-nxdomain-governs-an-unexpired-address",
-    "the-least-recently-touched-key-goes",
-    "sweep-removes-the-dead",
-    "checkpoint-keeps-recency",
+    "later-nxdomain-governs-an-unexpired-address", "the-least-recently-touched-key-goes",
+    "sweep-removes-the-dead", "checkpoint-keeps-recency",
     # Chapters that are chained, and a shared cache that opens one.
-    "an-audit-over-chapters-of-one-event",
-    "second-offer-opens-chapter-2",
+    "an-audit-over-chapters-of-one-event", "second-offer-opens-chapter-2",
     # A replay by one worker, with its marks.
-    "first-trace",
-    "put-then-ask-is-fresh",
-    "servfail-is-remembered",
-    "fetch-without-message-then-held",
-)
-LAST_ROWS = (
-    "real-mail-with-addresses",
-    "name-of-255-octets",
-    "every-cut-is-short-alias",
-    "fetches-of-two-classes",
-    "workers-of-64",
-    "4-workers-each-miss-in-four-parts",
-    "four-parts-of-one-key",
-    "fetch-of-octets-that-are-no-message",
-    "a-response-evicts-what-it-stored",
-    "a-key-that-is-held-evicts-nothing",
-)
+    "first-trace", "put-then-ask-is-fresh", "servfail-is-remembered",
+    "fetch-without-message-then-held"]
+LAST_ROWS = [
+    "real-mail-with-addresses", "name-of-255-octets", "every-cut-is-short-alias",
+    "fetches-of-two-classes", "workers-of-64", "4-workers-each-miss-in-four-parts",
+    "four-parts-of-one-key", "fetch-of-octets-that-are-no-message",
+    "a-response-evicts-what-it-stored", "a-key-that-is-held-evicts-nothing"]
 # A row with more octets of trace is left out.
 MOST_OCTETS = 300_000
 REFUSED = Answer(1, b"", b"rrcache: memory or a thread was refused\n")

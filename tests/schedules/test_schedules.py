@@ -88,88 +88,37 @@ def replaced(values, place, value):
     return values[:place] + (value,) + values[place + 1:]
 
 
-def offers_of(line):
-    """What a line offers in turn, or None where it is a response that is refused."""
+# Steps that call no part.
+NOTHING, BEGIN, FINISH = "nothing", "begin the mark", "finish the mark"
+
+
+def steps_of(line, parts):
+    """The words with which the answer to a line begins, and the steps of a worker that has it: each
+    calls a part, of which it has the place, or is one of those above."""
+    def offer(it):
+        return part_of(it.key.name, parts), lambda part: part.offer(it)
+
+    def ask(*words):
+        call = line.name, line.rtype, line.at, *words
+        return part_of(line.name, parts), lambda part: part.ask(*call)
+
     if line.word in ("put", "fail"):
-        return line.rest
-    if line.word not in ("response", "fetch"):
-        return ()
+        return (), [offer(line.rest[0])]
+    if line.word == "ask":
+        return (), [ask(*line.rest)]
+    if line.word == "sweep":
+        return (), [(it, lambda part: len(part.sweep(line.at))) for it in range(parts)]
+    if line.word == "checkpoint":
+        return (), [NOTHING]
     zone, octets = line.rest
     offers, fault = offers_in(zone, octets, line.at) if octets is not None else ([], True)
-    if fault and line.word == "fetch":
-        return (failure(line.name, line.rtype, line.at),)
-    return None if fault else tuple(offers)
-
-
-class Step:
-    """A step of a worker that has a line, and what it offers in turn: `words` are those of the
-    answer so far, and `is_last` tells whether the line is over by it."""
-
-    def __init__(self, capacity, state, line, offers, number, words):
-        self.capacity, self.parts, self.marks = capacity, state.parts, state.marks
-        self.line, self.offers, self.number, self.words = line, offers, number, words
-        self.is_last = True
-        getattr(self, f"on_{line.word}")()
-
-    def part(self, place, call):
-        """What a part answers to a call."""
-        entries, number = self.parts[place]
-        part = Part(self.capacity, entries=entries, number=number)
-        answer = call(part)
-        self.parts = replaced(self.parts, place, part.frozen())
-        return answer
-
-    def offer(self, offer):
-        place = part_of(offer.key.name, len(self.parts))
-        self.words += (str(self.part(place, lambda part: part.offer(offer))),)
-
-    def ask(self, *words):
-        ask = self.line.name, self.line.rtype, self.line.at, *words
-        return str(self.part(part_of(ask[0], len(self.parts)), lambda part: part.ask(*ask)))
-
-    def on_put(self):
-        self.offer(self.offers[0])
-
-    on_fail = on_put
-
-    def on_ask(self):
-        self.words = (self.ask(*self.line.rest),)
-
-    def on_checkpoint(self):
-        pass
-
-    def on_sweep(self):
-        removed = self.part(self.number, lambda part: part.sweep(self.line.at))
-        self.words += (str(len(removed)),)
-        self.is_last = self.number + 1 == len(self.parts)
-
-    def on_response(self):
-        if self.offers is None:
-            self.words = "refused", "1"
-            return
-        self.words = self.words or (str(len(self.offers)),)
-        self.offer(self.offers[self.number])
-        self.is_last = self.number + 1 == len(self.offers)
-
-    def on_fetch(self):
-        question, place = (self.line.name, self.line.rtype), self.number - 2
-        self.is_last = False
-        if self.number == 0:
-            reply = self.ask("answer", "failed")
-            self.is_last = reply != "miss"
-            if self.is_last:
-                self.words = (f"held{reply[4:]}" if reply.startswith("miss") else f"hit {reply}",)
-        elif self.number == 1:
-            self.is_last = question in self.marks
-            self.words = ("joined",) if self.is_last else ("fetched", str(len(self.offers)))
-            self.marks |= {question}
-        elif place < len(self.offers):
-            self.offer(self.offers[place])
-        elif place == len(self.offers):
-            self.words += (self.ask("answer", "now"),)
-        else:
-            self.marks -= {question}
-            self.is_last = True
+    if line.word == "fetch":
+        offers = [failure(line.name, line.rtype, line.at)] if fault else offers
+        return ("fetched", str(len(offers))), [
+            ask("answer", "failed"), BEGIN, *map(offer, offers), ask("answer", "now"), FINISH]
+    if fault:
+        return ("refused", str(fault.number)), [NOTHING]
+    return (str(len(offers)),), [*map(offer, offers)]
 
 
 def stepped(lines, state, mine, capacity):
@@ -177,22 +126,39 @@ def stepped(lines, state, mine, capacity):
     parts, marks, drawn, workers, answers = state
     workers = [*workers]
     workers.remove(mine)
-    if mine:
-        at, number, words = mine
-        step = Step(capacity, state, *lines[at], number, words)
-        parts, marks = step.parts, step.marks
-        workers.append(() if step.is_last else (at, number + 1, step.words))
-        if step.is_last:
-            answers = replaced(answers, at, " ".join((step.line.word, *step.words)))
-    elif drawn < len(lines):
-        workers.append((drawn, 0, ()))
-        drawn += 1
+    if not mine:
+        if drawn < len(lines):
+            workers.append((drawn, 0, lines[drawn][1]))
+        return state._replace(drawn=drawn + 1, workers=tuple(sorted(workers)))
+    at, number, words = mine
+    line, _, steps = lines[at]
+    step, question, is_over = steps[number], (line.name, line.rtype), number + 1 == len(steps)
+    if step == BEGIN:
+        if question in marks:
+            is_over, words = True, ("joined",)
+        marks |= {question}
+    elif step == FINISH:
+        marks -= {question}
+    elif step != NOTHING:
+        place, call = step
+        entries, count = parts[place]
+        part = Part(capacity, entries=entries, number=count)
+        answer = str(call(part))
+        parts = replaced(parts, place, part.frozen())
+        if line.word != "fetch" or number:
+            words += (answer,)
+        elif answer != "miss":
+            is_held = answer.startswith("miss")
+            is_over, words = True, (f"held{answer[4:]}" if is_held else f"hit {answer}",)
+    if is_over:
+        answers = replaced(answers, at, " ".join((line.word, *words)))
+    workers.append(() if is_over else (at, number + 1, words))
     return State(parts, marks, drawn, tuple(sorted(workers)), answers)
 
 
 def allowed(texts, workers, parts, capacity):
     """All reports that some schedule allows, or None where there are too many states to try."""
-    lines = [(line, offers_of(line)) for line in (line_of(it.encode()) for it in texts)]
+    lines = [(line, *steps_of(line, parts)) for line in (line_of(it.encode()) for it in texts)]
     start = State((((), 0),) * parts, frozenset(), 0, ((),) * workers, ("",) * len(lines))
     seen, todo, reports = {start}, [start], set()
     while todo and len(seen) <= STATES_MOST:
