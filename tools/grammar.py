@@ -107,35 +107,26 @@ class Drawn:
             return usual
         return self.rng.choice(CLASSES if luck < 0.99 else ODD_CLASSES)
 
-    def few_octets(self):
-        return bytes(self.rng.randrange(2) for _ in range(self.rng.choice([0, 1, 1, 2, 4])))
-
-    def layout(self, rtype):
-        """The fixed octets before the names of data, how many names there are, and the fixed octets
-        behind them, of a type that has names."""
+    def write_data(self, rtype, octets, write_name):
+        """Writes data of a type behind octets, its names by a call for each."""
+        if rtype not in LAYOUTS:
+            few = bytes(self.rng.randrange(2) for _ in range(self.rng.choice([0, 1, 1, 2, 4])))
+            octets += wire(self.name()) if rtype == 39 else few
+            return
         before, names, after = LAYOUTS[rtype]
-        numbers = struct.pack(">5I", 1, 2, 3, 4, self.rng.choice(TTLS))
-        return bytes(before), names, numbers if rtype == SOA else bytes(after)
+        octets += bytes(before)
+        for _ in range(names):
+            write_name()
+        numbers = 1, 2, 3, 4, self.rng.choice(TTLS)
+        octets += struct.pack(">5I", *numbers) if rtype == SOA else bytes(after)
 
     def plain_data(self, rtype):
         """Data of a type with whole names, as an item has them."""
-        if rtype not in LAYOUTS:
-            return wire(self.name()) if rtype == 39 else self.few_octets()
-        before, names, after = self.layout(rtype)
-        return before + b"".join(wire(self.lawful_name()) for _ in range(names)) + after
+        octets = bytearray()
+        self.write_data(rtype, octets, lambda: octets.extend(wire(self.lawful_name())))
+        return bytes(octets)
 
     # ---- messages
-
-    def data(self, writer, rtype):
-        """Data of a type as a message has them, with pointers in their names."""
-        if rtype not in LAYOUTS:
-            writer.octets += self.plain_data(rtype)
-            return
-        before, names, after = self.layout(rtype)
-        writer.octets += before
-        for _ in range(names):
-            writer.name(self.name())
-        writer.octets += after
 
     def record(self, writer, owner, rtype, rclass, target=None, ttl=None):
         """A record; of a CNAME record the target may be given. Answers the data's octets."""
@@ -147,7 +138,7 @@ class Drawn:
         elif target is not None:
             writer.name(target)
         else:
-            self.data(writer, rtype)
+            self.write_data(rtype, writer.octets, lambda: writer.name(self.name()))
         writer.size(at)
         return bytes(writer.octets[at + 2:])
 

@@ -2,7 +2,7 @@
 """The rules of the cache (docs/RULES.md), in Python and apart from the program: what each offer,
 ask and sweep does to a part, and what it is answered.
 
-bin/fuzz compares the program with it, tests/schedules/run tries the orders of several workers by
+bin/fuzz compares the program with it, tests/schedules tries the orders of several workers by
 it, bin/why tells lines of a report in words, and bin/what-if counts octets. Names are octets in
 wire form.
 """
