@@ -22,14 +22,9 @@ def refusals(request, tmp_path_factory):
 
 
 @pytest.fixture(scope="module")
-def shares(request, seconds):
-    """Of the time, for each test that takes a share, as much as for each behind it."""
+def share(request, seconds):
+    """What tells a test its share of the time, which is as much as that of each behind it."""
     count = sum(it.path == request.path and "share" in it.fixturenames
                 for it in request.session.items)
     end = time.monotonic() + seconds
-    return ((end - time.monotonic()) / left for left in range(count, 0, -1))
-
-
-@pytest.fixture
-def share(shares):
-    return next(shares)
+    return ((end - time.monotonic()) / left for left in range(count, 0, -1)).__next__

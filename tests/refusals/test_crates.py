@@ -85,9 +85,9 @@ def test_a_path_is_named(named):
 
 @pytest.mark.parametrize("crate, path", NAMED)
 def test_each_request_in_a_named_test(refusals, crate, path):
-    assert refused_in(crate, path, refusals), "it was not tried to its end"
+    assert refused_in(crate, path, refusals), "not tried to its end"
 
 
 @pytest.mark.parametrize("crate, path", [it for it in TESTS if it not in NAMED])
 def test_requests_in_another_test(refusals, share, crate, path):
-    refused_in(crate, path, refusals, share)
+    refused_in(crate, path, refusals, share())

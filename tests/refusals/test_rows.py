@@ -9,10 +9,9 @@ workers. One row: `pytest tests/refusals -k NAME --seconds N`.
 """
 import pytest
 
-from tests.refusals.refusing import MEMORY, THREAD
+from tests.refusals.refusing import MEMORY, THREAD, TO_THE_END
 from tests.tools.shared import ARCHIVE, WRONG_ARGUMENTS, texts_of
 from tools.rows import content, rows
-from tools.trials import Answer
 
 NAMED_ROWS = [
     # Names, the reader and what is offered of a message. The first has one address, two with AA and
@@ -34,14 +33,15 @@ LAST_ROWS = [
     "a-response-evicts-what-it-stored", "a-key-that-is-held-evicts-nothing"]
 # A row with more octets of trace is left out.
 MOST_OCTETS = 300_000
-REFUSED = Answer(1, b"", b"rrcache: memory or a thread was refused\n")
 # What an archive by hand becomes where a datum is changed that its second chapter begins with, and
 # how audits of the two end.
 CHANGED = "c0000202\noffer 4", "c0000203\noffer 4"
 LEGAL = 0, b"legal: 4 chapters, 16 events from number 0 on\n", b""
 OTHER_CONTENTS = b"chapter 1 does not begin with what the one before it ends with\n"
 NOT_LEGAL = 1, b"not legal: " + OTHER_CONTENTS, b""
-UNREAD = REFUSED, Answer(1, b"", b"rrcache: memory was refused\n")
+# How a run ends that was refused something: a replay by the first, an audit by either.
+REFUSALS = [(1, b"", b"rrcache: memory or a thread was refused\n"),
+          (1, b"", b"rrcache: memory was refused\n")]
 pytestmark = pytest.mark.parametrize("kind", [MEMORY, THREAD], ids=["memory", "thread"])
 
 
@@ -52,34 +52,37 @@ def other_rows():
     return [*sorted(found, key=lambda it: (sizes[it], it)), *LAST_ROWS]
 
 
-def refused_on(row, program, refusals, kind, *seconds):
-    """Refuses each request on a row, or on each line of it where each is a trace by itself."""
-    whole = Answer(int(content(row, "status", b"0")), content(row, "report"),
-                   content(row, "stderr"))
-
+def judge_by(status, report, fault, refused=REFUSALS):
+    """What judges answers that have to be this one, or a refusal where there was one."""
     def judge(answer, is_refused):
-        if is_refused and answer == REFUSED:
+        if is_refused and answer in refused:
             return True
-        if whole.status == WRONG_ARGUMENTS:
-            return answer[:2] == whole[:2] and answer.fault != b""
-        return answer == whole
-    words = [program, *content(row, "args").splitlines()]
-    return all(refusals.refuse(words, it, judge, kind, *seconds) for it in texts_of(row))
+        if status == WRONG_ARGUMENTS:
+            return answer[:2] == (status, report) and answer.fault != b""
+        return answer == (status, report, fault)
+    return judge
+
+
+def refused_on(row, program, refusals, kind, seconds=TO_THE_END):
+    """Refuses each request on a row, or on each line of it where each is a trace by itself."""
+    judge = judge_by(int(content(row, "status", b"0")), content(row, "report"),
+                     content(row, "stderr"), REFUSALS[:1])
+    words, texts = [program, *content(row, "args").splitlines()], texts_of(row)
+    return all([refusals.refuse(words, it, judge, kind, seconds / len(texts)) for it in texts])
 
 
 @pytest.mark.parametrize("name", NAMED_ROWS)
 def test_each_request_on_a_named_row(refusals, program, name, kind):
-    assert refused_on(rows()[name], program, refusals, kind), "it was not tried to its end"
+    assert refused_on(rows()[name], program, refusals, kind), "not tried to its end"
 
 
 @pytest.mark.parametrize("text, whole", [(ARCHIVE, LEGAL), (ARCHIVE.replace(*CHANGED), NOT_LEGAL)],
                          ids=["archive", "changed-archive"])
 def test_each_request_of_an_audit(refusals, program, text, whole, kind):
-    def judge(answer, is_refused):
-        return answer == whole or is_refused and answer in UNREAD
-    assert refusals.refuse([program, "--audit-history"], text.encode(), judge, kind)
+    words = [program, "--audit-history"]
+    assert refusals.refuse(words, text.encode(), judge_by(*whole), kind), "not tried to its end"
 
 
 @pytest.mark.parametrize("name", other_rows())
 def test_requests_on_another_row(refusals, program, share, name, kind):
-    refused_on(rows()[name], program, refusals, kind, share)
+    refused_on(rows()[name], program, refusals, kind, share())
