@@ -56,9 +56,6 @@ class Writer:
             at += 1 + whole[at]
         self.octets += whole
 
-    def fields(self, form, *values):
-        self.octets += struct.pack(form, *values)
-
     def size(self, at):
         """Writes at a place how many octets stand behind it: RDLENGTH, at times a wrong one."""
         size = len(self.octets) - at - 2
@@ -131,7 +128,8 @@ class Drawn:
     def record(self, writer, owner, rtype, rclass, target=None, ttl=None):
         """A record; of a CNAME record the target may be given. Answers the data's octets."""
         writer.name(owner)
-        writer.fields(">HHIH", rtype, rclass, self.rng.choice(TTLS) if ttl is None else ttl, 0)
+        ttl = self.rng.choice(TTLS) if ttl is None else ttl
+        writer.octets += struct.pack(">HHIH", rtype, rclass, ttl, 0)
         at = len(writer.octets) - 2
         if isinstance(target, bytes):
             writer.octets += target
@@ -180,7 +178,8 @@ class Drawn:
         writer, rclass = Writer(self.rng), self.rng.choice(self.classes * 9 + [255, 2])
         has_chain = self.rng.random() < 0.2
         writer.name(f"n0.{self.base}" if has_chain else self.name())
-        writer.fields(">HH", self.rng.choice([self.rtype()] * 4 + [1, 5, 255, 255]), rclass)
+        rtype = self.rng.choice([self.rtype()] * 4 + [1, 5, 255, 255])
+        writer.octets += struct.pack(">HH", rtype, rclass)
         answers = self.chain(writer, rclass) if has_chain else 0
         denies = self.rng.random() < 0.45
         answers += self.records(writer, 2 if denies or has_chain else 5, rclass)

@@ -25,9 +25,8 @@ def changed_octets(rng, octets):
     """Octets with a few changed, put in, taken out, cut off or repeated."""
     octets = bytearray(octets)
     for _ in range(rng.choice([1, 1, 1, 2, 4])):
-        at = rng.randrange(len(octets) + 1)
+        at, how = rng.randrange(len(octets) + 1), rng.randrange(6)
         size = rng.choice([1, 1, 2, 4, 12])
-        how = rng.randrange(6)
         if how == 0:
             octets[at:at + 1] = bytes([rng.choice(OCTETS)])
         elif how == 1 and at < len(octets):

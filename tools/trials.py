@@ -11,7 +11,7 @@ from the first answer to the second:
              its own capacity, and no key of a name concerns another name. Of a sweep, which tells a
              number for each part, the sums are the same.
   workers    one worker and many: the same where the trace is refused, for it is read before it is
-             replayed, and where the calls of different lines are on different names (`are_apart`)
+             replayed, and where the calls of different lines are on different names (`apart`)
              and nothing is evicted. Then each line meets no entry and no mark but its own.
   builds     what LLVM and what Rattle's own compiler made of the program
   arguments  options out of their ranges are refused, with status 2
@@ -99,11 +99,6 @@ def apart(texts):
     return found
 
 
-def are_apart(text):
-    texts = text.split(b"\n")[:-1]
-    return text.endswith(b"\n") and apart(texts) == texts
-
-
 class Trial(NamedTuple):
     """A trace, the check, the options, what the second answer has instead of them, and the
     programs that are asked."""
@@ -130,7 +125,8 @@ class Trial(NamedTuple):
         if first.status != 0:
             return False
         if self.check == "workers":
-            return not are_apart(self.text)
+            *texts, behind = self.text.split(b"\n")
+            return behind != b"" or apart(texts) != texts
         return self.check == "parts" and b"-out:" in first.report
 
     def differs(self, answers):

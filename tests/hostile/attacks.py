@@ -152,14 +152,6 @@ MESSAGES = (one_key, many_keys, many_types, many_labels, behind_pointers, expand
 # ---- Names of one hash.
 
 
-def turned(word, bits):
-    return (word << bits | word >> 64 - bits) & (1 << 64) - 1
-
-
-def octets(word):
-    return word.to_bytes(8, "little")
-
-
 def labels(number, picked):
     """So many labels of LABEL octets. With the length octet in front they are two blocks of 16
     octets and 8 more. The hasher folds each 16 octets as the product of two words of 8: the lower
@@ -167,12 +159,13 @@ def labels(number, picked):
     the upper octets make that factor a power of two, so that the product only turns the lower
     word's bits, and the next lower word undoes what the first one did, whatever a seed was."""
     draw = random.Random(1)
-    upper, undone = octets(MULTIPLIER ^ 1 << TURN), draw.getrandbits(64)
+    upper, undone = (MULTIPLIER ^ 1 << TURN).to_bytes(8, "little"), draw.getrandbits(64)
     seen = set()
     while len(seen) < number:
         own = bytes(draw.choices(LETTERS, k=7))
         lower = int.from_bytes(bytes([LABEL]) + own, "little")
-        undoing = octets(undone ^ turned(lower, TURN))
+        turned = (lower << TURN | lower >> 64 - TURN) & (1 << 64) - 1
+        undoing = (undone ^ turned).to_bytes(8, "little")
         # Names are folded, so the octets of capital letters would become others.
         if own in seen or any(65 <= octet <= 90 for octet in undoing):
             continue

@@ -11,19 +11,17 @@ from typing import NamedTuple
 class Memory(ctypes.Structure):
     """What mallinfo2 of glibc answers."""
 
-    _fields_ = [(name, ctypes.c_size_t) for name in (
-        "arena", "ordblks", "smblks", "hblks", "hblkhd", "usmblks", "fsmblks", "uordblks",
-        "fordblks", "keepcost")]
+    _fields_ = [("numbers", ctypes.c_size_t * 10)]
 
 
-LIBC = ctypes.CDLL(None)
-LIBC.mallinfo2.restype = Memory
+MALLINFO = ctypes.CDLL(None).mallinfo2
+MALLINFO.restype = Memory
 
 
 def memory():
-    """How many octets the allocator has given out."""
-    told = LIBC.mallinfo2()
-    return told.uordblks + told.hblkhd
+    """How many octets the allocator has given out, of its own (uordblks) and mapped (hblkhd)."""
+    numbers = MALLINFO().numbers
+    return numbers[7] + numbers[4]
 
 
 def timed(call, *arguments):

@@ -16,7 +16,8 @@ import rrcache
 from tests.hostile.attacks import (ASKED, ENDS, LONG, MESSAGES, MOST_OCTETS, ROOT, behind_pointers,
                                    filled, label, many_keys, one_key, openings, puts_and_asks)
 from tests.hostile.costs import memory, timed, used_by
-from tools.trials import Answer, by_model, by_program
+from tools.traces import QUESTIONS_MOST
+from tools.trials import Answer, by_model, by_program, run
 from tools.wire import A, name_at, question, record, response
 
 MOST_KEYS = 65_536
@@ -28,7 +29,6 @@ STAYS, EVENT_STAYS, PROGRAM_HOLDS, BESIDE = 100, 40, 20, 3_000
 # What a key has at most of the octets that are told, of what is relevant of a response.
 OF_A_KEY, URI = 302_830, 256
 CLASHES = 10_000
-MOST_QUESTIONS = 4_096
 # How long a run may take that has to end.
 SECONDS = 60
 # The octets of messages that the model reads, which is slow.
@@ -99,20 +99,18 @@ def refused(fault):
 def test_traces_without_end(program, words, fault):
     """Reading ends, in a line that has no end and among lines of which there is no end."""
     with subprocess.Popen(words, stdout=subprocess.PIPE) as endless:
-        run = subprocess.run([program], stdin=endless.stdout, capture_output=True, timeout=SECONDS)
-        endless.stdout.close()
-    assert Answer(run.returncode, run.stdout, run.stderr) == refused(fault)
+        assert run([program], None, SECONDS, stdin=endless.stdout) == refused(fault)
 
 
 def test_one_question_too_many(program):
     """A repeat in other letters is no new question. The first fault is told, and a line that is
     none asks nothing."""
-    most = "".join(f"fetch 1 n{number} 1 . -\n" for number in range(MOST_QUESTIONS))
-    most += f"fetch 1 N{MOST_QUESTIONS - 1} 1 a 00\n"
+    most = "".join(f"fetch 1 n{number} 1 . -\n" for number in range(QUESTIONS_MOST))
+    most += f"fetch 1 N{QUESTIONS_MOST - 1} 1 a 00\n"
     assert by_program(program, {}, most.encode()).status == 0
     for behind, fault in (
-            ("fetch 1 n0 28 . -\n?\n", f"line {MOST_QUESTIONS + 1} asks one question too many"),
-            ("fetch 1 n0 28 . ?\n", f"line {MOST_QUESTIONS + 1} is not a line of a trace")):
+            ("fetch 1 n0 28 . -\n?\n", f"line {QUESTIONS_MOST + 1} asks one question too many"),
+            ("fetch 1 n0 28 . ?\n", f"line {QUESTIONS_MOST + 1} is not a line of a trace")):
         assert by_program(program, {}, (most + behind).encode()) == refused(fault)
 
 
@@ -266,8 +264,7 @@ def test_archives_of_four_times_the_entries(program, end):
     audit = [program, "--audit-history"]
     few, many = (openings(keys, end).encode() for keys in (MOST_KEYS // 16, MOST_KEYS // 4))
     for it in few, many:
-        run = subprocess.run(audit, input=it, capture_output=True, timeout=SECONDS)
-        assert run.stdout == (
+        assert run(audit, it, SECONDS).report == (
             b"not legal: chapter 1 does not begin with what the one before it ends with\n")
     once, most = (lambda it=it: used_by(audit, it).seconds for it in (few, many))
     assert times(once, most, runs=3) <= FOUR_TIMES

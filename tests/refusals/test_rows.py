@@ -41,7 +41,7 @@ OTHER_CONTENTS = b"chapter 1 does not begin with what the one before it ends wit
 NOT_LEGAL = 1, b"not legal: " + OTHER_CONTENTS, b""
 # How a run ends that was refused something: a replay by the first, an audit by either.
 REFUSALS = [(1, b"", b"rrcache: memory or a thread was refused\n"),
-          (1, b"", b"rrcache: memory was refused\n")]
+            (1, b"", b"rrcache: memory was refused\n")]
 pytestmark = pytest.mark.parametrize("kind", [MEMORY, THREAD], ids=["memory", "thread"])
 
 

@@ -164,7 +164,8 @@ def allowed(texts, workers, parts, capacity):
     while todo and len(seen) <= STATES_MOST:
         state = todo.pop()
         if not state.workers:
-            reports.add("".join(f"{number} {it}\n" for number, it in enumerate(state.answers)))
+            lines_told = (f"{number} {it}\n" for number, it in enumerate(state.answers))
+            reports.add("".join(lines_told).encode())
         for worker in set(state.workers):
             later = stepped(lines, state, worker, capacity)
             if later not in seen:
@@ -174,14 +175,6 @@ def allowed(texts, workers, parts, capacity):
 
 
 # ---- tests
-
-
-def report_of(program, options, text):
-    """The report of a run, or why it has none."""
-    answer = by_program(program, options, text.encode())
-    if answer.status == 0:
-        return answer.report.decode()
-    return f"status {answer.status}: {answer.fault.decode()}\n"
 
 
 def test_each_report_is_one_that_a_schedule_allows(program, seconds, capsys):
@@ -196,8 +189,9 @@ def test_each_report_is_one_that_a_schedule_allows(program, seconds, capsys):
             continue
         text, got = "".join(f"{it}\n" for it in texts), set()
         for _ in range(RUNS):
-            got.add(report_of(program, options, text))
-            assert got <= reports, f"{options}\n{text}is answered\n{''.join(got - reports)}"
+            answer = by_program(program, options, text.encode())
+            assert answer.status == 0 and answer.report in reports, f"{options}\n{text}{answer}"
+            got.add(answer.report)
         counts.update(tried=1, several=len(reports) > 1, seen=len(reports) > 1 and got == reports)
     assert counts["tried"]
     with capsys.disabled():
