@@ -18,8 +18,8 @@ from pathlib import Path
 import rrcache
 from tests.forwarder.harness import (DNAME, NXDOMAIN, SERVFAIL, Skipped, Wrong, address, same, soa,
                                      wanted)
-from tests.tools.model import ARCHIVE
-from tests.tools.model import SOA as SOA_DATA
+from tests.tools.shared import ARCHIVE
+from tests.tools.shared import SOA as SOA_DATA
 from tools.archive import Rules, archive_of
 from tools.model import part_of
 from tools.traces import lines_in
@@ -520,7 +520,7 @@ def test_refusals_by_python():
 
 
 def test_archives_are_read_by_python():
-    """The archive by hand of tests/tools/model.py."""
+    """The archive by hand of tests/tools/shared.py."""
     chapters = rrcache.read_archive(ARCHIVE)
     same("".join(it.text for it in chapters), ARCHIVE, "the text of chapters")
     numbers = [(it.number, it.first, it.capacity, it.chapter, it.stale) for it in chapters]

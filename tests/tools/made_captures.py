@@ -4,9 +4,12 @@ import io
 import random
 import struct
 
-import dpkt
+import pytest
 
-IP4, IP6, UDP, TCP = 0x0800, 0x86DD, 17, 6
+dpkt = pytest.importorskip("dpkt")
+
+UDP, TCP = dpkt.ip.IP_PROTO_UDP, dpkt.ip.IP_PROTO_TCP
+SYN, FIN, ACK = dpkt.tcp.TH_SYN, dpkt.tcp.TH_FIN, dpkt.tcp.TH_ACK
 
 
 def ip_packets(path):
@@ -15,195 +18,160 @@ def ip_packets(path):
         return [(at, octets[14:]) for at, octets in dpkt.pcap.Reader(stream)]
 
 
+# ---- links
+
+
+def is_ip4(ip):
+    return ip[0] >> 4 == 4
+
+
 def ethertype(ip):
-    return IP4 if ip[0] >> 4 == 4 else IP6
+    return 0x0800 if is_ip4(ip) else 0x86DD
 
 
-def ethernet(ip):
-    return bytes(12) + struct.pack(">H", ethertype(ip)) + ip
+def vlan(ip, number=7):
+    return dpkt.ethernet.VLANtag8021Q(id=number, type=ethertype(ip))
 
 
-def padded(ip):
-    """A frame with octets behind the packet, as short ones have on the wire."""
-    return ethernet(ip) + b"\x5a" * 20
+def ethernet(ip, *tags):
+    return bytes(dpkt.ethernet.Ethernet(type=ethertype(ip), vlan_tags=tags, data=ip))
 
 
-def vlan(ip):
-    return bytes(12) + struct.pack(">3H", 0x8100, 7, ethertype(ip)) + ip
+def cooked(ip, version=dpkt.sll.SLL):
+    return bytes(version(ethtype=ethertype(ip), data=ip))
 
 
-def two_vlans(ip):
-    return bytes(12) + struct.pack(">5H", 0x88A8, 9, 0x8100, 7, ethertype(ip)) + ip
-
-
-def cooked(ip):
-    return struct.pack(">3H8sH", 0, 1, 6, bytes(8), ethertype(ip)) + ip
-
-
-def cooked_vlan(ip):
-    return struct.pack(">3H8s3H", 0, 1, 6, bytes(8), 0x8100, 7, ethertype(ip)) + ip
-
-
-def cooked2(ip):
-    return struct.pack(">2HiHBB8s", ethertype(ip), 0, 3, 1, 0, 6, bytes(8)) + ip
-
-
-def null(ip):
-    return struct.pack("<I", 2 if ip[0] >> 4 == 4 else 30) + ip
-
-
-def loop(ip):
-    return struct.pack(">I", 2 if ip[0] >> 4 == 4 else 24) + ip
-
-
+# Each link's type, and what makes its frame of an IP packet. Short frames have octets behind the
+# packet on the wire.
 LINKS = {
-    "Ethernet": (1, ethernet), "padded Ethernet": (1, padded),
-    "VLAN": (1, vlan), "two VLANs": (1, two_vlans),
-    "Linux cooked": (113, cooked), "Linux cooked, VLAN": (113, cooked_vlan),
-    "Linux cooked v2": (276, cooked2), "raw": (101, bytes), "BSD raw": (12, bytes),
-    "null": (0, null), "loop": (108, loop),
+    "Ethernet": (1, ethernet), "padded Ethernet": (1, lambda ip: ethernet(ip) + b"\x5a" * 20),
+    "VLAN": (1, lambda ip: ethernet(ip, vlan(ip))),
+    "two VLANs": (1, lambda ip: ethernet(ip, vlan(ip, 9), vlan(ip))),
+    "Linux cooked": (113, cooked), "Linux cooked v2": (276, lambda ip: cooked(ip, dpkt.sll2.SLL2)),
+    "Linux cooked, VLAN": (113, lambda ip: bytes(
+        dpkt.sll.SLL(ethtype=0x8100, data=vlan(ip).pack_hdr() + ip))),
+    "raw": (101, bytes), "BSD raw": (12, bytes),
+    "null": (0, lambda ip: struct.pack("<I", 2 if is_ip4(ip) else 30) + ip),
+    "loop": (108, lambda ip: struct.pack(">I", 2 if is_ip4(ip) else 24) + ip),
 }
+
+
+# ---- files
+
+
+def of_order(module, order, *names):
+    """dpkt's classes of these names, for files whose octets are in that order."""
+    form = {dpkt.pcap: "LE{}", dpkt.pcapng: "{}LE"}[module] if order == "<" else "{}"
+    return [getattr(module, form.format(it)) for it in names]
 
 
 def pcap(packets, link=1, order="<", nano=False):
     """A pcap file of packets of a link."""
-    magic, units = (0xA1B23C4D, 10**9) if nano else (0xA1B2C3D4, 10**6)
-    made = [struct.pack(order + "I2H4I", magic, 2, 4, 0, 0, 262_144, link)]
+    file_header, header = of_order(dpkt.pcap, order, "FileHdr", "PktHdr")
+    magic, scale = (dpkt.pcap.TCPDUMP_MAGIC_NANO, 1000) if nano else (dpkt.pcap.TCPDUMP_MAGIC, 1)
+    made = [bytes(file_header(magic=magic, snaplen=262_144, linktype=link))]
     for at, octets in packets:
-        fraction = round(at % 1 * 10**6) * (units // 10**6)
-        made += struct.pack(order + "4I", int(at), fraction, len(octets), len(octets)), octets
+        size, fraction = len(octets), round(at % 1 * 10**6) * scale
+        made += bytes(header(tv_sec=int(at), tv_usec=fraction, caplen=size, len=size)), octets
     return b"".join(made)
 
 
 def pcapng_by_dpkt(packets, link):
     """A pcapng file as dpkt's own writer makes it."""
     stream = io.BytesIO()
-    writer = dpkt.pcapng.Writer(stream, linktype=link)
-    for at, octets in packets:
-        writer.writepkt(octets, ts=at)
+    dpkt.pcapng.Writer(stream, linktype=link).writepkts(packets)
     return stream.getvalue()
 
 
-def block(order, kind, body):
-    body += bytes(-len(body) % 4)
-    size = struct.pack(order + "I", 12 + len(body))
-    return struct.pack(order + "I", kind) + size + body + size
-
-
-def section(order):
-    return block(order, 0x0A0D0D0A, struct.pack(order + "I2Hq", 0x1A2B3C4D, 1, 0, -1))
-
-
 def pcapng(packets, links, order=">", power=9):
-    """A pcapng file of several interfaces, in turn, whose units of time are powers of ten."""
-    made = section(order)
-    for link, _ in links:
-        resolution = struct.pack(order + "2HB3x2H", 9, 1, power, 0, 0)
-        made += block(order, 1, struct.pack(order + "2HI", link, 0, 0) + resolution)
-    made += block(order, 4, b"names, which are read over")
+    """A pcapng file of several interfaces, in turn, whose units of time are powers of ten. A block
+    of names stands among them, which is read over."""
+    section, interface, option, packet = of_order(
+        dpkt.pcapng, order, "SectionHeaderBlock", "InterfaceDescriptionBlock", "PcapngOption",
+        "EnhancedPacketBlock")
+    resolution = [option(code=dpkt.pcapng.PCAPNG_OPT_IF_TSRESOL, data=bytes([power])), option()]
+    made = bytes(section())
+    made += b"".join(bytes(interface(linktype=it, opts=resolution)) for it, _ in links)
+    made += struct.pack(order + "2I8sI", 4, 20, b"a name", 20)
     for number, (at, ip) in enumerate(packets):
-        octets = links[number % len(links)][1](ip)
-        time = round(at * 10**6) * 10**(power - 6)
-        body = struct.pack(order + "5I", number % len(links), time >> 32, time & 0xFFFFFFFF,
-                           len(octets), len(octets))
-        made += block(order, 6, body + octets)
+        time, which = round(at * 10**6) * 10**(power - 6), number % len(links)
+        made += bytes(packet(iface_id=which, ts_high=time >> 32, ts_low=time & 0xFFFFFFFF,
+                             pkt_data=links[which][1](ip)))
     return made
+
+
+# ---- packets
+
+
+def ip4(source, target, protocol, payload, number=1, start=0, more=0):
+    """An IPv4 packet, or the fragment of one that begins at such a place and has more behind it."""
+    return bytes(dpkt.ip.IP(src=source, dst=target, p=protocol, id=number, offset=start // 8,
+                            mf=more, data=payload))
+
+
+def ip6(source, target, protocol, payload):
+    return bytes(dpkt.ip6.IP6(src=source, dst=target, nxt=protocol, plen=len(payload), hlim=64,
+                              data=payload))
+
+
+def ip(source, target, protocol, payload):
+    return (ip4 if len(source) == 4 else ip6)(source, target, protocol, bytes(payload))
+
+
+def udp(source, target, ports, payload):
+    """A packet with a datagram."""
+    return ip(source, target, UDP, dpkt.udp.UDP(
+        sport=ports[0], dport=ports[1], ulen=8 + len(payload), data=payload))
+
+
+def segment(source, target, ports, number, flags, payload=b""):
+    return ip(source, target, TCP, dpkt.tcp.TCP(
+        sport=ports[0], dport=ports[1], seq=number % 2**32, flags=flags, data=payload))
 
 
 # ---- paths: fragments, and TCP in place of UDP
 
 
-def ip4(source, target, protocol, payload, number=1, flags=0):
-    """An IPv4 packet; its flags are the 16 bits with the fragment's offset."""
-    return struct.pack(">BBHHHBBH4s4s", 0x45, 0, 20 + len(payload), number, flags, 64, protocol, 0,
-                       source, target) + payload
-
-
-def ip6(source, target, protocol, payload):
-    return struct.pack(">IHBB16s16s", 6 << 28, len(payload), protocol, 64, source, target) + payload
-
-
-def ip(source, target, protocol, payload):
-    return (ip4 if len(source) == 4 else ip6)(source, target, protocol, payload)
-
-
-def udp(source, target, ports, payload):
-    """A packet with a datagram."""
-    return ip(source, target, UDP, struct.pack(">4H", *ports, 8 + len(payload), 0) + payload)
-
-
-def ends(octets):
-    """The addresses of a packet, its protocol and its payload, where it is no fragment."""
-    if octets[0] >> 4 == 4:
-        size = struct.unpack(">H", octets[2:4])[0]
-        return octets[12:16], octets[16:20], octets[9], octets[20:size]
-    return octets[8:24], octets[24:40], octets[6], octets[40:]
-
-
-def is_fragment(octets):
-    return octets[0] >> 4 == 4 and struct.unpack(">H", octets[6:8])[0] & 0x3FFF
-
-
-def fragments(octets, number, rng):
+def fragments(packet, number, rng):
     """The fragments of a packet, in an order drawn at random."""
-    source, target, protocol, payload = ends(octets)
+    payload, ends = bytes(packet.data), (packet.src, packet.dst)
     size = 8 * rng.randint(1, max(1, len(payload) // 16))
-    pieces = [(at, payload[at:at + size]) for at in range(0, len(payload), size)]
     made = []
-    for at, piece in pieces:
-        more = at + size < len(payload)
-        if len(source) == 4:
-            flags = at // 8 | 0x2000 * more
-            made.append(ip4(source, target, protocol, piece, number & 0xFFFF, flags))
+    for at in range(0, len(payload), size):
+        piece, more = payload[at:at + size], at + size < len(payload)
+        if len(packet.src) == 4:
+            made.append(ip4(*ends, UDP, piece, number & 0xFFFF, at, more))
         else:
-            header = struct.pack(">BBHI", protocol, 0, at | more, number)
-            made.append(ip6(source, target, 44, header + piece))
+            header = dpkt.ip6.IP6FragmentHeader(nxt=UDP, frag_off=at // 8, m_flag=more, id=number)
+            made.append(ip6(*ends, dpkt.ip.IP_PROTO_FRAGMENT, bytes(header) + piece))
     rng.shuffle(made)
     return made
 
 
-def fragmented(packets, seed=1):
-    """The packets, each datagram in fragments."""
-    rng = random.Random(seed)
-    for number, (at, octets) in enumerate(packets):
-        if is_fragment(octets) or ends(octets)[2] != UDP:
-            yield at, octets
-        else:
-            yield from ((at, it) for it in fragments(octets, number + 70_000, rng))
-
-
-SYN, FIN, ACK = 2, 1, 16
-
-
-def segment(source, target, ports, number, flags, payload=b""):
-    header = struct.pack(">2H2I2B3H", *ports, number % 2**32, 0, 5 << 4, flags, 65_535, 0, 0)
-    return ip(source, target, TCP, header + payload)
-
-
-def tcp(source, target, ports, payload, rng):
+def segments(packet, number, rng):
     """The segments of a connection's one direction with one message: some twice, some early, some
     that begin within the one before."""
+    ends = packet.src, packet.dst, (packet.data.sport, packet.data.dport)
     first = rng.choice([rng.randrange(2**32), 2**32 - 5])
-    octets = struct.pack(">H", len(payload)) + payload
+    octets = struct.pack(">H", len(packet.data.data)) + packet.data.data
     size = rng.randint(1 + len(octets) // 40, len(octets))
-    pieces = [(at, octets[at:at + size]) for at in range(0, len(octets), size)]
-    pieces += rng.choices(pieces, k=2)
-    starts = [max(0, at - rng.randint(1, 9)) for at, _ in rng.choices(pieces, k=2)]
-    pieces += [(at, octets[at:at + size]) for at in starts]
-    rng.shuffle(pieces)
-    yield segment(source, target, ports, first, SYN)
-    for at, piece in pieces:
-        yield segment(source, target, ports, first + 1 + at, ACK, piece)
-    yield segment(source, target, ports, first + 1 + len(octets), FIN | ACK)
+    starts = [*range(0, len(octets), size)]
+    starts += rng.choices(starts, k=2)
+    starts += [max(0, at - rng.randint(1, 9)) for at in rng.choices(starts, k=2)]
+    rng.shuffle(starts)
+    yield segment(*ends, first, SYN)
+    for at in starts:
+        yield segment(*ends, first + 1 + at, ACK, octets[at:at + size])
+    yield segment(*ends, first + 1 + len(octets), FIN | ACK)
 
 
-def by_tcp(packets, seed=1):
-    """The packets, each datagram's message over a connection of its own."""
+def in_pieces(packets, cut, seed=1):
+    """The packets, each whole datagram cut into packets."""
     rng = random.Random(seed)
-    for at, octets in packets:
-        if is_fragment(octets) or ends(octets)[2] != UDP:
+    for number, (at, octets) in enumerate(packets):
+        packet = (dpkt.ip.IP if is_ip4(octets) else dpkt.ip6.IP6)(octets)
+        is_fragment = packet.mf or packet.offset if is_ip4(octets) else packet.nxt != UDP
+        if is_fragment or not isinstance(packet.data, dpkt.udp.UDP):
             yield at, octets
-            continue
-        source, target, _, payload = ends(octets)
-        for it in tcp(source, target, struct.unpack(">2H", payload[:4]), payload[8:], rng):
-            yield at, it
+        else:
+            yield from ((at, it) for it in cut(packet, number + 70_000, rng))

@@ -25,15 +25,11 @@ class Scale:
     def __init__(self, values):
         self.values = sorted(set(values))
         low, high = self.values[0], self.values[-1]
-        self.is_log = low > 0 and high / low >= 8
-        self.low, self.high = self.of(low), self.of(high)
-
-    def of(self, value):
-        return math.log2(value) if self.is_log else value
+        self.of = math.log2 if low > 0 and high / low >= 8 else float
+        self.low, self.span = self.of(low), self.of(high) - self.of(low)
 
     def x(self, value):
-        span = self.high - self.low
-        part = (self.of(value) - self.low) / span if span else 0.5
+        part = (self.of(value) - self.low) / self.span if self.span else 0.5
         return LEFT + part * (WIDTH - LEFT - RIGHT)
 
 
@@ -53,11 +49,10 @@ def line(x1, y1, x2, y2, color):
 
 def axes(scale, setting):
     """The lines and the words at both axes."""
-    right = WIDTH - RIGHT
+    right, last = WIDTH - RIGHT, -math.inf
     for percent in range(0, 101, 20):
         yield line(LEFT, y(percent / 100), right, y(percent / 100), "#ddd")
         yield text(LEFT - 8, y(percent / 100) + 4, f"{percent} %", "end")
-    last = -math.inf
     for value in scale.values:
         x = scale.x(value)
         yield line(x, y(0), x, y(0) + 5, "#444")
@@ -80,24 +75,20 @@ def drawn(curve, number, scale):
 
 def names(curves, scale):
     """The curves' names at their right ends, moved apart where they would stand on each other."""
-    ends = sorted((y(it.points[-1][1]), number) for number, it in enumerate(curves))
-    last = -math.inf
-    for at, number in ends:
-        last = max(at, last + GAP)
-        color = COLORS[number % len(COLORS)]
-        x = scale.x(curves[number].points[-1][0])
-        yield line(x + 4, at, WIDTH - RIGHT + 14, last, "#bbb")
-        yield text(WIDTH - RIGHT + 18, last + 4, curves[number].name, more=f' style="fill:{color}"')
+    last, right = -math.inf, WIDTH - RIGHT
+    for at, number in sorted((y(it.points[-1][1]), number) for number, it in enumerate(curves)):
+        last, color = max(at, last + GAP), COLORS[number % len(COLORS)]
+        yield line(scale.x(curves[number].points[-1][0]) + 4, at, right + 14, last, "#bbb")
+        yield text(right + 18, last + 4, curves[number].name, more=f' style="fill:{color}"')
 
 
 def svg(title, setting, curves):
     """The picture."""
     scale = Scale([value for it in curves for value, _ in it.points])
-    inside = [f'<rect width="{WIDTH}" height="{HEIGHT}" fill="#fff"/>',
-              text(LEFT, 26, title, more=' font-weight="bold"'), *axes(scale, setting)]
+    lines = [f'<svg xmlns="http://www.w3.org/2000/svg" width="{WIDTH}" height="{HEIGHT}" '
+             f'viewBox="0 0 {WIDTH} {HEIGHT}">',
+             f'<rect width="{WIDTH}" height="{HEIGHT}" fill="#fff"/>',
+             text(LEFT, 26, title, more=' font-weight="bold"'), *axes(scale, setting)]
     for number, curve in enumerate(curves):
-        inside += drawn(curve, number, scale)
-    inside += names(curves, scale)
-    head = (f'<svg xmlns="http://www.w3.org/2000/svg" width="{WIDTH}" height="{HEIGHT}" '
-            f'viewBox="0 0 {WIDTH} {HEIGHT}">')
-    return "\n".join([head, *inside, "</svg>"]) + "\n"
+        lines += drawn(curve, number, scale)
+    return "\n".join([*lines, *names(curves, scale), "</svg>"]) + "\n"

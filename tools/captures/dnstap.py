@@ -11,16 +11,16 @@ from tools.messages import name_at
 ESCAPE, FRAME_MOST = b"\0\0\0\0", 2**20
 CONTROL_STOP = 3
 CONTENT_TYPE = b"protobuf:dnstap.Dnstap"
-# What a message is, by its type: the side, and whether it is the response.
+DNSTAP_MESSAGE = 14
+# The fields of a message. A query and a response have seconds, nanoseconds and octets each.
+TYPE, QUERY_ADDRESS, RESPONSE_ADDRESS, QUERY_PORT, RESPONSE_PORT, ZONE = 1, 4, 5, 6, 7, 11
+QUERY, RESPONSE = (8, 9, 10), (12, 13, 14)
+# What a message is, by its type: the side, and which of the two it tells of.
 ROLES = {
-    3: ("server", False), 4: ("server", True), 5: ("client", False), 6: ("client", True),
-    7: ("server", False), 8: ("server", True),
+    3: ("server", QUERY), 4: ("server", RESPONSE), 5: ("client", QUERY), 6: ("client", RESPONSE),
+    7: ("server", QUERY), 8: ("server", RESPONSE),
 }
 FORWARDER = (7, 8)
-DNSTAP_MESSAGE = 14
-TYPE, QUERY_ADDRESS, RESPONSE_ADDRESS, QUERY_PORT, RESPONSE_PORT = 1, 4, 5, 6, 7
-QUERY_SECONDS, QUERY_NANOS, QUERY, ZONE = 8, 9, 10, 11
-RESPONSE_SECONDS, RESPONSE_NANOS, RESPONSE = 12, 13, 14
 
 
 def is_dnstap(beginning):
@@ -89,19 +89,15 @@ def zone_of(message):
 
 def seen(message):
     """What a dnstap message tells was seen."""
-    side, is_response = ROLES[message[TYPE]]
+    side, told = ROLES[message[TYPE]]
     # unbound 1.17 names another port of its own in a response than in the query
     port = message.get(QUERY_PORT, 0) if side == "client" else 0
     asker = Peer(message.get(QUERY_ADDRESS, b""), port)
     server = Peer(message.get(RESPONSE_ADDRESS, b""), message.get(RESPONSE_PORT, 0))
-    zone = zone_of(message)
-    if is_response:
-        at = message[RESPONSE_SECONDS], message.get(RESPONSE_NANOS, 0)
-        ends, octets = (server, asker), message[RESPONSE]
-    else:
-        at = message[QUERY_SECONDS], message.get(QUERY_NANOS, 0)
-        ends, octets = (asker, server), message[QUERY]
-    return Seen(at[0] * MICROSECONDS + at[1] // 1000, *ends, octets, side, zone)
+    ends = (asker, server) if told == QUERY else (server, asker)
+    seconds, nanoseconds, octets = told
+    at = message[seconds] * MICROSECONDS + message.get(nanoseconds, 0) // 1000
+    return Seen(at, *ends, message[octets], side, zone_of(message))
 
 
 def messages(stream, counts):

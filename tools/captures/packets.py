@@ -37,8 +37,10 @@ class Peer(NamedTuple):
 
 
 class Seen(NamedTuple):
-    """A message that was seen. `role` and `zone` are there where the capture tells them: the side
-    of the resolver, `client` or `server`, and the zone for which a server was asked."""
+    """What was seen: a `message`; the first octets of a response, with the header, of which the
+    capture's snap length `cut` off the rest; or that a datagram was `unreachable` (RFC 1122 section
+    3.2.2.1). `role` and `zone` are there where the capture tells them: the side of the resolver,
+    `client` or `server`, and the zone for which a server was asked."""
 
     at: int
     source: Peer
@@ -46,34 +48,18 @@ class Seen(NamedTuple):
     octets: bytes
     role: str | None = None
     zone: bytes | None = None
-
-
-class Unreachable(NamedTuple):
-    """An ICMP message that a datagram did not reach its target (RFC 1122 section 3.2.2.1)."""
-
-    at: int
-    source: Peer
-    target: Peer
-
-
-class Cut(NamedTuple):
-    """A response that the capture's snap length cut off: its first octets, with the header."""
-
-    at: int
-    source: Peer
-    target: Peer
-    octets: bytes
+    kind: str = "message"
 
 
 # ---- files
 
 
-def exactly(stream, size):
-    """So many octets, or None where the file ends before the first."""
+def exactly(stream, size, may_end=False):
+    """So many octets, or none where the file may end before the first."""
     octets = stream.read(size)
-    if octets and len(octets) < size:
+    if len(octets) < size and (octets or not may_end):
         raise EOFError
-    return octets or None
+    return octets
 
 
 PCAP = {
@@ -86,17 +72,14 @@ SECTION, INTERFACE, OLD_PACKET, SIMPLE_PACKET, PACKET = 0x0A0D0D0A, 1, 2, 3, 6
 def pcap_packets(stream, magic, counts):
     """The packets of a pcap file behind its first four octets: time, link type, octets."""
     order, per_microsecond = PCAP[magic]
-    header = exactly(stream, 20)
-    link = struct.unpack(order + "16xI", header or b"")[0] & 0xFFFF
-    while fields := exactly(stream, 16):
+    link = struct.unpack(order + "16xI", exactly(stream, 20))[0] & 0xFFFF
+    while fields := exactly(stream, 16, may_end=True):
         seconds, fraction, size, _ = struct.unpack(order + "4I", fields)
         if size > PACKET_MOST:
             counts["file: a packet of more than 262,144 octets; the rest was not read"] += 1
             return
-        octets = exactly(stream, size) if size else b""
-        if octets is None:
-            raise EOFError
-        yield seconds * MICROSECONDS + fraction // per_microsecond, link, octets
+        at = seconds * MICROSECONDS + fraction // per_microsecond
+        yield at, link, exactly(stream, size)
 
 
 def options_of(octets, order):
@@ -131,11 +114,10 @@ class Interface(NamedTuple):
 
 def pcapng_blocks(stream, counts):
     """The blocks of a pcapng file behind its first four octets: octet order, type, body."""
-    order, kind = None, SECTION
-    while True:
+    order, octets = None, b"\n\r\r\n"
+    while octets:
+        kind = SECTION if octets == b"\n\r\r\n" else struct.unpack(order + "I", octets)[0]
         first = exactly(stream, 8 if kind == SECTION else 4)
-        if first is None:
-            raise EOFError
         if kind == SECTION:
             order = {b"\x1a\x2b\x3c\x4d": ">", b"\x4d\x3c\x2b\x1a": "<"}.get(first[4:])
             if order is None:
@@ -144,14 +126,8 @@ def pcapng_blocks(stream, counts):
         if size < 4 + len(first) + 4 or size % 4 or size > BLOCK_MOST:
             counts["file: a block of no lawful length; the rest was not read"] += 1
             return
-        body = exactly(stream, size - 4 - len(first))
-        if body is None:
-            raise EOFError
-        yield order, kind, body[:-4]
-        octets = exactly(stream, 4)
-        if octets is None:
-            return
-        kind = SECTION if octets == b"\n\r\r\n" else struct.unpack(order + "I", octets)[0]
+        yield order, kind, exactly(stream, size - 4 - len(first))[:-4]
+        octets = exactly(stream, 4, may_end=True)
 
 
 def pcapng_packets(stream, counts):
@@ -210,21 +186,15 @@ def ip_of(link, octets, counts):
     if link not in LINKS:
         counts[f"packet: link type {link}"] += 1
         return None
-    try:
-        packet = LINKS[link](octets)
-        while not isinstance(packet, (dpkt.ip.IP, dpkt.ip6.IP6)):
-            is_cooked = isinstance(packet, (dpkt.sll.SLL, dpkt.sll2.SLL2))
-            if is_cooked and isinstance(packet.data, bytes):
-                packet = vlan(packet)
-                continue
-            packet = packet.data
-            if isinstance(packet, bytes):
-                counts["packet: not of IP, or not whole"] += 1
-                return None
-        return packet
-    except ODD:
-        counts["packet: headers that are not what they should be"] += 1
-        return None
+    packet = LINKS[link](octets)
+    while not isinstance(packet, (dpkt.ip.IP, dpkt.ip6.IP6)):
+        is_cooked = isinstance(packet, (dpkt.sll.SLL, dpkt.sll2.SLL2))
+        is_tagged = is_cooked and isinstance(packet.data, bytes)
+        packet = vlan(packet) if is_tagged else packet.data
+        if isinstance(packet, bytes):
+            counts["packet: not of IP, or not whole"] += 1
+            return None
+    return packet
 
 
 def vlan(packet):
@@ -248,9 +218,8 @@ class Fragments:
         """The whole payload, where this fragment makes it whole, or None."""
         self.forget(at)
         _, pieces, ends = self.begun.setdefault(key, (at, {}, []))
-        if is_last:
-            ends.append(start + len(octets))
         end = start + len(octets)
+        ends += [end] * is_last
         overlaps = any(it < end and start < it + len(pieces[it]) for it in pieces
                        if (it, pieces[it]) != (start, octets))
         is_odd = len(pieces) == PIECES_MOST or len(set(ends)) > 1 or end > 65_535
@@ -277,17 +246,16 @@ class Fragments:
     def whole(self, at, ip):
         """The protocol and the payload of a packet, a fragment's with the rest, or None."""
         if isinstance(ip, dpkt.ip.IP):
-            protocol, start, more, number = ip.p, ip.offset * 8, ip.mf, ip.id
+            header, protocol, start, more = ip, ip.p, ip.offset * 8, ip.mf
         else:
             header = next((it for it in ip.all_extension_headers
                            if isinstance(it, dpkt.ip6.IP6FragmentHeader)), None)
             if header is None:
                 return ip.p, ip.data
             protocol, start, more = header.nxt, header.frag_off * 8, header.m_flag
-            number = header.id
         if not start and not more:
             return protocol, ip.data
-        key = (ip.src, ip.dst, protocol, number)
+        key = (ip.src, ip.dst, protocol, header.id)
         whole = self.add(at, key, start, not more, bytes(ip.data))
         return None if whole is None else (protocol, whole)
 
@@ -311,9 +279,8 @@ class Stream:
         while ready := [it for it in self.ahead if self.behind(it) <= 0]:
             for it in ready:
                 segment = self.ahead.pop(it)
-                fresh = segment[-self.behind(it):] if self.behind(it) else segment
                 if self.behind(it + len(segment)) > 0:
-                    self.octets += fresh
+                    self.octets += segment[-self.behind(it):]
                     self.next = it + len(segment) & 0xFFFFFFFF
         return len(self.ahead) <= AHEAD_MOST
 
@@ -360,7 +327,7 @@ class Streams:
         stream.at, before = at, stream.size
         self.open.move_to_end(key)
         number = tcp.seq + (1 if tcp.flags & dpkt.tcp.TH_SYN else 0) & 0xFFFFFFFF
-        is_kept = stream.add(number, payload) if payload else True
+        is_kept = not payload or stream.add(number, payload)
         yield from list(stream.messages())
         self.size += stream.size - before
         if tcp.flags & dpkt.tcp.TH_FIN:
@@ -392,30 +359,26 @@ class Capture:
     """The DNS messages in captures, one file after another."""
 
     def __init__(self, counts, ports=(53,)):
-        self.counts, self.ports, self.packets = counts, frozenset(ports), 0
+        self.counts, self.ports = counts, frozenset(ports)
         self.fragments, self.streams = Fragments(counts), Streams(counts)
 
     def messages(self, stream):
         """What was seen in a file, in its order."""
         for at, link, octets in packets_of(stream, self.counts):
-            self.packets += 1
-            ip = ip_of(link, octets, self.counts)
-            if ip is None:
-                continue
             try:
-                yield from self.seen(at, ip)
+                ip = ip_of(link, octets, self.counts)
+                if ip is not None:
+                    yield from self.seen(at, ip)
             except ODD:
                 self.counts["packet: headers that are not what they should be"] += 1
 
     def end(self):
         """Counts what is not whole at the end of the last file."""
-        for reason, count in (
-                ("packet: fragments of which the rest is not in the capture",
-                 len(self.fragments.begun)),
-                ("segment: of a TCP message of which the rest is not in the capture",
-                 sum(1 for it in self.streams.open.values() if it.size))):
-            if count:
-                self.counts[reason] += count
+        left = {"packet: fragments of which the rest is not in the capture":
+                len(self.fragments.begun),
+                "segment: of a TCP message of which the rest is not in the capture":
+                sum(1 for it in self.streams.open.values() if it.size)}
+        self.counts.update({reason: count for reason, count in left.items() if count})
 
     def seen(self, at, ip):
         """What a packet brings."""
@@ -423,12 +386,12 @@ class Capture:
         if whole is None:
             return
         protocol, payload = whole
-        if protocol == UDP:
-            udp = payload if isinstance(payload, dpkt.udp.UDP) else dpkt.udp.UDP(payload)
-            yield from self.datagram(at, ip, udp)
-        elif protocol == TCP:
-            tcp = payload if isinstance(payload, dpkt.tcp.TCP) else dpkt.tcp.TCP(payload)
-            yield from self.segment(at, ip, tcp)
+        if protocol in TAKEN:
+            form, take = TAKEN[protocol]
+            header = payload if isinstance(payload, form) else form(payload)
+            if not self.is_elsewhere(header):
+                ends = Peer(ip.src, header.sport), Peer(ip.dst, header.dport)
+                yield from take(self, at, *ends, header)
         elif protocol in (ICMP, ICMP6):
             yield from self.unreachable(at, protocol, bytes(payload))
         else:
@@ -443,22 +406,16 @@ class Capture:
                     "packet: of other ports"] += 1
         return True
 
-    def datagram(self, at, ip, udp):
-        if self.is_elsewhere(udp):
-            return
-        source, target = Peer(ip.src, udp.sport), Peer(ip.dst, udp.dport)
+    def datagram(self, at, source, target, udp):
         size, octets = udp.ulen - 8, udp.data
         if 0 <= size <= len(octets):
             yield Seen(at, source, target, octets[:size])
         elif 12 <= len(octets) < size and octets[2] & 128:
-            yield Cut(at, source, target, octets)
+            yield Seen(at, source, target, octets, kind="cut")
         else:
             self.counts[CUT] += 1
 
-    def segment(self, at, ip, tcp):
-        if self.is_elsewhere(tcp):
-            return
-        source, target = Peer(ip.src, tcp.sport), Peer(ip.dst, tcp.dport)
+    def segment(self, at, source, target, tcp):
         for octets in self.streams.messages(at, source, target, tcp):
             yield Seen(at, source, target, octets)
 
@@ -467,7 +424,12 @@ class Capture:
         if octets[:1] != (b"\3" if protocol == ICMP else b"\1"):
             return
         inner = raw(octets[8:])
-        header = inner.data if isinstance(inner.data, bytes) else bytes(inner.data)
+        header = bytes(inner.data)
         if inner.p == UDP and len(header) >= 8:
             source, target = struct.unpack_from(">2H", header)
-            yield Unreachable(at, Peer(inner.src, source), Peer(inner.dst, target))
+            yield Seen(at, Peer(inner.src, source), Peer(inner.dst, target), b"",
+                       kind="unreachable")
+
+
+# What reads the headers of a protocol, and what takes what it brings.
+TAKEN = {UDP: (dpkt.udp.UDP, Capture.datagram), TCP: (dpkt.tcp.TCP, Capture.segment)}

@@ -4,12 +4,10 @@
 Each sentence names the RFC's section that its rule comes from, or says `ours` where the rule is
 this cache's own.
 """
-from typing import NamedTuple
-
 from tools.messages import (NXDOMAIN, SOA, MessageFault, final_name, is_at_or_below, read,
                             set_offer, sets_of, why_nothing)
-from tools.model import (CAP, CNAME, GLUE, IN, NEGATIVE_CAP, RECHECK, STALE_SECONDS, Entry, Key,
-                         Offer, part_of)
+from tools.model import (CAP, CNAME, GLUE, IN, NEGATIVE_CAP, RECHECK, STALE_SECONDS, Key, Offer,
+                         part_of)
 from tools.names import fold, to_text
 from tools.traces import Replay
 
@@ -33,14 +31,6 @@ NEGATIVES, NO_TTL = "RFC 2308 section 5", "RFC 1035 section 3.2.1"
 STALENESS, RETRIES = "RFC 8767 sections 4 and 5", "RFC 8767 section 5"
 ROOM = "ours: \"Recency, eviction and sweeps\""
 SHOWN_MOST = 20
-
-
-class Gone(NamedTuple):
-    """How a key came to hold nothing: by which line, in words, and what it held."""
-
-    line: int
-    how: str
-    entry: Entry
 
 
 def type_name(rtype):
@@ -78,6 +68,8 @@ class Story:
         self.replay = Replay(**rules)
         self.stale = self.replay.parts[0].stale
         self.tags = [[] for _ in self.replay.parts]
+        # of keys that came to hold nothing, in words by which line, and what they held; of others
+        # the line that touched them last
         self.gone, self.touched = {}, {}
 
     def go_on(self, place, line):
@@ -88,14 +80,12 @@ class Story:
     def explain(self, place, line):
         """Replays a line, and answers its line of the report and the sentences about it."""
         words, calls = self.replayed(place, line)
-        tell = getattr(self, f"tell_{line.word}")
-        report = " ".join([str(place), line.word, *words])
         calls = self.one_by_one(place, calls)
-        sentences = list(tell(line, words, calls))
+        sentences = list(getattr(self, f"tell_{line.word}")(line, words, calls))
         # A call is noted when the next is asked for, which none does behind the last of a response.
         for _ in calls:
             pass
-        return report, sentences
+        return " ".join([str(place), line.word, *words]), sentences
 
     def replayed(self, place, line):
         words, calls = self.replay.line(line)
@@ -110,27 +100,22 @@ class Story:
             self.note(place, told)
 
     def note(self, place, told):
-        if isinstance(told.call, Offer):
-            self.note_offer(place, told)
-        elif isinstance(told.answer, list):
-            self.note_sweep(place, told)
-        elif told.answer.word != "miss":
-            self.touched[told.answer.governing.key] = place
-
-    def note_offer(self, place, told):
-        key, outcome = told.call.key, told.answer
-        if outcome.evicted:
-            gone = Gone(place, f"line {place} put it out to make room", outcome.evicted)
-            self.gone[outcome.evicted.key] = gone
-        if outcome.word == "cleared" and outcome.old:
-            self.gone[key] = Gone(place, f"line {place} cleared it by a time of 0", outcome.old)
-        if outcome.word == "kept":
-            self.gone.pop(key, None)
-            self.touched[key] = place
-
-    def note_sweep(self, place, told):
-        for entry in told.answer:
-            self.gone[entry.key] = Gone(place, f"the sweep of line {place} removed it", entry)
+        """Remembers which keys a call left empty, and which it touched."""
+        call, answer = told.call, told.answer
+        if isinstance(answer, list):
+            how = f"the sweep of line {place} removed it"
+            self.gone.update((it.key, (how, it)) for it in answer)
+        elif not isinstance(call, Offer):
+            if answer.word != "miss":
+                self.touched[answer.governing.key] = place
+        elif answer.word == "kept":
+            self.gone.pop(call.key, None)
+            self.touched[call.key] = place
+            if answer.evicted:
+                how = f"line {place} put it out to make room"
+                self.gone[answer.evicted.key] = how, answer.evicted
+        elif answer.word == "cleared" and answer.old:
+            self.gone[call.key] = f"line {place} cleared it by a time of 0", answer.old
 
     def line_of(self, entry):
         """The line that stored an entry."""
@@ -147,14 +132,11 @@ class Story:
 
     def empty(self, key):
         """Why a key holds nothing."""
-        gone = self.gone.get(key)
-        if gone is None:
+        if key not in self.gone:
             return f"No line before stored anything under {key}."
-        return f"Nothing is held under {key}: {self.stored_by(gone)}, and {gone.how}."
-
-    def stored_by(self, gone):
-        entry = gone.entry
-        return f"line {self.line_of(entry)} stored it at {entry.at} for {seconds(entry.body.ttl)}"
+        how, entry = self.gone[key]
+        return (f"Nothing is held under {key}: line {self.line_of(entry)} stored it at {entry.at}"
+                f" for {seconds(entry.body.ttl)}, and {how}.")
 
     # ---- offers
 
@@ -215,11 +197,9 @@ class Story:
 
     def ask(self, told):
         """Why an ask was answered so."""
-        name, rtype, at, purpose, mode, rclass = told.call
-        reply = told.answer
+        (name, rtype, at, purpose, mode, rclass), reply = told.call, told.answer
         yield from self.governs(reply, fold(name), rtype, at, rclass)
-        entry = reply.governing
-        if entry:
+        if reply.governing:
             yield from self.good(reply, at, purpose, mode)
         yield from self.failure(reply, at)
         if reply.word == "miss" and rtype != CNAME:
@@ -233,12 +213,10 @@ class Story:
             yield self.empty(Key(name, "nx", 0, rclass))
             return
         yield f"Held is {self.stored(entry)}."
-        if other is None:
-            return
-        if entry.number > other.number:
+        if other and entry.number > other.number:
             yield (f"Held is also {self.stored(other)}; of the two the later one governs, since the"
                    f" earlier is not both unexpired and of higher rank ({TRUST}, {NEGATIVES}).")
-        else:
+        elif other:
             yield (f"Held is also {self.stored(other)}, which came later; but the earlier one is"
                    f" unexpired at {at} and of higher rank, so it governs ({TRUST}).")
 
@@ -290,11 +268,10 @@ class Story:
         if reply.word not in ("miss", "stale"):
             return
         if reply.failed:
-            told = f"Asking failed: held is {self.stored(reply.failed)}, and nothing came later"
             more = f"; it may be tried again from {reply.retry_from} on" * (reply.word == "miss")
-            yield f"{told}{more} ({RETRIES})."
-            return
-        if reply.past and reply.word == "miss":
+            yield (f"Asking failed: held is {self.stored(reply.failed)}, and nothing came later"
+                   f"{more} ({RETRIES}).")
+        elif reply.past and reply.word == "miss":
             end = reply.past.at + reply.past.body.ttl
             cause = f"it ended at {end}" if at >= end else "something was learnt later"
             yield f"Held is {self.stored(reply.past)}, which is not recent: {cause} ({RETRIES})."
@@ -327,10 +304,11 @@ class Story:
         yield "It asks first, for a client's answer, where a stale one will do after a failure:"
         first = next(calls)
         yield from self.ask(first)
+        if words[0] == "held":
+            yield f"Held: nothing is fetched before {first.answer.retry_from} ({RETRIES})."
+        if words[0] == "hit":
+            yield "Hit: so nothing is fetched."
         if words[0] != "fetched":
-            is_held = words[0] == "held"
-            yield (f"Held: nothing is fetched before {first.answer.retry_from} ({RETRIES})."
-                   if is_held else "Hit: so nothing is fetched.")
             return
         zone, octets = line.rest
         yield "It fetches:"

@@ -1,22 +1,22 @@
 # SPDX-License-Identifier: MIT
-"""What bin/what-if and bin/why have in common: the ranges of settings, traces as files, and how they
-end where they are interrupted, as bin/from-capture does."""
+"""What bin/from-capture, bin/what-if and bin/why have in common: files, the ranges of settings, how
+they show how far they are, and how they end where they are interrupted."""
 import argparse
 import os
 import shutil
 import sys
 import tempfile
-from contextlib import contextmanager
+from contextlib import contextmanager, nullcontext
 from pathlib import Path
 
+from tools import trials
 from tools.model import NEGATIVE_CAP
 
 STANDARD_INPUT = "-"
 # 128 and the number of SIGINT, as of a shell's command that the signal ended.
 INTERRUPTED = 130
-# The ranges of the program's options (docs/FORMATS.md), and of the life of negative answers.
-RANGES = {"parts": (1, 64), "capacity": (1, 65_536), "stale": (0, 604_800), "workers": (1, 64),
-          "chapter": (1, 1_048_576), "negative": (0, NEGATIVE_CAP)}
+# Those of the program's options, and of the life of negative answers.
+RANGES = {**trials.RANGES, "negative": (0, NEGATIVE_CAP)}
 
 
 def number(setting):
@@ -31,23 +31,33 @@ def number(setting):
     return value
 
 
-def drop_output():
-    """What is not written by now is written nowhere."""
-    os.dup2(os.open(os.devnull, os.O_WRONLY), sys.stdout.fileno())
+def show(text):
+    """Shows on a terminal how far a tool is, in place of what it showed before."""
+    if sys.stderr.isatty():
+        print(f"\r{text}\033[K", end="", file=sys.stderr, flush=True)
 
 
 def status_of(main, words):
     """The status that a tool ends with, also where it is interrupted (Ctrl-C), or where whoever
     reads what it prints wants no more of it."""
+    status = 0
     try:
-        status = main(words)
-        sys.stdout.flush()
-        return status
-    except KeyboardInterrupt:
-        return INTERRUPTED
+        try:
+            status = main(words)
+            sys.stdout.flush()
+        except KeyboardInterrupt:
+            status = INTERRUPTED
+            sys.stdout.flush()
     except BrokenPipeError:
-        drop_output()
-        return 1
+        # what is not written by now is written nowhere
+        os.dup2(os.open(os.devnull, os.O_WRONLY), sys.stdout.fileno())
+        return status or 1
+    return status
+
+
+def opened(path):
+    """A file, or standard input, which is read once and never sought in."""
+    return nullcontext(sys.stdin.buffer) if path == STANDARD_INPUT else open(path, "rb")
 
 
 @contextmanager
@@ -57,10 +67,7 @@ def file_of(trace):
         yield trace
         return
     with tempfile.NamedTemporaryFile() as copy:
-        if trace == STANDARD_INPUT:
-            shutil.copyfileobj(sys.stdin.buffer, copy)
-        else:
-            with open(trace, "rb") as stream:
-                shutil.copyfileobj(stream, copy)
+        with opened(trace) as stream:
+            shutil.copyfileobj(stream, copy)
         copy.flush()
         yield copy.name

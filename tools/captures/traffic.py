@@ -4,11 +4,11 @@
 Whoever asks the resolver is a client, and whom it asks is a server. Memory is bounded but for the
 zones with the names of their servers, the addresses of all names, and the aliases to be followed.
 """
-from collections import OrderedDict, deque
+from collections import Counter, OrderedDict, deque
 from functools import lru_cache
 from typing import NamedTuple
 
-from tools.captures.packets import CUT, MICROSECONDS, Cut, Seen, Unreachable
+from tools.captures.packets import CUT, MICROSECONDS
 from tools.messages import (ALIASES_MOST, ANY, CNAME, HEADER, IN, NOERROR, NS, NXDOMAIN, QUESTION,
                             SOA, MessageFault, fields_at, final_name, is_kept, name_at, read)
 from tools.names import ROOT, ancestors, fold, is_at_or_below, to_text
@@ -29,7 +29,6 @@ BACKWARD = "used, though more than a second earlier than one before: are the fil
 class Question(NamedTuple):
     """The first question of a message, its name folded, and the message's flags."""
 
-    number: int
     flags: int
     name: bytes
     rtype: int
@@ -38,12 +37,12 @@ class Question(NamedTuple):
 
     @classmethod
     def of(cls, octets):
-        (number, flags, questions, *_), _ = fields_at(octets, 0, HEADER)
+        (_, flags, questions, *_), _ = fields_at(octets, 0, HEADER)
         if not questions:
-            return cls(number, flags, b"", 0, IN, b"")
+            return cls(flags, b"", 0, IN, b"")
         name, at = name_at(octets, 12, len(octets))
         (rtype, rclass), _ = fields_at(octets, at, QUESTION)
-        return cls(number, flags, fold(name), rtype, rclass, name)
+        return cls(flags, fold(name), rtype, rclass, name)
 
     @property
     def asked(self):
@@ -59,9 +58,13 @@ class Pending(NamedTuple):
     is_known: bool
 
 
-@lru_cache(maxsize=65_536)
-def text(name):
-    return to_text(name)
+text = lru_cache(maxsize=65_536)(to_text)
+
+
+def drop_first(times, most, is_old):
+    """Takes the first times out of an ordered dictionary where they are old, or more than most."""
+    while times and (len(times) > most or is_old(next(iter(times.values())))):
+        times.popitem(last=False)
 
 
 # ---- who is the resolver
@@ -70,12 +73,12 @@ def text(name):
 def guess(messages, ports):
     """The addresses of the resolver: those that are asked for recursion and ask others, and those
     that ask others with no wish for it."""
-    asks, recursive = {}, {}
+    asks, recursive = Counter(), Counter()
     for it in messages:
-        if isinstance(it, Seen) and it.target.port in ports and not flags_of(it.octets) & QR:
+        if it.kind == "message" and it.target.port in ports and not flags_of(it.octets) & QR:
             pair = (it.source.address, it.target.address)
-            asks[pair] = asks.get(pair, 0) + 1
-            recursive[pair] = recursive.get(pair, 0) + bool(flags_of(it.octets) & RD)
+            asks[pair] += 1
+            recursive[pair] += bool(flags_of(it.octets) & RD)
     found = {source for source, _ in asks} & {pair[1] for pair in asks if recursive[pair]}
     for (source, target), count in asks.items():
         if source not in found and target not in found:
@@ -120,7 +123,7 @@ class Zones:
                 fresh.setdefault(owner, set()).add(record.folded)
             elif record.rtype in ADDRESSES and is_at_or_below(owner, zone):
                 self.addresses.setdefault(owner, set()).add(record.data)
-        self.servers.update((owner, frozenset(names)) for owner, names in fresh.items())
+        self.servers.update(fresh)
 
 
 def told_zone(message):
@@ -135,16 +138,15 @@ def no_alias(message):
     """The name that a negative answer is about, which is no alias; or None (RFC 2308 section 2).
 
     NS records without a SOA record are a referral, which denies nothing (section 2.2)."""
-    if message.is_truncated or message.opcode or message.rclass != IN:
-        return None
-    if message.rtype in (CNAME, ANY):
+    if (message.is_truncated or message.opcode or message.rclass != IN
+            or message.rtype in (CNAME, ANY)):
         return None
     there = {it.rtype for it in message.sections[1]}
     is_referral = NS in there and SOA not in there
-    if message.rcode != NXDOMAIN and (message.rcode != NOERROR or is_referral):
-        return None
-    led = final_name(message)
-    return led and led[0]
+    if message.rcode == NXDOMAIN or message.rcode == NOERROR and not is_referral:
+        led = final_name(message)
+        return led and led[0]
+    return None
 
 
 # ---- lines
@@ -160,8 +162,7 @@ class Traffic:
         self.aliases = {} if follows_aliases else None
         self.zones, self.timeout = Zones(by_servers), seconds * MICROSECONDS
         self.pending, self.open, self.between = OrderedDict(), {}, {}
-        self.failed, self.recent, self.order = OrderedDict(), {}, deque()
-        self.latest = 0
+        self.failed, self.recent, self.latest = OrderedDict(), OrderedDict(), 0
 
     def lines(self, seen):
         """The lines that messages make."""
@@ -173,9 +174,9 @@ class Traffic:
                 self.counts[BACKWARD] += 1
             self.latest = max(self.latest, it.at)
             yield from self.expired(it.at)
-            if isinstance(it, Unreachable):
+            if it.kind == "unreachable":
                 yield from self.unreachable(it)
-            elif isinstance(it, Cut):
+            elif it.kind == "cut":
                 self.cut(it)
             elif not self.is_twice(it):
                 yield from self.line(it)
@@ -190,11 +191,10 @@ class Traffic:
         first, size = deque(), 0
         for it in seen:
             first.append(it)
-            size += len(it.octets) if isinstance(it, Seen) else 0
+            size += len(it.octets)
             if len(first) == GUESSED_FROM or size > 64 * 2**20:
                 break
-        self.resolvers = frozenset(guess([it for it in first if not getattr(it, "role", None)],
-                                         self.ports))
+        self.resolvers = frozenset(guess((it for it in first if not it.role), self.ports))
         while first:
             yield first.popleft()
         yield from seen
@@ -202,14 +202,11 @@ class Traffic:
     def is_twice(self, it):
         """Whether the same packet was just seen, as on two interfaces."""
         key = hash((it.source, it.target, it.octets))
-        while self.order and (it.at - self.order[0][0] > TWICE_MICROSECONDS
-                              or len(self.order) > TWICE_MOST):
-            self.recent.pop(self.order.popleft()[1], None)
+        drop_first(self.recent, TWICE_MOST, lambda at: it.at - at > TWICE_MICROSECONDS)
         if key in self.recent:
             self.counts["message: the same again within 10 milliseconds"] += 1
             return True
         self.recent[key] = it.at
-        self.order.append((it.at, key))
         return False
 
     def line(self, it):
@@ -244,7 +241,7 @@ class Traffic:
     def is_response_of_server(self, it):
         """Whether a message that could not be read stands where a server's response is awaited."""
         is_server = it.role == "server" or it.target.address in self.resolvers
-        return is_server and self.key(it.target, it.source, it.octets) in self.pending
+        return is_server and self.awaited(it)[1]
 
     # ---- clients
 
@@ -278,21 +275,16 @@ class Traffic:
 
     # ---- servers
 
-    @staticmethod
-    def key(resolver, server, octets):
-        return resolver, server, octets[:2]
-
     def query(self, it, question):
         """A query to a server is awaited; a zone transfer's so that its response is known."""
         if question.flags >> 11 & 15 or not question.name:
             self.counts["query to a server: not a standard one"] += 1
             return
-        zone, is_known = it.zone and fold(it.zone), True
-        if zone is None and question.flags & RD:
-            zone = ROOT
-        if zone is None:
+        if it.zone is not None or question.flags & RD:
+            zone, is_known = fold(it.zone or ROOT), True
+        else:
             zone, is_known = self.zones.asked_for(question, it.target.address)
-        key = self.key(it.source, it.target, it.octets)
+        key = it.source, it.target, it.octets[:2]
         self.settle(key)
         self.pending[key] = Pending(it.at, question, zone, is_known)
         self.between.setdefault(key[:2], {})[key] = None
@@ -305,8 +297,13 @@ class Traffic:
             self.counts["query to a server: too many without a response"] += 1
         yield from ()
 
+    def awaited(self, it):
+        """The key of the query that a response may be to, and the query, if it is awaited."""
+        key = it.target, it.source, it.octets[:2]
+        return key, self.pending.get(key)
+
     def settle(self, key):
-        """Awaits a query no longer, and answers it."""
+        """Awaits a query no longer."""
         pending = self.pending.pop(key, None)
         if pending:
             self.is_last(key, pending.question)
@@ -314,7 +311,6 @@ class Traffic:
             keys.pop(key, None)
             if not keys:
                 self.between.pop(key[:2], None)
-        return pending
 
     def is_last(self, key, question):
         """Gives a query up, and answers whether it was the last of its question."""
@@ -327,8 +323,7 @@ class Traffic:
 
     def response(self, it, question):
         """A server's response, for the zone that it was asked for."""
-        key = self.key(it.target, it.source, it.octets)
-        pending = self.pending.get(key)
+        key, pending = self.awaited(it)
         if pending is None:
             self.counts["server's response: its query was not seen, or timed out"] += 1
             return
@@ -351,8 +346,7 @@ class Traffic:
 
     def cut(self, it):
         """A response of which the rest is not in the capture: its query has not failed."""
-        key = self.key(it.target, it.source, it.octets)
-        pending = self.pending.get(key)
+        key, pending = self.awaited(it)
         if pending is None:
             self.counts[CUT] += 1
         else:
@@ -374,8 +368,8 @@ class Traffic:
             return pending.zone
         zone = it.zone or pending.zone
         if not pending.is_known and not it.zone:
-            zone = told_zone(message) or zone
-            zone = zone if is_at_or_below(zone, pending.zone) else pending.zone
+            told = told_zone(message)
+            zone = told if told and is_at_or_below(told, zone) else zone
         self.zones.learn(message, zone)
         if self.aliases is not None:
             self.learn_aliases(message, zone)
@@ -383,30 +377,23 @@ class Traffic:
 
     def learn_aliases(self, message, zone):
         """Takes in which names of an answer are aliases, and which are not."""
-        for record in message.sections[0]:
-            owner = fold(record.owner)
-            if not is_at_or_below(owner, zone):
-                continue
-            if record.rtype == CNAME:
-                self.aliases[owner] = record.data
-            else:
-                self.aliases.pop(owner, None)
-        name = no_alias(message)
-        if name and is_at_or_below(name, zone):
-            self.aliases.pop(name, None)
+        targets = {fold(it.owner): it.data if it.rtype == CNAME else None
+                   for it in message.sections[0]}
+        targets[no_alias(message)] = None
+        for name, target in targets.items():
+            if name and is_at_or_below(name, zone):
+                self.aliases.pop(name, None)
+                if target:
+                    self.aliases[name] = target
 
     # ---- failures
 
     def remember(self, at, question):
+        self.failed.pop(question.asked, None)
         self.failed[question.asked] = at
-        while self.failed:
-            is_young = at - next(iter(self.failed.values())) < REMEMBERED
-            if is_young and len(self.failed) < FAILED_MOST:
-                return
-            self.failed.popitem(last=False)
+        drop_first(self.failed, FAILED_MOST, lambda then: at - then >= REMEMBERED)
 
     def fail(self, at, question):
-        self.failed.pop(question.asked, None)
         self.remember(at, question)
         return f"fail {at // MICROSECONDS} {text(question.spelled)} {question.rtype}"
 

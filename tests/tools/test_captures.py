@@ -1,0 +1,694 @@
+# SPDX-License-Identifier: MIT
+"""Tests of bin/from-capture, on the capture in tests/captures/ and on made and broken ones.
+
+tshark wrote tests/captures/small.asks and small.responses, unbound the zones in
+tests/captures/small.dnstap."""
+import io
+import json
+import os
+import random
+import re
+import struct
+import subprocess
+import sys
+import time
+from collections import Counter
+from ipaddress import ip_address
+
+import pytest
+
+from tests.tools import made_captures as made
+from tests.tools.made_messages import message, query
+from tests.tools.shared import TOP, counted, interrupted, ran
+from tools.captures import dnstap
+from tools.captures.packets import Capture, NoCapture
+from tools.captures.traffic import Traffic
+from tools.model import Part
+from tools.mutation import changed_octets
+from tools.traces import Replay, line_of
+
+CAPTURES = TOP / "tests" / "captures"
+PCAP, DNSTAP = CAPTURES / "small.pcap", CAPTURES / "small.dnstap"
+ANY = "255"
+CLIENT, RESOLVER, SERVER, OTHER = (bytes([192, 0, 2, it]) for it in (1, 53, 201, 202))
+RESOLVERS = [ip_address(it).packed for it in ("192.0.2.53", "2001:db8:53::53")]
+NOW = 1_000_000_000
+
+
+def lines_of(octets, ports=(53,), **options):
+    """The lines of a capture, and what was counted."""
+    counts = Counter()
+    traffic, stream = Traffic(counts, ports=ports, **options), io.BufferedReader(io.BytesIO(octets))
+    capture = Capture(counts, ports)
+    is_frames = dnstap.is_dnstap(stream.peek(4))
+    found = dnstap.messages(stream, counts) if is_frames else capture.messages(stream)
+    lines = list(traffic.lines(found))
+    capture.end()
+    return lines, counts
+
+
+@pytest.fixture(scope="module")
+def small():
+    """The lines of the capture."""
+    return lines_of(PCAP.read_bytes())[0]
+
+
+def told_by_tshark(name):
+    lines = (CAPTURES / name).read_text().splitlines()
+    return [it.split() for it in lines if not it.startswith("#")]
+
+
+def fields(lines, word):
+    return [it.split() for it in lines if it.startswith(word)]
+
+
+# ---- the capture
+
+
+def test_asks_are_those_that_tshark_tells_of(small):
+    assert [(it[1], it[2], it[3], it[5]) for it in fields(small, "ask")] == [
+        (at, name + ".", rtype, "failed" if int(rd) else "none")
+        for at, name, rtype, rd in told_by_tshark("small.asks") if rtype != ANY]
+
+
+def test_responses_are_those_that_tshark_tells_of(small):
+    """Those in fragments and over TCP among them."""
+    assert [(it[1], int(it[3][:4], 16), int(it[3][7], 16)) for it in fields(small, "response")] == [
+        (at, int(number, 16), int(rcode)) for at, number, rcode in
+        told_by_tshark("small.responses")]
+
+
+@pytest.mark.parametrize("by_servers", [False, True])
+def test_zones_are_those_that_unbound_tells_of(by_servers):
+    """By the NS sets alone a zone may lie below that, where servers above were asked again, never
+    above."""
+    zones = {it[3]: it[2] for it in fields(lines_of(DNSTAP.read_bytes())[0], "response")}
+    got = fields(lines_of(PCAP.read_bytes(), by_servers=by_servers)[0], "response")
+    there = [it for it in got if it[3] in zones]
+    assert len(there) == len(zones) >= 50
+    assert [it for it in there if it[2] != zones[it[3]]
+            and (by_servers or not it[2].endswith(zones[it[3]]))] == []
+
+
+def test_the_resolver_is_guessed(small):
+    assert small == lines_of(PCAP.read_bytes(), resolvers=RESOLVERS)[0]
+
+
+# ---- conversations
+
+
+def on_ethernet(packets):
+    return made.pcap([(at, made.ethernet(ip)) for at, ip in packets])
+
+
+PORTS = {CLIENT: 4000, RESOLVER: 5000, SERVER: 6000}
+
+
+def sent(at, source, target, octets):
+    """The packet of a message, some seconds after the first."""
+    is_response = octets[2] & 128
+    ports = (53, PORTS[target]) if is_response else (PORTS[source], 53)
+    return NOW + at, made.udp(source, target, ports, octets)
+
+
+def talk(*said):
+    """A capture of messages: the seconds, who to whom, and the octets."""
+    return on_ethernet([sent(*it) for it in said])
+
+
+def exchange(at, asked, answer, server=SERVER):
+    """A query of the resolver's, and the response to it at once."""
+    return [(at, RESOLVER, server, asked), (at, server, RESOLVER, answer)]
+
+
+def told(capture, **options):
+    """The lines without messages, their moments counted from the first second, and what was
+    counted."""
+    lines, counts = lines_of(capture, resolvers=[RESOLVER], **options)
+    found = [it.split()[:3 if it.startswith("response") else 4] for it in lines]
+    return [" ".join([word, str(int(at) - NOW), *rest]) for word, at, *rest in found], counts
+
+
+def texts(capture, **options):
+    return told(capture, **options)[0]
+
+
+WWW, NS, ROOT_SOA = "www.example. A", "example. 60 NS ns.example.", ". 60 SOA . . 1 2 3 4 5"
+UP = query(number=9, flags=0)
+ANSWER = message(9, 0x8400, WWW, ["www.example. 60 A 0.0.0.0"])
+ASKED, ASKED_UP = (0, CLIENT, RESOLVER, query()), (0, RESOLVER, SERVER, UP)
+LATER = (20, CLIENT, RESOLVER, query("later. A"))
+ASK, LATE = "ask 0 www.example. 1", "ask 20 later. 1"
+
+
+@pytest.mark.parametrize("said, wanted", [
+    ([ASKED], "ask"), (exchange(0, UP, ANSWER), "response")])
+def test_the_resolver_is_guessed_from_one_side_alone(said, wanted):
+    """From clients' queries, which wish for recursion, or the resolver's own, which do not."""
+    assert [it.split()[0] for it in lines_of(talk(*said))[0]] == [wanted]
+
+
+def test_a_server_that_is_a_client_too_is_no_resolver():
+    """A server's own host asks the resolver for recursion; the server is asked without it."""
+    lines, _ = lines_of(talk(ASKED, *exchange(0, UP, ANSWER),
+                             (1, SERVER, RESOLVER, query("later. A"))))
+    assert lines == [f"ask {NOW} www.example. 1 answer failed", f"response {NOW} . {ANSWER.hex()}",
+                     f"ask {NOW + 1} later. 1 answer failed"]
+
+
+# ---- the same messages on other ways
+
+
+@pytest.mark.parametrize("name", made.LINKS)
+def test_each_link_and_format_gives_the_same_lines(small, name):
+    link, framed = made.LINKS[name]
+    frames = [(at, framed(ip)) for at, ip in made.ip_packets(PCAP)]
+    for octets in (made.pcap(frames, link), made.pcap(frames, link, ">", nano=True),
+                   made.pcapng_by_dpkt(frames, link)):
+        assert lines_of(octets)[0] == small
+
+
+@pytest.mark.parametrize("order, power", [("<", 6), (">", 9)])
+def test_interfaces_of_several_links_in_one_file(small, order, power):
+    """A section before it has interfaces of its own."""
+    links = list(made.LINKS.values())
+    octets = made.pcapng([], links[::-1], "<")
+    octets += made.pcapng(made.ip_packets(PCAP), links, order, power)
+    assert lines_of(octets)[0] == small
+
+
+@pytest.mark.parametrize("seed", [1, 2])
+@pytest.mark.parametrize("cut", [made.fragments, made.segments])
+def test_fragments_and_segments_are_put_together_in_any_order(small, cut, seed):
+    assert lines_of(on_ethernet(made.in_pieces(made.ip_packets(PCAP), cut, seed)))[0] == small
+
+
+def segment(number, flags, octets=b"", port=4000):
+    """A client's segment to the resolver."""
+    return NOW, made.segment(CLIENT, RESOLVER, (port, 53), number, flags, octets)
+
+
+# A message as TCP has it.
+STREAMED = struct.pack(">H", len(query())) + query()
+
+
+@pytest.mark.parametrize("first", [9, 2**32 - 12])
+@pytest.mark.parametrize("fin, rest", [(slice(0), slice(None)), (slice(8, None), slice(8))])
+def test_octets_behind_a_FIN_are_read(first, fin, rest):
+    """A FIN comes first, and then what stands before it, which was lost and sent again. With the
+    last octet the stream is over; the numbers pass 2**32."""
+    behind = first + 1 + len(STREAMED)
+    packets = [segment(first, made.SYN),
+               segment(behind - len(STREAMED[fin]), made.FIN | made.ACK, STREAMED[fin]),
+               segment(first + 1, made.ACK, STREAMED[rest])]
+    capture = Capture(counts := Counter())
+    seen = list(capture.messages(io.BytesIO(on_ethernet(packets))))
+    assert [it.octets for it in seen] == [query()] and not capture.streams.open and not counts
+
+
+# ---- broken captures
+
+
+@pytest.mark.parametrize("path", [PCAP, DNSTAP], ids=lambda it: it.name)
+def test_a_capture_that_is_cut_off_gives_the_lines_before(path):
+    octets = path.read_bytes()
+    whole, _ = lines_of(octets, resolvers=RESOLVERS)
+    for end in range(4, len(octets), len(octets) // 25):
+        try:
+            got, counts = lines_of(octets[:end], resolvers=RESOLVERS)
+        except NoCapture:
+            assert end <= 60
+            continue
+        assert got == whole[:len(got)]
+        assert end <= 60 or any(it.startswith("file:") for it in counts)
+
+
+def test_broken_captures_give_lines_of_a_trace_or_none():
+    rng = random.Random(1)
+    packets = made.ip_packets(PCAP)[:200]
+    wholes = [on_ethernet(packets), DNSTAP.read_bytes()[:8000],
+              on_ethernet(made.in_pieces(packets, made.segments)),
+              made.pcapng(packets, list(made.LINKS.values())),
+              on_ethernet(made.in_pieces(packets, made.fragments))]
+    for number in range(200):
+        octets = wholes[number % len(wholes)]
+        for _ in range(rng.randint(1, 5)):
+            octets = changed_octets(rng, octets)
+        try:
+            lines, _ = lines_of(octets)
+        except NoCapture:
+            continue
+        for it in lines:
+            line_of(it.encode())
+
+
+def one(octets, link=1, size=None):
+    """A pcap file of one packet, of which its header says another size."""
+    whole = made.pcap([(NOW, octets)], link)
+    return whole if size is None else whole[:32] + size.to_bytes(4, "little") + whole[36:]
+
+
+def asked(octets, source=CLIENT, target=RESOLVER, ports=(4000, 53)):
+    return made.ethernet(made.udp(source, target, ports, octets))
+
+
+def query_of(name):
+    """A query of a name that may be none, as octets."""
+    return query("")[:5] + b"\1" + query("")[6:] + name + b"\0\1\0\1"
+
+
+def ip4(protocol, octets):
+    return made.ethernet(made.ip4(CLIENT, RESOLVER, protocol, octets))
+
+
+WHOLE, SECTION = asked(query()), bytes(made.dpkt.pcapng.SectionHeaderBlockLE())
+HEADERS = "packet: headers that are not what they should be"
+# A packet of each odd kind, and the reason that it is counted for.
+ODD = [
+    (one(WHOLE, 105), "packet: link type 105"),
+    (one(WHOLE, size=2**32 - 1), "file: a packet of more than 262,144 octets"),
+    (one(WHOLE, size=len(WHOLE) + 9), "file: it ends within a packet"),
+    (one(bytes(12) + b"\x08\x06" + bytes(28)), "packet: not of IP"),
+    (one(ip4(132, bytes(20))), "packet: neither UDP nor"),
+    (one(WHOLE[:-3]), "packet: cut off"),
+    (one(WHOLE[:20]), "packet: not of IP, or not whole"),
+    (one(ip4(17, b"\0\1\0")), HEADERS),
+    (one(asked(query(), ports=(4000, 80))), "packet: of other ports"),
+    (one(asked(query(), ports=(4000, 853))), "packet: of encrypted DNS or other ports"),
+    (one(asked(query()[:11])), "message: the message ends too early"),
+    (one(asked(query()[:-1])), "message: the message ends too early"),
+    (one(asked(query_of(b"\xc0\x0c"))), "message: a pointer in a name does not lead backwards"),
+    (one(asked(query_of(b"\x40"))), "message: a label's length has reserved bits"),
+    (one(asked(query_of((b"\x3f" + b"a" * 63) * 4 + b"\0"))), "message: a name has more than 255"),
+    (one(asked(query(flags=0x2900))), "client's query: its opcode is not"),
+    (one(asked(query(""))), "client's query: it has no question"),
+    (one(asked(query("www.example. CH A"))), "client's query: of a class other than IN"),
+    (one(asked(query("www.example. ANY"))), "client's query: of type ANY"),
+    (one(asked(query("www.example. OPT"))), "client's query: of a type that the cache does not"),
+    (one(asked(query(), SERVER, OTHER)), "message: neither from nor to the resolver"),
+    (one(asked(query(), ports=(53, 4000))), "message: from or to a port"),
+    (one(asked(message(7, 0x8000, "a. A"), SERVER, RESOLVER, (53, 4000))),
+     "server's response: its query was not seen"),
+    (on_ethernet([segment(9, made.ACK, b"\0\x0c")]), "segment: of a TCP connection whose"),
+    (one(ip4(1, b"\3\3" + bytes(6))), HEADERS),
+    (one(made.ethernet(made.ip6(bytes(16), bytes(16), 0, b"\x11\xff" + bytes(6)))), None),
+    (made.pcap([(2**32 - 1, WHOLE)]), None),
+    (SECTION + bytes.fromhex("06000000 ffffffff"), "file: a block of no lawful"),
+    (SECTION + struct.pack("<2I20xI", 6, 32, 32), "file: a block that is not what"),
+    (SECTION[:9], "file: it ends within a packet"),
+]
+
+
+@pytest.mark.parametrize("octets, reason", ODD, ids=[reason for _, reason in ODD])
+def test_odd_packets_are_counted_by_their_reason(octets, reason):
+    lines, counts = lines_of(octets, resolvers=[RESOLVER])
+    if reason:
+        assert lines == [] and any(it.startswith(reason) for it in counts)
+
+
+SIZE = 8 + len(query())
+
+
+@pytest.mark.parametrize("pieces", [
+    # two that overlap, two that are the last, one without the rest, and as many octets as there are
+    # with some of them twice and some missing
+    [(0, 16, 1), (8, SIZE, 0)], [(0, 16, 0), (16, SIZE, 0)], [(0, 16, 1)],
+    [(0, 16, 1), (8, 24, 1), (32, SIZE, 0)]])
+def test_fragments_that_do_not_fit_are_given_up(pieces):
+    payload = made.udp(CLIENT, RESOLVER, (4000, 53), query())[20:]
+    packets = [(NOW + it, made.ip4(CLIENT, RESOLVER, 17, payload[start:end], 5, start, more))
+               for it, (start, end, more) in enumerate(pieces)]
+    packets.append((NOW + 40, made.ip4(CLIENT, RESOLVER, 17, payload[:8], 6, more=1)))
+    lines, counts = lines_of(on_ethernet(packets), resolvers=[RESOLVER])
+    assert lines == [] and any(it.startswith("packet: fragments") for it in counts)
+
+
+def first_fragment(number):
+    return NOW, made.ip4(CLIENT, RESOLVER, 17, bytes(8), number, more=1)
+
+
+def test_fragments_and_connections_without_end_stay_few():
+    capture = Capture(Counter())
+    packets = [first_fragment(it) for it in range(3000)]
+    packets += [segment(9, made.SYN, port=it) for it in range(1024, 14_000)]
+    list(capture.messages(io.BytesIO(on_ethernet(packets))))
+    assert len(capture.fragments.begun) <= 1_000 and len(capture.streams.open) <= 10_000
+
+
+# ---- failures and zones
+
+
+@pytest.mark.parametrize("said, wanted", [
+    # a time-out, after five seconds
+    ([ASKED, ASKED_UP, LATER], [ASK, "fail 5 www.example. 1", LATE]),
+    # in its order among the lines
+    ([ASKED_UP, (5, CLIENT, RESOLVER, query("later. A"))],
+     ["fail 5 www.example. 1", "ask 5 later. 1"]),
+    # another server answered: asking did not fail
+    ([ASKED, ASKED_UP, (2, RESOLVER, OTHER, UP), (3, OTHER, RESOLVER, ANSWER), LATER],
+     [ASK, "response 3 .", LATE]),
+    # another server did not answer either: it failed once, when the last was given up
+    ([ASKED, ASKED_UP, (2, RESOLVER, OTHER, UP), LATER], [ASK, "fail 7 www.example. 1", LATE]),
+    # the resolver's own word for it, and not again within 30 seconds
+    ([ASKED, *((it, RESOLVER, CLIENT, message(7, 0x8182, WWW)) for it in (1, 2)), LATER],
+     [ASK, "fail 1 www.example. 1", LATE]),
+    # an answer to a client is no line
+    ([ASKED, (1, RESOLVER, CLIENT, message(7, 0x8180, WWW)), LATER], [ASK, LATE]),
+    # a response to another question is not believed
+    ([ASKED_UP, (1, SERVER, RESOLVER, message(9, 0x8400, "a. A")), LATER],
+     ["fail 5 www.example. 1", LATE])])
+def test_failures_are_told_where_asking_failed(said, wanted):
+    assert texts(talk(*said)) == wanted
+
+
+@pytest.mark.parametrize("follows, middle", [
+    (True, ["ask 1 www.example. 5", "ask 1 Web.example. 1"]), (False, ["ask 1 www.example. 1"])])
+def test_aliases_are_followed_where_that_is_asked_for(follows, middle):
+    """An alias is known from the response on, and no more once its name has an address."""
+    alias = message(9, 0x8400, WWW, ["www.example. 60 CNAME Web.example.",
+                                     "web.example. 60 A 192.0.2.201"])
+    said = [ASKED, *exchange(0, UP, alias), (1, CLIENT, RESOLVER, query()),
+            (2, CLIENT, RESOLVER, query("www.example. CNAME")), *exchange(3, UP, ANSWER),
+            (4, CLIENT, RESOLVER, query())]
+    assert texts(talk(*said), follows_aliases=follows) == [
+        ASK, "response 0 .", *middle, "ask 2 www.example. 5", "response 3 .",
+        "ask 4 www.example. 1"]
+
+
+@pytest.mark.parametrize("rtype", ["IXFR", "AXFR"])
+@pytest.mark.parametrize("asked", [[], ["example. {}", ""]])
+def test_a_zone_transfer_is_left_out(rtype, asked):
+    """Its response has two messages, of which the second has no question (RFC 5936 section 2.2.1).
+    It is no failure either where no response comes."""
+    parts = [(1, SERVER, RESOLVER, message(9, 0x8400, it.format(rtype), [
+        "example. 60 SOA . . 1 2 3 4 5"])) for it in asked]
+    lines, counts = told(talk((0, RESOLVER, SERVER, query(f"example. {rtype}", 9, 0)), *parts,
+                              LATER))
+    assert lines == [LATE]
+    assert +counts == Counter({"query to a server: a zone transfer": 1,
+                               "server's response: of a zone transfer": len(parts)})
+
+
+CUT = "server's response: cut off, as by the capture's snap length"
+CUT_PACKET = "packet: cut off, as by the capture's snap length"
+
+
+@pytest.mark.parametrize("asked, size, wanted, reason", [
+    ([SERVER, OTHER], 28 + 12, [], CUT), ([SERVER, OTHER], -1, [], CUT),
+    ([SERVER, OTHER], 28 + 11, ["fail 5 www.example. 1"], CUT_PACKET), ([], -1, [], CUT_PACKET)])
+def test_a_response_that_is_cut_off_is_no_failure(asked, size, wanted, reason):
+    """It is one from the header on, of 12 octets (RFC 1035 section 4.1.1); nothing is offered."""
+    at, packet = sent(1, SERVER, RESOLVER, ANSWER)
+    packets = [*(sent(0, RESOLVER, it, UP) for it in asked), (at, packet[:size]), sent(*LATER)]
+    assert told(on_ethernet(packets)) == ([*wanted, LATE], {reason: 1})
+
+
+def test_what_is_not_whole_at_the_end_is_counted():
+    """Two datagrams and one connection; that of which all octets are read does not count."""
+    packets = [first_fragment(1), first_fragment(2)]
+    for port, octets in ((4000, STREAMED), (4001, STREAMED[:-1])):
+        packets += [segment(9, made.SYN, port=port), segment(10, made.ACK, octets, port)]
+    assert told(on_ethernet(packets)) == ([ASK], {
+        "packet: fragments of which the rest is not in the capture": 2,
+        "segment: of a TCP message of which the rest is not in the capture": 1})
+
+
+ALIAS = "www.example. 60 CNAME web.example."
+KNOWN = ["ask 3 www.example. 5", "ask 3 web.example. 5", "ask 3 a. 1"]
+UNKNOWN = ["ask 3 www.example. 1"]
+
+
+@pytest.mark.parametrize("flags, asks, answer, authority, last", [
+    (0x8403, WWW, [], [ROOT_SOA], UNKNOWN), (0x8003, WWW, [], [], UNKNOWN),
+    (0x8400, WWW, [], [ROOT_SOA], UNKNOWN), (0x8400, WWW, [], [], UNKNOWN),
+    (0x8400, WWW, [], [NS, ROOT_SOA], UNKNOWN), (0x8400, WWW, [], [NS], KNOWN),
+    (0x8600, WWW, [], [ROOT_SOA], KNOWN), (0x8402, WWW, [], [ROOT_SOA], KNOWN),
+    (0x8400, "www.example. CNAME", [], [ROOT_SOA], KNOWN),
+    (0x8400, "www.example. ANY", [], [ROOT_SOA], KNOWN),
+    (0x8403, "www.example. CH A", [], [ROOT_SOA], KNOWN),
+    # the alias is there still, and its target is none
+    (0x8403, WWW, [ALIAS], [ROOT_SOA], ["ask 3 www.example. 5", "ask 3 web.example. 1"])])
+def test_an_alias_ends_with_a_negative_answer(flags, asks, answer, authority, last):
+    """NXDOMAIN, and NODATA with a SOA record or with no NS record (RFC 2308 section 2); neither a
+    referral, nor what is truncated, failed, of another class, or about the CNAME record itself."""
+    known = message(9, 0x8400, WWW, [ALIAS, "web.example. 60 CNAME a."])
+    denied = message(9, flags, asks, answer, authority)
+    said = [*exchange(0, UP, known), *exchange(1, query(asks, 9, 0), denied),
+            (3, CLIENT, RESOLVER, query())]
+    assert texts(talk(*said), follows_aliases=True)[2:] == last
+
+
+def test_an_alias_outside_of_the_zone_of_a_negative_answer_stays():
+    """The server of `example.` can't deny the target in another zone (RFC 2181 section 5.4.1)."""
+    alias = ["www.example. 60 CNAME web.", "web. 60 CNAME a."]
+    said = [*exchange(0, UP, message(9, 0x8000, WWW, alias, [NS])),
+            *exchange(1, UP, message(9, 0x8403, WWW, alias[:1], [ROOT_SOA])),
+            (3, CLIENT, RESOLVER, query())]
+    assert texts(talk(*said), follows_aliases=True) == [
+        "response 0 .", "response 1 example.",
+        "ask 3 www.example. 5", "ask 3 web. 5", "ask 3 a. 1"]
+
+
+def refused(at, packet=sent(*ASKED_UP)[1]):
+    """An ICMP message that a port is unreachable, of the first octets of a packet (RFC 792)."""
+    return NOW + at, made.ip4(SERVER, RESOLVER, 1, b"\3\3" + bytes(6) + packet[:28])
+
+
+@pytest.mark.parametrize("packets, wanted", [
+    ([refused(1)], []), ([refused(1), refused(2)], []),
+    ([refused(1), refused(2), sent(3, SERVER, RESOLVER, ANSWER)], ["response 3 ."])])
+def test_ICMP_tells_of_a_failure(packets, wanted):
+    """Of one: neither another message nor the time-out tells of it again. A response is offered."""
+    assert texts(on_ethernet([sent(*ASKED_UP), *packets, sent(*LATER)])) == [
+        "fail 1 www.example. 1", *wanted, LATE]
+
+
+@pytest.mark.alone
+@pytest.mark.parametrize("ports, unmatched", [
+    (range(2_000, 12_000), 0), ([2_000] * 10_000, 9_999)], ids=["a port each", "one port"])
+def test_many_ICMP_messages_take_a_few_seconds(ports, unmatched):
+    """Of queries from a port each, and from one port, of which the first message tells of all."""
+    ups = [made.udp(RESOLVER, SERVER, (port, 53), query(f"h{number}. A", number, 0))
+           for number, port in enumerate(ports)]
+    octets = on_ethernet([(NOW, it) for it in ups] + [refused(1, it) for it in ups])
+    begun = time.process_time()
+    lines, counts = lines_of(octets, resolvers=[RESOLVER])
+    spent = time.process_time() - begun
+    assert lines == [f"fail {NOW + 1} h{it}. 1" for it in range(10_000)]
+    assert counts["ICMP: of no query to a server"] == unmatched
+    assert spent <= 10
+
+
+def test_ICMP_for_IPv6_tells_of_a_failure():
+    ours, theirs = bytes(15) + b"\1", bytes(15) + b"\2"
+    up = made.udp(ours, theirs, (5000, 53), UP)
+    packets = [(NOW, up), (NOW + 1, made.ip6(theirs, ours, 58, b"\1\4" + bytes(6) + up)),
+               (NOW + 20, made.udp(theirs, ours, (4000, 53), query("later. A")))]
+    lines, _ = lines_of(on_ethernet(packets), resolvers=[ours])
+    assert [it.split()[0] for it in lines] == ["fail", "ask"]
+
+
+@pytest.mark.parametrize("seconds, count", [(0.002, 1), (1.0, 2)])
+def test_the_same_packet_on_two_interfaces_counts_once(seconds, count):
+    assert len(texts(talk(ASKED, (seconds, *ASKED[1:])))) == count
+
+
+@pytest.mark.parametrize("times, count", [((10, 5, 9, 8), 2), ((10, 9), 0), ((0, 5, 10), 0)])
+def test_messages_that_go_backward_in_time_are_counted(times, count):
+    """By more than a second, from the latest one of all before."""
+    lines, counts = told(talk(*((it, CLIENT, RESOLVER, query(number=number))
+                                for number, it in enumerate(times))))
+    assert lines == [f"ask {it} www.example. 1" for it in times]
+    assert [*counts.values()] == [count] * bool(count)
+    assert all(it.endswith("are the files in order?") for it in counts)
+
+
+def test_other_ports_are_of_the_DNS_where_that_is_said():
+    octets = on_ethernet([(NOW, made.udp(CLIENT, RESOLVER, (4000, 5300), query()))])
+    assert texts(octets, ports=(5300,)) == [ASK]
+
+
+# ---- dnstap
+
+
+def frame(body):
+    return len(body).to_bytes(4, "big") + body
+
+
+def field(number, value):
+    """A field of a protobuf record: octets, or a number in seven bits an octet."""
+    if isinstance(value, bytes):
+        return varint(number << 3 | 2) + varint(len(value)) + value
+    return varint(number << 3) + varint(value)
+
+
+def varint(value):
+    octets = bytearray()
+    while value > 127:
+        octets.append(value & 127 | 128)
+        value >>= 7
+    return bytes([*octets, value])
+
+
+def tapped(kind, at, octets, zone=None):
+    """A dnstap frame of a message of a kind; of even numbers it is a response."""
+    seconds, place = (12, 14) if kind % 2 == 0 else (8, 10)
+    ends = field(4, CLIENT) + field(5, SERVER) + field(6, 4000) + field(7, 53)
+    body = field(1, kind) + ends + field(seconds, NOW + at) + field(place, octets)
+    body += field(11, zone) if zone else b""
+    return frame(field(1, b"name") + field(14, body) + field(15, 1))
+
+
+START = bytes(4) + frame(b"\0\0\0\2\0\0\0\1" + frame(b"protobuf:dnstap.Dnstap"))
+EXAMPLE = b"\7example\0"
+
+
+@pytest.mark.parametrize("octets, reason", [
+    ((2**31).to_bytes(4, "big"), "file: a frame of no lawful length"),
+    (frame(b"\x72\x7f"), "frame: not what it should be"),
+    (frame(b"\xff" * 40), "frame: not what it should be"),
+    (frame(b"\x72\x02\x08\x01"), "frame: neither a client's nor"),
+    (frame(b"\x72\x02\x08\x05"), "frame: not what it should be"),
+    (tapped(4, 1, ANSWER, EXAMPLE[:6]), "frame: not what it should be"),
+    (tapped(4, 1, ANSWER, b"\xc0\0"), "frame: not what it should be"),
+    (frame(b"abc")[:-1], "file: it ends within a frame")])
+def test_odd_dnstap_files_are_counted(octets, reason):
+    lines, counts = lines_of(START + octets)
+    assert lines == [] and any(it.startswith(reason) for it in counts)
+
+
+def test_a_frame_stream_of_something_else_is_no_capture():
+    with pytest.raises(NoCapture):
+        lines_of(bytes(4) + frame(b"\0\0\0\2"))
+
+
+def test_dnstap_tells_the_sides_and_the_zone():
+    """The numbers of kinds and fields are those of dnstap.proto."""
+    octets = START + b"".join((
+        tapped(5, 0, query()), tapped(3, 0, UP), tapped(4, 1, ANSWER, EXAMPLE),
+        tapped(6, 1, message(7, 0x8180, WWW)), tapped(7, 2, UP), tapped(8, 3, ANSWER),
+        tapped(7, 3, UP), tapped(8, 4, ANSWER, EXAMPLE),
+        tapped(5, 4, query(flags=0)), tapped(6, 5, message(7, 0x8182, WWW)), tapped(1, 6, UP)))
+    assert texts(octets) == [
+        ASK, "response 1 example.", "response 3 .", "response 4 example.",
+        "ask 4 www.example. 1", "fail 5 www.example. 1"]
+
+
+# ---- zones
+
+
+@pytest.mark.parametrize("by_servers", [False, True])
+def test_zones_follow_the_NS_sets_and_the_servers(by_servers):
+    """A referral to example. and its server; then that server is asked, and one unknown. A referral
+    is read for the zone above; a DS record stands above; RD asks a forwarder."""
+    referral = message(9, 0x8000, WWW, [], [NS], ["ns.example. 60 A 192.0.2.201"])
+    denied = message(9, 0x8400, "example. DS", [], [ROOT_SOA])
+    said = [*exchange(0, UP, referral, OTHER), *exchange(1, UP, ANSWER),
+            *exchange(2, query("example. DS", 9, 0), denied, OTHER),
+            *exchange(3, query(number=9), ANSWER, OTHER)]
+    assert texts(talk(*said), by_servers=by_servers) == [
+        "response 0 .", "response 1 example.", "response 2 .", "response 3 ."]
+
+
+@pytest.mark.parametrize("by_servers, zone", [(False, "a.example."), (True, "example.")])
+def test_the_server_s_address_decides_where_the_NS_sets_do_not(by_servers, zone):
+    """The server of `example.` is asked of a name below `a.example.`, whose NS set is known."""
+    above = message(9, 0x8400, "example. NS", [NS], [], ["ns.example. 60 A 192.0.2.201"])
+    below = message(9, 0x8000, "www.a.example. A", [], ["a.example. 60 NS ns.a.example."],
+                    ["ns.a.example. 60 A 192.0.2.202"])
+    asked = query("www.a.example. A", 9, 0)
+    said = [*exchange(0, query("example. NS", 9, 0), above), *exchange(1, asked, below),
+            *exchange(2, asked, below)]
+    assert texts(talk(*said), by_servers=by_servers) == [
+        "response 0 .", "response 1 example.", f"response 2 {zone}"]
+
+
+# ---- the command
+
+
+def test_the_command_writes_the_trace_and_counts_what_it_left():
+    run = ran("bin/from-capture", PCAP)
+    wanted, counts = lines_of(PCAP.read_bytes())
+    assert (run.returncode, run.stdout.splitlines()) == (0, wanted)
+    assert "guessed that the resolver is 192.0.2.53" in run.stderr
+    assert [it for it in counts if it not in run.stderr] == []
+
+
+def test_the_command_writes_as_many_lines_as_are_wanted():
+    run = ran("bin/from-capture", "--lines", "3", "--zone-from-servers", "--resolver",
+              "192.0.2.53", PCAP)
+    assert len(run.stdout.splitlines()) == 3 and "the trace has 3" in run.stderr
+
+
+@pytest.mark.parametrize("path", [PCAP, DNSTAP], ids=lambda it: it.name)
+def test_the_command_reads_standard_input(path):
+    """From a pipe, in which nothing can be sought."""
+    run = subprocess.run([sys.executable, TOP / "bin" / "from-capture", "-"], timeout=60,
+                         input=path.read_bytes(), capture_output=True)
+    assert run.stdout.decode().splitlines() == lines_of(path.read_bytes())[0]
+
+
+@pytest.mark.parametrize("size, is_read", [(30_000, True), (3_000, False)])
+def test_the_command_ends_by_an_interrupt_without_a_traceback(size, is_read):
+    """It waits for more. It ends with whole lines, and also where whoever read them is gone; what
+    there is to write then is less than is written at once."""
+    octets = PCAP.read_bytes()[:size]
+    resolvers = [f"--resolver={ip_address(it)}" for it in RESOLVERS]
+    status, out, said = interrupted("bin/from-capture", *resolvers, "-", octets=octets,
+                                    is_read=is_read)
+    assert (status, bool(out), said) == (130, is_read, "")
+    whole, _ = lines_of(octets, resolvers=RESOLVERS)
+    lines = out.splitlines(keepends=True)
+    assert lines == [f"{it}\n" for it in whole[:len(lines)]]
+
+
+@pytest.mark.parametrize("path, said", [
+    (__file__, __file__), ("/nonexistent", "/nonexistent"), (os.devnull, os.devnull),
+    ("-", "standard input is no capture")])
+def test_the_command_says_what_is_no_capture(path, said):
+    run = ran("bin/from-capture", path, input="")
+    assert (run.returncode, run.stdout, run.stderr.count("\n")) == (1, "", 1)
+    assert said in run.stderr
+
+
+def test_the_command_says_what_to_install():
+    code = ("import sys, runpy; from tools import debian; debian.has = lambda it: False;"
+            "sys.argv = ['from-capture'];"
+            "runpy.run_path('bin/from-capture', run_name='__main__')")
+    run = subprocess.run([sys.executable, "-c", code], cwd=TOP, capture_output=True,
+                         text=True, env={**os.environ, "RRCACHE_TOOL_AGAIN": "1"})
+    assert (run.returncode, run.stderr.count("\n")) == (1, 1)
+    assert "apt-get install python3-dpkt" in run.stderr
+
+
+# ---- what bin/what-if says of the capture
+
+
+class Counting(Part):
+    """A part of the model's that remembers the most octets that it held behind any offer."""
+
+    most = 0
+
+    def offer(self, offer):
+        outcome = super().offer(offer)
+        self.most = max(self.most, sum(
+            len(key.name) + len(entry.body.owner) + sum(map(len, entry.body.items))
+            for key, entry in self.held.items()))
+        return outcome
+
+
+@pytest.mark.parametrize("capacity", [16, 64])
+def test_what_if_says_of_the_capture_what_its_report_says(what_if, trace_of, program, small,
+                                                          capacity):
+    """Counted in the program's report by its words, and in the model's part."""
+    path = trace_of(small)
+    result = json.loads(what_if(path, "--json", f"--capacity={capacity}"))[0]
+    report = subprocess.run([program, f"--capacity={capacity}"], input=path.read_text(), text=True,
+                            capture_output=True).stdout
+    wanted = [len(re.findall(rf"(?m)^\d+ ask (?:{it})\b", report)) for it in
+              ("fresh", "stale", "nodata|nxdomain", "miss")]
+    replay = Replay()
+    replay.parts = [Counting(capacity)]
+    for it in small:
+        replay.line(line_of(it.encode()))
+    assert counted(result)[1] == (*wanted, report.count("kept-out:"), replay.parts[0].most)
