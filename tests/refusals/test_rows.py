@@ -10,8 +10,8 @@ workers. One row: `pytest tests/refusals -k NAME --seconds N`.
 import pytest
 
 from tests.refusals.refusing import MEMORY, THREAD, TO_THE_END
-from tests.tools.shared import ARCHIVE, WRONG_ARGUMENTS, texts_of
-from tools.rows import content, rows
+from tests.tools.shared import ARCHIVE, WRONG_ARGUMENTS
+from tools.rows import content, rows, traces_of
 
 NAMED_ROWS = [
     # Names, the reader and what is offered of a message. The first has one address, two with AA and
@@ -46,7 +46,7 @@ pytestmark = pytest.mark.parametrize("kind", [MEMORY, THREAD], ids=["memory", "t
 
 
 def other_rows():
-    sizes = {name: sum(map(len, texts_of(row))) for name, row in rows().items()
+    sizes = {name: sum(map(len, traces_of(row))) for name, row in rows().items()
              if name not in NAMED_ROWS + LAST_ROWS}
     found = [name for name, size in sizes.items() if size <= MOST_OCTETS]
     return [*sorted(found, key=lambda it: (sizes[it], it)), *LAST_ROWS]
@@ -67,7 +67,7 @@ def refused_on(row, program, refusals, kind, seconds=TO_THE_END):
     """Refuses each request on a row, or on each line of it where each is a trace by itself."""
     judge = judge_by(int(content(row, "status", b"0")), content(row, "report"),
                      content(row, "stderr"), REFUSALS[:1])
-    words, texts = [program, *content(row, "args").splitlines()], texts_of(row)
+    words, texts = [program, *content(row, "args").splitlines()], traces_of(row)
     return all([refusals.refuse(words, it, judge, kind, seconds / len(texts)) for it in texts])
 
 

@@ -1,26 +1,16 @@
 # SPDX-License-Identifier: MIT
 """Each row on the program, as each of the two compilers built it. README.md tells what a row is."""
 import difflib
-import re
 import subprocess
 
 import pytest
 
-from tools.rows import content, rows
+from tools.rows import content, rows, traces_of
 
 SECONDS = 120
 WRONG_ARGUMENTS = 2
 # How much of a long line is shown at each of its ends.
 END = 140
-
-
-def traces_of(row):
-    """The traces that a row is about, each with a name of its own."""
-    text = content(row, "trace")
-    if (row / "each").exists():
-        return {f"line {number} alone": line
-                for number, line in enumerate(re.findall(rb"[^\n]*\n|[^\n]+$", text))}
-    return {"trace": text * int(content(row, "repeat", b"1"))}
 
 
 def lines_of(text):
@@ -55,7 +45,7 @@ def compiled(request, program):
 @pytest.mark.parametrize("row", rows().values(), ids=lambda it: it.name)
 def test_row(row, compiled):
     words, wrong = content(row, "args").splitlines(), []
-    for name, trace in traces_of(row).items():
+    for number, trace in enumerate(traces_of(row)):
         run = subprocess.run([compiled, *words], input=trace, capture_output=True, timeout=SECONDS)
-        wrong += [f"{name}: {line}" for line in differences(row, run)]
+        wrong += [f"trace {number}: {line}" for line in differences(row, run)]
     assert not wrong, "\n".join(wrong)

@@ -11,7 +11,7 @@ import time
 from pathlib import Path
 
 from tools.archive import Rules, archive_of
-from tools.rows import content, rows
+from tools.rows import content, options_of, rows, traces_of
 from tools.traces import lines_in
 
 TOP = Path(__file__).resolve().parents[2]
@@ -77,20 +77,6 @@ def counted(result):
 EXPLAINED_MOST = 400
 
 
-def options_of(row):
-    """The options that a report depends on."""
-    found = re.findall(r"--(capacity|parts|stale)[=\s](\d+)", content(row, "args").decode())
-    return {name: int(value) for name, value in found}
-
-
-def texts_of(row):
-    """The traces of a row."""
-    text = content(row, "trace")
-    if (row / "each").exists():
-        return re.findall(rb"[^\n]*\n|[^\n]+$", text)
-    return [text * int(content(row, "repeat", b"1"))]
-
-
 def rows_to_read():
     """The rows that the program is to read."""
     return [it for it in rows().values() if int(content(it, "status", b"0")) != WRONG_ARGUMENTS]
@@ -107,11 +93,7 @@ def history_of(row):
     """The archive that the model makes of a row's trace, of chapters of seven events at most."""
     options = options_of(row)
     rules = Rules(options.get("capacity", 1024), 7, options.get("stale", 86_400))
-    return archive_of(lines_in(io.BytesIO(*texts_of(row))), rules)
-
-
-def histories_of_rows():
-    return ((it, history_of(it)) for it in rows_to_explain())
+    return archive_of(lines_in(io.BytesIO(*traces_of(row))), rules)
 
 
 # ---- an archive

@@ -10,12 +10,11 @@ import pytest
 from rrcache.history import ArchiveFault, read_archive
 
 from tests.tools.made_messages import DENIED
-from tests.tools.shared import (ARCHIVE, LIMIT, TOP, history_of, options_of, rows_to_explain,
-                                rows_to_read, texts_of)
+from tests.tools.shared import (ARCHIVE, LIMIT, TOP, history_of, rows_to_explain, rows_to_read)
 from tools.archive import Rules, archive_of
 from tools.audits import first_fault
 from tools.captures.reasons import Story
-from tools.rows import content
+from tools.rows import content, options_of, traces_of
 from tools.traces import lines_in
 from tools.trials import Answer, by_model
 
@@ -26,7 +25,7 @@ each_row_to_explain = pytest.mark.parametrize("row", rows_to_explain(), ids=lamb
 def test_model_answers_each_row(row):
     wanted = Answer(int(content(row, "status", b"0")), content(row, "report"),
                     content(row, "stderr"))
-    for text in texts_of(row):
+    for text in traces_of(row):
         assert by_model(options_of(row), text) == wanted
 
 
@@ -34,7 +33,7 @@ def test_model_answers_each_row(row):
 def test_why_explains_each_line_of_each_row(row):
     """The report above the sentences is the row's, and no sentence is empty."""
     reports, story = content(row, "report").decode().splitlines(), Story(**options_of(row))
-    for place, line in enumerate(lines_in(io.BytesIO(*texts_of(row)))):
+    for place, line in enumerate(lines_in(io.BytesIO(*traces_of(row)))):
         got, sentences = story.explain(place, line)
         assert got == reports[place]
         assert sentences and "None" not in " ".join(sentences)
