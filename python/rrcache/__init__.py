@@ -2,10 +2,11 @@
 """The RRset cache of a recursive DNS resolver (RFC 2181, RFC 2308, RFC 8767), over its library for
 C.
 
-A `Shelf` is one part of the cache, for one thread at a time. A `Cache` is several of them with
-their locks, for any number of threads. Names are text, as "www.example.", or octets in wire form
-(RFC 1035 section 3.1); moments and TTLs are seconds; data are octets, as records carry them, with
-no name compressed. A call that is refused raises a `Refused`.
+A `Shelf` is one part of the cache, for one thread at a time, or for any number of threads that only
+look (`peek`, `stored`, `sizes`, `next_expiry`). A `Cache` is several of them with their locks, for
+any number of threads. Names are text, as "www.example.", or octets in wire form (RFC 1035 section
+3.1); moments and TTLs are seconds; data are octets, as records carry them, with no name compressed.
+A call that is refused raises a `Refused`.
 
 The library is the one that the environment variable RRCACHE_LIBRARY names, else build/librrcache.so
 of the repository that this package lies in, else what the system's loader finds. It is loaded by

@@ -131,11 +131,15 @@ class Shelf(Held):
 
     # ---- asks
 
-    def _reply(self, name: str, *arguments: Any) -> Reply:
+    def _look(self) -> Any:
+        """A copy of the handle, for a call that only looks: it writes into the copy."""
+        return type(self._handle)(*self._handle)
+
+    def _reply(self, name: str, handle: Any, *arguments: Any) -> Reply:
         reply, buffer = Told(), create_string_buffer(self._room)
-        if call(name, self._handle, *arguments, byref(reply), buffer, self._room):
+        if call(name, handle, *arguments, byref(reply), buffer, len(buffer)):
             self._room = reply.owner_size + reply.data_size
-            return self._reply(name, *arguments)
+            return self._reply(name, handle, *arguments)
         octets = buffer.raw[:reply.owner_size + reply.data_size]
         data = data_of(octets[reply.owner_size:])
         return Reply(Kind(reply.kind), reply.left, octets[:reply.owner_size], data,
@@ -145,8 +149,8 @@ class Shelf(Held):
             mode: Mode | int = Mode.NO_STALE, line: int = 0,
             rclass: Class | int = Class.IN) -> Reply:
         """Asks, which is one event. It follows no alias: `ask_alias` tells of one."""
-        return self._reply("rrc_ask", *sized(to_wire(name)), rtype, rclass, moment, purpose, mode,
-                           line)
+        return self._reply("rrc_ask", self._handle, *sized(to_wire(name)), rtype, rclass, moment,
+                           purpose, mode, line)
 
     def ask_alias(self, name: Name, rtype: int, moment: int,
                   purpose: Purpose | int = Purpose.QUESTION, mode: Mode | int = Mode.NO_STALE,
@@ -170,14 +174,15 @@ class Shelf(Held):
     def peek(self, name: Name, rtype: int, moment: int, purpose: Purpose | int = Purpose.QUESTION,
              mode: Mode | int = Mode.NO_STALE, rclass: Class | int = Class.IN) -> Reply:
         """What `ask` would answer; no event is written."""
-        return self._reply("rrc_peek", *sized(to_wire(name)), rtype, rclass, moment, purpose, mode)
+        return self._reply("rrc_peek", self._look(), *sized(to_wire(name)), rtype, rclass, moment,
+                           purpose, mode)
 
     def stored(self, name: Name, rtype: int, rclass: Class | int = Class.IN) -> Stored | None:
         """What the shelf holds of a name and a type, an RRset or that there is none, past its time
         or not: its rank, its TTL when it was stored, and that moment. So a resolver sees when data
         are to be renewed. No reply tells these. That the name does not exist is not told here."""
         held = StoredNumbers()
-        call("rrc_stored", self._handle, *sized(to_wire(name)), rtype, rclass, byref(held))
+        call("rrc_stored", self._look(), *sized(to_wire(name)), rtype, rclass, byref(held))
         return Stored(Rank(held.rank), held.ttl, held.moment) if held.rank else None
 
     # ---- housekeeping
@@ -191,7 +196,7 @@ class Shelf(Held):
         """A moment before which no key is fully expired, so that no sweep before it removes one; a
         sweep at it may remove none. After a sweep, with no offer since and no chapter closed since,
         it is later than the sweep's. It is None exactly where the shelf holds no key."""
-        moment = told("rrc_next_expiry", c_uint64, self._handle)
+        moment = told("rrc_next_expiry", c_uint64, self._look())
         return None if moment == 2 ** 64 - 1 else moment
 
     def sweep_some(self, moment: int, most: int, line: int = 0) -> tuple[int, bool]:
@@ -275,5 +280,5 @@ class Shelf(Held):
     def sizes(self) -> Sizes:
         """How large the shelf is."""
         sizes = c_uint64(), c_uint64(), c_uint64(), c_uint64()
-        call("rrc_sizes", self._handle, *map(byref, sizes))
+        call("rrc_sizes", self._look(), *map(byref, sizes))
         return Sizes(*(it.value for it in sizes))
