@@ -4,11 +4,11 @@ plainly, under ThreadSanitizer and under helgrind. Both have to catch the contro
 threads share one handle and not a copy each."""
 import shutil
 import subprocess
+from pathlib import Path
 
 import pytest
 
-from tests.conftest import TOP
-
+TOP = Path(__file__).resolve().parents[2]
 FLAGS = ["-std=gnu11", "-O1", "-g", "-Wall", "-Wextra", "-Werror", "-pthread",
          f"-I{TOP / 'include'}"]
 THREADS = "-fsanitize=thread"
