@@ -1,6 +1,7 @@
 -- SPDX-License-Identifier: MIT
 pub mod Paired
 pub mod Plain
+pub mod Clocking
 pub mod Counted
 pub mod Turned
 pub mod Due

@@ -1,7 +1,7 @@
 -- SPDX-License-Identifier: MIT
 -- What the calls of a map of entries by their keys leave of the entries, in the words of a history.
 use Rattle.std.proofs.Common.{◌≡◌, ℕ, zero, suc, ◌+◌, ◌-◌, ◌<◌, List, [], ◌∷◌, ◌++◌, length, take, Bool, true, false, ◌||◌, Option, Some, None, refl, sym, ap, subst, ◌∙◌, arith}
-use Rattle.std.specs.Prelude.{cond, is_some, IsSome}
+use Rattle.std.specs.Prelude.{cond, if◌then◌else◌, is_some, IsSome}
 use Rattle.std.specs.List.{AllByRecursion, IsDistinct, slice_get}
 use Rattle.std.specs.Option.{option_map, option_map_or}
 use Rattle.std.specs.Map.{keys_of, lookup, lookup_entry, remove_entry, set_value}
@@ -15,6 +15,8 @@ use Rattle.rrc_history.specs.Past.{entry_at, last_key}
 use Rattle.rrc_history.specs.Entries.{LacksKey, AreApart, goes, in_front, promoted, staying}
 use Rattle.rrc_history.specs.lemmas.Apart.{entry_at-middle, staying-lacks, staying-middle}
 use Rattle.rrc_cache.specs.declared.seeded.Seeded.{Seeded}
+use Rattle.rrc_cache.specs.Ages.{ahead_of}
+use Rattle.rrc_cache.specs.Clocked.{ahead_in}
 use Rattle.rrc_cache.specs.Pairs.{entries_in, AreOwn, EntriesOf, StoreOf}
 
 -- ---- the views
@@ -47,6 +49,13 @@ found_in_pairs key [] own = refl
 found_in_pairs key (pair ∷ pairs) own =
     ap (λ k. cond (key_eq key k) (Some pair.1) (lookup (key_eq key) pairs)) (sym own.0)
     ∙ ap (λ rest. cond (key_eq key pair.1.key) (Some pair.1) rest) (found_in_pairs key pairs own.1)
+
+-- how many stand before it
+pub ahead_in_pairs : (key : KeyOf) (pairs : List (KeyOf × Entry)) → AreOwn pairs → ahead_in (key_eq key) pairs ≡ ahead_of key (entries_in pairs)
+ahead_in_pairs key [] own = refl
+ahead_in_pairs key (pair ∷ pairs) own =
+    ap (λ k. if key_eq key k then 0 else ahead_in (key_eq key) pairs + 1) (sym own.0)
+    ∙ ap (λ n. if key_eq key pair.1.key then 0 else n + 1) (ahead_in_pairs key pairs own.1)
 
 -- a pair that is found is that of the entry that is found
 pub entry_of_pair : (test : KeyOf → Bool) (pairs : List (KeyOf × Entry)) → lookup test pairs ≡ option_map (λ pair. pair.1) (lookup_entry test pairs)

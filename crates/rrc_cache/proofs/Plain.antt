@@ -1,7 +1,7 @@
 -- SPDX-License-Identifier: MIT
 -- What a map of keys with their hashes does is what a map of the keys would do.
-use Rattle.std.proofs.Common.{◌≡◌, ℕ, zero, suc, ◌-◌, List, [], ◌∷◌, length, take, Bool, true, false, ◌&&◌, Option, Some, None, refl, sym, ap, subst, ◌∙◌, arith}
-use Rattle.std.specs.Prelude.{cond, is_some, nat_eq, IfSome, IsSome, Result, Ok, Err, OnOk, OnErr}
+use Rattle.std.proofs.Common.{◌≡◌, ℕ, zero, suc, ◌+◌, ◌-◌, List, [], ◌∷◌, length, take, Bool, true, false, ◌&&◌, Option, Some, None, refl, sym, ap, subst, ◌∙◌, arith}
+use Rattle.std.specs.Prelude.{cond, if◌then◌else◌, is_some, nat_eq, IfSome, IsSome, Result, Ok, Err, OnOk, OnErr}
 use Rattle.std.specs.Cmp.{nat_eq_equiv}
 use Rattle.std.specs.List.{AllByRecursion, IsDistinct, slice_get}
 use Rattle.std.specs.Option.{option_map, option_map_or}
@@ -14,7 +14,9 @@ use Rattle.rrc_name.specs.lemmas.KeyLaws.{key_eq-same}
 use Rattle.rrc_history.specs.declared.snapshot.Entry.{Entry}
 use Rattle.rrc_history.specs.Past.{entry_at}
 use Rattle.rrc_history.specs.lemmas.EntryLaws.{entry_at-key}
+use Rattle.rrc_cache.specs.declared.clocked.Stamped.{Stamped}
 use Rattle.rrc_cache.specs.declared.hashed.HashedKey.{HashedKey}
+use Rattle.rrc_cache.specs.Clocked.{ahead_in, unstamped}
 use Rattle.rrc_cache.specs.declared.seeded.Seeded.{Seeded}
 use Rattle.rrc_cache.specs.KeyedLaws.{hashed_eq-same}
 use Rattle.rrc_cache.specs.Keyed.{AreHashed, IsHashed, KeyedOf, hashed_eq, hashed_entries, name_hash, plain, plain_pair}
@@ -22,9 +24,9 @@ use Rattle.rrc_cache.specs.Pairs.{entries_in, AreOwn}
 use Rattle.rrc_cache.proofs.Paired.{found_in_pairs, written_put}
 
 -- the entries are the same
-pub held_plain : (pairs : List (HashedKey × Entry)) → hashed_entries pairs ≡ entries_in (plain pairs)
+pub held_plain : (pairs : List (HashedKey × Stamped)) → hashed_entries pairs ≡ entries_in (plain (unstamped pairs))
 held_plain [] = refl
-held_plain (pair ∷ pairs) = ap (λ es. pair.1 ∷ es) (held_plain pairs)
+held_plain (pair ∷ pairs) = ap (λ es. pair.1.entry ∷ es) (held_plain pairs)
 
 -- ---- keys
 
@@ -57,6 +59,11 @@ module _ (test : HashedKey → Bool) (alone : KeyOf → Bool) where
   lookup_plain [] agree = refl
   lookup_plain (pair ∷ pairs) agree =
       ap (λ b. cond b (Some pair.1) (lookup test pairs)) agree.0 ∙ ap (λ rest. cond (alone pair.0.key) (Some pair.1) rest) (lookup_plain pairs agree.1)
+
+  pub ahead_plain : (pairs : List (HashedKey × Entry)) → Agree test alone pairs → ahead_in test pairs ≡ ahead_in alone (plain pairs)
+  ahead_plain [] agree = refl
+  ahead_plain (pair ∷ pairs) agree =
+      ap (λ b. if b then 0 else ahead_in test pairs + 1) agree.0 ∙ ap (λ n. if alone pair.0.key then 0 else n + 1) (ahead_plain pairs agree.1)
 
   pub lookup_entry_plain : (pairs : List (HashedKey × Entry)) → Agree test alone pairs
       → option_map (λ pair. plain_pair pair) (lookup_entry test pairs) ≡ lookup_entry alone (plain pairs)
@@ -246,6 +253,9 @@ module _ (seeded : Seeded) (cache : lru.LruCache HashedKey Entry) (now : KeyedOf
   -- what is found under the key
   pub shown_lookup : lookup (hashed_eq wanted) cache.entries ≡ lookup (key_eq key) now.map.entries
   shown_lookup = lookup_plain (hashed_eq wanted) (key_eq key) cache.entries agrees ∙ ap (λ (k : KeyedOf). lookup (key_eq key) k.map.entries) view
+
+  pub shown_ahead : ahead_in (hashed_eq wanted) cache.entries ≡ ahead_in (key_eq key) now.map.entries
+  shown_ahead = ahead_plain (hashed_eq wanted) (key_eq key) cache.entries agrees ∙ ap (λ (k : KeyedOf). ahead_in (key_eq key) k.map.entries) view
 
   pub shown_removed : (new : lru.LruCache HashedKey Entry) → new ≡ lru.lru_cache (remove_entry (hashed_eq wanted) cache.entries) cache.cap
       → plain_map new ≡ lru.lru_cache (remove_entry (key_eq key) now.map.entries) now.map.cap

@@ -9,6 +9,7 @@ use Rattle.lru.specs.LruCache.{LruCache}
 use Rattle.rrc_name.specs.Key.{KeyOf, block_of, key_eq}
 use Rattle.rrc_name.specs.KeyRef.{key_of}
 use Rattle.rrc_history.specs.declared.snapshot.Entry.{Entry}
+use Rattle.rrc_cache.specs.declared.clocked.Stamped.{Stamped}
 use Rattle.rrc_cache.specs.declared.hashed.HashedKey.{HashedKey}
 use Rattle.rrc_cache.specs.declared.hashed.HashedRef.{HashedRef}
 use Rattle.rrc_cache.specs.declared.seeded.Seeded.{Seeded}
@@ -38,8 +39,8 @@ abbrev pub plain : List (HashedKey × Entry) → List (KeyOf × Entry)
 plain pairs = map (λ pair. plain_pair pair) pairs
 
 -- the entries of a map, in its order
-abbrev pub hashed_entries : List (HashedKey × Entry) → List Entry
-hashed_entries pairs = map (λ pair. pair.1) pairs
+abbrev pub hashed_entries : List (HashedKey × Stamped) → List Entry
+hashed_entries pairs = map (λ pair. pair.1.entry) pairs
 
 -- the hash of a key is that of its name
 abbrev pub IsHashed : Seeded → HashedKey → Type 0

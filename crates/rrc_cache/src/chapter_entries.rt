@@ -8,6 +8,7 @@ ghost use Rattle.rrc_history.specs.Entries.{goes, promoted, staying};
 ghost use Rattle.rrc_cache.specs.Counted.{counted_octets};
 ghost use Rattle.rrc_cache.specs.Keyed.{hashed_entries, name_hash};
 
+use crate::clocked::Stamped;
 use crate::entry_map::{EntryMap, number_of};
 use crate::hashed::HashedKey;
 use crate::opening_tail::{self, OpeningTail};
@@ -169,17 +170,17 @@ impl ChapterEntries {
 /// The first so many entries.
 fn first_entries(
     alloc: Global,
-    cache: &LruCache<HashedKey, Entry>,
+    cache: &LruCache<HashedKey, Stamped>,
     count: usize,
 ) -> Result<Vec<Entry>, AllocError>
     ensures { IfOk result (λ first. first.items ≡ take count (hashed_entries cache.now.entries)) }
 {
     let mut first = Vec::with_capacity(alloc, count)?;
-    for (_, entry) in cache.iter() {
+    for (_, stamped) in cache.iter() {
         if first.len() >= count {
             return Ok(first);
         }
-        first.push(entry.clone()?)?;
+        first.push(stamped.entry.clone()?)?;
     }
     Ok(first)
 }

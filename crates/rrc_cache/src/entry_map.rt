@@ -1,5 +1,6 @@
 // SPDX-License-Identifier: MIT
-ghost use Rattle.std.specs.Prelude.{◌≡◌, ◌-◌, ◌<◌, ◌^◌, ◌%◌, [], ◌∷◌, Some, None, length, take, IfOk, IfSome, OnOk, OnErr};
+ghost use Rattle.rrc_cache.specs.Ages.{ahead_of};
+ghost use Rattle.std.specs.Prelude.{◌≡◌, ◌-◌, ◌<◌, ◌≤◌, ◌^◌, ◌%◌, [], ◌∷◌, Some, None, length, is_some, take, IfOk, IfSome, OnOk, OnErr};
 ghost use Rattle.std.specs.Map.{lookup};
 ghost use Rattle.std.specs.Option.{option_copied, option_map};
 ghost use Rattle.lru.specs.LruCache.{lru_cache, promoted as lru_promoted};
@@ -12,6 +13,7 @@ ghost use Rattle.rrc_history.specs.Entries.{AreApart, goes, promoted, staying};
 ghost use Rattle.rrc_cache.specs.Counted.{counted_octets};
 ghost use Rattle.rrc_cache.specs.Keyed.{hashed_entries, name_hash};
 
+use crate::clocked::Stamped;
 use crate::hashed::HashedKey;
 use crate::holdings::Holdings;
 use crate::seeded::Seeded;
@@ -90,7 +92,7 @@ impl EntryMap {
     }
 
     /// The entries, to go through them in their order.
-    pub(crate) fn held(&self) -> &LruCache<HashedKey, Entry>
+    pub(crate) fn held(&self) -> &LruCache<HashedKey, Stamped>
         ensures { hashed_entries result.now.entries ≡ self.now.entries }
     {
         self.holdings.held()
@@ -102,6 +104,16 @@ impl EntryMap {
         ensures { option_copied result ≡ entry_at (key_of key.entry) self.now.entries }
     {
         self.holdings.peek(hash, key)
+    }
+
+    /// How many touches came after the last one of a key, whose name has the hash, if it has an
+    /// entry. No more entries stand before its own.
+    pub(crate) fn age(&self, hash: u64, key: KeyRef<'_>) -> Option<u64>
+        requires { hash ≡ name_hash self.now.seeded (key_of key).name }
+        ensures held { is_some result ≡ is_some (entry_at (key_of key.entry) self.now.entries) }
+        ensures ahead { IfSome result (λ age. ahead_of (key_of key.entry) self.now.entries ≤ age) }
+    {
+        self.holdings.age(hash, key)
     }
 
     /// Puts an entry in front, in the place of the one that its key had, and answers that one. An

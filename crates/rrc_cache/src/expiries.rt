@@ -11,6 +11,7 @@ ghost use Rattle.rrc_history.specs.Right.{is_swept};
 ghost use Rattle.rrc_cache.specs.ExpiryQueue.{AreQueued, expired_among, expiries_of, is_expired_by};
 ghost use Rattle.rrc_cache.specs.Keyed.{hashed_entries};
 
+use crate::clocked::Stamped;
 use crate::entry_map::EntryMap;
 use crate::expiry_queue::{Expiry, ExpiryQueue, full_expiry_of};
 use crate::hashed::HashedKey;
@@ -196,15 +197,15 @@ pub(crate) fn expired_among(
 /// The expiries of the entries.
 pub(crate) fn expiries_of(
     alloc: Global,
-    cache: &LruCache<HashedKey, Entry>,
+    cache: &LruCache<HashedKey, Stamped>,
     stale: u64,
 ) -> Result<Vec<Expiry>, AllocError>
     requires { stale ≤ 604800 }
     ensures { IfOk result (λ expiries. expiries.items ≡ expiries_of stale (hashed_entries cache.now.entries)) }
 {
     let mut expiries = Vec::with_capacity(alloc, cache.len())?;
-    for (_, entry) in cache.iter() {
-        expiries.push(Expiry::of(entry, stale)?)?;
+    for (_, stamped) in cache.iter() {
+        expiries.push(Expiry::of(&stamped.entry, stale)?)?;
     }
     Ok(expiries)
 }

@@ -11,6 +11,7 @@ ghost use Rattle.rrc_cache.specs.Keyed.{hashed_entries, name_hash};
 ghost use Rattle.rrc_cache.specs.NegativeFilter.{AreMarked, IsMarked, filter_of, is_marked, is_negative_slot};
 
 use crate::chapter_entries::ChapterEntries;
+use crate::clocked::Stamped;
 use crate::entry_map::EntryMap;
 use crate::hashed::HashedKey;
 use crate::negative_filter::{NegativeFilter, is_negative_slot};
@@ -161,12 +162,12 @@ fn renew_worn(filter: &mut NegativeFilter, map: &EntryMap)
 }
 
 /// Marks the names of which NXDOMAIN or a failure is cached, and no others.
-fn mark_anew(filter: &mut NegativeFilter, cache: &LruCache<HashedKey, Entry>, seeded: Seeded)
+fn mark_anew(filter: &mut NegativeFilter, cache: &LruCache<HashedKey, Stamped>, seeded: Seeded)
     ensures { AreMarked (filter_of seeded filter.new) (hashed_entries cache.now.entries) }
 {
     filter.clear();
-    for (_, entry) in cache.iter() {
-        note_entry(filter, seeded, entry);
+    for (_, stamped) in cache.iter() {
+        note_entry(filter, seeded, &stamped.entry);
     }
     filter.count_anew();
 }

@@ -1,7 +1,8 @@
 // SPDX-License-Identifier: MIT
-ghost use Rattle.std.specs.Prelude.{◌≡◌, ◌-◌, ◌<◌, ◌^◌, ◌%◌, [], Some, length, is_some, slice_get, take, IfOk, OnOk, OnErr, IsSome};
+ghost use Rattle.std.specs.Prelude.{◌≡◌, ◌-◌, ◌<◌, ◌≤◌, ◌^◌, ◌%◌, [], Some, length, is_some, slice_get, take, IfOk, IfSome, OnOk, OnErr, IsSome};
 ghost use Rattle.std.specs.List.{IsDistinct};
 ghost use Rattle.std.specs.Map.{keys_of, lookup, remove_entry};
+ghost use Rattle.rrc_cache.specs.Clocked.{ahead_in};
 ghost use Rattle.std.specs.Map.Iter.{deref_pair};
 ghost use Rattle.std.specs.Option.{option_copied, option_map};
 ghost use Rattle.lru.specs.LruCache.{IsValid, last_entry, lru_cache, promoted, put_entries};
@@ -14,6 +15,7 @@ ghost use Rattle.rrc_cache.specs.Counted.{counted_octets, held_octets};
 ghost use Rattle.rrc_cache.specs.Keyed.{hashed_entries, name_hash};
 ghost use Rattle.rrc_cache.specs.Pairs.{entries_in, AreOwn};
 
+use crate::clocked::Stamped;
 use crate::hashed::HashedKey;
 use crate::keyed::Keyed;
 use crate::seeded::Seeded;
@@ -108,7 +110,7 @@ impl Holdings {
     }
 
     /// The entries, to go through them in their order.
-    pub(crate) fn held(&self) -> &LruCache<HashedKey, Entry>
+    pub(crate) fn held(&self) -> &LruCache<HashedKey, Stamped>
         ensures { hashed_entries result.now.entries ≡ entries_in self.now.map.entries }
     {
         self.keyed.held()
@@ -120,6 +122,16 @@ impl Holdings {
         ensures { option_copied result ≡ lookup (key_eq (key_of key.entry)) self.now.map.entries }
     {
         self.keyed.peek(hash, key)
+    }
+
+    /// How many touches came after the last one of a key, whose name has the hash, if it has an
+    /// entry. No more entries stand before its own.
+    pub(crate) fn age(&self, hash: u64, key: KeyRef<'_>) -> Option<u64>
+        requires { hash ≡ name_hash self.now.seeded (key_of key).name }
+        ensures held { is_some result ≡ is_some (lookup (key_eq (key_of key.entry)) self.now.map.entries) }
+        ensures ahead { IfSome result (λ age. ahead_in (key_eq (key_of key.entry)) self.now.map.entries ≤ age) }
+    {
+        self.keyed.age(hash, key)
     }
 
     /// The entry in front, with its key.

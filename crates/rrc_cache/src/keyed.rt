@@ -1,5 +1,5 @@
 // SPDX-License-Identifier: MIT
-ghost use Rattle.std.specs.Prelude.{◌≡◌, ◌-◌, ◌<◌, ◌^◌, [], length, is_some, slice_get, take, IfOk, OnOk, OnErr, IsSome};
+ghost use Rattle.std.specs.Prelude.{◌≡◌, ◌-◌, ◌<◌, ◌≤◌, ◌^◌, [], length, is_some, slice_get, take, IfOk, IfSome, OnOk, OnErr, IsSome};
 ghost use Rattle.std.specs.Map.{lookup, remove_entry};
 ghost use Rattle.std.specs.Map.Iter.{deref_pair};
 ghost use Rattle.std.specs.Option.{option_copied, option_map};
@@ -8,11 +8,12 @@ ghost use Rattle.rrc_name.specs.Key.{key_eq};
 ghost use Rattle.rrc_name.specs.KeyRef.{key_of};
 ghost use Rattle.rrc_name.specs.NameRef.{name_in};
 ghost use Rattle.rrc_history.specs.Past.{entry_of};
-ghost use Rattle.rrc_cache.specs.Keyed.{hashed_eq, hashed_entries, name_hash};
+ghost use Rattle.rrc_cache.specs.Clocked.{ahead_in};
+ghost use Rattle.rrc_cache.specs.Keyed.{hashed_entries, name_hash};
 ghost use Rattle.rrc_cache.specs.Pairs.{entries_in, AreOwn};
 
+use crate::clocked::{Clocked, Stamped};
 use crate::hashed::{HashedKey, HashedRef};
-use crate::overwriting::overwrite;
 use crate::seeded::Seeded;
 use lru::LruCache;
 use rrc_history::{Entry, Offer};
@@ -28,7 +29,7 @@ use std::marker::Model;
 /// Contracts see the seed, and the map of entries by their keys.
 #[derive(Debug, Drop)]
 pub struct Keyed {
-    cache: LruCache<HashedKey, Entry>,
+    cache: Clocked,
     seeded: Seeded,
 }
 
@@ -49,7 +50,7 @@ impl Keyed {
         ensures { IfOk result (λ keyed. keyed ≡ record { seeded = seeded; map = lru_cache [] (2 ^ 64 - 1) }) }
     {
         Ok(Keyed {
-            cache: LruCache::unbounded(alloc)?,
+            cache: Clocked::new(alloc)?,
             seeded,
         })
     }
@@ -78,14 +79,14 @@ impl Keyed {
     }
 
     pub(crate) fn allocator(&self) -> Global {
-        *self.cache.allocator()
+        self.cache.allocator()
     }
 
     /// The entries, to go through them in their order.
-    pub(crate) fn held(&self) -> &LruCache<HashedKey, Entry>
+    pub(crate) fn held(&self) -> &LruCache<HashedKey, Stamped>
         ensures { hashed_entries result.now.entries ≡ entries_in self.now.map.entries }
     {
-        &self.cache
+        self.cache.held()
     }
 
     /// The entry of a key, whose name has the hash. It moves nothing.
@@ -94,6 +95,16 @@ impl Keyed {
         ensures { option_copied result ≡ lookup (key_eq (key_of key.entry)) self.now.map.entries }
     {
         self.cache.peek(HashedRef { hash, key })
+    }
+
+    /// How many touches came after the last one of a key, whose name has the hash, if it has an
+    /// entry. No more entries stand before its own.
+    pub(crate) fn age(&self, hash: u64, key: KeyRef<'_>) -> Option<u64>
+        requires { hash ≡ name_hash self.now.seeded (key_of key).name }
+        ensures held { is_some result ≡ is_some (lookup (key_eq (key_of key.entry)) self.now.map.entries) }
+        ensures ahead { IfSome result (λ age. ahead_in (key_eq (key_of key.entry)) self.now.map.entries ≤ age) }
+    {
+        self.cache.age(HashedRef { hash, key })
     }
 
     /// The entry in front, with its key.
@@ -168,7 +179,7 @@ impl Keyed {
         ensures seeded { self.new.seeded ≡ self.old.seeded }
         ensures err { OnErr result (self.new ≡ self.old) }
     {
-        push(&mut self.cache, HashedKey { hash, key }, entry)
+        self.cache.push(HashedKey { hash, key }, entry)
     }
 
     /// Writes what an offer stores over the entry of its key, and moves that to the front. An `Err`
@@ -187,23 +198,6 @@ impl Keyed {
         ensures err { OnErr result (self.new ≡ self.old) }
     {
         let key = KeyRef::of(&offer.key);
-        overwrite(&mut self.cache, HashedRef { hash, key }, offer, number)
-    }
-}
-
-/// Puts an entry in front under a key, and answers what that had. An `Err` leaves all as it was.
-fn push(
-    cache: &mut LruCache<HashedKey, Entry>,
-    key: HashedKey,
-    entry: Entry,
-) -> Result<Option<Entry>, AllocError>
-    requires room { length cache.old.entries < cache.old.cap }
-    ensures old { IfOk result (λ old. old ≡ lookup (hashed_eq key) cache.old.entries) }
-    ensures entries { OnOk result (cache.new ≡ lru_cache (put_entries hashed_eq cache.old key entry) cache.old.cap) }
-    ensures err { OnErr result (cache.new ≡ cache.old) }
-{
-    match cache.push(key, entry)? {
-        Some((_, old)) => Ok(Some(old)),
-        None => Ok(None),
+        self.cache.overwrite(HashedRef { hash, key }, offer, number)
     }
 }

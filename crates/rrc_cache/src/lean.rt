@@ -1,5 +1,5 @@
 // SPDX-License-Identifier: MIT
-ghost use Rattle.std.specs.Prelude.{◌≡◌, ◌<◌, ◌≤◌, ◌-◌, ◌^◌, ◌↔◌, [], IsTrue, IfOk, IfErr, IfSome, IfNone, OnErr, Err};
+ghost use Rattle.std.specs.Prelude.{◌≡◌, ◌<◌, ◌≤◌, ◌-◌, ◌^◌, ◌↔◌, [], is_some, IsTrue, IfOk, IfErr, IfSome, IfNone, OnErr, Err};
 
 use crate::history::{History, StepRef};
 use crate::part::KNOWN_SEED;
@@ -58,6 +58,7 @@ impl LeanPart {
     ghost use Rattle.rrc_cache.specs.Lean.{begun_with, IsLeanDue, IsLeanOpen, IsLeanSound, IsPick, IsRestoreDue, Shuts};
     ghost use Rattle.rrc_cache.specs.Part.{past_of, next_number, Adds, IsCloseDue, IsOfMoments, WritesOffer, WritesAsk, WritesSweep};
     ghost use Rattle.rrc_cache.specs.Sizes.{HoldsKeys, HoldsOctets};
+    ghost use Rattle.rrc_cache.specs.Ages.{StandsWithin};
 
     /// An empty part in the first chapter of its history. Its seed is known, as that of
     /// `Part::new`: for names that anyone may send, `seeded` takes one that nobody knows.
@@ -153,6 +154,15 @@ impl LeanPart {
         ensures { option_map held_in result ≡ held self.now.snapshot (past_of self.now) (key_of key.entry) }
     {
         self.store.get(self.store.hash_of(key.name), key)
+    }
+
+    /// How many touches came after the last one of a key, if it holds something: no more keys than
+    /// that were touched since. It takes no memory and touches nothing.
+    pub fn age(&self, key: KeyRef<'_>) -> Option<u64>
+        ensures held { is_some result ≡ is_some (held self.now.snapshot (past_of self.now) (key_of key.entry)) }
+        ensures ahead { IfSome result (λ age. StandsWithin self.now (key_of key.entry) age) }
+    {
+        self.store.age(self.store.hash_of(key.name), key)
     }
 
     /// A moment before which no key is fully expired, or `None` exactly where the part holds none:

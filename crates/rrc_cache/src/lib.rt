@@ -7,6 +7,7 @@ mod ahead;
 mod answer;
 mod chapter_entries;
 mod classless;
+mod clocked;
 mod closing;
 mod entries;
 mod entry_map;

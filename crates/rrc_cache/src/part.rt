@@ -1,5 +1,5 @@
 // SPDX-License-Identifier: MIT
-ghost use Rattle.std.specs.Prelude.{◌≡◌, ◌<◌, ◌≤◌, ◌-◌, ◌^◌, ◌↔◌, ◌++◌, ◌∷◌, [], None, length, IsTrue, IfOk, IfErr, IfSome, IfNone, OnOk, OnErr, Err};
+ghost use Rattle.std.specs.Prelude.{◌≡◌, ◌<◌, ◌≤◌, ◌-◌, ◌^◌, ◌↔◌, ◌++◌, ◌∷◌, [], None, length, is_some, IsTrue, IfOk, IfErr, IfSome, IfNone, OnOk, OnErr, Err};
 ghost use Rattle.rrc_cache.specs.Recording.{refused_by, BeginsRecorded};
 
 use crate::lean::LeanPart;
@@ -43,6 +43,7 @@ impl Model for Part {
 impl Part {
     ghost use Rattle.rrc_cache.specs.Lean.{begun_with, IsRestoreDue};
     ghost use Rattle.rrc_cache.specs.Part.{past_of, Closes, HasRoom, IsCloseDue, IsDue, IsOfMoments, IsSound, WritesOffer, WritesAsk, WritesSweep};
+    ghost use Rattle.rrc_cache.specs.Ages.{StandsWithin};
     ghost use Rattle.rrc_cache.specs.Sizes.{HoldsKeys, HoldsOctets};
     ghost use Rattle.rrc_cache.specs.Expiry.{HoldsNothing, HoldsSomething, IsAfterLastSweep, NoneFullyExpiresBefore};
     ghost use Rattle.rrc_history.specs.Past.{held, reply_to};
@@ -144,6 +145,15 @@ impl Part {
         ensures { option_map held_in result ≡ held self.now.snapshot (past_of self.now) (key_of key.entry) }
     {
         self.lean.held(key)
+    }
+
+    /// How many touches came after the last one of a key, if it holds something
+    /// (`LeanPart::age`). It takes no memory and touches nothing.
+    pub fn age(&self, key: KeyRef<'_>) -> Option<u64>
+        ensures held { is_some result ≡ is_some (held self.now.snapshot (past_of self.now) (key_of key.entry)) }
+        ensures ahead { IfSome result (λ age. StandsWithin self.now (key_of key.entry) age) }
+    {
+        self.lean.age(key)
     }
 
     /// A moment before which no key is fully expired, or `None` exactly where the part holds none:

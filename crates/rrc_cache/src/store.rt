@@ -1,5 +1,6 @@
 // SPDX-License-Identifier: MIT
-ghost use Rattle.std.specs.Prelude.{◌≡◌, ◌-◌, ◌≤◌, ◌^◌, ◌%◌, [], ◌∷◌, Some, None, length, take, true, false, IfOk, OnOk, OnErr};
+ghost use Rattle.std.specs.Prelude.{◌≡◌, ◌-◌, ◌≤◌, ◌^◌, ◌%◌, [], ◌∷◌, Some, None, length, is_some, take, true, false, IfOk, IfSome, OnOk, OnErr};
+ghost use Rattle.rrc_cache.specs.Ages.{ahead_of};
 ghost use Rattle.std.specs.Option.{option_map};
 ghost use Rattle.rrc_name.specs.Key.{KeyOf};
 ghost use Rattle.rrc_name.specs.KeyRef.{key_of};
@@ -128,6 +129,16 @@ impl Store {
             }
             None => None,
         }
+    }
+
+    /// How many touches came after the last one of a key, whose name has the hash, if it has an
+    /// entry. No more entries stand before its own.
+    pub(crate) fn age(&self, hash: u64, key: KeyRef<'_>) -> Option<u64>
+        requires { hash ≡ name_hash self.now.seeded (key_of key).name }
+        ensures held { is_some result ≡ is_some (entry_at (key_of key.entry) self.now.entries) }
+        ensures ahead { IfSome result (λ age. ahead_of (key_of key.entry) self.now.entries ≤ age) }
+    {
+        self.filtered.map().age(hash, key)
     }
 
     /// Whether NXDOMAIN or a failure may be cached of a name that has the hash. Where not, no

@@ -1,5 +1,5 @@
 // SPDX-License-Identifier: MIT
-ghost use Rattle.std.specs.Prelude.{◌≡◌, ◌<◌, ◌≤◌, ◌-◌, ◌^◌, [], true, false, not, Err, IfErr, IfNone, IfOk, IfSome, OnErr, OnOk};
+ghost use Rattle.std.specs.Prelude.{◌≡◌, ◌<◌, ◌≤◌, ◌-◌, ◌^◌, [], true, false, not, is_some, Err, IfErr, IfNone, IfOk, IfSome, OnErr, OnOk};
 ghost use Rattle.rrc_cache.specs.Part.{IsCloseDue, IsOfMoments};
 ghost use Rattle.rrc_share.specs.CacheShelf.{lean_shelf};
 ghost use Rattle.rrc_share.specs.Switches.{HandsOut, IsSwitchDue, Starts, Stops, refused_by};
@@ -42,6 +42,7 @@ impl Model for CacheShelf {
 }
 
 impl CacheShelf {
+    ghost use Rattle.rrc_cache.specs.Ages.{StandsWithin};
     ghost use Rattle.rrc_cache.specs.Expiry.{HoldsNothing, HoldsSomething, IsAfterLastSweep, NoneFullyExpiresBefore};
     ghost use Rattle.rrc_cache.specs.Lean.{IsLeanDue, IsLeanOpen, IsPick};
     ghost use Rattle.rrc_cache.specs.Sizes.{HoldsKeys, HoldsOctets};
@@ -138,6 +139,18 @@ impl CacheShelf {
         match &self.state {
             ShelfState::Lean(part) => part.held(key),
             ShelfState::Recorded(shelf) => shelf.part.held(key),
+        }
+    }
+
+    /// How many touches came after the last one of a key, if it holds something
+    /// (`LeanPart::age`). It takes no memory and touches nothing.
+    pub fn age(&self, key: KeyRef<'_>) -> Option<u64>
+        ensures held { is_some result ≡ is_some (held_by self.now.shelf (key_of key.entry)) }
+        ensures ahead { IfSome result (λ age. StandsWithin self.now.shelf.part (key_of key.entry) age) }
+    {
+        match &self.state {
+            ShelfState::Lean(part) => part.age(key),
+            ShelfState::Recorded(shelf) => shelf.part.age(key),
         }
     }
 

@@ -1,6 +1,7 @@
 // SPDX-License-Identifier: MIT
 ghost use Rattle.rrc_name.specs.Key.{IsFolded};
 
+mod ages;
 pub(crate) mod calls;
 mod chapters;
 mod classless;

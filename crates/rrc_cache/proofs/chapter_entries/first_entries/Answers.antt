@@ -3,6 +3,7 @@ use Rattle.std.proofs.Common.{◌≡◌, ℕ, ◌+◌, ◌≤◌, List, [], ◌�
 use Rattle.std.proofs.Math.Seq.{take-append_seam}
 use Rattle.std.proofs.lemmas.List.{append-nil, length-append}
 use Rattle.rrc_history.specs.declared.snapshot.Entry.{Entry}
+use Rattle.rrc_cache.specs.declared.clocked.Stamped.{Stamped}
 use Rattle.rrc_cache.specs.declared.hashed.HashedKey.{HashedKey}
 use Rattle.rrc_cache.specs.Keyed.{hashed_entries}
 use Rattle.rrc_cache.proofs.Paired.{all_taken}
@@ -20,24 +21,24 @@ every all first count is few =
 
 pub returns-then-len-count : goal.returns-then-len-count
 returns-then-len-count c =
-    enough (hashed_entries c.args.cache.now.entries) c.loop-entry.first.items (hashed_entries c.loop-entry.entry-iterator) c.args.count c.loop-entry.invariant.0
-    (omega (arith, c.loop-entry.invariant.1, c.if-len-count.true, c.len.ensures))
+    enough (hashed_entries c.args.cache.now.entries) c.loop-stamped.first.items (hashed_entries c.loop-stamped.stamped-iterator) c.args.count c.loop-stamped.invariant.0
+    (omega (arith, c.loop-stamped.invariant.1, c.if-len-count.true, c.len.ensures))
 
-pub loop-entry-preserved : goal.loop-entry-preserved
-loop-entry-preserved c =
-    let entry : Entry = c.in-Some.entry.now in
-    let rest : List (HashedKey × Entry) = c.next.new.self in
-    let new : c.push.new.self.items ≡ c.loop-entry.first.items ++ entry ∷ [] =
-    c.in_ok-push.ensures.items ∙ ap (λ (e : Entry). c.loop-entry.first.items ++ e ∷ []) c.in_ok-clone.ensures.cases in
-    let longer : length c.push.new.self.items ≡ length c.loop-entry.first.items + 1 = ap length new ∙ length-append c.loop-entry.first.items (entry ∷ []) in (
-      c.loop-entry.invariant.0
-          ∙ (ap (λ (ps : List (HashedKey × Entry)). c.loop-entry.first.items ++ hashed_entries ps) c.in-Some.ensures.steps
-          ∙ (sym (append_assoc c.loop-entry.first.items (entry ∷ []) (hashed_entries rest)) ∙ ap (λ es. es ++ hashed_entries rest) (sym new))),
+pub loop-stamped-preserved : goal.loop-stamped-preserved
+loop-stamped-preserved c =
+    let entry : Entry = c.in-Some.stamped.now.entry in
+    let rest : List (HashedKey × Stamped) = c.next.new.self in
+    let new : c.push.new.self.items ≡ c.loop-stamped.first.items ++ entry ∷ [] =
+    c.in_ok-push.ensures.items ∙ ap (λ (e : Entry). c.loop-stamped.first.items ++ e ∷ []) c.in_ok-clone.ensures.cases in
+    let longer : length c.push.new.self.items ≡ length c.loop-stamped.first.items + 1 = ap length new ∙ length-append c.loop-stamped.first.items (entry ∷ []) in (
+      c.loop-stamped.invariant.0
+          ∙ (ap (λ (ps : List (HashedKey × Stamped)). c.loop-stamped.first.items ++ hashed_entries ps) c.in-Some.ensures.steps
+          ∙ (sym (append_assoc c.loop-stamped.first.items (entry ∷ []) (hashed_entries rest)) ∙ ap (λ es. es ++ hashed_entries rest) (sym new))),
       omega (arith, longer, c.if-len-count.false, c.len.ensures),
     )
 
 pub returns : goal.returns
 returns c =
-    every (hashed_entries c.args.cache.now.entries) c.loop-entry.first.items c.args.count
-    (c.loop-entry.invariant.0
-    ∙ (ap (λ (ps : List (HashedKey × Entry)). c.loop-entry.first.items ++ hashed_entries ps) c.in-None.ensures.steps.0 ∙ append-nil c.loop-entry.first.items)) c.loop-entry.invariant.1
+    every (hashed_entries c.args.cache.now.entries) c.loop-stamped.first.items c.args.count
+    (c.loop-stamped.invariant.0
+    ∙ (ap (λ (ps : List (HashedKey × Stamped)). c.loop-stamped.first.items ++ hashed_entries ps) c.in-None.ensures.steps.0 ∙ append-nil c.loop-stamped.first.items)) c.loop-stamped.invariant.1

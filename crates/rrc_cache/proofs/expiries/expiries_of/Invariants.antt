@@ -6,5 +6,5 @@ use Rattle.rrc_cache.specs.ExpiryQueue.{expiries_of}
 use Rattle.rrc_cache.specs.Keyed.{hashed_entries}
 use Rattle.rrc_cache.proofs.expiries.expiries_of.Given as goal
 
-abbrev pub invariant-loop-entry : goal.invariant-loop-entry
-invariant-loop-entry l = l.expiries.items ≡ expiries_of l.stale (hashed_entries (map deref_pair l.yielded))
+abbrev pub invariant-loop-stamped : goal.invariant-loop-stamped
+invariant-loop-stamped l = l.expiries.items ≡ expiries_of l.stale (hashed_entries (map deref_pair l.yielded))

@@ -56,5 +56,5 @@ returns-clause-ok c =
     let held : IsSome (lookup (key_eq key) c.args.self.now.map.entries) = subst (λ k. IsSome (lookup (key_eq k) c.args.self.now.map.entries)) (sym same) c.requires.held in
     on_ok_weaker c.overwrite.result
     (λ is. shown_written c.self.inside.seeded c.self.inside.cache c.args.self.now c.self.view_is c.self.invariant c.args.hash key
-    (its c.args.self.now c.args.hash key c.args.offer.now.key same c.requires.hash) entry c.overwrite.new.cache held is
+    (its c.args.self.now c.args.hash key c.args.offer.now.key same c.requires.hash) entry c.overwrite.new.self held is
     ∙ ap (λ k. lru_cache (put_entries key_eq c.args.self.now.map k entry) c.args.self.now.map.cap) same) c.overwrite.ensures.ok

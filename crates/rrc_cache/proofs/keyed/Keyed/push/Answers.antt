@@ -28,5 +28,5 @@ returns-clause-old c =
 pub returns-clause-entries : goal.returns-clause-entries
 returns-clause-entries c =
     on_ok_weaker c.push.result
-    (shown_put c.self.inside.seeded c.self.inside.cache c.args.self.now c.self.view_is c.self.invariant c.args.hash c.args.key c.requires.hash c.args.entry c.push.new.cache)
+    (shown_put c.self.inside.seeded c.self.inside.cache c.args.self.now c.self.view_is c.self.invariant c.args.hash c.args.key c.requires.hash c.args.entry c.push.new.self)
     c.push.ensures.entries

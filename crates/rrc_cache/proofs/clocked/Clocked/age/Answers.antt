@@ -1,0 +1,44 @@
+-- SPDX-License-Identifier: MIT
+use Rattle.std.proofs.Common.{◌≡◌, ℕ, ◌+◌, ◌-◌, ◌<◌, ◌≤◌, ◌^◌, Bool, Option, Some, None, length, sym, ap, subst, ◌∙◌, arith}
+use Rattle.std.specs.Prelude.{is_some}
+use Rattle.std.specs.Map.{lookup}
+use Rattle.std.specs.Option.{option_copied, option_map}
+use Rattle.lru.specs.LruCache.{LruCache}
+use Rattle.rrc_history.specs.declared.snapshot.Entry.{Entry}
+use Rattle.rrc_cache.specs.declared.clocked.Stamped.{Stamped}
+use Rattle.rrc_cache.specs.declared.hashed.HashedKey.{HashedKey}
+use Rattle.rrc_cache.specs.Clocked.{ahead_in}
+use Rattle.rrc_cache.specs.Keyed.{hashed_eq, hashed_of}
+use Rattle.rrc_cache.proofs.Clocking.{age_holds, ahead_below, lookup_bare}
+use Rattle.rrc_cache.proofs.clocked.Clocked.age.Goals as goal
+
+pub age_at-requires : goal.age_at-requires
+age_at-requires c =
+    let test : HashedKey → Bool = hashed_eq (hashed_of c.args.key) in
+    let found : lookup test c.self.inside.cache.entries ≡ Some c.in-Some.stamped.now = sym c.peek.ensures ∙ ap option_copied c.in-Some.is in
+    λ goes.
+    let below : ahead_in test c.self.inside.cache.entries + c.in-Some.stamped.now.touched < c.self.inside.clock =
+    ahead_below test c.self.inside.clock c.self.inside.cache.entries c.in-Some.stamped.now (c.self.invariant goes) found in
+    omega (arith, below)
+
+pub returns-in-Some-clause-held : goal.returns-in-Some-clause-held
+returns-in-Some-clause-held c =
+    let test : HashedKey → Bool = hashed_eq (hashed_of c.args.key) in
+    let found : lookup test c.self.inside.cache.entries ≡ Some c.in-Some.stamped.now = sym c.peek.ensures ∙ ap option_copied c.in-Some.is in
+    ap is_some (ap (option_map (λ (s : Stamped). s.entry)) (sym found) ∙ (lookup_bare test c.self.inside.cache.entries
+    ∙ ap (λ (m : LruCache HashedKey Entry). lookup test m.entries) c.self.view_is))
+
+pub returns-in-Some-clause-ahead : goal.returns-in-Some-clause-ahead
+returns-in-Some-clause-ahead c =
+    let test : HashedKey → Bool = hashed_eq (hashed_of c.args.key) in
+    let found : lookup test c.self.inside.cache.entries ≡ Some c.in-Some.stamped.now = sym c.peek.ensures ∙ ap option_copied c.in-Some.is in
+    subst (λ (m : LruCache HashedKey Entry). ahead_in test m.entries ≤ c.age_at.result) c.self.view_is
+    (age_holds test c.self.inside.clock c.age_at.result c.self.inside.cache.entries c.in-Some.stamped.now c.self.invariant found
+    c.fits_memory.ensures c.age_at.ensures.goes c.age_at.ensures.stands)
+
+pub returns-in-None-clause-held : goal.returns-in-None-clause-held
+returns-in-None-clause-held c =
+    let test : HashedKey → Bool = hashed_eq (hashed_of c.args.key) in
+    let none : lookup test c.self.inside.cache.entries ≡ None = sym c.peek.ensures ∙ ap option_copied c.in-None.is in
+    ap is_some (ap (option_map (λ (s : Stamped). s.entry)) (sym none) ∙ (lookup_bare test c.self.inside.cache.entries
+    ∙ ap (λ (m : LruCache HashedKey Entry). lookup test m.entries) c.self.view_is))
