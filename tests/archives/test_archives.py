@@ -87,7 +87,7 @@ def audited(program, counts, request):
         fault, due = judged(text)
         run = subprocess.run([program, "--audit-history"], input=octets, capture_output=True,
                              timeout=SECONDS)
-        if (run.returncode, run.stdout.decode().splitlines(), run.stderr) != (*due, b""):
+        if (run.returncode, run.stdout.decode("latin-1").splitlines(), run.stderr) != (*due, b""):
             path = TOP / "build" / "archives" / re.sub(r"\W+", "-", request.node.name)
             path.parent.mkdir(parents=True, exist_ok=True)
             path.write_bytes(octets)
