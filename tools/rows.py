@@ -35,6 +35,6 @@ def traces_of(row):
 
 
 def options_of(row):
-    """The options of a row that take a number."""
-    found = re.findall(r"--(\w+)[\s=](\d+)", content(row, "args").decode())
+    """The options of a row that its report depends on."""
+    found = re.findall(r"--(capacity|parts|stale)[\s=](\d+)", content(row, "args").decode())
     return {name: int(value) for name, value in found}
