@@ -118,7 +118,7 @@ def steps_of(line, parts):
             ask("answer", "failed"), BEGIN, *map(offer, offers), ask("answer", "now"), FINISH]
     if fault:
         return ("refused", str(fault.number)), [NOTHING]
-    return (str(len(offers)),), [*map(offer, offers)]
+    return (str(len(offers)),), [*map(offer, offers)] or [NOTHING]
 
 
 def stepped(lines, state, mine, capacity):
