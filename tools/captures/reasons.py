@@ -142,19 +142,17 @@ class Story:
 
     def offer(self, told, where):
         """Why an offer had its outcome."""
-        key, body, at = told.call
-        old, outcome = told.answer.old, told.answer
+        (key, body, at), (word, old, _) = told.call, told.answer
         yield body_name(key, body) + self.offered_with(body, where)
-        if outcome.word == "less":
+        if word == "less":
             yield (f"Less: the key holds {self.stored(old)}; at {at} that is unexpired, as it is"
                    f" until {old.at + old.body.ttl - 1}, and its rank is higher, so it stays"
                    f" ({TRUST}).")
-            return
-        if outcome.word == "cleared":
+        elif word == "cleared":
             yield f"Cleared: with a time to live of 0 nothing is stored ({NO_TTL})."
             yield f"It clears {self.stored(old)}." if old else "The key held nothing."
-            return
-        yield from self.kept(told)
+        else:
+            yield from self.kept(told)
 
     def offered_with(self, body, where):
         """The rank and the time of an offer, and whence they are."""
@@ -175,7 +173,7 @@ class Story:
 
     def kept(self, told):
         """What a kept offer found, put out, and for how long it is good."""
-        (key, body, at), old = told.call, told.answer.old
+        (key, body, at), (_, old, evicted) = told.call, told.answer
         if body.kind == "failure":
             yield "Kept: a failure is always kept (ours)."
         if old:
@@ -183,15 +181,12 @@ class Story:
             yield f"{it} replaces {self.stored(old)}{replaced(old, body, at)}"
         elif body.rank:
             yield f"Kept: the key held nothing. {self.empty(key)}"
-        if told.answer.evicted:
-            yield from self.evicted(told.answer.evicted)
+        if evicted:
+            held, last = self.replay.parts[0].capacity, self.touched.get(evicted.key)
+            yield (f"Its part held {held:,} key{'s' * (held != 1)}, as many as it may, so the one"
+                   f" touched least recently, last by line {last}, is put out:"
+                   f" {self.stored(evicted)} ({ROOM}).")
         yield until(key, body, at, self.stale)
-
-    def evicted(self, entry):
-        capacity = self.replay.parts[0].capacity
-        yield (f"Its part held {capacity:,} key{'s' * (capacity != 1)}, as many as it may, so the"
-               f" one touched least recently, last by line {self.touched.get(entry.key)}, is put"
-               f" out: {self.stored(entry)} ({ROOM}).")
 
     # ---- asks
 
