@@ -116,6 +116,11 @@ def talk(*said):
     return on_ethernet([sent(*it) for it in said])
 
 
+def asks(at, asked="www.example. A"):
+    """A client's query."""
+    return at, CLIENT, RESOLVER, query(asked)
+
+
 def exchange(at, asked, answer, server=SERVER):
     """A query of the resolver's, and the response to it at once."""
     return [(at, RESOLVER, server, asked), (at, server, RESOLVER, answer)]
@@ -136,8 +141,7 @@ def texts(capture, **options):
 WWW, NS, ROOT_SOA = "www.example. A", "example. 60 NS ns.example.", ". 60 SOA . . 1 2 3 4 5"
 UP = query(number=9, flags=0)
 ANSWER = message(9, 0x8400, WWW, ["www.example. 60 A 0.0.0.0"])
-ASKED, ASKED_UP = (0, CLIENT, RESOLVER, query()), (0, RESOLVER, SERVER, UP)
-LATER = (20, CLIENT, RESOLVER, query("later. A"))
+ASKED, ASKED_UP, LATER = asks(0), (0, RESOLVER, SERVER, UP), asks(20, "later. A")
 ASK, LATE = "ask 0 www.example. 1", "ask 20 later. 1"
 
 
@@ -342,8 +346,7 @@ def test_fragments_and_connections_without_end_stay_few():
     # a time-out, after five seconds
     ([ASKED, ASKED_UP, LATER], [ASK, "fail 5 www.example. 1", LATE]),
     # in its order among the lines
-    ([ASKED_UP, (5, CLIENT, RESOLVER, query("later. A"))],
-     ["fail 5 www.example. 1", "ask 5 later. 1"]),
+    ([ASKED_UP, asks(5, "later. A")], ["fail 5 www.example. 1", "ask 5 later. 1"]),
     # another server answered: asking did not fail
     ([ASKED, ASKED_UP, (2, RESOLVER, OTHER, UP), (3, OTHER, RESOLVER, ANSWER), LATER],
      [ASK, "response 3 .", LATE]),
@@ -367,9 +370,8 @@ def test_aliases_are_followed_where_that_is_asked_for(follows, middle):
     """An alias is known from the response on, and no more once its name has an address."""
     alias = message(9, 0x8400, WWW, ["www.example. 60 CNAME Web.example.",
                                      "web.example. 60 A 192.0.2.201"])
-    said = [ASKED, *exchange(0, UP, alias), (1, CLIENT, RESOLVER, query()),
-            (2, CLIENT, RESOLVER, query("www.example. CNAME")), *exchange(3, UP, ANSWER),
-            (4, CLIENT, RESOLVER, query())]
+    said = [ASKED, *exchange(0, UP, alias), asks(1), asks(2, "www.example. CNAME"),
+            *exchange(3, UP, ANSWER), asks(4)]
     assert texts(talk(*said), follows_aliases=follows) == [
         ASK, "response 0 .", *middle, "ask 2 www.example. 5", "response 3 .",
         "ask 4 www.example. 1"]
@@ -418,7 +420,7 @@ KNOWN = ["ask 3 www.example. 5", "ask 3 web.example. 5", "ask 3 a. 1"]
 UNKNOWN = ["ask 3 www.example. 1"]
 
 
-@pytest.mark.parametrize("flags, asks, answer, authority, last", [
+@pytest.mark.parametrize("flags, asked, answer, authority, last", [
     (0x8403, WWW, [], [ROOT_SOA], UNKNOWN), (0x8003, WWW, [], [], UNKNOWN),
     (0x8400, WWW, [], [ROOT_SOA], UNKNOWN), (0x8400, WWW, [], [], UNKNOWN),
     (0x8400, WWW, [], [NS, ROOT_SOA], UNKNOWN), (0x8400, WWW, [], [NS], KNOWN),
@@ -428,13 +430,12 @@ UNKNOWN = ["ask 3 www.example. 1"]
     (0x8403, "www.example. CH A", [], [ROOT_SOA], KNOWN),
     # the alias is there still, and its target is none
     (0x8403, WWW, [ALIAS], [ROOT_SOA], ["ask 3 www.example. 5", "ask 3 web.example. 1"])])
-def test_an_alias_ends_with_a_negative_answer(flags, asks, answer, authority, last):
+def test_an_alias_ends_with_a_negative_answer(flags, asked, answer, authority, last):
     """NXDOMAIN, and NODATA with a SOA record or with no NS record (RFC 2308 section 2); neither a
     referral, nor what is truncated, failed, of another class, or about the CNAME record itself."""
     known = message(9, 0x8400, WWW, [ALIAS, "web.example. 60 CNAME a."])
-    denied = message(9, flags, asks, answer, authority)
-    said = [*exchange(0, UP, known), *exchange(1, query(asks, 9, 0), denied),
-            (3, CLIENT, RESOLVER, query())]
+    denied = message(9, flags, asked, answer, authority)
+    said = [*exchange(0, UP, known), *exchange(1, query(asked, 9, 0), denied), asks(3)]
     assert texts(talk(*said), follows_aliases=True)[2:] == last
 
 
@@ -442,8 +443,7 @@ def test_an_alias_outside_of_the_zone_of_a_negative_answer_stays():
     """The server of `example.` can't deny the target in another zone (RFC 2181 section 5.4.1)."""
     alias = ["www.example. 60 CNAME web.", "web. 60 CNAME a."]
     said = [*exchange(0, UP, message(9, 0x8000, WWW, alias, [NS])),
-            *exchange(1, UP, message(9, 0x8403, WWW, alias[:1], [ROOT_SOA])),
-            (3, CLIENT, RESOLVER, query())]
+            *exchange(1, UP, message(9, 0x8403, WWW, alias[:1], [ROOT_SOA])), asks(3)]
     assert texts(talk(*said), follows_aliases=True) == [
         "response 0 .", "response 1 example.",
         "ask 3 www.example. 5", "ask 3 web. 5", "ask 3 a. 1"]
