@@ -5,7 +5,8 @@ ghost use Rattle.std.specs.Option.{option_map};
 use crate::sight::{Glance, Sight};
 use std::mem;
 
-/// A shelf that a thread may look at for the time of a call, or none: a copy of a handle, which is the thread's own.
+/// A shelf that a thread may look at for the time of a call, or none: a copy of a handle, which is
+/// the thread's own.
 #[repr(C)]
 #[derive(Drop)]
 pub struct Look {

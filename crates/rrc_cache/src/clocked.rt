@@ -130,7 +130,8 @@ impl Clocked {
         }
     }
 
-    /// Puts an entry in front under a key, and answers what that had. An `Err` leaves all as it was.
+    /// Puts an entry in front under a key, and answers what that had. An `Err` leaves all as it
+    /// was.
     pub(crate) fn push(&mut self, key: HashedKey, entry: Entry) -> Result<Option<Entry>, AllocError>
         requires room { length self.old.entries < self.old.cap }
         ensures old { IfOk result (λ old. old ≡ lookup (hashed_eq key) self.old.entries) }
