@@ -4,8 +4,8 @@ bin/test runs all.
 
   rows       worked traces with their reports
   c          the library for C
-  forwarder  the forwarder of examples/forwarder, and then the package for Python
-  python     that package; what is here is run with the forwarder's tests
+  forwarder  the forwarder of examples/forwarder
+  python     the package for Python
   install    the library for C as bin/install-c installs it
   tools      from-capture, what-if, why, fuzz, the model of the rules, and the program's options
   captures   a capture that the tools are tested on

@@ -24,10 +24,14 @@ import time
 
 from bench.page import table, write_section
 from bench.setup import ARCHIVE, TOP, compiled
-from tests.forwarder.harness import QR, RD, TC, Forwarder, Server, address
 from tests.hostile import attacks
+from tools.debian import needs
 from tools.model import part_of
 from tools.wire import A, TXT, message, pointer, question, record
+
+needs("dns", "python3-dnspython")
+from dns.flags import QR, RD, TC  # noqa: E402
+from tests.forwarder.harness import Forwarder, Server  # noqa: E402
 
 NEEDS, TITLE = (ARCHIVE,), "Clients beside a hostile server"
 OPTIONS = {
@@ -63,7 +67,7 @@ def names_of_one_part():
 
 
 def one_address(server, number, asked):
-    return [message(number, FLAGS, asked, [record(ASKED, A, TTL, address(1))])]
+    return [message(number, FLAGS, asked, [record(ASKED, A, TTL, b"\xc0\0\2\1")])]
 
 
 def texts(count):
@@ -131,9 +135,10 @@ def measure(port, rate, seconds, told):
 def answered_by(answer):
     """The server's call: an address for the names of the other clients, and else the hostile
     answer."""
-    def answer_all(server, number, asked, name, rtype):
+    def answer_all(server, asked, name):
         is_others = name.startswith("a") and len(name.split(".")[0]) <= 3
-        return (one_address if is_others else answer)(server, number, asked)
+        octets = question(name, asked.question[0].rdtype)
+        return (one_address if is_others else answer)(server, asked.id, octets)
 
     return answer_all
 

@@ -1553,8 +1553,8 @@ static void test_octets(void)
     EXPECT(rrcache_part_of(UPPER, sizeof UPPER, PARTED(64), &other) == RRCACHE_DONE
            && other == part);
     EXPECT(rrcache_part_of(NAME, sizeof NAME, PARTED(1), &part) == RRCACHE_DONE && part == 0);
-    /* By SipHash-1-3 in Python, which tests/python/package.py compares with what CPython hashes
-       octets by. By the lower 32 bits of the hash these were parts 3, 3 and 10. */
+    /* By SipHash-1-3, which OpenSSL tells for the tests of tests/python. By the lower 32 bits of
+       the hash these were parts 3, 3 and 10. */
     EXPECT(part_of(NAME, sizeof NAME) == 2 && part_of(OTHER, sizeof OTHER) == 13
            && part_of(THIRD, sizeof THIRD) == 15);
     EXPECT(part_of(UPPER, sizeof UPPER) == 2);

@@ -2,119 +2,155 @@
 """What the tests of the forwarder are made of: name servers, clients, and forwarders' processes.
 
 All of it is on 127.0.0.1, on ports that the system picks. A name server is a thread of this
-process.
+process. Messages are dnspython's, in which each record is an RRset of its own, so that records stay
+in their order. A record that is made is written as a line of a zone file, without its class:
+"a.example 60 A 192.0.2.1".
 """
-import contextvars
-import os
-import random
+import functools
 import re
 import select
 import signal
 import socket
-import struct
 import subprocess
-import sys
 import threading
 import time
 from pathlib import Path
 
-from tools.wire import A, CNAME, OPT, SOA, message, name_at, question, record, soa_data, wire
+import dns.message
+import dns.name
+import dns.rdata
+import dns.rdataclass
+import dns.rdatatype
+import dns.rrset
+import dns.wire
+import pytest
+from dns.flags import AA, RA, RD, TC
+from dns.rcode import NOERROR, NXDOMAIN, SERVFAIL
 
-TOP = Path(__file__).resolve().parents[2]
-BUILD = TOP / "build"
-# The program of a test's forwarders, where the test names none.
-PROGRAM = contextvars.ContextVar("PROGRAM", default="forwarder-checked")
-
-DNAME = 39
-NOERROR, FORMERR, SERVFAIL, NXDOMAIN, NOTIMP, REFUSED, BADVERS = 0, 1, 2, 3, 4, 5, 16
-QR, AA, TC, RD, RA, CD = 0x8000, 0x400, 0x200, 0x100, 0x80, 0x10
-DNSSEC_OK = 0x8000
-
-
-# ---- What is wanted.
-
-class Wrong(Exception):
-    pass
+BUILD = Path(__file__).resolve().parents[2] / "build"
+ID = 0x1234
+SOA = "example 60 SOA ns.example host.example 1 2 3 4 60"
 
 
-class Skipped(Exception):
-    """A test needs what is not installed here."""
+def under(*programs):
+    """A test whose forwarders are these programs, and not one for each sanitizer."""
+    return pytest.mark.parametrize("forwarder", programs, indirect=True)
 
 
-def once(test):
-    """Marks a test that names its programs itself: it is run once, and not under each sanitizer."""
-    test.is_run_once = True
-    return test
-
-
-def wanted(holds, what):
-    if not holds:
-        raise Wrong(what)
-
-
-def same(got, want, what):
-    wanted(got == want, f"{what}: got {got}, wanted {want}")
-
-
-def took(call):
+def took(call, *arguments):
     """What a call answers, and how many seconds it took."""
     began = time.monotonic()
-    return call(), time.monotonic() - began
+    return call(*arguments), time.monotonic() - began
 
 
 # ---- Messages.
 
 def address(number):
-    return bytes([192, 0, 2 + number // 256 % 100, number % 256])
+    return f"192.0.{2 + number // 256 % 100}.{number % 256}"
 
 
-def soa(zone="example", ttl=60):
-    return record(zone, SOA, ttl, soa_data("ns.example", "host.example", 1, 2, 3, 4, 60))
+def wire_name(text):
+    return dns.name.from_text(text).to_wire()
 
 
-def query(text, rtype=A, flags=RD, qclass=1, number=None, additional=()):
-    number = random.randrange(65536) if number is None else number
-    return message(number, flags, question(text, rtype, qclass), additional=additional)
+def hosts(*names):
+    """The lines of an address of each name."""
+    return [f"{it} 60 A {address(9)}" for it in names]
 
 
-def edns(payload=1232, flags=0, version=0, options=b"", owner="."):
-    """An OPT record (RFC 6891 section 6.1.2)."""
-    return record(owner, OPT, version << 16 | flags, options, payload)
+def aliases(names, ttl=60):
+    """The lines of aliases that lead from each name to the next."""
+    return [f"{one} {ttl} CNAME {other}" for one, other in zip(names, names[1:])]
 
 
-class Reply:
-    """A reply as it was read: `records` has the owner, the type, the ttl and the data of each, in
-    order; `opt` the payload, version and flags of the OPT record, which is not among these."""
+def record(line):
+    """The record of a line. All of its names end at the root."""
+    owner, ttl, rtype, data = line.split(None, 3)
+    return dns.rrset.from_text_list(dns.name.from_text(owner), int(ttl), "IN", rtype, [data],
+                                    origin=dns.name.root, relativize=False)
 
-    def __init__(self, octets):
-        self.size, self.opt, self.records = len(octets), None, []
-        self.number, self.flags, questions, *self.counts = struct.unpack(">6H", octets[:12])
-        self.rcode, self.question, self.spelled, at = self.flags & 15, None, None, 12
-        if questions:
-            self.spelled, at = name_at(octets, at)
-            self.question = (self.spelled.lower(), *struct.unpack(">HH", octets[at:at + 4]))
-            at += 4
-        for _ in range(sum(self.counts)):
-            at = self.read_record(octets, at)
-        wanted(at == len(octets), "octets behind the reply")
 
-    def read_record(self, octets, at):
-        owner, at = name_at(octets, at)
-        rtype, rclass, ttl, size = struct.unpack(">HHIH", octets[at:at + 10])
-        data, behind = octets[at + 10:at + 10 + size], at + 10 + size
-        if rtype == OPT:
-            wanted(self.opt is None and not owner, "one OPT record, of the root")
-            self.opt = rclass, ttl >> 16 & 255, ttl & 0xffff
-            self.rcode |= ttl >> 24 << 4
-            self.counts[2] -= 1
-            return behind
-        if rtype in (CNAME, DNAME):
-            data = name_at(octets, at + 10)[0]
-        self.records.append((owner.lower(), rtype, ttl, data))
-        return behind
+def record_of(name, rtype, data, ttl=60):
+    """A record of these octets of data, which may be none of the type."""
+    generic = dns.rdata.GenericRdata(dns.rdataclass.IN, rtype, data)
+    return dns.rrset.from_rdata(name, ttl, generic)
 
-    def data(self, rtype=A):
-        return [it[3] for it in self.records[:self.counts[0]] if it[1] == rtype]
+
+def query(name, rtype="A", version=None, **others):
+    it = dns.message.make_query(name, rtype, **others)
+    if version is not None:
+        it.use_edns(version)
+    return it
+
+
+def response(asked, *answer, authority=(), additional=(), rcode=NOERROR, flags=RA):
+    """A response to a query, with records, or those of lines."""
+    it = dns.message.make_response(asked)
+    it.use_edns(False)
+    it.set_rcode(rcode)
+    it.flags |= flags
+    for section, records in zip(it.sections[1:], (answer, authority, additional)):
+        section += [record(it) if isinstance(it, str) else it for it in records]
+    return it
+
+
+def truncated(asked):
+    return response(asked, flags=RA | TC)
+
+
+def answered(name, rtype, *answer, flags=AA, **others):
+    """The octets of a response to a question of the id ID."""
+    asked = query(name, rtype, id=ID, flags=0)
+    return octets_of(response(asked, *answer, flags=flags, **others))
+
+
+@functools.cache
+def addresses(name, count):
+    """The octets of a response behind its id: so many addresses. To make them takes a while."""
+    lines = (f"{name} 60 A {address(it)}" for it in range(count))
+    return answered(name, "A", *lines, flags=RD | RA)[2:]
+
+
+def with_id(asked, octets):
+    """The octets of a response to a query, of those behind the id."""
+    return asked.id.to_bytes(2, "big") + octets
+
+
+def octets_of(message):
+    """The octets of a message, or those that were given."""
+    return message if isinstance(message, bytes) else message.to_wire(max_size=65535)
+
+
+def framed(message):
+    """A message as it stands on TCP (RFC 1035 section 4.2.2)."""
+    octets = octets_of(message)
+    return len(octets).to_bytes(2, "big") + octets
+
+
+def read(octets):
+    """The message of octets, all of which have to be read."""
+    return dns.message.from_wire(octets, one_rr_per_rrset=True)
+
+
+def counts(message):
+    """How many records each section has, but for an OPT record."""
+    return [len(it) for it in message.sections[1:]]
+
+
+def data(message, rtype="A"):
+    """The data of the answer's records of a type, as text."""
+    rtype = dns.rdatatype.from_text(rtype)
+    return [it[0].to_text() for it in message.answer if it.rdtype == rtype]
+
+
+def text_of(name):
+    """The text of a name in lower case, without its last dot."""
+    return name.to_text(omit_final_dot=True).lower()
+
+
+def edns(message):
+    """The payload, the version and the flags of an OPT record, or None where there is none."""
+    return message.opt and (message.payload, message.edns, message.ednsflags & 0xffff)
 
 
 # ---- Servers.
@@ -122,14 +158,12 @@ class Reply:
 def plain(ttl=60):
     """Answers each name of the form a7.example with address 7, nothing.. with no data, and others
     with no such name."""
-    def answer(server, number, question, name, rtype):
-        first = name.split(".")[0]
-        if re.fullmatch(r"a\d+", first) and rtype == A:
-            return [message(number, 0x8180, question,
-                            [record(name, A, ttl, address(int(first[1:])))])]
-        if re.fullmatch(r"a\d+|nothing\w*", first):
-            return [message(number, 0x8180, question, authority=[soa()])]
-        return [message(number, 0x8183, question, authority=[soa()])]
+    def answer(server, asked, name):
+        first, rtype = name.split(".")[0], asked.question[0].rdtype
+        if re.fullmatch(r"a\d+", first) and rtype == dns.rdatatype.A:
+            return [response(asked, f"{name} {ttl} A {address(int(first[1:]))}")]
+        is_there = re.fullmatch(r"a\d+|nothing\w*", first)
+        return [response(asked, authority=[SOA], rcode=NOERROR if is_there else NXDOMAIN)]
     return answer
 
 
@@ -137,182 +171,197 @@ def silent(*_):
     return []
 
 
-def framed(octets):
-    """A message as it stands on TCP (RFC 1035 section 4.2.2)."""
-    return struct.pack(">H", len(octets)) + octets
+def told(*lines, **others):
+    """Answers each name with the records of these lines, in which {} is the name."""
+    return lambda _, asked, name: [response(asked, *(it.format(name) for it in lines), **others)]
+
+
+def dead(server, asked, name):
+    """Answers as `plain` does, but nothing of names with "dead" in them."""
+    return [] if "dead" in name else plain()(server, asked, name)
+
+
+def many(server, asked, name):
+    """Answers n7.example with so many addresses."""
+    return [with_id(asked, addresses(name, int(name.split(".")[0][1:])))]
+
+
+def take(sock, size):
+    """So many octets of a connection, or fewer at its end."""
+    octets = b""
+    while len(octets) < size and (got := sock.recv(size - len(octets))):
+        octets += got
+    return octets
+
+
+def bound(tcp):
+    """A socket for datagrams, and with `tcp` one that listens on the same port."""
+    sock = socket.socket(socket.AF_INET, socket.SOCK_DGRAM)
+    sock.bind(("127.0.0.1", 0))
+    try:
+        return [sock, *([socket.create_server(sock.getsockname(), backlog=64)] if tcp else [])]
+    except OSError:  # another has this port on TCP
+        return bound(tcp)
 
 
 class Server(threading.Thread):
-    """A name server. `answer(server, number, question, name, rtype)` gives the messages with which
-    it answers a query; `server.octets` is that query, and `server.is_tcp` how it came. With `tcp`
-    it listens on TCP too."""
+    """A name server. `answer(server, asked, name)` gives the messages, or octets, with which it
+    answers a query for a name, which has lower case and no last dot; `server.octets` is the query,
+    `server.client` who sent it, and `server.is_tcp` how. With `tcp` it listens on TCP too."""
 
-    def __init__(self, answer, tcp=True):
+    def __init__(self, answer=plain(), tcp=True, delay=0):
         super().__init__(daemon=True)
-        self.answer, self.asked, self.lock, self.delay = answer, [], threading.Lock(), 0
+        self.answer, self.delay, self.asked = answer, delay, []
         self.octets, self.client, self.is_tcp, self.is_over = b"", None, False, False
-        self.streams = {}
-        while True:
-            self.socket = socket.socket(socket.AF_INET, socket.SOCK_DGRAM)
-            self.socket.bind(("127.0.0.1", 0))
-            self.port = self.socket.getsockname()[1]
-            self.listener = socket.socket() if tcp else None
-            try:
-                if tcp:
-                    self.listener.bind(("127.0.0.1", self.port))
-                    self.listener.listen(64)
-                break
-            except OSError: # another has this port on TCP
-                self.socket.close()
-                self.listener.close()
+        self.sockets = bound(tcp)
+        self.socket, self.port = self.sockets[0], self.sockets[0].getsockname()[1]
         self.start()
 
     def run(self):
         while not self.is_over:
-            sockets = [self.socket, *self.streams] + [self.listener] * (self.listener is not None)
-            for it in select.select(sockets, [], [], 0.1)[0]:
+            for it in select.select(self.sockets, [], [], 0.1)[0]:
                 try:
                     self.read(it)
                 except OSError:  # who asked over TCP is gone
-                    if self.streams.pop(it, None) is not None:
+                    if it in self.sockets[2:]:
+                        self.sockets.remove(it)
                         it.close()
 
     def read(self, sock):
-        if sock is self.listener:
-            self.streams[sock.accept()[0]] = b""
-        elif sock is not self.socket:
-            self.read_stream(sock)
-        else:
+        if sock is self.socket:
             octets, client = sock.recvfrom(4096)
-            self.take(octets, client, False, lambda answers: self.send(answers, client))
+            self.take(octets, client, False, lambda it: sock.sendto(octets_of(it), client))
+        elif sock is self.sockets[1]:
+            self.sockets.append(sock.accept()[0])
+            self.sockets[-1].settimeout(5)
+        elif octets := take(sock, int.from_bytes(take(sock, 2), "big")):
+            self.take(octets, sock, True, lambda it: sock.sendall(framed(it)))
+        else:
+            raise ConnectionError("the end")
 
     def take(self, octets, client, is_tcp, send):
-        name, at = name_at(octets, 12)
-        rtype = struct.unpack(">H", octets[at:at + 2])[0]
         self.octets, self.client, self.is_tcp = octets, client, is_tcp
-        with self.lock:
-            self.asked.append((name.lower(), rtype))
-        number = struct.unpack(">H", octets[:2])[0]
-        answers = self.answer(self, number, octets[12:at + 4], name.lower(), rtype)
-        if self.delay:
-            threading.Timer(self.delay, send, (answers,)).start()
-        else:
-            send(answers)
+        asked = read(octets)
+        name = text_of(asked.question[0].name)
+        self.asked.append((name, dns.rdatatype.to_text(asked.question[0].rdtype)))
+        answers = self.answer(self, asked, name)
 
-    def send(self, answers, client):
-        for it in answers:
-            self.socket.sendto(it, client)
+        def send_all():
+            for it in answers:
+                send(it)
+        threading.Timer(self.delay, send_all).start() if self.delay else send_all()
 
-    def read_stream(self, stream):
-        got = stream.recv(65536)
-        octets = self.streams.pop(stream) + got
-        if not got:
-            stream.close()
-            return
-        size = struct.unpack(">H", octets[:2])[0] if len(octets) >= 2 else 65536
-        self.streams[stream] = octets[2 + size:] if len(octets) >= 2 + size else octets
-        if len(octets) >= 2 + size:
-            self.take(octets[2:2 + size], stream, True,
-                      lambda answers: self.send_stream(answers, stream))
-
-    def send_stream(self, answers, stream):
-        for it in answers:
-            stream.sendall(framed(it))
-
-    def times(self, name, rtype=A):
-        with self.lock:
-            return self.asked.count((name, rtype))
+    def times(self, name, rtype="A"):
+        return self.asked.count((name, rtype))
 
     def stop(self):
         self.is_over = True
         self.join()
-        self.socket.close()
-        if self.listener is not None:
-            self.listener.close()
+        for it in self.sockets:
+            it.close()
 
 
 # ---- Clients and forwarders.
 
-def exchange(port, octets, seconds=6):
-    """What a forwarder answers to some octets by UDP, or None."""
-    with socket.socket(socket.AF_INET, socket.SOCK_DGRAM) as client:
-        client.connect(("127.0.0.1", port))
-        client.send(octets)
-        client.settimeout(seconds)
+def datagrams(port, seconds=5):
+    """A socket that sends to a forwarder."""
+    sock = socket.socket(socket.AF_INET, socket.SOCK_DGRAM)
+    sock.connect(("127.0.0.1", port))
+    sock.settimeout(seconds)
+    return sock
+
+
+def exchange_octets(port, asked, seconds=6):
+    """The octets that a forwarder answers to a query or to octets by UDP, or None."""
+    with datagrams(port, seconds) as client:
+        client.send(octets_of(asked))
         try:
-            return Reply(client.recv(65535))
+            return client.recv(65535)
         except socket.timeout:
             return None
 
 
-class Stream:
+def exchange(port, asked, seconds=6):
+    """The same as a message."""
+    octets = exchange_octets(port, asked, seconds)
+    return octets and read(octets)
+
+
+def ask_for_any(port, name, rtype):
+    """Asks for data that may be malformed: the RCODE of a reply, which has to be whole."""
+    asked = query(name, rtype)
+    octets = exchange_octets(port, asked)
+    assert octets, f"no reply for {name}"
+    parser = dns.wire.Parser(octets)
+    questions, *records = parser.get_struct("!6H")[2:]
+    for is_question in [True] * questions + [False] * sum(records):
+        parser.get_name()
+        parser.get_struct("!HH")
+        if not is_question:
+            parser.get_bytes(parser.get_struct("!IH")[1])
+    reply = dns.message.from_wire(octets, question_only=True)
+    assert not parser.remaining() and asked.is_response(reply)
+    assert reply.rcode() in (NOERROR, NXDOMAIN, SERVFAIL)
+    return reply.rcode()
+
+
+class Stream(socket.socket):
     """A connection to a forwarder."""
 
     def __init__(self, port, seconds=8):
-        self.socket = socket.create_connection(("127.0.0.1", port), seconds)
+        super().__init__()
+        self.settimeout(seconds)
+        self.connect(("127.0.0.1", port))
 
-    def __enter__(self):
-        return self
-
-    def __exit__(self, *_):
-        self.socket.close()
-
-    def send(self, *queries):
-        self.socket.sendall(b"".join(map(framed, queries)))
-
-    def take(self, size):
-        octets = b""
-        while len(octets) < size:
-            got = self.socket.recv(size - len(octets))
-            if not got:
-                return octets
-            octets += got
-        return octets
+    def put(self, *queries):
+        self.sendall(b"".join(map(framed, queries)))
 
     def read(self):
         """The next reply, or None at the connection's end."""
         try:
-            size = self.take(2)
-            return Reply(self.take(struct.unpack(">H", size)[0])) if len(size) == 2 else None
+            size = take(self, 2)
+            return read(take(self, int.from_bytes(size, "big"))) if len(size) == 2 else None
         except ConnectionResetError:
             return None
 
+    def rest(self):
+        """What is left until the connection's end, or empty where that is a reset."""
+        try:
+            return take(self, 1 << 26)
+        except ConnectionResetError:
+            return b""
+
     def ask(self, *arguments, **others):
-        self.send(query(*arguments, **others))
+        self.put(query(*arguments, **others))
         return self.read()
 
 
 class Forwarder:
     """A forwarder's process. At its end it has to be as clean as the sanitizers want it."""
 
-    def __init__(self, *upstreams, program=None, options=("-q",), descriptors=None,
-                 environment=None):
-        words = [BUILD / (program or PROGRAM.get()), *options, "127.0.0.1", "0"]
+    def __init__(self, *upstreams, program, options=("-q",), descriptors=None, environment=None):
+        words = [BUILD / program, *options, "127.0.0.1", "0"]
         words += [word for it in upstreams for word in ("127.0.0.1", str(it.port))]
         if descriptors:
             words = ["sh", "-c", 'ulimit -n "$0" && exec "$@"', str(descriptors), *words]
         self.process = subprocess.Popen(words, env=environment, stdout=subprocess.PIPE,
                                         stderr=subprocess.PIPE, text=True)
-        line = self.process.stdout.readline()
-        wanted(line.startswith("port "),
-               f"a start: {line}{'' if line else self.process.communicate()[1]}")
-        self.port, self.upstreams = int(line.split()[1]), upstreams
+        found = re.fullmatch(r"port (\d+)\n", self.process.stdout.readline())
+        self.port, self.upstreams = found and int(found[1]), upstreams
 
     def __enter__(self):
+        assert self.port, self.end()
         return self
 
-    def ask(self, text, rtype=A, flags=RD, qclass=1, additional=(), most=None):
-        """Asks by UDP. A reply has to be one to the query, of as many octets as it may have."""
-        octets = query(text, rtype, flags, qclass, additional=additional)
-        reply = exchange(self.port, octets)
-        wanted(reply is not None, f"no reply for {text}")
-        wanted(reply.number == struct.unpack(">H", octets[:2])[0] and reply.flags & QR,
-               "a reply to the query")
-        wanted(reply.size <= (most or 512), f"a reply of {reply.size} octets")
-        wanted(reply.question is None
-               or (reply.spelled, *reply.question[1:]) == (text, rtype, qclass),
-               "the question as it was spelled")
-        same(reply.opt is not None, bool(additional), "an OPT record for who sent one")
+    def ask(self, name, rtype="A", most=512, **others):
+        """Asks by UDP. A reply has to be one to the query, of as many octets as it may have, with
+        the question as it was spelled, and with an OPT record for who sent one."""
+        asked = query(name, rtype, **others)
+        octets = exchange_octets(self.port, asked)
+        assert octets and len(octets) <= most, name
+        assert asked.is_response(reply := read(octets))
+        assert not reply.question or str(reply.question[0]) == str(asked.question[0])
+        assert (reply.opt is None) == (asked.opt is None)
         return reply
 
     def stream(self):
@@ -322,6 +371,11 @@ class Forwarder:
         self.process.send_signal(signal.SIGUSR1)
         words = self.process.stdout.readline().split()
         return dict(zip(words[::2], map(int, words[1::2])))
+
+    def counted(self, *names):
+        """Some of the counters."""
+        counters = self.counters()
+        return [counters[it] for it in names]
 
     def processor_seconds(self):
         """What the process took of the processors so far."""
@@ -345,9 +399,5 @@ class Forwarder:
             it.is_over = True
         return self.process.returncode, said
 
-    def __exit__(self, *error):
-        ended = self.end()
-        if error[0] is None:
-            same(ended, (0, ""), "a clean end")
-        elif ended[1]:
-            print(ended[1], file=sys.stderr)
+    def __exit__(self, *_):
+        assert self.end() == (0, "")

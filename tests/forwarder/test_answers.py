@@ -1,0 +1,201 @@
+# SPDX-License-Identifier: MIT
+"""What is answered, and for how long: sets, negative answers, aliases, times to live."""
+import time
+
+import pytest
+from dns.flags import AA, RA, RD, TC
+from dns.rcode import NOERROR, NXDOMAIN, SERVFAIL
+
+from tests.forwarder.harness import (SOA, Server, address, aliases, counts, data, octets_of, plain,
+                                     query, record, response, told, truncated, with_id)
+
+WEEK = 604800
+SIGNATURE = "A 8 2 60 20300101000000 20200101000000 7 example AAAA"
+
+
+def test_fresh(forwarder):
+    it = forwarder(server := Server())
+    for name in ("a7.example", "A7.eXample", "a7.Example"):
+        reply = it.ask(name)
+        assert (reply.rcode(), data(reply)) == (NOERROR, [address(7)])
+        assert reply.flags & (RD | RA | AA | TC) == RD | RA
+        assert 0 < reply.answer[0].ttl <= 60
+    assert server.times("a7.example") == 1
+    assert it.counted("queries", "fresh", "fetched", "sent") == [3, 2, 1, 1]
+    # The name twice, a record, an address.
+    assert it.counted("keys", "held") == [1, 12 + 12 + 48 + 4]
+
+
+def test_ttl_goes_down(forwarder):
+    it = forwarder(server := Server(plain(3)))
+    it.ask("a1.example")
+    time.sleep(1.1)
+    assert it.ask("a1.example").answer[0].ttl in (1, 2)  # moments are whole seconds
+    time.sleep(2.2)
+    assert data(it.ask("a1.example")) == [address(1)]
+    assert server.times("a1.example") == 2
+
+
+@pytest.mark.parametrize("rtype, text", [("A", address(1)), ("RRSIG", SIGNATURE)])
+@pytest.mark.parametrize("ttl", [WEEK + 1, 0xffffffff])
+def test_ttl_is_capped_from_the_first_answer_on(forwarder, ttl, rtype, text):
+    """RFC 8767 section 4: at most a week, also where the top bit is set."""
+    it = forwarder(Server(told(f"{{}} {ttl} {rtype} {text}")))
+    for _ in range(2):
+        assert WEEK - 9 <= it.ask("a1.example", rtype).answer[0].ttl <= WEEK
+
+
+def test_negative(forwarder):
+    it = forwarder(server := Server())
+    for name, rcode in (("nothing.example", NOERROR), ("gone.example", NXDOMAIN)):
+        for _ in range(2):
+            reply = it.ask(name)
+            assert (reply.rcode(), counts(reply)) == (rcode, [0, 1, 0])
+            assert reply.authority[0].to_text().startswith("example. ")
+            assert reply.authority == [record(SOA)]
+        assert server.times(name) == 1
+    assert it.ask("gone.example", "TXT").rcode() == NXDOMAIN
+    assert server.times("gone.example", "TXT") == 0
+    assert it.counters()["negative"] == 3
+
+
+def test_fully_expired_keys_are_swept(forwarder):
+    soa = SOA.replace("60", "2", 1)
+    it = forwarder(server := Server(told(authority=[soa], rcode=NXDOMAIN)))
+    it.ask("gone.example")
+    assert it.ask("gone.example").rcode() == NXDOMAIN
+    time.sleep(4.2)
+    # What is held is the SOA record, which may yet be stale.
+    assert it.counted("swept", "keys") == [1, 1]
+    it.ask("gone.example")
+    assert server.times("gone.example") == 2
+
+
+@pytest.mark.parametrize("rtype, line", [
+    ("A", f"a3.example 0 A {address(3)}"), ("RRSIG", f"a3.example 60 RRSIG {SIGNATURE}")])
+def test_what_is_not_kept_is_passed_on(forwarder, rtype, line):
+    """A set with a TTL of 0, and a type that is not kept."""
+    it = forwarder(server := Server(told(line)))
+    for _ in range(2):
+        assert it.ask("a3.example", rtype).answer == [record(line)]
+    assert server.times("a3.example", rtype) == 2
+
+
+def test_first_answer_is_that_of_the_cache(forwarder):
+    """The first answer has no other sections than the next ones, and no datum twice."""
+    it = forwarder(Server(told(*(f"{{}} 60 A {address(n)}" for n in (1, 2, 1)),
+                               authority=["example 60 NS ns.example"],
+                               additional=[f"ns.example 60 A {address(9)}"])))
+    for _ in range(2):
+        reply = it.ask("a1.example")
+        assert (counts(reply), data(reply)) == ([2, 0, 0], [address(1), address(2)])
+
+
+# ---- Aliases.
+
+def test_aliases(forwarder):
+    names = [f"x{n}.example" for n in range(6)]
+    targets = [f"{it}." for it in names[1:]]
+
+    def answer(server, asked, name):
+        if name == "gone.example":
+            return [response(asked, *aliases([name, "lost.example"]), authority=[SOA],
+                             rcode=NXDOMAIN)]
+        return [response(asked, *aliases(names), f"x5.example 60 A {address(9)}")]
+    it = forwarder(server := Server(answer))
+    for _ in range(2):
+        reply = it.ask("x0.example")
+        assert data(reply, "CNAME") == targets
+        assert [str(it.name) for it in reply.answer] == ["x0.example.", *targets]
+        assert data(reply) == [address(9)]
+        reply = it.ask("gone.example")
+        assert (reply.rcode(), counts(reply)) == (NXDOMAIN, [1, 1, 0])
+        assert data(reply, "CNAME") == ["lost.example."]
+    assert (server.times("x0.example"), server.times("gone.example")) == (1, 1)
+    for n in (5, 3, 1):  # each from its own shelf
+        assert data(it.ask(names[n])) == [address(9)]
+        assert data(it.ask(names[n - 1], "CNAME"), "CNAME") == [f"{names[n]}."]
+    assert it.ask("lost.example").rcode() == NXDOMAIN
+    asked = [(name, rtype) for name in names[1:] for rtype in ("A", "CNAME")]
+    assert not any(server.times(*it) for it in [*asked, ("lost.example", "A")])
+    # Six of the chain, the other alias, that its target does not exist, and the SOA record.
+    assert it.counters()["keys"] == 9
+    assert data(it.ask("gone.example", "CNAME"), "CNAME") == ["lost.example."]
+
+
+def test_an_alias_newer_than_that_its_name_does_not_exist(forwarder):
+    """Both are as trusted as each other, so the later one counts (RFC 2181 section 5.4.1)."""
+    def answer(server, asked, name):
+        if name == "w.example":
+            return [response(asked, authority=[SOA], rcode=NXDOMAIN)]
+        return [response(asked, *aliases(["v.example", "w.example", "t.example"]),
+                         f"t.example 60 A {address(9)}")]
+    it = forwarder(server := Server(answer))
+    assert it.ask("w.example").rcode() == NXDOMAIN
+    for name in ("v.example", "v.example", "w.example"):
+        reply = it.ask(name)
+        assert (reply.rcode(), data(reply)) == (NOERROR, [address(9)])
+    assert (server.times("v.example"), server.times("w.example")) == (1, 1)
+
+
+def test_aliases_in_a_ring(forwarder):
+    """A ring is SERVFAIL, from the first answer on, also where it is not kept."""
+    def answer(server, asked, name):
+        ring = [f"{name[0]}{n}.example" for n in (0, 1, 0)]
+        return [response(asked, *aliases(ring, 60 * (name[0] == "r")))]
+    it = forwarder(server := Server(answer))
+    for name in ("r0.example", "z0.example") * 2:
+        reply = it.ask(name)
+        assert (reply.rcode(), counts(reply)) == (SERVFAIL, [0, 0, 0])
+    assert (server.times("r0.example"), server.times("z0.example")) == (1, 2)
+    assert data(it.ask("r0.example", "CNAME"), "CNAME") == ["r1.example."]
+
+
+def test_aliases_many_of_them(forwarder):
+    """16 aliases are followed, and no more; what is at the end of 16 may be fetched again."""
+    def answer(server, asked, name):
+        count = int(name.split("-")[1].split(".")[0])
+        names = [name] + [f"{name[0]}{n}x{count}.example" for n in range(count)]
+        return [response(asked, *aliases(names, 60 * (name[0] == "k")),
+                         f"{names[-1]} 1 A {address(count)}")]
+    it = forwarder(server := Server(answer))
+    for first in "kz":
+        assert it.ask(f"{first}-17.example").rcode() == SERVFAIL
+        reply = it.stream().ask(f"{first}-16.example")
+        assert (len(data(reply, "CNAME")), data(reply)) == (16, [address(16)])
+    time.sleep(2.2)
+    assert data(it.stream().ask("k-16.example")) == [address(16)]
+    assert server.times("k-16.example") == 2
+
+
+def test_aliases_more_than_a_message_has(forwarder):
+    """A set of thousands of aliases has too many octets to be kept: each answer is the upstream's,
+    of which none is followed."""
+    longest = ".".join(["x" * 63] * 3 + ["x" * 57])
+    lines = (rf"{longest} 60 CNAME \{1 + n // 250:03}\{1 + n % 250:03}.{longest}"
+             for n in range(3700))
+    octets = octets_of(response(query(longest), *lines))[2:]
+
+    def answer(server, asked, name):
+        return [with_id(asked, octets) if server.is_tcp else truncated(asked)]
+    it = forwarder(Server(answer))
+    with it.stream() as stream:
+        for _ in range(2):
+            assert len(data(stream.ask(longest), "CNAME")) == 3700
+    assert it.counters()["fetched"] == 2
+
+
+def test_dname_stays_beside_its_alias(forwarder):
+    """RFC 6672 section 3.1. The alias that no DNAME record made stands alone."""
+    made = ["old.example 60 DNAME new.example", *aliases(["w.x.old.example", "w.x.new.example"]),
+            f"w.x.new.example 60 A {address(4)}"]
+    answers = {
+        "w.x.old.example": made,
+        "far.example": [*aliases(["far.example", "w.x.old.example"]), *made],
+        "v.old.example": [*aliases(["v.old.example", "v.other.example"]),
+                          f"v.other.example 60 A {address(5)}"]}
+    it = forwarder(server := Server(lambda _, asked, name: [response(asked, *answers[name])]))
+    for name, lines in answers.items():
+        for _ in range(2):
+            assert it.ask(name).answer == [record(it) for it in lines]
+    assert server.times("w.x.old.example") == 1

@@ -1,0 +1,71 @@
+# SPDX-License-Identifier: MIT
+"""Stale answers (RFC 8767), and failures that are remembered (RFC 2308 section 7)."""
+import time
+
+from dns.rcode import NOERROR, REFUSED, SERVFAIL
+
+from tests.forwarder.harness import Server, address, data, plain, silent, told, took
+
+
+def test_stale_while_no_upstream_answers(forwarder):
+    it = forwarder(server := Server(plain(1)))
+    it.ask("a5.example")
+    server.answer = silent
+    time.sleep(2.2)
+    reply, seconds = took(it.ask, "a5.example")
+    assert (data(reply), reply.answer[0].ttl) == ([address(5)], 30)
+    assert 1.7 < seconds < 2.8
+    reply, seconds = took(it.ask, "a5.example")
+    assert data(reply) == [address(5)] and seconds < 1
+    time.sleep(2.5)
+    asked = server.times("a5.example")
+    reply, seconds = took(it.ask, "a5.example")
+    assert (data(reply), server.times("a5.example")) == ([address(5)], asked)
+    assert seconds < 1
+    # Nothing stale where RD is clear.
+    assert it.ask("a5.example", flags=0).rcode() == REFUSED
+
+
+def test_stale_after_the_server_stops(forwarder):
+    it = forwarder(server := Server(plain(1)))
+    it.ask("a6.example")
+    server.stop()
+    time.sleep(2.2)
+    for _ in range(3):
+        reply = it.ask("a6.example")
+        assert (reply.rcode(), data(reply), reply.answer[0].ttl) == (NOERROR, [address(6)], 30)
+    assert it.counted("stale", "failures") == [3, 1]
+
+
+def test_stale_aliases(forwarder):
+    it = forwarder(server := Server(told("{} 1 CNAME b.example", f"b.example 1 A {address(1)}")))
+    it.ask("c.example")
+    server.stop()
+    time.sleep(2.2)
+    for _ in range(2):
+        reply = it.ask("c.example")
+        assert (data(reply, "CNAME"), data(reply)) == (["b.example."], [address(1)])
+        assert [it.ttl for it in reply.answer] == [30, 30]
+
+
+def test_failure_is_remembered(forwarder):
+    it = forwarder(server := Server(silent))
+    reply, seconds = took(it.ask, "a8.example")
+    assert reply.rcode() == SERVFAIL and 2 < seconds < 5
+    assert server.times("a8.example") == 4
+    began = time.monotonic()
+    while time.monotonic() - began < 28:
+        reply, seconds = took(it.ask, "a8.example")
+        assert (reply.rcode(), server.times("a8.example")) == (SERVFAIL, 4)
+        assert seconds < 1
+        time.sleep(3)
+    server.answer = plain()
+    time.sleep(max(0, began + 31.2 - time.monotonic()))
+    assert data(it.ask("a8.example")) == [address(8)]
+
+
+def test_upstream_that_refuses_is_asked_once(forwarder):
+    it = forwarder(server := Server(told(rcode=SERVFAIL)))
+    for _ in range(2):
+        assert it.ask("a1.example").rcode() == SERVFAIL
+    assert server.times("a1.example") == 1

@@ -1,0 +1,181 @@
+# SPDX-License-Identifier: MIT
+"""What an attacker sends in an upstream's place, and an upstream that answers wrongly."""
+import concurrent.futures
+import itertools
+import random
+import re
+import socket
+import string
+
+import dns.message
+from dns.rcode import NOERROR, NXDOMAIN, SERVFAIL
+from dns.rdataclass import IN
+from dns.rdatatype import OPT
+
+from tests.forwarder.harness import (Server, address, ask_for_any, counts, data, octets_of, plain,
+                                     response, text_of, took, truncated, wire_name, with_id)
+from tools.model import part_of
+from tools.mutation import changed_octets
+from tools.rows import content, rows
+
+META = 128
+# The parts of the forwarder's cache, and how many names are asked for that are to be spread.
+PARTS, SPREAD = 16, 2048
+
+
+# ---- Answers from wrong places.
+
+def forged(asked, name):
+    return octets_of(response(asked, f"{name} 60 A {address(6 * 256 + 66)}"))
+
+
+def send_from(place, octets, client):
+    with socket.socket(socket.AF_INET, socket.SOCK_DGRAM) as other:
+        other.bind(place)
+        other.sendto(octets, client)
+
+
+def test_answers_from_wrong_places(forwarder):
+    """Answers that are forged but for one thing: they come from another address, from another port,
+    from another upstream, under other ids, or to the port of a query that was answered. They come
+    before the right one, and none is taken."""
+    clients, others = [], 100
+
+    def answer(server, asked, name):
+        octets = forged(asked, name)
+        for place in (("127.0.0.2", server.port), ("127.0.0.2", 0), ("127.0.0.1", 0)):
+            send_from(place, octets, server.client)
+        two.socket.sendto(octets, server.client)
+        for client in clients[-1:]:
+            server.socket.sendto(octets, client)
+        clients.append(server.client)
+        ids = random.sample([it for it in range(65536) if it != asked.id], others)
+        return [it.to_bytes(2, "big") + octets[2:] for it in ids] + plain()(server, asked, name)
+    it = forwarder(Server(answer), two := Server())
+    for n in range(20):
+        for _ in range(2):
+            assert data(it.ask(f"a{n}.example")) == [address(n)]
+    assert it.counted("strays", "sent") == [20 * others, 20]
+    assert not two.asked
+
+
+def test_answers_from_wrong_places_alone(forwarder):
+    """Where the right answer never comes, the forged ones are no answer, by UDP and over TCP."""
+    def answer(server, asked, name):
+        octets = forged(asked, name)
+        if server.is_tcp:
+            return [bytes([octets[0] ^ 1]) + octets[1:]]
+        for place in (("127.0.0.2", server.port), ("127.0.0.1", 0)):
+            send_from(place, octets, server.client)
+        return [truncated(asked)] if name[0] == "t" else []
+    it = forwarder(Server(answer))
+    with concurrent.futures.ThreadPoolExecutor(8) as pool:
+        for reply in pool.map(it.ask, [f"{first}{n}.example" for n in range(4) for first in "at"]):
+            assert (reply.rcode(), counts(reply)) == (SERVFAIL, [0, 0, 0])
+
+
+# ---- An upstream whose messages are changed at random.
+
+def real_messages():
+    """Responses as name servers sent them: those of the rows real-, of which the question is one
+    that the forwarder takes, with a name of two labels or more."""
+    texts = b"".join(content(row, "trace") for name, row in rows().items()
+                     if name.startswith("real-"))
+    found = [bytes.fromhex(it.decode())
+             for it in re.findall(rb"^response \S+ \S+ (\S+)$", texts, re.M)]
+    return [it for it in found if it[4:6] == b"\0\1" and is_taken(question_of(it))]
+
+
+def question_of(octets):
+    return dns.message.from_wire(octets, question_only=True).question[0]
+
+
+def is_taken(question):
+    return (question.rdclass == IN and question.rdtype < META and question.rdtype != OPT
+            and len(question.name) > 2)
+
+
+def renamed(dice, octets):
+    """The message with other letters in the first label of its question, whose size stays, so that
+    all pointers lead where they did."""
+    size = octets[12]
+    letters = "".join(dice.choices(string.ascii_lowercase, k=size)).encode()
+    return octets[:13] + letters + octets[13 + size:]
+
+
+def fuzzed(dice, octets):
+    """The message, behind its id, with octets changed: mostly behind the question, so that it is
+    taken for an answer; and at times with TC set."""
+    behind = 12 + len(question_of(octets).name.to_wire()) + 4
+    begins, ends = octets[2:behind], changed_octets(dice, octets[behind:])
+    if dice.random() < 0.2:
+        begins = bytes([begins[0] | 2]) + begins[1:]
+    elif dice.random() < 0.2:
+        begins = changed_octets(dice, begins)
+    return begins + ends
+
+
+def ask_for(port, sent, octets, number):
+    """Asks for what a message answers, and has the upstream answer with it, changed: the RCODE."""
+    dice = random.Random(number)
+    octets = renamed(dice, octets)
+    question = question_of(octets)
+    sent[text_of(question.name)] = fuzzed(dice, octets), fuzzed(dice, octets)
+    return ask_for_any(port, question.name, question.rdtype)
+
+
+def test_upstream_of_changed_messages(forwarder):
+    """2,000 messages as name servers send them, with octets changed, by UDP and over TCP. Each
+    question is answered, in a message that can be read, and what no one changes is right."""
+    sent = {}
+
+    def answer(server, asked, name):
+        right = plain()(server, asked, name)
+        if name not in sent:
+            return right
+        by_udp, by_tcp = (with_id(asked, it) for it in sent[name])
+        return [by_tcp[:65535]] if server.is_tcp else [by_udp, *right]
+    messages = real_messages()
+    assert len(messages) > 30
+    it = forwarder(Server(answer))
+    with concurrent.futures.ThreadPoolExecutor(16) as pool:
+        rcodes, seconds = took(lambda: list(pool.map(
+            lambda n: ask_for(it.port, sent, messages[n % len(messages)], n), range(2000))))
+    assert seconds < 60
+    for n in range(20):
+        assert data(it.ask(f"a{n}.example")) == [address(n)]
+    assert min(rcodes.count(it) for it in (NOERROR, NXDOMAIN, SERVFAIL)) > 20
+    assert it.counters()["upgraded"] > 100
+
+
+# ---- Names that are picked to lie in one part.
+
+def keys_of_parts(it, names, rtypes=("A",)):
+    """How many keys each part of a forwarder holds that was asked for each name by each type."""
+    with concurrent.futures.ThreadPoolExecutor(16) as pool:
+        asked = itertools.product(names, rtypes)
+        assert {it.rcode() for it in pool.map(lambda words: it.ask(*words), asked)} == {NOERROR}
+    total, *keys = it.counted("keys", *(f"part-{n}" for n in range(PARTS)))
+    assert sum(keys) == total
+    return keys
+
+
+def test_keys_of_one_name_lie_in_one_part(forwarder):
+    """An address and 19 types that the name has no data of; and the zone's SOA record, which came
+    with the latter, in that part or another."""
+    keys = keys_of_parts(forwarder(Server()), ["a1.example"], [1, *range(100, 119)])
+    assert sorted(keys)[-2:] in ([1, 20], [0, 21])
+
+
+def test_names_of_one_part_are_spread_by_the_seed(forwarder):
+    """2,048 names that are harmless, and as many that lie in one part by the hash that has no key:
+    both lie in all parts of a forwarder, and in others at each start. A part has 128 of them, with
+    a deviation of 11."""
+    names = [f"a{n}.example" for n in range(2 * PARTS * SPREAD)]
+    picked = [it for it in names if part_of(wire_name(it), PARTS) == 0][:SPREAD]
+    assert len(picked) == SPREAD
+    found = [keys_of_parts(forwarder(Server()), it) for it in (names[:SPREAD], picked, picked)]
+    for keys in found:
+        assert sum(keys) == SPREAD
+        assert 0 < min(keys) and max(keys) <= SPREAD // 4
+    assert found[1] != found[2]

@@ -1,0 +1,189 @@
+# SPDX-License-Identifier: MIT
+"""Few descriptors, no memory, more questions than can be asked, and the log."""
+import contextlib
+import os
+import re
+import resource
+import select
+import signal
+import subprocess
+import time
+
+import pytest
+from dns.rcode import FORMERR, NOERROR, SERVFAIL
+
+from tests.forwarder.harness import (BUILD, Forwarder, Server, Stream, address, counts, data,
+                                     datagrams, dead, exchange, octets_of, plain, query, read,
+                                     silent, took, under)
+
+
+def spent(forwarder, seconds):
+    """What a forwarder takes of the processors in so many seconds in which nobody asks."""
+    before = forwarder.processor_seconds()
+    time.sleep(seconds)
+    return forwarder.processor_seconds() - before
+
+
+# ---- Descriptors.
+
+@under("forwarder")
+@pytest.mark.parametrize("descriptors", [12, 16, 32, 64, 128])
+def test_descriptors_that_are_few(forwarder, descriptors):
+    """Tables are as large as the limit allows, and all is served, one after another."""
+    it = forwarder(Server(), descriptors=descriptors)
+    for n in range(40):
+        assert data(it.ask(f"a{n}.example")) == [address(n)]
+    for n in range(100, 120):
+        with it.stream() as stream:
+            assert data(stream.ask(f"a{n}.example")) == [address(n)]
+    assert len(os.listdir(f"/proc/{it.process.pid}/fd")) <= descriptors
+    streams = [Stream(it.port) for _ in range(descriptors)]
+    assert spent(it, 0.5) < 0.2  # no busy loop
+    assert data(it.ask("a1.example")) == [address(1)]
+    for stream in streams:
+        stream.close()
+
+
+def test_descriptors_that_are_too_few(programs):
+    command = 'ulimit -n 11 && exec "$0" 127.0.0.1 0 127.0.0.1 53'
+    run = subprocess.run(["sh", "-c", command, BUILD / "forwarder"], capture_output=True, text=True)
+    assert (run.returncode, run.stdout) == (1, "")
+    assert "Too many open files" in run.stderr
+
+
+@under("forwarder")
+def test_descriptors_that_run_out(forwarder):
+    """Where the limit falls while it runs, cached data are answered, other questions SERVFAIL, and
+    nothing spins; that is not remembered as a failure of the names' servers."""
+    it = forwarder(Server())
+    assert data(it.ask("a1.example")) == [address(1)]
+    resource.prlimit(it.process.pid, resource.RLIMIT_NOFILE, (5, 1024))
+    assert data(it.ask("a1.example")) == [address(1)]
+    assert it.ask("a2.example").rcode() == SERVFAIL
+    with contextlib.ExitStack() as opened:
+        for _ in range(4):
+            opened.enter_context(Stream(it.port))
+        assert spent(it, 1) < 0.4  # no busy loop
+        resource.prlimit(it.process.pid, resource.RLIMIT_NOFILE, (1024, 1024))
+        assert data(it.ask("a2.example")) == [address(2)]
+        with it.stream() as stream:
+            assert data(stream.ask("a1.example")) == [address(1)]
+
+
+# ---- Memory.
+
+@under("forwarder")
+def test_memory_that_is_refused(forwarder):
+    """Where memory is used up, or the system refuses all of it, what is cached is answered, and the
+    rest is SERVFAIL."""
+    environment = {**os.environ, "LD_PRELOAD": str(BUILD / "refusals.so")}
+    it = forwarder(Server(), options=("-q", "-t", "1"), environment=environment)
+
+    def go_on():
+        it.process.send_signal(signal.SIGUSR2)
+        time.sleep(0.1)
+
+    def ask_for_cached(count):
+        for n in range(count):
+            assert data(it.ask(f"a{n % 50}.example")) == [address(n % 50)]
+    ask_for_cached(50)
+    go_on()  # used up
+    for _ in range(2):
+        ask_for_cached(300)
+        for n in range(20):
+            assert it.ask(f"a{n + 200}.example").rcode() == SERVFAIL
+    go_on()  # refused
+    for n in range(50):
+        assert data(it.ask(f"a{n}.example")) == [address(n)]
+        reply = it.ask(f"a{n + 50}.example")
+        assert (reply.rcode(), counts(reply)) == (SERVFAIL, [0, 0, 0])
+    assert exchange(it.port, octets_of(query("a1.example"))[:-1]).rcode() == FORMERR
+    go_on()  # there again
+    assert data(it.ask("a1.example")) == [address(1)]
+    assert data(it.ask("a300.example")) == [address(300)]
+
+
+# ---- Places.
+
+def turned_away(clients, seconds):
+    """Reads an answer from each client that has one, waits so long for the first, and tells how
+    many they are."""
+    ready = select.select(clients, [], [], seconds)[0]
+    for client in ready:
+        assert read(client.recv(4096)).rcode() == SERVFAIL
+    return len(ready)
+
+
+@contextlib.contextmanager
+def sockets(port):
+    """24 of them, since the answers that end the tries come all at once, and a socket holds some
+    160 of them."""
+    with contextlib.ExitStack() as opened:
+        yield [opened.enter_context(datagrams(port)) for _ in range(24)]
+
+
+def test_more_questions_than_can_be_asked(forwarder):
+    """1,200 questions while no upstream answers: who is not answered at once waits for the end of
+    the tries."""
+    it, replies = forwarder(server := Server(silent)), 0
+    with sockets(it.port) as clients:
+        for n in range(1200):
+            clients[n % 24].send(octets_of(query(f"a{n}.example")))
+            time.sleep(0.001)
+            replies += turned_away(clients, 0)
+        while replies < 1200:
+            more = turned_away(clients, 6)
+            assert more, f"{replies} answers to 1,200 questions"
+            replies += more
+    server.answer = plain()
+    assert data(it.ask("a2000.example")) == [address(2000)]
+
+
+@under("forwarder")
+@pytest.mark.parametrize("names", ["x{}.dead.example", "x{}.dead{}"], ids=["one", "500"])
+def test_dead_domains_starve_no_others(forwarder, names):
+    """Asks for names whose servers are dead all the time, and for others, of which at most ten of
+    40 may be late or a failure, as they are at times on a machine that does much else."""
+    it, slow = forwarder(Server(dead)), 0
+    with sockets(it.port) as clients:
+        for n in range(3000):
+            clients[n % 24].send(octets_of(query(names.format(n, n % 500))))
+            if n % 10 == 9:
+                time.sleep(0.004)
+            if n > 1000 and n % 50 == 0:
+                reply, seconds = took(it.ask, f"a{n}.example")
+                assert data(reply) in ([], [address(n)])
+                slow += seconds > 0.5 or not data(reply)
+    assert slow < 11
+    assert it.counters()["displaced"] > 0
+
+
+# ---- The log.
+
+@pytest.mark.parametrize("program", ["forwarder-checked", "forwarder-threads"])
+def test_log(programs, program):
+    line = (r"forwarder: in 1 s (\d+) queries, (\d+) hits, (\d+) stale, (\d+) failures, "
+            r"(\d+) octets sent; (\d+) keys of (\d+) octets")
+    it = Forwarder(Server(), program=program, options=("-l", "1"))
+    for name in ["a1.example"] * 2 + ["nothing.example"] * 3:
+        assert it.ask(name).rcode() == NOERROR
+    time.sleep(2.5)
+    status, said = it.end()
+    found = [re.fullmatch(line, it) for it in said.splitlines()]
+    assert status == 0 and len(found) >= 2 and all(found), said
+    queries, hits, stale, failures, sent = (sum(int(it[n]) for it in found) for n in range(1, 6))
+    assert (queries, hits, stale, failures) == (5, 3, 0, 0)
+    assert sent > 5 * 29
+    # Two answers and the SOA record, whose owner has 9 octets and its data 46.
+    held = (12 + 12 + 48 + 4) + (17 + 9 + 46) + (9 + 9 + 48 + 46)
+    assert found[-1].group(6, 7) == ("3", str(held))
+
+
+@pytest.mark.parametrize("words", [
+    "", "127.0.0.1 0", "127.0.0.1 0 127.0.0.1", "127.0.0.1 0 127.0.0.1 65536",
+    "localhost 0 127.0.0.1 53", "-l 0 127.0.0.1 0 127.0.0.1 53", "-x 127.0.0.1 0 127.0.0.1 53",
+    "127.0.0.1 0" + " 127.0.0.1 53" * 9])
+def test_wrong_arguments(programs, words):
+    run = subprocess.run([BUILD / "forwarder", *words.split()], capture_output=True, text=True)
+    assert (run.returncode, run.stdout) == (2, "")
+    assert "usage: " in run.stderr

@@ -1,0 +1,215 @@
+# SPDX-License-Identifier: MIT
+"""How upstreams are asked, and what is made of what they answer."""
+import concurrent.futures
+import random
+import socket
+import struct
+import time
+
+import pytest
+from dns.flags import QR, RA, RD, TC
+from dns.rcode import FORMERR, NOERROR, NOTIMP, REFUSED, SERVFAIL
+
+from tests.forwarder.harness import (Server, address, addresses, ask_for_any, counts, data, framed,
+                                     octets_of, plain, query, response, silent, told, took,
+                                     truncated, with_id)
+
+FORGED = f"A {address(66)}"
+
+
+def test_glue_is_never_answered(forwarder):
+    def answer(server, asked, name):
+        if name == "www.example":
+            return [response(asked, f"{name} 60 A {address(1)}",
+                             authority=["example 60 NS www2.example"],
+                             additional=[f"www{n}.example 60 {FORGED}" for n in range(20)])]
+        return [response(asked, f"{name} 60 A {address(2)}")]
+    it = forwarder(server := Server(answer))
+    reply = it.ask("www.example")
+    assert (counts(reply), data(reply)) == ([1, 0, 0], [address(1)])
+    for n in range(20):
+        assert data(it.ask(f"www{n}.example")) == [address(2)]
+        assert server.times(f"www{n}.example") == 1
+
+
+def test_spoofed_replies(forwarder):
+    def forged(asked, **others):
+        """A forged answer to what may be another query."""
+        it = response(asked, f"{asked.question[0].name} 60 {FORGED}")
+        for field, value in others.items():
+            setattr(it, field, value)
+        return it
+
+    def answer(server, asked, name):
+        with socket.socket(socket.AF_INET, socket.SOCK_DGRAM) as other:
+            other.bind(("127.0.0.1", 0))
+            other.sendto(octets_of(forged(asked)), server.client)
+        others = [query("a2.example"), query(name, "TXT"), query(name, rdclass="CH")]
+        return [forged(asked, id=asked.id ^ 1), *(forged(it, id=asked.id) for it in others),
+                forged(asked, flags=RD | RA), forged(asked, flags=0x9180),
+                forged(asked, question=[]), octets_of(forged(asked))[:20], b"", b"x",
+                *plain()(server, asked, name)]
+    it = forwarder(Server(answer))
+    for _ in range(2):
+        assert data(it.ask("a1.example")) == [address(1)]
+    assert it.counted("strays", "sent") == [10, 1]
+
+
+def test_many_ask_and_one_query_goes_out(forwarder):
+    it = forwarder(server := Server(delay=0.5))
+    with concurrent.futures.ThreadPoolExecutor(60) as pool:
+        for reply in pool.map(it.ask, ["a4.example", "A4.example", "a4.EXAMPLE"] * 20):
+            assert data(reply) == [address(4)]
+    assert server.times("a4.example") == 1
+    assert sum(it.counted("joined", "fresh")) == 59
+    assert it.counted("sent") == [1]
+
+
+def test_ids_and_ports_differ(forwarder):
+    seen = []
+
+    def answer(server, asked, name):
+        seen.append((asked.id, server.client[1]))
+        return plain()(server, asked, name)
+    it = forwarder(Server(answer))
+    for n in range(64):
+        it.ask(f"a{n}.example")
+    for numbers in zip(*seen):
+        assert len(set(numbers)) > 58
+        assert max(numbers) - min(numbers) > 30000
+
+
+def cut(server, asked, name):
+    return [octets_of(response(asked, f"{name} 60 {FORGED}"))[:-2]]
+
+
+@pytest.mark.parametrize("first, most", [(silent, 2), (told(rcode=REFUSED), 0.7), (cut, 0.7)])
+def test_upstreams_in_turn(forwarder, first, most):
+    """The one that answered is asked first from then on."""
+    it = forwarder(one := Server(first), two := Server())
+    reply, seconds = took(it.ask, "a1.example")
+    assert data(reply) == [address(1)] and seconds < most
+    assert data(it.ask("a2.example")) == [address(2)]
+    assert (len(one.asked), len(two.asked)) == (1, 2)
+
+
+def test_junk_upstream(forwarder):
+    """An upstream whose messages have the right id and question, and then octets at random."""
+    dice = random.Random(5)
+
+    def answer(server, asked, name):
+        question, size = octets_of(query(name, asked.question[0].rdtype))[12:], dice.randrange(80)
+        junk = bytes(dice.choice((0, 1, 5, 12, 192, dice.randrange(256))) for _ in range(size))
+        flags = dice.choice((QR | RD | RA, QR | RD | RA, QR | RD | RA | TC))
+        numbers = [dice.randrange(3) for _ in range(3)]
+        return [struct.pack(">6H", asked.id, flags, 1, *numbers) + question + junk]
+    it = forwarder(Server(answer))
+    for n in range(1000):
+        rtype = dice.choice(("A", "CNAME", "SOA", "TXT"))
+        assert ask_for_any(it.port, f"a{n}.example", rtype) in (NOERROR, SERVFAIL)
+
+
+# ---- EDNS (RFC 6891).
+
+def test_edns_upstream(forwarder):
+    """The query's OPT record: 1,232 octets, version 0, DO clear, no option."""
+    def answer(server, asked, name):
+        it = response(asked, *(f"{name} 60 A {address(n)}" for n in range(70)))
+        it.use_edns(payload=4096)
+        return [it]
+    it = forwarder(server := Server(answer))
+    assert len(data(it.ask("a1.example", use_edns=True, most=1232))) == 70
+    assert server.octets[-11:] == octets_of(query(".", payload=1232))[-11:]
+    assert not server.is_tcp
+
+
+@pytest.mark.parametrize("rcode, is_bare", [(FORMERR, False), (FORMERR, True), (NOTIMP, False)])
+def test_edns_upstream_does_not_know(forwarder, rcode, is_bare):
+    """FORMERR and NOTIMP have the query sent again with no OPT record, and this upstream gets none
+    after that."""
+    def answer(server, asked, name):
+        if asked.opt is None:
+            return plain()(server, asked, name)
+        it = response(asked, rcode=rcode)
+        it.question = [] if is_bare else it.question
+        return [it]
+    it = forwarder(server := Server(answer))
+    for n in range(3):
+        reply, seconds = took(lambda: it.ask(f"a{n}.example", use_edns=True))
+        assert data(reply) == [address(n)] and seconds < 0.7
+    assert len(server.asked) == 4
+
+
+def test_edns_extended_rcode_upstream(forwarder):
+    """A response whose RCODE is 0 in the header alone is no answer: this one says BADVERS."""
+    def answer(server, asked, name):
+        it = response(asked)
+        it.use_edns(ednsflags=1 << 24)
+        return [it]
+    it = forwarder(Server(answer), two := Server())
+    assert data(it.ask("a1.example")) == [address(1)]
+    assert two.times("a1.example") == 1
+
+
+# ---- TCP (RFC 7766).
+
+def over_tcp(count, in_pieces=False):
+    """Answers with so many addresses, over UDP with TC set; over TCP perhaps octet by octet
+    at first."""
+    behind = addresses("a1.example", count)
+
+    def answer(server, asked, name):
+        if not server.is_tcp:
+            return [truncated(asked)]
+        octets = with_id(asked, behind)
+        if not in_pieces:
+            return [octets]
+        for octet in framed(octets)[:5]:
+            server.client.sendall(bytes([octet]))
+            time.sleep(0.001)
+        server.client.sendall(framed(octets)[5:])
+        return []
+    return answer
+
+
+@pytest.mark.parametrize("count, in_pieces", [(100, False), (20, True), (3000, False)])
+def test_tcp_upstream_where_udp_is_truncated(forwarder, count, in_pieces):
+    it = forwarder(server := Server(over_tcp(count, in_pieces)))
+    for _ in range(2):
+        if count > 20:
+            assert it.ask("a1.example").flags & TC
+        with it.stream() as stream:
+            assert sorted(data(stream.ask("a1.example"))) == sorted(map(address, range(count)))
+    assert server.times("a1.example") == 2
+    assert it.counters()["upgraded"] == 1
+
+
+def test_tcp_upstream_that_is_not_there(forwarder):
+    """The next upstream is asked; where there is none the answer is SERVFAIL, and no cut one."""
+    assert data(forwarder(Server(over_tcp(100), tcp=False), Server()).ask("a1.example")) == [
+        address(1)]
+    it = forwarder(server := Server(over_tcp(100), tcp=False))
+    reply, seconds = took(it.ask, "a1.example")
+    assert (reply.rcode(), counts(reply), reply.flags & TC) == (SERVFAIL, [0, 0, 0], 0)
+    assert seconds < 5 and server.times("a1.example") == 4
+
+
+@pytest.mark.parametrize("how", ["early", "short", "empty", "other", "id", "truncated", "slow"])
+def test_tcp_upstream_that_is_broken(forwarder, how):
+    """What ends early, is too short, is of another question, truncated or slow is no answer."""
+    def answer(server, asked, name):
+        if not server.is_tcp:
+            return [truncated(asked)]
+        octets = octets_of(response(asked, f"{name} 60 {FORGED}"))
+        server.client.sendall({
+            "early": framed(octets)[:-5], "short": b"\0\3abc", "empty": b"\0\0",
+            "other": framed(octets.replace(b"a1", b"a2")),
+            "id": framed(bytes([octets[0] ^ 1]) + octets[1:]),
+            "truncated": framed(truncated(asked)), "slow": b""}[how])
+        if how == "early":
+            server.client.shutdown(socket.SHUT_RDWR)
+        return []
+    it = forwarder(Server(answer), Server())
+    reply, seconds = took(it.ask, "a1.example")
+    assert data(reply) == [address(1)]
+    assert seconds < (1.5 if how == "slow" else 0.7)

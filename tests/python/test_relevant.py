@@ -1,0 +1,131 @@
+# SPDX-License-Identifier: MIT
+"""What of a response is read and relevant: names in data, and what belongs to the question."""
+import pytest
+from dns.flags import AA, TC
+from dns.rcode import NXDOMAIN, SERVFAIL
+from dns.rdatatype import A, CNAME, DNAME, NS, SOA, TXT
+
+import rrcache
+from tests.forwarder.harness import (ID, SOA as SOA_RECORD, aliases, answered, hosts, record_of,
+                                     wire_name)
+from tools.messages import BAD_DATA, LAYOUTS, SHORT
+
+NAME, SEED = "a.example.", bytes(range(16))
+POINTER = b"\xc0\x0e"  # to the last label but one of the question's name
+FRESH, NO_NAME, FAILED = rrcache.Kind.FRESH, rrcache.Kind.NXDOMAIN, rrcache.Kind.SERVFAIL
+
+
+def with_data(rtype, *data):
+    """A response with a record of a.example."""
+    return answered(NAME, A, record_of(NAME, rtype, *data))
+
+
+def data_of(rtype, name):
+    """Data of a type, with each of their names in these octets."""
+    before, names, after = LAYOUTS[rtype]
+    return b"\7" * before + name * names + b"\t" * after
+
+
+@pytest.mark.parametrize("rtype", LAYOUTS)
+def test_names_in_data_are_read(rtype):
+    """Of each type whose data have names these are expanded."""
+    octets = with_data(rtype, data_of(rtype, b"\1b" + POINTER))
+    with rrcache.Shelf() as shelf:
+        shelf.offer_message(octets, ".", 100)
+        assert shelf.peek(NAME, rtype, 100).data == (data_of(rtype, wire_name("b.example")),)
+
+
+@pytest.mark.parametrize("rtype", LAYOUTS)
+def test_names_in_data_fill_them(rtype):
+    data = data_of(rtype, b"\1b" + POINTER)
+    for size in range(len(data)):
+        assert rrcache.fault(with_data(rtype, data[:size]) + data[size:]) == BAD_DATA
+    longer = with_data(rtype, data + b"\0")
+    assert (rrcache.fault(longer), rrcache.fault(longer[:-1])) == (BAD_DATA, SHORT)
+    # A pointer to the TTL, whose first octet begins a label that the message's end cuts.
+    assert rrcache.fault(with_data(rtype, data_of(rtype, b"\xc0\x21"), 63 << 24)) == SHORT
+
+
+def test_what_is_relevant_is_kept():
+    octets = answered("www.example", A, *hosts("www.example", "bank.example"))
+    query = rrcache.Query("WWW.example", A, ID)
+    with rrcache.Cache(4) as cache:
+        assert cache.offer_message(octets, ".", 100, query=query) == (1, 0, 0)
+        assert cache.ask("bank.example", A, 100).kind == rrcache.Kind.MISS
+        assert cache.offer_message(octets, ".", 100) == (2, 0, 0)
+        for other in (query._replace(id=ID + 1), query._replace(name="bank.example")):
+            with pytest.raises(rrcache.OtherQuery):
+                cache.offer_message(octets, ".", 100, query=other)
+
+
+def to_a(*answer, **others):
+    """A response to the question about the addresses of a.example."""
+    return answered(NAME, A, *answer, **others)
+
+
+# Responses of a server of example. to that question, and what of them is relevant: the name, the
+# type and the reply of each.
+RELEVANT = {
+    "no such name": (to_a(authority=[SOA_RECORD], rcode=NXDOMAIN),
+                     [("example", SOA, FRESH), (NAME, A, NO_NAME)]),
+    "a failure": (to_a(rcode=SERVFAIL), [(NAME, A, FAILED)]),
+    "a truncated response": (to_a(*hosts(NAME), flags=AA | TC), []),
+    "an alias, and the address of another name": (
+        to_a(*aliases([NAME, "b.example"]), *hosts("b.example", "c.example")),
+        [(NAME, CNAME, FRESH), ("b.example", A, FRESH)]),
+    "another type": (to_a(*hosts(NAME), "a.example 60 TXT A"), [(NAME, A, FRESH)]),
+    "a redirected tree, and one below the question": (
+        to_a("example 60 DNAME x", *aliases([NAME, "a.x"]), "a.example 60 DNAME y"),
+        [("example", DNAME, FRESH), (NAME, CNAME, FRESH)]),
+    "a referral, with the address of its server and of another host": (
+        to_a(flags=0, authority=["example 60 NS ns.example"],
+             additional=hosts("ns.example", "b.example")),
+        [("example", NS, FRESH), ("ns.example", A, FRESH)]),
+    "servers of another name": (to_a(flags=0, authority=["b.example 60 NS example"]), []),
+    "servers of two zones that the question is in": (
+        to_a(flags=0, authority=["example 60 NS a.example", "a.example 60 NS example"]),
+        [("example", NS, FRESH)]),
+    "an address of three octets": (with_data(A, b"\xc0\0\2"), []),
+}
+
+
+def offered_as_relevant(shelf, octets, query):
+    """How many offers of a response are relevant to a query, all of which the shelf keeps."""
+    with rrcache.Offers(octets, "example", 1, SEED, 100, query=query) as offers:
+        counts = shelf.offer_read(offers, 0)
+    assert counts[1:] == (0, 0)
+    return counts.kept
+
+
+@pytest.mark.parametrize("octets, relevant", RELEVANT.values(), ids=RELEVANT)
+def test_what_is_relevant_in_responses(octets, relevant):
+    with rrcache.Shelf() as shelf:
+        kept = offered_as_relevant(shelf, octets, rrcache.Query("A.example", A, ID))
+        assert kept == len(relevant)
+        for owner, rtype, kind in relevant:
+            assert shelf.peek(owner, rtype, 100, rrcache.Purpose.ANYTHING).kind == kind
+
+
+def chain(number):
+    names = [f"x{it}.example" for it in range(number + 1)]
+    return answered(names[0], A, *aliases(names), *hosts(names[-1]))
+
+
+def servers(number):
+    names = [f"ns{it}.example" for it in range(number)]
+    return answered("x0.example", A, authority=[f"example 60 NS {it}" for it in names],
+                    additional=hosts(*names), flags=0)
+
+
+def text_of(size):
+    return answered("x0.example", TXT, record_of("x0.example.", TXT, bytes(size)))
+
+
+@pytest.mark.parametrize("octets_of, number, rtype, kept", [
+    (chain, 11, A, 12), (chain, 12, A, 12), (servers, 20, A, 21), (servers, 21, A, 21),
+    (text_of, 16_384, TXT, 1), (text_of, 16_385, TXT, 0)])
+def test_how_much_is_relevant(octets_of, number, rtype, kept):
+    """At most 11 aliases behind the question's name, 20 hosts, and 16,384 octets of an RRset."""
+    query = rrcache.Query("x0.example", rtype, ID)
+    with rrcache.Shelf() as shelf:
+        assert offered_as_relevant(shelf, octets_of(number), query) == kept

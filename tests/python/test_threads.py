@@ -1,0 +1,136 @@
+# SPDX-License-Identifier: MIT
+"""Caches of several parts: many threads, chains of aliases, in which part a name lies, and what
+each part keeps of a response."""
+import itertools
+import os
+import shutil
+import subprocess
+from concurrent.futures import ThreadPoolExecutor
+
+import pytest
+from dns.rcode import SERVFAIL
+from dns.rdatatype import A, ANY, CNAME
+
+import rrcache
+from tests.forwarder.harness import aliases, answered, hosts, wire_name
+from tools.model import part_of
+
+FRESH, STALE, MISS = rrcache.Kind.FRESH, rrcache.Kind.STALE, rrcache.Kind.MISS
+SEED = bytes(range(16))
+NAMES = [f"x{n}.example" for n in range(8)]
+PARTS = [rrcache.part_of(it, 4, SEED) for it in NAMES]
+# Twice the name, a record, and its datum's octets.
+HELD = 2 * 12 + rrcache.RECORD_OCTETS
+
+
+def test_a_cache_of_many_threads():
+    names = [f"x{number}.example" for number in range(40)]
+    messages = [answered(it, A, *hosts(it)) for it in names]
+    with rrcache.Cache(parts=4, capacity=64) as cache, ThreadPoolExecutor(4) as pool:
+        def work(place):
+            for name, octets in zip(names[place::4], messages[place::4]):
+                cache.offer_message(octets, "example.", 100)
+                yield cache.ask(name.upper(), A, 110).left
+        found = pool.map(lambda place: list(work(place)), range(4))
+        assert sum(found, []) == [50] * 40
+        assert cache.sweep(2 ** 40) == 40
+
+
+def test_aliases_are_followed():
+    names = [f"x{number}.example" for number in range(4)]
+    octets = answered(names[0], A, *aliases(names), *hosts(names[3]),
+                      *aliases(["r0.example", "R1.example", "r0.example"]))
+    with rrcache.Cache(parts=8) as cache:
+        def kinds(name, rtype, moment, **others):
+            return [it.kind for it in cache.follow(name, rtype, moment, **others)]
+        cache.offer_message(octets, "example.", 100)
+        replies = cache.follow("X0.example.", A, 110)
+        assert [it.owner_text for it in replies] == [f"{it}." for it in names]
+        assert replies[-1].data == (b"\xc0\0\2\x09",)
+        assert kinds("y.example", A, 110) == [MISS]
+        assert len(kinds("r0.example", A, 110)) == 2
+        assert kinds("x0.example", CNAME, 110) == [FRESH]
+        assert kinds("x0.example", ANY, 110) == [MISS]
+        # RFC 8767 section 5: after a failure of the question all of its chain may be stale.
+        failed = {"mode": rrcache.Mode.STALE_IF_FAILED}
+        assert kinds("x0.example", A, 170, **failed) == [MISS]
+        cache.offer_message(answered("x0.example", A, flags=0, rcode=SERVFAIL), "example.", 170)
+        assert kinds("x0.example", A, 171, **failed) == [STALE] * 4
+        for one, alias in zip(names, aliases(names)):
+            cache.offer_message(answered(one, CNAME, alias), "example.", 172)
+        assert kinds("x0.example", A, 173, **failed) == [FRESH] * 3 + [STALE]
+        # A question that did not fail.
+        assert kinds("x1.example", A, 173, **failed) == [FRESH] * 2 + [MISS]
+
+
+def test_a_cache_has_a_seed_of_its_own():
+    names = [f"n{it}.example" for it in range(200)]
+    messages = [answered(it, A, *hosts(it)) for it in names]
+
+    def parts_of(cache):
+        for name, octets in zip(names, messages):
+            cache.offer_message(octets, ".", 100)
+            assert cache.ask(name.upper(), A, 110).kind == FRESH
+        return [shelf.sizes().keys for _, shelf in cache._shelves]
+    with rrcache.Cache(64) as one, rrcache.Cache(64) as other:
+        assert parts_of(one) != parts_of(other)
+    with rrcache.Cache(64, seed=SEED) as cache:
+        parts = [rrcache.part_of(it, 64, SEED) for it in names]
+        assert parts_of(cache) == [parts.count(it) for it in range(64)]
+
+
+@pytest.mark.parametrize("part", range(4))
+def test_the_share_of_each_part(part):
+    octets = answered(NAMES[0], A, *aliases(NAMES), *hosts(NAMES[-1]), flags=0)
+    with rrcache.Shelf(record=True) as shelf:
+        assert shelf.offer_part(octets, "example", 4, SEED, part, 100) == (PARTS.count(part), 0, 0)
+        held = [HELD + size for size, home in zip([12] * 7 + [4], PARTS) if home == part]
+        assert shelf.sizes() == (len(held), len(held), 0, sum(held))
+        for name, rtype, home in zip(NAMES, [CNAME] * 7 + [A], PARTS):
+            kind = rrcache.Kind.FRESH if home == part else rrcache.Kind.MISS
+            assert shelf.peek(name, rtype, 100).kind == kind
+
+
+def test_one_reading():
+    octets = answered(NAMES[0], A, *hosts(*NAMES))
+    with rrcache.Offers(octets, "example.", 4, SEED, 100) as offers:
+        assert offers.concerned == sorted(set(PARTS)) and len(offers.concerned) > 1
+        for part in range(4):
+            share = PARTS.count(part)
+            with rrcache.Shelf(record=True) as shelf:
+                assert shelf.offer_read(offers, part) == (share, 0, 0)
+                assert shelf.offer_part(octets, "example.", 4, SEED, part, 100) == (share, 0, 0)
+                assert shelf.sizes() == (share, 2 * share, 0, (HELD + 4) * share)
+
+
+# ---- The hash.
+
+def siphash13(key, octets):
+    """SipHash-1-3 (Aumasson and Bernstein, "SipHash: a fast short-input PRF", 2012), a number of 64
+    bits, by OpenSSL, so that parts are compared with a hash that is not of this repository."""
+    options = (f"hexkey:{key.hex()}", "size:8", "c-rounds:1", "d-rounds:3")
+    words = [word for it in options for word in ("-macopt", it)]
+    told = subprocess.run(["openssl", "mac", *words, "SIPHASH"], input=octets, capture_output=True,
+                          check=True)
+    return int.from_bytes(bytes.fromhex(told.stdout.decode()), "little")
+
+
+@pytest.mark.skipif(shutil.which("openssl") is None, reason="there is no openssl here")
+@pytest.mark.parametrize("seed", [SEED, bytes(16), b"\xff" * 16, SEED[::-1]])
+def test_parts_go_by_siphash(seed):
+    """By the upper 32 bits of the hash, in whatever case a name is written."""
+    for name in ("www.example", "other.example", "third.example", "a", ".".join(["Ab" * 31] * 4),
+                 *(f"n{it}.example" for it in range(50))):
+        hashed = siphash13(seed, wire_name(name.lower())) >> 32
+        for parts in (1, 2, 3, 16, 63, 64):
+            assert rrcache.part_of(wire_name(name.upper()), parts, seed) == hashed % parts, name
+
+
+def test_names_of_one_part_want_the_seed():
+    """Names that lie in one part by the hash that has no key are spread by a seed like others."""
+    places = (b"\6%06x\7example\0" % it for it in range(2 ** 24))
+    picked = list(itertools.islice((it for it in places if part_of(it, 16) == 0), 4096))
+    for seed in (SEED, os.urandom(16)):
+        parts = [rrcache.part_of(it, 16, seed) for it in picked]
+        # 256 each, with a deviation of some 15.5.
+        assert all(150 <= parts.count(it) <= 360 for it in range(16))
