@@ -88,15 +88,15 @@ def test_each_worker_is_a_thread(run, words, wanted):
     assert run(*words, preexec_fn=take_little_memory).returncode == wanted
 
 
-def test_chapters_and_audits_ask_for_memory(run):
+def test_chapters_and_audits_ask_for_memory(program, tmp_path):
     """Where chapters end, and whether an audit is made, shows in no report, but in how often the
-    program asks for memory. It does so for its arguments too, so the same number is compared. The
-    C library's libmemusage counts."""
+    program asks for memory. It does so for its arguments too, so the same number is compared."""
+    from tests.refusals.refusing import MEMORY, refuser, run_refused
+    library = refuser(tmp_path, "cc")
+    text = b"put 1 a. 1 4 60 01020304\n" + 2 * b"ask 1 a. 1 any none\n"
+
     def requests(word):
-        told = run(word, input="put 1 a. 1 4 60 01020304\n" + 2 * "ask 1 a. 1 any none\n",
-                   env={**os.environ, "LD_PRELOAD": "libmemusage.so"}).stderr
-        counts = dict(re.findall(r"(\w+)\|\x1b\[0m +(\d+)", told))
-        return int(counts["malloc"]) + int(counts["realloc"])
+        return run_refused(library, [program, word], text, MEMORY, 0)[1]
     usual, three, two, one = (requests(f"--chapter={it}") for it in (4096, 3, 2, 1))
     assert usual == three < two < one
     assert requests("--progress") < requests("--audit")
