@@ -6,7 +6,9 @@ import subprocess
 import sys
 import tempfile
 import time
+import timeit
 from contextlib import contextmanager
+from functools import partial
 from pathlib import Path
 from typing import NamedTuple
 
@@ -99,16 +101,18 @@ def answered(trace, lines, ending=b"\n", **options):
 
 def in_turn(runs, calls):
     """The answers of each of these calls, by their names, which are made in turn so many times."""
-    found = {name: [] for name in calls}
-    for _ in range(runs):
-        for name, call in calls.items():
-            found[name].append(call())
-    return found
+    rounds = [{name: call() for name, call in calls.items()} for _ in range(runs)]
+    return {name: [it[name] for it in rounds] for name in calls}
 
 
 def median_of(runs, call, *words):
     """The median of what so many calls answer."""
     return statistics.median(call(*words) for _ in range(runs))
+
+
+def median_seconds(runs, call, *words):
+    """The median of the seconds by the clock that so many calls take."""
+    return statistics.median(timeit.repeat(partial(call, *words), number=1, repeat=runs))
 
 
 def over(ratio, most):

@@ -10,7 +10,7 @@ such mean is more than MOST.
 from itertools import count
 
 from bench.setup import BENCH, files, over, ran
-from tests.hostile.attacks import filled
+from tests.hostile.attacks import ASKED, filled
 from tools.wire import (A, CNAME, MINFO, NS, PTR, SOA, pointer, question, record, response,
                         soa_data, wire)
 
@@ -21,9 +21,8 @@ OPTIONS = {
     "sizes": ([8192, 16384, 32768, 65535], "octets of the hostile messages, two sizes at least and "
               "each twice the one before"),
 }
-QUESTION = question("a.example.", A)
-# The names of the question, a.example., and of its zone, as pointers to them.
-ASKED, ZONE = pointer(12), pointer(14)
+# The question for ASKED, and the name of its zone as a pointer.
+QUESTION, ZONE = question("a.example.", A), pointer(14)
 # The question for a name of 251 octets, so that one more label of three letters makes one of 255.
 LONG = question(".".join("x" * size for size in (63, 63, 63, 57)), A)
 LETTERS = "abcdefghijklmnopqrstuvwxyz0123456789"
@@ -34,12 +33,8 @@ def numbered(number, end=ZONE):
     return wire("".join(LETTERS[number // place % 36] for place in (1296, 36, 1)), end)
 
 
-def address(number):
-    return (0x0A000000 + number).to_bytes(4, "big")
-
-
-def addresses(owner, numbers):
-    return [record(owner, A, 60, address(number)) for number in numbers]
+def address(owner, number):
+    return record(owner, A, 60, (0x0A000000 + number).to_bytes(4, "big"))
 
 
 def spelled(number):
@@ -50,11 +45,11 @@ def spelled(number):
 
 SERVERS = [wire(f"ns{number}", ZONE) for number in (1, 2)]
 USUAL = {
-    "one": response(QUESTION, addresses(ASKED, [1])),
-    "ten": response(QUESTION, addresses(ASKED, range(10))),
+    "one": response(QUESTION, [address(ASKED, 1)]),
+    "ten": response(QUESTION, [address(ASKED, it) for it in range(10)]),
     # Two name servers, with two addresses each.
     "referral": response(QUESTION, [], [record(ZONE, NS, 60, server) for server in SERVERS],
-                         [it for server in SERVERS for it in addresses(server, (1, 2))]),
+                         [address(server, it) for server in SERVERS for it in (1, 2)]),
     # That there is no such name, with the SOA record.
     "nxdomain": response(QUESTION, [], [record(ZONE, SOA, 60, soa_data(
         ZONE, ZONE, 1, 3600, 600, 604800, 300))], rcode=3),
@@ -62,11 +57,11 @@ USUAL = {
 # Hostile messages have as many records as they hold: their question, and a record by its number.
 HOSTILE = {
     # One set of many addresses.
-    "addresses": (QUESTION, lambda it: record(ASKED, A, 60, address(it))),
+    "addresses": (QUESTION, lambda it: address(ASKED, it)),
     # A set of one address for each of many names.
-    "owners": (QUESTION, lambda it: record(numbered(it), A, 60, address(1))),
+    "owners": (QUESTION, lambda it: address(numbered(it), 1)),
     # The same, with names of 255 octets that differ in their first label alone.
-    "long_owners": (LONG, lambda it: record(numbered(it, ASKED), A, 60, address(1))),
+    "long_owners": (LONG, lambda it: address(numbered(it, ASKED), 1)),
     # A set of no octets for each of many types of one name.
     "types": (QUESTION, lambda it: record(ASKED, 256 + it, 60, b"")),
     # Name servers whose data differ in the case of letters alone: one set with one datum.
