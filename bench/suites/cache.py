@@ -47,15 +47,14 @@ def nanoseconds(task, keys, args):
     # A lean part does not tell what it evicted.
     told = [it for it in TASKS[task][0].split() if not (args.lean and it == "evicted")]
     wanted = ", ".join(f"{count if it in told else 0} {it}" for it in COUNTS)
-    lean = ["lean"] if args.lean else []
-    return counted(f"{task}: {wanted}", "cache", *lean, task, keys, rounds, args.parts) / count
+    return counted(f"{task}: {wanted}", "cache", *["lean"] * args.lean, task, keys, rounds,
+                   args.parts) / count
 
 
 def beside(keys, args):
     """Runs the other program once, and answers the nanoseconds of a call by its names."""
-    lean = ["--no-history"] if args.lean else []
     done = ran(args.beside, "--keys", keys * args.parts, "--rounds", 1, "--parts", args.parts,
-               *lean)
+               *["--no-history"] * args.lean)
     return {line.split()[0]: float(line.split()[1]) for line in done.stdout.splitlines()}
 
 

@@ -78,10 +78,6 @@ def denied(shelf, it, moment):
     shelf.offer_negative(capitals(it), A, rrcache.Denial.NAME, 3, 600, capitals(it), soa, moment)
 
 
-def failed(shelf, it, moment):
-    shelf.offer_failure(name(it), A, 300, moment)
-
-
 def fill(shelf, kind, keys):
     for number in range(keys):
         shelf.offer_set(name(number, kind), A, 4, 60, [ADDRESS], 0)
@@ -140,29 +136,26 @@ def tell_rooms(keys, size):
               long)
     tell_room("such sets after four times as many", keys // 16, long, 4)
     tell_room("sets of a record that came 15 times", keys // 4, repeated(name))
-    tell_room("failures of names", keys, failed)
+    tell_room("failures of names", keys,
+              lambda shelf, it, moment: shelf.offer_failure(name(it), A, 300, moment))
     tell_room(f"sets of {len(data):,} rdata of 2 octets", 16, sets_of(data))
     tell_room("sets of 255 rdata of 33 octets", 256,
               sets_of([bytes([number]) + bytes(32) for number in range(255)]))
 
 
-def tell_history(size, offers):
-    """What stays of offers with a TTL of 0, which store nothing."""
+def tell_history(size):
+    """What stays of 20 offers with a TTL of 0, which store nothing, and what it takes to drop a
+    chapter of 64 that are stored."""
     with rrcache.Shelf(16, 4096, record=True) as shelf:
         before = memory()
-        for _ in range(offers):
+        for _ in range(20):
             shelf.offer_message(one_key(size, 0), ROOT, 0)
-        print(f"{offers} offers with a TTL of 0: {shelf.sizes().keys} keys,"
+        print(f"20 offers with a TTL of 0: {shelf.sizes().keys} keys,"
               f" {memory() - before:,} octets stay in the open chapter")
-
-
-def tell_drop(size, offers):
-    """What it takes to drop a chapter of such offers."""
-    with rrcache.Shelf(16, offers, record=True) as shelf:
-        for _ in range(offers + 1):
+    with rrcache.Shelf(16, 64, record=True) as shelf:
+        for _ in range(65):
             shelf.offer_message(one_key(size), ROOT, 0)
-        print(f"a chapter of {offers} events of one_key dropped"
-              f" {timed(shelf.drop_chapters)[0]:.1f} ms")
+        print(f"a chapter of 64 events of one_key dropped {timed(shelf.drop_chapters)[0]:.1f} ms")
 
 
 def tell_full(size, chapter):
@@ -224,19 +217,15 @@ def offer_apart(message, parts):
             shelf.offer_part(message, ROOT, parts, SEED, part, 0)
 
 
-def worst(inputs, call, runs, before=None):
+def worst(inputs, call, runs, before=lambda shelf, it: None):
     """The milliseconds of the input for which a call takes longest, and its name. Each call has a
     shelf of its own, on which another call may be made before it."""
-    found = []
-    for name, it in inputs.items():
-        took = []
-        for _ in range(runs):
-            with rrcache.Shelf(MOST_KEYS, MOST_KEYS) as shelf:
-                if before:
-                    before(shelf, it)
-                took.append(timed(call, shelf, it)[0])
-        found.append((min(took), name))
-    return max(found)
+    def took(it):
+        with rrcache.Shelf(MOST_KEYS, MOST_KEYS) as shelf:
+            before(shelf, it)
+            return timed(call, shelf, it)[0]
+
+    return max((min(took(it) for _ in range(runs)), name) for name, it in inputs.items())
 
 
 def tell_calls(size, runs):
@@ -274,8 +263,7 @@ def tell_all(size, keys, runs):
         tell_message(make, size, runs)
     for octets in (1232, size):
         tell_calls(octets, runs)
-    tell_history(size, 20)
-    tell_drop(size, 64)
+    tell_history(size)
     tell_rooms(keys, size)
     tell_full(size, 4096)
     tell_full(size, 1)

@@ -21,13 +21,14 @@ import multiprocessing
 import socket
 import statistics
 import time
+from contextlib import suppress
 
 from bench.page import table, write_section
 from bench.setup import ARCHIVE, TOP, compiled
-from tests.hostile import attacks
+from tests.hostile.attacks import ASKED, END, label, labels
 from tools.debian import needs
 from tools.model import part_of
-from tools.wire import A, TXT, message, pointer, question, record
+from tools.wire import A, TXT, message, question, record
 
 needs("dns", "python3-dnspython")
 from dns.flags import QR, RD, TC  # noqa: E402
@@ -40,8 +41,7 @@ OPTIONS = {
     "seconds": (10.0, "for how long waits are taken"),
     "way": ((), "some of the ways (default all)"),
 }
-OTHERS, PARTS, TTL = 20, 16, 600
-ASKED, FLAGS, END = pointer(12), QR | RD | 0x480, b"\7example\0"
+OTHERS, PARTS, TTL, FLAGS = 20, 16, 600, QR | RD | 0x480
 HEAD = ["Names", "median", "99th of 100", "longest", "missing", "queries", "asked", "processor",
         "memory"]
 # How long a client waits before an answer counts as missing.
@@ -52,11 +52,11 @@ MOST_SECONDS = 2.0
 
 
 def plain_names():
-    return (attacks.label(number, 6) + END for number in itertools.count())
+    return (label(number, 6) + END for number in itertools.count())
 
 
 def picked_names():
-    return (bytes([len(it)]) + it + END for it in attacks.labels(200_000, True))
+    return (bytes([len(it)]) + it + END for it in labels(200_000, True))
 
 
 def names_of_one_part():
@@ -101,10 +101,8 @@ def attack(port, names, rtype, rate):
     began = time.monotonic()
     for number, name in enumerate(names()):
         time.sleep(max(0, began + number / rate - time.monotonic()))
-        try:
+        with suppress(OSError):  # the forwarder's socket is full
             client.send(message(number % 65_536, RD, question(name, rtype)))
-        except OSError:  # the forwarder's socket is full
-            pass
 
 
 def wait_of(client, number, octets):
@@ -172,7 +170,7 @@ def run(way, asked):
 def told(way, waits, queries, fetched, processor, memory):
     """The cells of a row of the table."""
     came = sorted(it for it in waits if it is not None)
-    late = came[min(len(came) - 1, 99 * len(came) // 100)]
+    late = came[99 * len(came) // 100]
     return [way, f"{statistics.median(came):.2f}", f"{late:.2f}", f"{came[-1]:.1f}",
             f"{len(waits) - len(came)}", f"{queries:,}", f"{fetched:,}", f"{processor:.1f}",
             f"{memory / 1e6:.0f}"]

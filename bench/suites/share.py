@@ -46,16 +46,13 @@ def trace(lines):
     return "".join(text)
 
 
-def seconds_of_replay(workers, parts, path):
-    return replayed(path, workers=workers, parts=parts, capacity=65_536, chapter=1 << 20).clock
-
-
 def rate(task, parts, threads, args, path):
     """Millions a second."""
     calls = args.calls // threads
     count, call = calls * threads, partial(seconds_of_calls, task, threads, parts, calls)
     if task == "replay":
-        count, call = args.lines, partial(seconds_of_replay, threads, parts, path)
+        count, call = args.lines, lambda: replayed(path, workers=threads, parts=parts,
+                                                   capacity=65_536, chapter=1 << 20).clock
     found = count / median_of(args.runs, undisturbed, call) / 1e6
     print(f"{task}, {parts} parts, {threads} threads: {found:.2f} millions a second", flush=True)
     return found

@@ -15,6 +15,7 @@ import shutil
 import subprocess
 import sys
 from functools import partial
+from itertools import chain
 from pathlib import Path
 from statistics import median
 
@@ -99,14 +100,6 @@ def ratios(own, unbound, threads, kind, args, preload):
     return f"{own_time / time:.2f}", f"{took / own_took:.2f}"
 
 
-def ratio_table(own, unbound, args, preload=None):
-    head = [f"{what}, {of_threads(it)}" for it in args.threads for what in ("time", "rate")]
-    return table(["What", *head], (
-        [title, *(cell for threads in args.threads
-                  for cell in ratios(own, unbound, threads, kind, args, preload))]
-        for kind, title in KINDS.items()))
-
-
 def main(args):
     if shutil.which("apt-get") is None:
         return "unbound's source comes by apt-get, which is not on this machine"
@@ -116,8 +109,13 @@ def main(args):
             ("With spin locks, as unbound's are:", "spinning", None)]
     if jemalloc:
         ways.append(("With mutexes and jemalloc:", "rrcache", str(jemalloc)))
-    parts = [part for title, own, preload in ways
-             for part in (title, ratio_table(made[own], made["unbound"], args, preload))]
+    head = [f"{what}, {of_threads(it)}" for it in args.threads for what in ("time", "rate")]
+    parts = []
+    for way, own, preload in ways:
+        rows = ([title, *chain.from_iterable(
+            ratios(made[own], made["unbound"], it, kind, args, preload) for it in args.threads)]
+            for kind, title in KINDS.items())
+        parts += [way, table(["What", *head], rows)]
     write_section(
         args, TITLE,
         f": {args.names:,} names with one A record each, 64 shards, {args.calls:,} calls a run, "
