@@ -43,32 +43,21 @@ def made_by_ci(crate):
     return all(it.stat().st_mtime <= moment for it in [TOP / "crates.txt", *sources])
 
 
-def is_ready(crate):
-    """Whether a crate's library is built of its present files, by `rt ci`, or by `rt lib` and what
-    builds as that does."""
-    return crate.is_built() or made_by_ci(crate)
+def stamp_of(rt, crate, stamp):
+    """The file beside a program, or the archive of a static library, that tells what it was made
+    of, and what it says where that were files of this stamp and nothing changed since."""
+    made = f"{crate.folder}/out/{crate.name if crate.is_program else f'lib{crate.name}.a'}"
+    return f"{made}.stamp", stamp + rt.rtlib.sum_of(made)
 
 
-def archive_of(crate):
-    """The archive that is made of a static library."""
-    return Path(crate.folder) / "out" / f"lib{crate.name}.a"
-
-
-def stamp_of(rt, made, stamp):
-    """What tells that a program or an archive was made of files of this stamp, and is still what
-    was made then."""
-    return stamp + rt.rtlib.sum_of(str(made))
+def is_made(rt, crate):
+    """Whether the program or the archive stands there that was made of a crate's present files,
+    once they were proved."""
+    path, wanted = stamp_of(rt, crate, crate.stamp())
+    return rt.rtlib.text_of(path) == wanted
 
 
 def stamp_archive(rt, crate, stamp):
-    """Writes beside the archive of a static library the stamp of what it was made of, as `rt run`
-    does beside a program."""
-    archive = archive_of(crate)
-    Path(f"{archive}.stamp").write_text(stamp_of(rt, archive, stamp))
-
-
-def is_archived(rt, crate):
-    """Whether the archive of a static library stands there that was made of its present files, once
-    they were proved."""
-    archive = archive_of(crate)
-    return rt.rtlib.text_of(f"{archive}.stamp") == stamp_of(rt, archive, crate.stamp())
+    """Writes beside the archive of a static library what `rt run` writes beside a program."""
+    path, text = stamp_of(rt, crate, stamp)
+    Path(path).write_text(text)

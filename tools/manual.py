@@ -78,55 +78,45 @@ def overview():
     return sections
 
 
-def types():
-    """The enums and structs, as the header has them."""
-    begin = HEADER.index("/* What calls return. */")
-    return HEADER[begin:HEADER.index("/* The functions of the library proper.")]
-
-
-def head(name, about):
+def page(name, about, text):
+    """A page with this text between its head and the names of the other pages."""
+    names = ["rrcache", *(f"rrcache_{it.split()[0]}" for it in GROUPS)]
+    others = " ,\n".join(f".BR {it} (3)" for it in names if it != name)
     return (f'.TH {name.upper()} 3 "" "rrcache {VERSION}" "rrcache"\n.SH NAME\n'
             f"{about}\n.SH LIBRARY\nThe RRset cache of a DNS resolver (\\fIlibrrcache\\fR, "
-            "\\fI\\-lrrcache\\fR)\n.SH SYNOPSIS\n.B #include <rrcache.h>\n")
-
-
-def names_of(group):
-    return [f"rrcache_{it}" for it in group.split()]
-
-
-def see_also(without):
-    names = ["rrcache", *(names_of(it)[0] for it in GROUPS)]
-    return ".SH SEE ALSO\n" + " ,\n".join(f".BR {it} (3)" for it in names if it != without) + "\n"
+            "\\fI\\-lrrcache\\fR)\n.SH SYNOPSIS\n.B #include <rrcache.h>\n"
+            f"{text}.SH SEE ALSO\n{others}\n")
 
 
 def group_page(names, about):
     """The page of a group of calls."""
     found = calls()
-    text = head(names[0], f"{', '.join(names)} \\- {about}")
-    text += "".join(f".PP\n{verbatim(found[it][0])}" for it in names)
-    text += ".SH DESCRIPTION\n"
+    text = "".join(f".PP\n{verbatim(found[it][0])}" for it in names) + ".SH DESCRIPTION\n"
     for name in names:
         text += f".SS {name}\n" + filled(map(" ".join, blocks(found[name][1])))
     text += (".SH RETURN VALUE\nA status, RRCACHE_DONE or the reason of a refusal, but for "
              "\\fBrrcache_version\\fR. \\fBrrcache\\fR(3) has them all, with the order in which "
              "they are told, and with what a refusal leaves.\n")
-    return text + see_also(names[0])
+    return page(names[0], f"{', '.join(names)} \\- {about}", text)
 
 
 def whole_page():
     """The page of the whole."""
-    text = head("rrcache", "rrcache \\- the RRset cache of a recursive DNS resolver")
-    text += ".SH DESCRIPTION\n"
+    text = ".SH DESCRIPTION\n"
     for title, points in overview().items():
         text += (f".SS {title}\n" if title else "") + filled(points)
-    text += f".SH TYPES\n{verbatim(types())}.SH EXAMPLES\n{verbatim(EXAMPLE)}"
-    return text + see_also("rrcache")
+    # The enums and structs, as the header has them.
+    types = HEADER[HEADER.index("/* What calls return. */"):
+                   HEADER.index("/* The functions of the library proper.")]
+    text += f".SH TYPES\n{verbatim(types)}.SH EXAMPLES\n{verbatim(EXAMPLE)}"
+    return page("rrcache", "rrcache \\- the RRset cache of a recursive DNS resolver", text)
 
 
 def pages():
     """The man pages by the names of their files; calls behind the first of a group are links."""
     made = {"rrcache.3": whole_page()}
-    for names, about in ((names_of(group), about) for group, about in GROUPS.items()):
+    for group, about in GROUPS.items():
+        names = [f"rrcache_{it}" for it in group.split()]
         made[f"{names[0]}.3"] = group_page(names, about)
         made.update({f"{it}.3": f".so man3/{names[0]}.3\n" for it in names[1:]})
     return made
