@@ -20,6 +20,7 @@ import io
 import re
 import subprocess
 import time
+from contextlib import suppress
 from typing import NamedTuple
 
 from tools.names import fold
@@ -186,11 +187,6 @@ class Shortener:
                     pieces = left
             size //= 2
 
-    def drop_options(self):
-        for name in [*self.trial.options]:
-            left = {it: value for it, value in self.trial.options.items() if it != name}
-            self.fails(options=left)
-
     def simplify_fields(self):
         for at in range(len(FIELD.findall(self.trial.text))):
             text = self.trial.text
@@ -200,12 +196,12 @@ class Shortener:
 
     def shortest(self):
         """The shortest that was found."""
-        try:
+        with suppress(Spent):
             self.drop_pieces(self.trial.text.splitlines(True))
-            self.drop_options()
+            for name in self.trial.options:
+                left = {it: value for it, value in self.trial.options.items() if it != name}
+                self.fails(options=left)
             self.simplify_fields()
             self.drop_pieces([bytes([it]) for it in self.trial.text])
             self.drop_pieces(self.trial.text.splitlines(True))
-        except Spent:
-            pass
         return self.trial
