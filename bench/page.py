@@ -24,8 +24,7 @@ def of_threads(count):
 
 def table(head, rows):
     """A table of these cells."""
-    cells = [[str(it) for it in row] for row in (head, *rows)]
-    lines = ["| " + " | ".join(row) + " |" for row in cells]
+    lines = [f"| {' | '.join(map(str, row))} |" for row in (head, *rows)]
     return "\n".join([lines[0], "|" + "---|" * len(head), *lines[1:]])
 
 

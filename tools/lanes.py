@@ -34,9 +34,8 @@ class Lanes:
 
     def __init__(self, tasks, processors, memory):
         self.tasks, self.processors, self.memory = tasks, processors, memory
-        names = {it.name for it in tasks}
-        self.waits = {it.name: [name for name in it.waits if name in names] for it in tasks}
-        self.behind = {}
+        self.named, self.behind = {it.name: it for it in tasks}, {}
+        self.waits = {it.name: [name for name in it.waits if name in self.named] for it in tasks}
         for task in reversed(tasks):
             self.behind[task.name] = task.seconds + self.behind.get(task.name, 0)
             for name in self.waits[task.name]:
@@ -82,8 +81,7 @@ class Lanes:
         """About how many seconds all takes from now on, where those tasks have ended, and those of
         `begun` ran for so many seconds, by so many jobs."""
         left = [it for it in self.tasks if it.name not in ended and it.name not in begun]
-        named = {it.name: it for it in self.tasks}
-        running = {named[name]: jobs for name, (_, jobs) in begun.items()}
+        running = {self.named[name]: jobs for name, (_, jobs) in begun.items()}
         ends = {task: max(task.seconds_by(jobs) - begun[task.name][0], 0)
                 for task, jobs in running.items()}
         now, ended = 0.0, set(ended)

@@ -15,29 +15,24 @@ NAMES, MOST_GROWTH, SEED = 500, 12, 20
 
 
 def trace(lines):
-    """A trace: puts and asks in turn by chance, of A, TXT and AAAA records, at moments that
-    rise."""
+    """Puts and asks in turn by chance, of A, TXT and AAAA records, at moments that rise."""
     chance = random.Random(SEED)
-    text = []
     for moment in range(lines):
         name = f"host{chance.randrange(NAMES)}.example.net."
-        rtype = chance.choice((1, 16, 28))
+        rtype, size = chance.choice(((1, 4), (16, 20), (28, 16)))
         if chance.random() < 0.5:
-            size = {1: 4, 16: 20, 28: 16}[rtype]
             items = ",".join(chance.randbytes(size).hex() for _ in range(chance.randint(1, 3)))
-            text.append(f"put {moment} {name} {rtype} {chance.randint(1, 4)}"
-                        f" {chance.randint(0, 600)} {items}\n")
+            yield (f"put {moment} {name} {rtype} {chance.randint(1, 4)} {chance.randint(0, 600)}"
+                   f" {items}\n")
         else:
-            purpose = chance.choice(("any", "answer"))
-            text.append(f"ask {moment} {name} {rtype} {purpose}"
-                        f" {chance.choice(('none', 'failed', 'now'))}\n")
-    return "".join(text)
+            yield (f"ask {moment} {name} {rtype} {chance.choice(('any', 'answer'))}"
+                   f" {chance.choice(('none', 'failed', 'now'))}\n")
 
 
 def main(_):
     clocks = []
     for size in SIZES:
-        with files(trace=trace(size)) as paths:
+        with files(trace="".join(trace(size))) as paths:
             used = answered(paths["trace"], size, capacity=65_536, chapter=1 << 20)
         clocks.append(used.clock)
         print(f"{size:>9} lines: {used.clock:8.2f} s, {size / used.clock:>9.0f} lines a second,"

@@ -36,14 +36,13 @@ def seconds_of_calls(task, threads, parts, calls):
 
 def trace(lines):
     """Puts of all names first, and then nine asks to one put, in no order that shows."""
-    state, text = 1, []
+    state = 1
     for line in range(lines):
         state = (state * 6_364_136_223_846_793_005 + 1_442_695_040_888_963_407) % 2**64
         number = (state >> 33) % NAMES
         name = f"www{number % 7}.zone{number}.example."
-        text.append(f"ask 120 {name} 1 answer none\n" if line % 10 else
-                    f"put 100 {name} 1 4 600 c0000201\n")
-    return "".join(text)
+        yield (f"ask 120 {name} 1 answer none\n" if line % 10 else
+               f"put 100 {name} 1 4 600 c0000201\n")
 
 
 def rate(task, parts, threads, args, path):
@@ -103,7 +102,7 @@ def picture(rates):
 
 def main(args):
     rates, rows = {}, []
-    with files(trace=trace(args.lines)) as paths:
+    with files(trace="".join(trace(args.lines))) as paths:
         for task, title in TASKS.items():
             for parts in PARTS:
                 by = [rate(task, parts, it, args, paths["trace"]) for it in THREADS]
