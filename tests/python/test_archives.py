@@ -1,17 +1,13 @@
 # SPDX-License-Identifier: MIT
 """Archives: how the package reads them, and the chapters that leave a shelf."""
-import random
 
 import pytest
 from dns.rdatatype import A, TXT
 
 import rrcache
-from tests.archives.changed import bad_texts, lines_drawn, octets_changed, rules_drawn
 from tests.forwarder.harness import wire_name
-from tests.tools.model import ARCHIVE
-from tests.tools.model import SOA as SOA_DATA
-from tools.archive import chapters_of, text_of
-from tools.audits import BadLine, read_archive
+from tests.tools.shared import ARCHIVE
+from tests.tools.shared import SOA as SOA_DATA
 
 ADDRESSES = (b"\xc0\0\2\1", b"\xc0\0\2\2")
 A_KEY = rrcache.Key("a.example.", rrcache.Slot.SET, 1)
@@ -85,32 +81,6 @@ def test_texts_that_are_no_archives(text, line):
     with pytest.raises(rrcache.ArchiveFault) as fault:
         rrcache.read_archive(text)
     assert fault.value.line == line
-
-
-def bad_line(read, text):
-    """The line for which a reader refuses an archive, or None."""
-    try:
-        read(text)
-    except rrcache.ArchiveFault as fault:
-        return fault.line
-    except BadLine as fault:
-        return fault.args[0]
-    return None
-
-
-def test_archives_are_read_as_by_the_model():
-    """Drawn archives, and such of which a line or an octet is changed: both readers of the
-    repository take the same ones, and tell the same line of the others."""
-    lines = []
-    for run in range(6):
-        rng = random.Random(f"archives {run}")
-        text = text_of(chapters_of(lines_drawn(rng), rules_drawn(rng)))
-        changed = [it.octets for it in bad_texts(rng, text.splitlines())]
-        changed += [octets_changed(rng, text.encode()) for _ in range(40)]
-        for octets in [text.encode(), *changed]:
-            lines.append(bad_line(read_archive, octets))
-            assert bad_line(rrcache.read_archive, octets.decode("latin-1")) == lines[-1], octets
-    assert 10 < lines.count(None) < len(lines) - 200
 
 
 def test_chapters_leave_a_shelf():

@@ -7,7 +7,7 @@ import re
 import pytest
 
 import rrcache
-from tools.archive import Rules, chapters_of, text_of
+from tools.archive import Rules, archive_of
 from tools.names import to_text
 from tools.rows import content, rows
 from tools.traces import read_trace
@@ -85,8 +85,8 @@ def told_of(line):
 def history_of(lines, rules):
     """The texts of the chapters that the model makes of a trace."""
     # The first chapter of a shelf is what came before its record, and holds nothing here.
-    return [text_of([it._replace(number=it.number + 1)])
-            for it in chapters_of(lines, Rules(**rules))]
+    archive = archive_of(lines, Rules(**rules), number=2)
+    return [it.text for it in rrcache.read_archive(archive)]
 
 
 def texts_of(lines, report, **rules):
