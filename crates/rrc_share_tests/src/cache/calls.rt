@@ -110,7 +110,7 @@ fn seen<C: Lent>(rt: &impl Abort, alloc: Global, lent: &C) -> String {
 }
 
 /// What a call answers. One that is refused changes nothing, and is made again where memory was
-/// refused: `tests/refusals/run` refuses it once.
+/// refused: `tests/refusals` refuses it once.
 fn told<C: Lent>(
     rt: &impl Abort,
     alloc: Global,
