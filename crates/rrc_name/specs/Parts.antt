@@ -11,6 +11,6 @@ hash_more hash octet = (hash * 1000003 + octet) % 2 ^ 32
 abbrev pub hash_of : List ℕ → ℕ
 hash_of octets = fold hash_more 0 octets
 
--- the part of a name, so many being all, whatever its case (ours)
+-- the part of a name, below a number of parts, whatever its case (ours)
 abbrev pub part_of : List ℕ → ℕ → ℕ
 part_of name parts = hash_of (folded name) % parts

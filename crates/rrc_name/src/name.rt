@@ -89,7 +89,7 @@ impl Name {
     }
 
     /// That the name is a wire form, for proofs; it does nothing.
-    pub(crate) fn is_a_wire_form(&self)
+    pub fn is_a_wire_form(&self)
         ensures { IsWireForm self.now }
     {
         let _ = &self.wire;

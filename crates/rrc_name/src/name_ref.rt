@@ -20,8 +20,8 @@ impl<'a> NameRef<'a> {
     ghost use Rattle.std.specs.Prelude.{◌≡◌, IfOk};
     ghost use Rattle.rrc_name.specs.NameRef.{name_in};
 
-    /// A name that is lent, by its wire form.
-    pub(crate) fn lent(octets: &'a [u8]) -> NameRef<'a>
+    /// The name that has this wire form, lent. `NameBuffer::fold` is what tests octets.
+    pub fn lent(octets: &'a [u8]) -> NameRef<'a>
         requires { IsWireForm octets.now }
         ensures { name_in result ≡ octets.now }
     {
