@@ -2,40 +2,44 @@
 /* rrcache.h: the RRset cache of a recursive DNS resolver, for resolvers written in C.
 
    A *shelf* is one part of the cache, and where it is asked to (`rrcache_record`) it records its
-   history. A resolver makes 16 to 64 of them, each with a lock beside it, and picks the one for a
-   name by `rrcache_part_of`: all that is known of a name lies in one part, in whatever case the
-   name is written. Which part that is goes by a hash under a secret seed (`struct rrcache_parts`),
-   which is to keep others from picking names of one part, to fill it and keep its lock busy. With
-   more shelves fewer threads wait for one lock; one shelf with no lock will do where one thread
-   asks. The rules are in docs/RULES.md, which has other words for some things: docs/GLOSSARY.md has
-   a table of this header's.
+   history. A resolver makes 16 to 64 of them, each with a lock beside it. It makes a name of each
+   question once (`rrcache_make_name`): that folds and hashes it, and tells the shelf that it
+   belongs to. All that is known of a name lies in one shelf, in whatever case the name is written.
+   Which one that is goes by a hash under a secret seed, which all shelves of a cache share
+   (`struct rrcache_rules`, `struct rrcache_parts`): it is to keep others from picking names of one
+   shelf, to fill it and keep its lock busy. With more shelves fewer threads wait for one lock; one
+   shelf with no lock will do where one thread asks. The rules are in docs/RULES.md, which has other
+   words for some things: docs/GLOSSARY.md has a table of this header's. docs/UPGRADING.md says what
+   to change in a program that was written for version 1.
 
    Who owns what
    - The caller owns the handle, the lock and each buffer, and no call keeps a pointer to any of
      them. What the library takes from malloc it keeps, and gives back by `rrcache_free`: no pointer
      to it leaves the library.
    - A handle begins as zeros, `struct rrcache_shelf shelf = {0};`, which holds no shelf. Nothing
-     but the library writes into it after that. It may be moved in memory while no call runs; there
-     must be no copy of it that is used as well. All this is so of `struct rrcache_offers` too,
-     which holds the offers of a message and is freed by `rrcache_free_offers`, and of
-     `struct rrcache_chapters`, which holds chapters of a history that left their shelf and is freed
-     by `rrcache_free_chapters`.
+     but the library writes into it after that, nor into a `struct rrcache_name`, which holds no
+     name while it is zeros, and may be copied. A handle may be moved in memory while no call runs;
+     there must be no copy of it that is used as well. All this is so of `struct rrcache_offers`
+     too, which holds the offers of a message and is freed by `rrcache_free_offers`, and of `struct
+     rrcache_chapters`, which holds chapters of a history that left their shelf and is freed by
+     `rrcache_free_chapters`.
 
    Which lock to hold
    - That of the shelf, for the whole of every call that takes its handle. What only looks,
-     `rrcache_peek`, `rrcache_tell_stored`, `rrcache_sizes` and `rrcache_next_expiry`, takes a const
-     handle and writes nothing that another thread reads: any number of threads may look at one
-     shelf at once, under a lock for readers, while no other call has that shelf. Any other call
-     wants it alone, under the lock for writers, `rrcache_ask` too. That two threads keep to this
-     nothing tests. A call takes one shelf, so no second lock is ever needed beside it.
-   - `rrcache_read_message`, `rrcache_read_response` and `rrcache_free_offers` take no shelf, and so
-     need no lock of one. Of a handle of offers the same is true as of a shelf's: one call at a
-     time, and `rrcache_offer_read` writes into both of its handles for a while.
+     `rrcache_peek`, `rrcache_peek_alias`, `rrcache_tell_stored`, `rrcache_sizes` and
+     `rrcache_next_expiry`, takes a const handle and writes nothing that another thread reads: any
+     number of threads may look at one shelf at once, under a lock for readers, while no other call
+     has that shelf. Any other call wants it alone, under the lock for writers, `rrcache_ask` and
+     `rrcache_ask_alias` too. That two threads keep to this nothing tests. A call takes one shelf,
+     so no second lock is ever needed beside it.
+   - `rrcache_read_response`, `rrcache_read_message_unchecked` and `rrcache_free_offers` take no
+     shelf, and so need no lock of one. Of a handle of offers the same is true as of a shelf's: one
+     call at a time, and `rrcache_offer_read` writes into both of its handles for a while.
    - `rrcache_take_chapters` and `rrcache_stop_recording` want the shelf's lock. What is done with
      the chapters then, by `rrcache_chapter_line`, `rrcache_write_line`, `rrcache_write_chapter` and
      `rrcache_free_chapters`, takes no shelf, and needs none: the shelf may be called or freed
      meanwhile. Of a handle of chapters the same is true: one call at a time.
-   - `rrcache_fault` and `rrcache_part_of` take no handle and need no lock.
+   - `rrcache_fault` and `rrcache_make_name` take no handle and need no lock.
    - No call waits, sleeps or takes a lock, unless malloc or free does, and none calls back but
      `rrcache_write_line` and `rrcache_write_chapter`, which call the sink that they are handed.
      None may be made in a signal handler, nor after a fork in the child of a process with threads.
@@ -44,77 +48,78 @@
    - The library takes memory by malloc and realloc alone, and gives it back by free. Where they
      refuse, the call returns RRCACHE_MEMORY.
    - What only looks takes no memory, however long the name is, and never returns RRCACHE_MEMORY:
-     `rrcache_peek`, `rrcache_tell_stored` and `rrcache_part_of`. Neither does `rrcache_ask` while
-     nothing is recorded.
+     `rrcache_peek`, `rrcache_peek_alias` and `rrcache_tell_stored`. Neither does
+   `rrcache_make_name`, nor `rrcache_ask` and `rrcache_ask_alias` while nothing is recorded.
    - What a reply says is copied into the caller's buffer.
 
    What a refusal leaves
-   - Every call but `rrcache_version` returns a status. RRCACHE_DONE is 0; each other one is a
-     refusal, and nothing ends the process.
+   - Every call but `rrcache_version` and `rrcache_status_text` returns a status. RRCACHE_DONE is 0;
+     each other one is a refusal, and nothing ends the process.
+   - A struct of which a field was forgotten, and so is 0, is refused where that matters: no
+   purpose, no mode, no class, no trust, no kind, no seed and no limit is 0.
    - A refusal leaves the shelf's history and its replies as they were; while the history is
-     recorded, a chapter that was full may have been closed. `rrcache_offer_message`,
-     `rrcache_offer_part`, `rrcache_offer_read` and `rrcache_sweep_some` alone may leave a part of
-     their work: the offers of one message, and the sweeps of one call, are made one after another,
-     and where one is refused, those before it stay. `counts` tells how many offers these are, and
-     `removed` how many keys they removed. Of what `rrcache_write_chapter` and `rrcache_write_line`
-     write, a beginning may have been written.
+     recorded, a chapter that was full may have been closed. `rrcache_offer_read`,
+     `rrcache_offer_message_unchecked`, `rrcache_offer_part_unchecked` and `rrcache_sweep_some`
+     alone may leave a part of their work: the offers of one message, and the sweeps of one call,
+     are made one after another, and where one is refused, those before it stay. `counts` tells how
+     many offers these are, and `swept` how many keys they removed. Of what `rrcache_write_chapter`
+     and `rrcache_write_line` write, a beginning may have been written.
    - Chapters that were to be taken stay in their shelf, and a record that was to end goes on.
-   - What a call was to write for the caller is as it was after a refusal, but for `counts`, for
-     `removed` and `is_done` of `rrcache_sweep_some`, and for `told` and `is_alias` after
-     RRCACHE_SMALL. RRCACHE_NULL, RRCACHE_NO_SHELF and RRCACHE_NO_OFFERS leave all of it.
+   - What a call was to write for the caller is as it was after a refusal, but for `counts` and
+     `swept`, and for `told` after RRCACHE_SMALL. RRCACHE_NULL, RRCACHE_OVERLAP, RRCACHE_NO_SHELF
+     and RRCACHE_NO_OFFERS leave all of it.
 
    A message that has more than one name
    - A response may tell of names that lie in other shelves than the one that was asked for: the
      target of an alias, a zone's SOA record, the addresses of name servers. A resolver with so many
-     shelves reads the message once, by `rrcache_read_response` or `rrcache_read_message` and under
-     no lock, which tells the shelves that it concerns. For each of these it calls
-     `rrcache_offer_read` with that shelf's number, counted from 0, under that shelf's lock. Each
-     call offers what the message says of names in that shelf and nothing else, so that all calls
-     together offer all that was read, and each name's data lie where `rrcache_part_of` leads with
-     the same `struct rrcache_parts`. A shelf of whose names the message tells nothing gets no
-     event.
-   - `rrcache_offer_part` does the same in one call for each shelf, and reads the whole message
-     anew, under that shelf's lock. That will do for one shelf's share alone.
+     shelves reads the message once, by `rrcache_read_response` and under no lock, which tells the
+     shelves that it concerns. For each of these it calls `rrcache_offer_read` with that shelf's
+     number, counted from 0, under that shelf's lock. Each call offers what the message says of
+     names in that shelf and nothing else, so that all calls together offer all that was read, and
+     each name's data lie where `rrcache_make_name` leads with the same `struct rrcache_parts`. A
+     shelf of whose names the message tells nothing gets no event.
+   - `rrcache_offer_part_unchecked` does the same in one call for each shelf, and reads the whole
+     message anew, under that shelf's lock. That will do for one shelf's share alone.
    - A CNAME record is then followed from shelf to shelf: one `rrcache_ask_alias` for each name,
      under the lock of that name's shelf. The caller bounds how many are followed, which ends loops
      too; each RRset on the way has a time to live of its own.
-   - `rrcache_offer_message` offers all to the one shelf that it is given. That will do where there
-     is one shelf alone.
+   - `rrcache_offer_message_unchecked` offers all to the one shelf that it is given. That will do
+     where there is one shelf alone.
 
    What may be offered
    - `rrcache_read_response` takes of a message only what is relevant to the query that the resolver
      sent, and refuses one with another identifier or question. That is the call for what comes from
      servers. The caller checks from which address and port it came.
-   - Each other call reads a message by itself, and takes all that it says within the zone. It does
-     not compare it with a query: the caller checks addresses and ports, the identifier and the
-     question before it offers the message.
+   - A call whose name ends in `_unchecked` reads a message by itself, and takes all that it says
+     within the zone. It does not compare it with a query: the caller checks addresses and ports,
+     the identifier and the question before it offers the message.
    - A message that was truncated, with TC set (0x02 of the third octet), offers nothing (RFC 2181
      section 9). Where it can be read RRCACHE_DONE is returned, `counts` is all 0 and no event is
-     written. Where it ends within a record it is RRCACHE_BAD_MESSAGE, as it is without TC. So
-     the caller looks at TC first, and where it is set asks again over TCP. The two octets of the
-     length that stand before a message there are no part of what is offered.
+     written. Where it ends within a record it is RRCACHE_BAD_MESSAGE, as it is without TC. So the
+     caller looks at TC first, and where it is set asks again over TCP. The two octets of the length
+     that stand before a message there are no part of what is offered.
    - In the same way a message offers nothing whose opcode is not that of a standard query, or whose
      question is of a class that is not kept, or not at or below the zone.
    - What is kept is of class IN, CH or HS (RFC 1035 section 3.2.4), and each class of a name has
      keys of its own. Of a message the records of its question's class count alone. Data of type A
-     of class CH are not kept, since they begin with a name. A question of a class or a type that is
-     not kept may be asked: it is a miss, or of such a type RRCACHE_NXDOMAIN where that is held. Of
-     ANY that is so also where sets of the name are held that are trusted more.
+     of class CH are not kept, since they begin with a name. A question of a class that is not kept,
+     or of type 0, is refused. One of another type that is not kept may be asked: it is a miss, or
+     RRCACHE_NXDOMAIN where that is held. Of ANY that is so also where sets of the name are held
+     that are trusted more.
    - A message may answer its question and leave nothing to ask for: its time to live is 0, its type
      is not kept, the times to live of a set differ with AA clear, a negative answer has no SOA
      record, or the set is not relevant. No call tells what a handle of offers holds. So where the
      ask that follows is a miss, the client that waits is answered from the message, which the
      resolver reads by itself.
-   - A failure that the shelf holds is still told after such a message, as RRCACHE_MISS_FAILED and
-     until its time is over, since nothing later is held. `rrcache_offer_failure` with `ttl` 0 ends
-     it.
+   - A failure that the shelf holds is still told after such a message, as RRCACHE_FAILED and until
+     its time is over, since nothing later is held. `rrcache_offer_failure` with `ttl` 0 ends it.
    - Nor does such a message touch a set that the shelf holds, which may be told on, also as stale.
      Where it is an authoritative NOERROR or NXDOMAIN (AA set) that leaves nothing of the question,
      RFC 8767 section 4 has the data count as refreshed: the resolver then clears the type by
      `rrcache_offer_set` with `ttl` 0.
    - A response with an RCODE other than NOERROR and NXDOMAIN offers that asking for the question
      failed, also where it is FORMERR, NOTIMP or REFUSED. So offer it once no other server, and no
-     try without EDNS, is left: from then on the question is RRCACHE_MISS_FAILED.
+     try without EDNS, is left: from then on the question is RRCACHE_FAILED.
    - A message may have more new keys than the shelf has room for, and then evicts some of its own.
 
    Moments
@@ -136,8 +141,8 @@
    - A shelf is made to record none of it. Then an event takes a number and no memory, no chapter is
      ever full or closed, and there is nothing to drop. `rrcache_record` keeps the events from that
      call on in memory. `rrcache_stop_recording` ends that and hands out what was recorded,
-     `rrcache_release` ends it and drops what was recorded. No reply depends on it. What is told
-     below of events that are kept and of chapters is so while the history is recorded.
+     `rrcache_stop_and_drop` ends it and drops what was recorded. No reply depends on it. What is
+     told below of events that are kept and of chapters is so while the history is recorded.
    - An event takes 96 octets, beside the names and the data that it tells of.
    - A call that is to write an event and finds the open chapter full closes it and opens the next,
      and then does what it is to do: all within the call, and so under the lock. With a message that
@@ -167,11 +172,11 @@
 
    Which refusal is told
    - Where more than one is due, the first of this list is told. Each call has some of them:
-     RRCACHE_NULL; RRCACHE_NO_SHELF or RRCACHE_HAS_SHELF; RRCACHE_NO_OFFERS or RRCACHE_HAS_OFFERS;
-     RRCACHE_NO_CHAPTERS or RRCACHE_HAS_CHAPTERS; RRCACHE_NO_LINE; RRCACHE_SINK;
+     RRCACHE_NULL; RRCACHE_OVERLAP; RRCACHE_NO_SHELF or RRCACHE_HAS_SHELF; RRCACHE_NO_OFFERS or
+     RRCACHE_HAS_OFFERS; RRCACHE_NO_CHAPTERS or RRCACHE_HAS_CHAPTERS; RRCACHE_NO_LINE; RRCACHE_SINK;
      RRCACHE_BAD_RULES; RRCACHE_BAD_SEED; RRCACHE_BAD_LIMITS; RRCACHE_BAD_CHOICE; RRCACHE_BAD_TYPE;
      RRCACHE_BAD_NAME; RRCACHE_BAD_MESSAGE or RRCACHE_BAD_DATA; RRCACHE_OTHER_QUERY;
-     RRCACHE_WRONG_BODY; RRCACHE_WIDE; RRCACHE_SMALL; RRCACHE_HISTORY_FULL;
+     RRCACHE_OTHER_SEED; RRCACHE_WRONG_BODY; RRCACHE_WIDE; RRCACHE_SMALL; RRCACHE_HISTORY_FULL;
      RRCACHE_MOMENT_TOO_LARGE.
    - RRCACHE_MEMORY is told where malloc refuses while a call tests these: in place of those that
      the call would have found later.
@@ -179,15 +184,16 @@
      that offers nothing is RRCACHE_DONE, also where numbers are spent, and whatever its moment is.
 
    Names are in wire form (RFC 1035 section 3.1), whole, with no pointer, at most 255 octets with
-   the zero octet at the end, in any case. `line` is a number of the caller's own that the event of
-   the call is kept with. A pointer may be null only where its size is 0.
+   the zero octet at the end, in any case. `line`, in structs, is a number of the caller's own that
+   the event of the call is kept with; 0 will do. A pointer may be null only where its size is 0.
 
    The functions of the library proper begin with `rrc_`, and need pointers that are not null and
    buffers that do not overlap. The inline functions below return RRCACHE_NULL where a pointer is
-   null that may not be, and where what the call writes, the handle too, overlaps any octets that it
-   is handed; what is only read may overlap, and a struct that is handed in is read before anything
-   is written. Otherwise they call them. No test can tell whether a handle began as zeros, whether
-   two threads are in it, and whether buffers lie where they are said to. */
+   null that may not be, and RRCACHE_OVERLAP where what the call writes, the handle too, overlaps
+   any octets that it is handed; what is only read may overlap, and a struct with pointers, and one
+   that stands beside it, is read before anything is written. Otherwise they call them. No test can
+   tell whether a handle or a name began as zeros, whether two threads are in a handle, and whether
+   buffers lie where they are said to. */
 #ifndef RRCACHE_H
 #define RRCACHE_H
 
@@ -200,8 +206,8 @@ extern "C" {
 #endif
 
 /* The version of this header. `rrcache_version` tells that of the library. */
-#define RRCACHE_VERSION_MAJOR 1
-#define RRCACHE_VERSION_MINOR 1
+#define RRCACHE_VERSION_MAJOR 2
+#define RRCACHE_VERSION_MINOR 0
 #define RRCACHE_VERSION_PATCH 0
 #define RRCACHE_VERSION                                                                            \
     (RRCACHE_VERSION_MAJOR * 65536 + RRCACHE_VERSION_MINOR * 256 + RRCACHE_VERSION_PATCH)
@@ -214,16 +220,17 @@ enum rrcache_status {
     RRCACHE_MEMORY = 3,           /* malloc refused */
     RRCACHE_HISTORY_FULL = 4,     /* the numbers of events or of chapters, 2^62 each, are spent */
     RRCACHE_MOMENT_TOO_LARGE = 5, /* the moment is above 2^40 */
-    RRCACHE_BAD_RULES = 6,        /* capacity, chapter, stale, the number of parts or the part is
-                                     not in its range */
-    RRCACHE_BAD_SEED = 7,         /* the seed has not 16 octets */
+    RRCACHE_BAD_RULES = 6,        /* capacity, chapter, max_stale, the number of parts, the part or
+                                     how much is swept is not in its range */
+    RRCACHE_BAD_SEED = 7,         /* all octets of the seed are 0 */
     RRCACHE_BAD_LIMITS = 8,       /* a number of `struct rrcache_limits` is not in its range */
-    RRCACHE_BAD_NAME = 9,         /* octets are not the wire form of a name */
+    RRCACHE_BAD_NAME = 9,         /* octets are not the wire form of a name, or no name was made */
     RRCACHE_BAD_MESSAGE = 10,     /* octets are no response that can be read: `rrcache_fault` tells
                                      why */
-    RRCACHE_BAD_CHOICE = 11,      /* no purpose, mode, denial or trust has this number */
-    RRCACHE_BAD_TYPE = 12,        /* data of this type are not kept in this class, as those of OPT
-                                     and of questions alone, or nothing is kept in this class */
+    RRCACHE_BAD_CHOICE = 11,      /* no purpose, mode, kind or trust has this number */
+    RRCACHE_BAD_TYPE = 12,        /* of what is offered: data of this type are not kept in this
+                                     class, as those of OPT and of questions alone. Of a question:
+                                     nothing is kept in its class, or its type is 0 */
     RRCACHE_BAD_DATA = 13,        /* data do not fill the layout of their type, or their lengths do
                                      not fit */
     RRCACHE_WRONG_BODY = 14,      /* a set with no data, or a time to live above 2^31 - 1 */
@@ -231,8 +238,7 @@ enum rrcache_status {
                                      response brings, or all have 2^64 */
     RRCACHE_SMALL = 16,           /* the buffer is too small: `told` says what it needs, and no
                                      event was written */
-    RRCACHE_NULL = 17,            /* a pointer is null, or what is written overlaps (told by the
-                                     inline functions alone) */
+    RRCACHE_NULL = 17,            /* a pointer is null (told by the inline functions alone) */
     RRCACHE_NO_OFFERS = 18,       /* the handle holds no offers */
     RRCACHE_HAS_OFFERS = 19,      /* the handle holds offers already */
     RRCACHE_OTHER_QUERY = 20,     /* the response has another identifier or question than the query
@@ -240,22 +246,25 @@ enum rrcache_status {
     RRCACHE_NO_CHAPTERS = 21,     /* the handle holds no chapters */
     RRCACHE_HAS_CHAPTERS = 22,    /* the handle holds chapters already */
     RRCACHE_NO_LINE = 23,         /* there is no such chapter, or it has no such line */
-    RRCACHE_SINK = 24             /* the sink returned other than 0 (told by the inline functions
+    RRCACHE_SINK = 24,            /* the sink returned other than 0 (told by the inline functions
                                      alone) */
+    RRCACHE_OVERLAP = 25,         /* what is to be written overlaps something else that is handed in
+                                     (told by the inline functions alone) */
+    RRCACHE_OTHER_SEED = 26       /* the name was made, or the message was read, under another seed
+                                     than that of the shelf */
 };
 
-/* What a reply is. */
+/* What a reply is, and what is stored: 1, 3, 4 and 6 of these, or 0 where nothing is. */
 enum rrcache_kind {
-    RRCACHE_FRESH = 1,       /* a set that is not past its time to live */
-    RRCACHE_STALE = 2,       /* a set past its time to live (RFC 8767) */
-    RRCACHE_NO_DATA = 3,     /* the name has no data of the type (RFC 2308 section 2.2) */
-    RRCACHE_NO_NAME = 4,     /* the name does not exist (RFC 2308 section 2.1) */
-    RRCACHE_MISS = 5,        /* nothing that will do */
-    RRCACHE_MISS_FAILED = 6, /* nothing that will do, and a failure is held, not past its time and
-                                later than what else is held: `retry_from` says when to try again */
-    RRCACHE_NODATA = RRCACHE_NO_DATA,      /* as RFC 2308 calls it */
-    RRCACHE_NXDOMAIN = RRCACHE_NO_NAME,    /* the same */
-    RRCACHE_SERVFAIL = RRCACHE_MISS_FAILED /* what a resolver answers then (RFC 9520) */
+    RRCACHE_FRESH = 1,    /* a set that is not past its time to live; of what is stored a set,
+                             whether it is past that or not */
+    RRCACHE_STALE = 2,    /* a set past its time to live (RFC 8767) */
+    RRCACHE_NODATA = 3,   /* the name has no data of the type (RFC 2308 section 2.2) */
+    RRCACHE_NXDOMAIN = 4, /* the name does not exist (RFC 2308 section 2.1) */
+    RRCACHE_MISS = 5,     /* nothing that will do */
+    RRCACHE_FAILED = 6 /* nothing that will do, and a failure is held, not past its time and later
+                          than what else is held: `retry_from` says when to try again, and till
+                          then a resolver answers SERVFAIL (RFC 9520) */
 };
 
 /* The classes of which data are kept (RFC 1035 section 3.2.4). */
@@ -263,11 +272,11 @@ enum rrcache_class { RRCACHE_IN = 1, RRCACHE_CH = 3, RRCACHE_HS = 4 };
 
 /* What an answer is for: anything, where glue will do, or to answer a question, where it will not
    (RFC 2181 section 5.4.1). */
-enum rrcache_purpose { RRCACHE_ANYTHING = 0, RRCACHE_QUESTION = 1 };
+enum rrcache_purpose { RRCACHE_ANYTHING = 1, RRCACHE_QUESTION = 2 };
 
 /* Whether a stale answer will do (RFC 8767 section 5): no; where a failure is held by which a miss
-   would be RRCACHE_MISS_FAILED; at once. */
-enum rrcache_mode { RRCACHE_NO_STALE = 0, RRCACHE_STALE_IF_FAILED = 1, RRCACHE_STALE_NOW = 2 };
+   would be RRCACHE_FAILED; at once. */
+enum rrcache_mode { RRCACHE_NO_STALE = 1, RRCACHE_STALE_IF_FAILED = 2, RRCACHE_STALE_NOW = 3 };
 
 /* How far data are trusted (RFC 2181 section 5.4.1), from low to high. */
 enum rrcache_trust {
@@ -279,20 +288,31 @@ enum rrcache_trust {
                                              name that was asked for */
 };
 
-/* What a negative answer denies: data of the type, or the name. */
-enum rrcache_denial { RRCACHE_DENIES_TYPE = 0, RRCACHE_DENIES_NAME = 1 };
-
 /* What became of an offer: it is kept; its ttl was 0, and the key holds nothing; the key holds what
    is trusted more. */
-enum rrcache_outcome { RRCACHE_KEPT = 1, RRCACHE_CLEARED = 2, RRCACHE_LESS_TRUSTED = 3 };
+enum rrcache_outcome { RRCACHE_KEPT = 1, RRCACHE_CLEARED = 2, RRCACHE_OUTRANKED = 3 };
+
+/* Why octets are no response (`rrcache_fault`). */
+enum rrcache_message_fault {
+    RRCACHE_NO_FAULT = 0,         /* they are one */
+    RRCACHE_SHORT = 1,            /* they end too soon */
+    RRCACHE_RESERVED_BITS = 2,    /* a length octet has reserved bits */
+    RRCACHE_POINTER = 3,          /* a pointer leads to no lower place */
+    RRCACHE_LONG_NAME = 4,        /* a name has more than 255 octets */
+    RRCACHE_LAYOUT = 5,           /* data do not fill their layout */
+    RRCACHE_NO_RESPONSE = 6,      /* they are no response: QR is clear */
+    RRCACHE_NOT_ONE_QUESTION = 7, /* there is not one question */
+    RRCACHE_LONG_MESSAGE = 8      /* they are more than 65,535 */
+};
 
 /* A handle: zeros, or what `rrcache_make` made of it. */
 struct rrcache_shelf {
     void *at;
     bool is_live;
+    uint64_t seed[2];
 };
 
-/* A handle of the offers of a message: zeros, or what `rrcache_read_message` made of it. */
+/* A handle of the offers of a message: zeros, or what `rrcache_read_response` made of it. */
 struct rrcache_offers {
     void *at;
     bool is_live;
@@ -304,10 +324,62 @@ struct rrcache_chapters {
     bool is_live;
 };
 
-/* How many octets a line of a chapter has, with its LF, and how many of them were written. */
-struct rrcache_line {
-    uint64_t size;
-    uint64_t written;
+/* A name that was folded and hashed (`rrcache_make_name`), for all that is asked of it: zeros, or
+   what that call made of it. `part` is the shelf that it belongs to, counted from 0. `hash` is 64
+   bits of SipHash-1-3 of `octets` under the seed, which a caller may use for tables of its own. It
+   may be copied, and may be kept for as long as the seed is. */
+struct rrcache_name {
+    uint64_t hash;
+    uint64_t part;
+    uint8_t seed[16];
+    uint8_t size;
+    uint8_t octets[255]; /* `size` of them are its wire form, with the letters A to Z as a to z; the
+                            others are as they were */
+};
+
+/* How names are divided among shelves: how many shelves there are, 1 to 64, and the seed that these
+   were made with. By another seed a name lies in another part, and what is kept of it is not found.
+   Names are hashed by SipHash-1-3, whose key is the seed, and the upper 32 bits of the hash choose
+   the part. */
+struct rrcache_parts {
+    uint64_t count;
+    uint8_t seed[16];
+};
+
+/* The rules of a shelf. */
+struct rrcache_rules {
+    uint64_t capacity;  /* the most keys that it holds: 1 to 65,536 */
+    uint64_t chapter;   /* the most events of a chapter that is recorded: 1 to 1,048,576 */
+    uint64_t max_stale; /* for how many seconds past its time to live a set may answer: 0 to 604,800
+                           (RFC 8767 section 4) */
+    uint8_t seed[16];   /* 16 random octets that nobody else knows, not all 0, the same for all
+                           shelves of a cache */
+};
+
+/* What is asked about a name, and which answers will do. */
+struct rrcache_question {
+    uint64_t moment;
+    uint64_t line;
+    uint16_t rtype;
+    uint16_t rclass;  /* enum rrcache_class */
+    uint32_t purpose; /* enum rrcache_purpose */
+    uint32_t mode;    /* enum rrcache_mode */
+};
+
+/* What is stored under a key. All is 0 where nothing is, and with RRCACHE_MISS and RRCACHE_FAILED.
+   An auditor finds the event in the history by its number, and a caller what it keeps of its own
+   beside the entry. */
+struct rrcache_entry {
+    uint32_t kind;   /* enum rrcache_kind, or 0 where nothing is stored */
+    uint32_t trust;  /* enum rrcache_trust; 0 of a failure */
+    uint32_t ttl;    /* as it was stored: of a message at most the cap, else as it was offered. A
+                        resolver renews data before `ttl` seconds from `moment` on are over
+                        (prefetch), where they are asked for late in that time */
+    uint64_t moment; /* of the offer that was kept */
+    uint64_t number; /* of the event that stored it, which no other entry of the shelf has */
+    uint64_t age;    /* how many touches came after its own last one: no more keys than that were
+                        touched since. A reply tells it as it was before: an ask then moves the
+                        entry to the front, a peek does not */
 };
 
 /* A reply. Its buffer begins with `owner_size` octets, the owner's wire form as it was received,
@@ -315,30 +387,30 @@ struct rrcache_line {
    its length of two octets, the high one first. A miss has neither. */
 struct rrcache_told {
     uint32_t kind;       /* enum rrcache_kind */
+    uint32_t rtype;      /* the type that is answered: the question's, or CNAME (5) where
+                            `rrcache_ask_alias` tells the name's CNAME record */
     uint32_t left;       /* for how many seconds the reply may be used: what is left of its time to
                             live, with RRCACHE_STALE 30 (RFC 8767 section 4), with a miss 0 */
-    uint64_t retry_from; /* with RRCACHE_MISS_FAILED the moment from which to try again, and else 0:
-                            with RRCACHE_STALE a peek with RRCACHE_NO_STALE tells it */
+    uint64_t retry_from; /* with RRCACHE_FAILED the moment from which to try again, and else 0: with
+                            RRCACHE_STALE a peek with RRCACHE_NO_STALE tells it */
     uint64_t owner_size;
     uint64_t data_size;
+    struct rrcache_entry entry; /* what gives the reply */
+};
+
+/* What is stored of a name and a class for a type. */
+struct rrcache_stored {
+    struct rrcache_entry set;      /* a set of the type, or that the name has no such data */
+    struct rrcache_entry nxdomain; /* that the name does not exist */
+    struct rrcache_entry failure;  /* that asking for the type failed */
 };
 
 /* What became of the offers of a message. */
 struct rrcache_counts {
     uint64_t kept;
     uint64_t cleared;
-    uint64_t refused; /* RRCACHE_LESS_TRUSTED, since what their key holds is trusted more: such an
-                         offer is an event, and no call is refused for it */
-};
-
-/* What a shelf holds of a name, a type and a class: a set, or that the name has no such data. That
-   the name does not exist is not told here, and does not hide a set that the shelf still holds. A
-   resolver that renews data before their time is over (prefetch) sees here how much of it is left:
-   `ttl` seconds from `moment` on. */
-struct rrcache_stored {
-    uint32_t trust;  /* enum rrcache_trust; 0 where nothing is held, and all is 0 */
-    uint32_t ttl;    /* as it was stored: of a message at most the cap, else as it was offered */
-    uint64_t moment; /* of the offer that was kept */
+    uint64_t outranked; /* since what their key holds is trusted more: such an offer is an event,
+                           and no call is refused for it */
 };
 
 /* How long what a response says may be kept, in seconds. */
@@ -356,25 +428,64 @@ struct rrcache_limits {
         604800, 10800, 30                                                                          \
     }
 
-/* ---- What a resolver hands in. These structs are read by the inline functions alone, and so they
-   may have more fields in a later version of this header: name the fields, and what is not named is
-   0. The structs above are the library's too, and have the same fields in all versions under one
-   soname. A name stands with the number of its octets. */
+/* When a shelf is swept, and of `rrcache_sweep_some` after how many keys, or how many sweeps, it
+   ends. */
+struct rrcache_sweep_at {
+    uint64_t moment;
+    uint64_t line;
+    uint64_t most; /* at least 1 */
+};
 
-/* A question, and which answers will do. With `purpose` and `mode` 0 glue will do and stale data
-   will not. */
+/* What a sweep in steps came to. */
+struct rrcache_swept {
+    uint64_t removed;
+    uint32_t is_done; /* 1 where no key is left that is fully expired at its moment; 0 where some
+                         may be left */
+};
+
+/* How much a shelf holds (`rrcache_sizes`). */
+struct rrcache_usage {
+    uint64_t keys;
+    uint64_t events;
+    uint64_t chapters;
+    uint64_t octets;
+};
+
+/* Which share of what was read is offered: that of a part, counted from 0. */
+struct rrcache_share {
+    uint64_t part;
+    uint64_t line;
+};
+
+/* A place in chapters: a chapter, a line of it, and an octet of that, each counted from 0. */
+struct rrcache_place {
+    uint64_t chapter;
+    uint64_t line;
+    uint64_t from;
+};
+
+/* How many octets a line of a chapter has, with its LF, and how many of them were written. */
+struct rrcache_line {
+    uint64_t size;
+    uint64_t written;
+};
+
+/* ---- What a resolver hands in beside these. The structs below are read by the inline functions
+   alone, and so they may have more fields in a later version of this header: name the fields, and
+   what is not named is 0. The structs above are the library's too, and have the same fields in all
+   versions under one soname. A name stands with the number of its octets. */
+
+/* The query that a response is to answer. */
 struct rrcache_query {
     const uint8_t *name;
     size_t name_size;
+    uint16_t id;
     uint16_t rtype;
     uint16_t rclass; /* enum rrcache_class */
-    uint64_t moment;
-    enum rrcache_purpose purpose;
-    enum rrcache_mode mode;
 };
 
-/* A response: its octets, without those of its length over TCP, and the zone whose server sent
-   it. */
+/* A response: its octets, without those of its length over TCP, the zone whose server sent it, when
+   it came, and how long what it says may be kept. */
 struct rrcache_response {
     const uint8_t *octets;
     size_t size;
@@ -382,16 +493,6 @@ struct rrcache_response {
     size_t zone_size;
     uint64_t moment;
     struct rrcache_limits limits;
-};
-
-/* How names are divided among shelves: how many shelves there are, 1 to 64, and 16 random octets
-   which nobody else knows, the same in each call. Draw them once, when the shelves are made: by
-   another seed a name lies in another part, and what is kept of it is not found. Names are hashed
-   by SipHash-1-3, whose key is the seed, and the upper 32 bits of the hash choose the part, so that
-   the shelves may be made with the same seed. */
-struct rrcache_parts {
-    uint64_t count;
-    uint8_t seed[16];
 };
 
 /* An RRset. The data stand one behind another, each behind its length of two octets, with no name
@@ -406,17 +507,18 @@ struct rrcache_set {
     const uint8_t *data;
     size_t data_size;
     uint64_t moment;
+    uint64_t line;
 };
 
-/* That a name has no data of a type, or does not exist, with the SOA record that says so, its names
-   not compressed. A name that does not exist has no type: with RRCACHE_DENIES_NAME `rtype` is not
-   looked at. */
+/* That a name has no data of a type (`kind` RRCACHE_NODATA), or does not exist (RRCACHE_NXDOMAIN),
+   with the SOA record that says so, its names not compressed. A name that does not exist has no
+   type: with RRCACHE_NXDOMAIN `rtype` is not looked at. */
 struct rrcache_negative {
     const uint8_t *name;
     size_t name_size;
     uint16_t rtype;
     uint16_t rclass;
-    enum rrcache_denial denial;
+    enum rrcache_kind kind;
     enum rrcache_trust trust;
     uint32_t ttl;
     const uint8_t *soa_owner;
@@ -424,6 +526,7 @@ struct rrcache_negative {
     const uint8_t *soa;
     size_t soa_size;
     uint64_t moment;
+    uint64_t line;
 };
 
 /* That asking for data of a type failed, which is remembered for `ttl` seconds. */
@@ -434,6 +537,7 @@ struct rrcache_failure {
     uint16_t rclass;
     uint32_t ttl;
     uint64_t moment;
+    uint64_t line;
 };
 
 /* What a chapter is written with: it takes all of these octets, and returns 0 where more are to
@@ -447,70 +551,110 @@ enum { RRCACHE_RECORD_OCTETS = 48 };
 /* How many octets a sink is handed at most. */
 enum { RRCACHE_PIECE_OCTETS = 4096 };
 
-/* The functions of the library proper. A size stands behind its pointer. What only looks takes a
-   copy of a handle, `look`, which is the call's alone: the call writes into it for a while. */
-uint32_t rrc_make(struct rrcache_shelf *shelf, uint64_t capacity, uint64_t chapter, uint64_t stale,
-                  const uint8_t *seed, size_t seed_size);
+/* ---- The functions of the library proper, and what the inline functions hand to them. A size
+   stands behind its pointer. What only looks takes a copy of a handle, `look`, which is the call's
+   alone: the call writes into it for a while. */
+
+struct rrc_response {
+    uint64_t moment;
+    uint64_t line;
+    struct rrcache_parts parts;
+    uint64_t part;
+    struct rrcache_limits limits;
+    uint16_t id;
+    uint16_t rtype;
+    uint16_t rclass;
+};
+
+struct rrc_set {
+    uint64_t moment;
+    uint64_t line;
+    uint32_t ttl;
+    uint32_t trust;
+    uint16_t rtype;
+    uint16_t rclass;
+};
+
+struct rrc_negative {
+    uint64_t moment;
+    uint64_t line;
+    uint32_t ttl;
+    uint32_t trust;
+    uint32_t denial;
+    uint16_t rtype;
+    uint16_t rclass;
+};
+
+struct rrc_failure {
+    uint64_t moment;
+    uint64_t line;
+    uint32_t ttl;
+    uint16_t rtype;
+    uint16_t rclass;
+};
+
+uint32_t rrc_make(struct rrcache_shelf *shelf, const struct rrcache_rules *rules);
 uint32_t rrc_free(struct rrcache_shelf *shelf);
+uint32_t rrc_make_name(const uint8_t *octets, size_t size, const struct rrcache_parts *parts,
+                       struct rrcache_name *name);
 uint32_t rrc_record(struct rrcache_shelf *shelf);
-uint32_t rrc_release(struct rrcache_shelf *shelf);
-uint32_t rrc_offer_message(struct rrcache_shelf *shelf, const uint8_t *octets, size_t size,
-                           const uint8_t *zone, size_t zone_size, uint64_t moment,
-                           const struct rrcache_limits *limits, uint64_t line,
-                           struct rrcache_counts *counts);
-uint32_t rrc_offer_part(struct rrcache_shelf *shelf, const uint8_t *octets, size_t size,
-                        const uint8_t *zone, size_t zone_size, uint64_t parts, const uint8_t *seed,
-                        size_t seed_size, uint64_t part, uint64_t moment,
-                        const struct rrcache_limits *limits, uint64_t line,
-                        struct rrcache_counts *counts);
-uint32_t rrc_read_message(struct rrcache_offers *offers, const uint8_t *octets, size_t size,
-                          const uint8_t *zone, size_t zone_size, uint64_t parts,
-                          const uint8_t *seed, size_t seed_size, uint64_t moment,
-                          const struct rrcache_limits *limits, uint64_t *concerned);
+uint32_t rrc_stop_and_drop(struct rrcache_shelf *shelf);
+uint32_t rrc_ask(struct rrcache_shelf *shelf, const struct rrcache_name *name,
+                 const struct rrcache_question *question, struct rrcache_told *told,
+                 uint8_t *buffer, size_t buffer_size);
+uint32_t rrc_ask_alias(struct rrcache_shelf *shelf, const struct rrcache_name *name,
+                       const struct rrcache_question *question, struct rrcache_told *told,
+                       uint8_t *buffer, size_t buffer_size);
+uint32_t rrc_peek(struct rrcache_shelf *look, const struct rrcache_name *name,
+                  const struct rrcache_question *question, struct rrcache_told *told,
+                  uint8_t *buffer, size_t buffer_size);
+uint32_t rrc_peek_alias(struct rrcache_shelf *look, const struct rrcache_name *name,
+                        const struct rrcache_question *question, struct rrcache_told *told,
+                        uint8_t *buffer, size_t buffer_size);
+uint32_t rrc_stored(struct rrcache_shelf *look, const struct rrcache_name *name,
+                    const struct rrcache_question *question, struct rrcache_stored *stored);
 uint32_t rrc_read_response(struct rrcache_offers *offers, const uint8_t *octets, size_t size,
-                           const uint8_t *zone, size_t zone_size, uint16_t id, const uint8_t *name,
-                           size_t name_size, uint16_t rtype, uint16_t rclass, uint64_t parts,
-                           const uint8_t *seed, size_t seed_size, uint64_t moment,
-                           const struct rrcache_limits *limits, uint64_t *concerned);
-uint32_t rrc_offer_read(struct rrcache_shelf *shelf, struct rrcache_offers *offers, uint64_t part,
-                        uint64_t line, struct rrcache_counts *counts);
+                           const uint8_t *zone, size_t zone_size, const uint8_t *name,
+                           size_t name_size, const struct rrc_response *response,
+                           uint64_t *concerned);
+uint32_t rrc_read_message_unchecked(struct rrcache_offers *offers, const uint8_t *octets,
+                                    size_t size, const uint8_t *zone, size_t zone_size,
+                                    const struct rrc_response *response, uint64_t *concerned);
+uint32_t rrc_offer_read(struct rrcache_shelf *shelf, struct rrcache_offers *offers,
+                        const struct rrcache_share *share, struct rrcache_counts *counts);
 uint32_t rrc_free_offers(struct rrcache_offers *offers);
+uint32_t rrc_offer_message_unchecked(struct rrcache_shelf *shelf, const uint8_t *octets,
+                                     size_t size, const uint8_t *zone, size_t zone_size,
+                                     const struct rrc_response *response,
+                                     struct rrcache_counts *counts);
+uint32_t rrc_offer_part_unchecked(struct rrcache_shelf *shelf, const uint8_t *octets, size_t size,
+                                  const uint8_t *zone, size_t zone_size,
+                                  const struct rrc_response *response,
+                                  struct rrcache_counts *counts);
 uint32_t rrc_offer_set(struct rrcache_shelf *shelf, const uint8_t *owner, size_t owner_size,
-                       uint16_t rtype, uint16_t rclass, uint32_t trust, uint32_t ttl,
-                       const uint8_t *data, size_t data_size, uint64_t moment, uint64_t line,
+                       const struct rrc_set *set, const uint8_t *data, size_t data_size,
                        uint32_t *outcome);
 uint32_t rrc_offer_negative(struct rrcache_shelf *shelf, const uint8_t *name, size_t name_size,
-                            uint16_t rtype, uint16_t rclass, uint32_t denial, uint32_t trust,
-                            uint32_t ttl, const uint8_t *soa_owner, size_t soa_owner_size,
-                            const uint8_t *soa, size_t soa_size, uint64_t moment, uint64_t line,
+                            const struct rrc_negative *negative, const uint8_t *soa_owner,
+                            size_t soa_owner_size, const uint8_t *soa, size_t soa_size,
                             uint32_t *outcome);
 uint32_t rrc_offer_failure(struct rrcache_shelf *shelf, const uint8_t *name, size_t name_size,
-                           uint16_t rtype, uint16_t rclass, uint32_t ttl, uint64_t moment,
-                           uint64_t line, uint32_t *outcome);
-uint32_t rrc_ask(struct rrcache_shelf *shelf, const uint8_t *name, size_t name_size, uint16_t rtype,
-                 uint16_t rclass, uint64_t moment, uint32_t purpose, uint32_t mode, uint64_t line,
-                 struct rrcache_told *told, uint8_t *buffer, size_t buffer_size);
-uint32_t rrc_peek(struct rrcache_shelf *look, const uint8_t *name, size_t name_size, uint16_t rtype,
-                  uint16_t rclass, uint64_t moment, uint32_t purpose, uint32_t mode,
-                  struct rrcache_told *told, uint8_t *buffer, size_t buffer_size);
-uint32_t rrc_sweep(struct rrcache_shelf *shelf, uint64_t moment, uint64_t line, uint64_t *removed);
-uint32_t rrc_stored(struct rrcache_shelf *look, const uint8_t *name, size_t name_size,
-                    uint16_t rtype, uint16_t rclass, struct rrcache_stored *stored);
+                           const struct rrc_failure *failure, uint32_t *outcome);
+uint32_t rrc_sweep(struct rrcache_shelf *shelf, const struct rrcache_sweep_at *sweep,
+                   uint64_t *removed);
+uint32_t rrc_sweep_some(struct rrcache_shelf *shelf, const struct rrcache_sweep_at *sweep,
+                        struct rrcache_swept *swept);
 uint32_t rrc_next_expiry(struct rrcache_shelf *look, uint64_t *moment);
+uint32_t rrc_sizes(struct rrcache_shelf *look, struct rrcache_usage *sizes);
 uint32_t rrc_drop_chapters(struct rrcache_shelf *shelf, uint64_t *dropped);
 uint32_t rrc_take_chapters(struct rrcache_shelf *shelf, struct rrcache_chapters *chapters,
                            uint64_t *count);
 uint32_t rrc_stop_recording(struct rrcache_shelf *shelf, struct rrcache_chapters *chapters,
                             uint64_t *count);
-uint32_t rrc_chapter_line(struct rrcache_chapters *chapters, uint64_t chapter, uint64_t line,
-                          uint64_t from, uint8_t *buffer, size_t buffer_size,
-                          struct rrcache_line *told);
+uint32_t rrc_chapter_line(struct rrcache_chapters *chapters, const struct rrcache_place *place,
+                          uint8_t *buffer, size_t buffer_size, struct rrcache_line *told);
 uint32_t rrc_free_chapters(struct rrcache_chapters *chapters);
-uint32_t rrc_sizes(struct rrcache_shelf *look, uint64_t *keys, uint64_t *events, uint64_t *chapters,
-                   uint64_t *octets);
 uint32_t rrc_fault(const uint8_t *octets, size_t size, uint32_t *fault);
-uint32_t rrc_part_of(const uint8_t *name, size_t name_size, uint64_t parts, const uint8_t *seed,
-                     size_t seed_size, uint64_t *part);
 uint32_t rrc_version(void);
 
 /* ---- What a resolver calls. */
@@ -521,6 +665,68 @@ uint32_t rrc_version(void);
 static inline uint32_t rrcache_version(void)
 {
     return rrc_version();
+}
+
+/* What a status says, for a log. */
+static inline const char *rrcache_status_text(enum rrcache_status status)
+{
+    switch (status) {
+    case RRCACHE_DONE:
+        return "done";
+    case RRCACHE_NO_SHELF:
+        return "the handle holds no shelf";
+    case RRCACHE_HAS_SHELF:
+        return "the handle holds a shelf already";
+    case RRCACHE_MEMORY:
+        return "memory was refused";
+    case RRCACHE_HISTORY_FULL:
+        return "the numbers of events are spent";
+    case RRCACHE_MOMENT_TOO_LARGE:
+        return "the moment is too large";
+    case RRCACHE_BAD_RULES:
+        return "a number of the rules is not in its range";
+    case RRCACHE_BAD_SEED:
+        return "the seed is all zeros";
+    case RRCACHE_BAD_LIMITS:
+        return "a limit is not in its range";
+    case RRCACHE_BAD_NAME:
+        return "the octets are not a name";
+    case RRCACHE_BAD_MESSAGE:
+        return "the octets are no response that can be read";
+    case RRCACHE_BAD_CHOICE:
+        return "no purpose, mode, kind or trust has this number";
+    case RRCACHE_BAD_TYPE:
+        return "nothing of this type or class is kept";
+    case RRCACHE_BAD_DATA:
+        return "the data do not fill the layout of their type";
+    case RRCACHE_WRONG_BODY:
+        return "the set has no data, or its time to live is too large";
+    case RRCACHE_WIDE:
+        return "the reply cannot be told";
+    case RRCACHE_SMALL:
+        return "the buffer is too small";
+    case RRCACHE_NULL:
+        return "a pointer is null";
+    case RRCACHE_NO_OFFERS:
+        return "the handle holds no offers";
+    case RRCACHE_HAS_OFFERS:
+        return "the handle holds offers already";
+    case RRCACHE_OTHER_QUERY:
+        return "the response answers another query";
+    case RRCACHE_NO_CHAPTERS:
+        return "the handle holds no chapters";
+    case RRCACHE_HAS_CHAPTERS:
+        return "the handle holds chapters already";
+    case RRCACHE_NO_LINE:
+        return "there is no such line";
+    case RRCACHE_SINK:
+        return "the sink failed";
+    case RRCACHE_OVERLAP:
+        return "what is to be written overlaps something else";
+    case RRCACHE_OTHER_SEED:
+        return "the name or the message is of another seed than the shelf";
+    }
+    return "no such status";
 }
 
 /* Some octet for a list that has none. */
@@ -553,27 +759,25 @@ static inline bool rrcache_touch(const void *one, size_t one_size, const void *o
            || rrcache_overlap(other, other_size, read, read_size);
 }
 
-/* Whether the numbers that a call of a shelf writes overlap the handle. */
-static inline bool rrcache_holds(const struct rrcache_shelf *shelf, const void *written,
-                                 size_t size)
+/* Whether what a call of a shelf writes, or reads, overlaps the handle. */
+static inline bool rrcache_holds(const struct rrcache_shelf *shelf, const void *octets, size_t size)
 {
-    return rrcache_overlap(shelf, sizeof *shelf, written, size);
+    return rrcache_overlap(shelf, sizeof *shelf, octets, size);
 }
 
-/* Makes an empty shelf for a handle that holds none: for 1 to 65,536 keys, with 1 to 1,048,576
-   events in a chapter, and sets that may answer for 0 to 604,800 seconds past their time to live.
-   It records none of its history until `rrcache_record` is called, and till then no chapter is
-   full. Names are hashed by SipHash-1-3 under the seed of 16 octets. Let it be random and keep it
-   secret, to keep others from picking names whose hashes are alike, which would make calls slow.
-   Where the handle holds a shelf RRCACHE_HAS_SHELF is returned, whatever the rules are, and that
-   shelf is as it was. */
-static inline enum rrcache_status rrcache_make(struct rrcache_shelf *shelf, uint64_t capacity,
-                                               uint64_t chapter, uint64_t stale,
-                                               const uint8_t seed[16])
+/* Makes an empty shelf for a handle that holds none. It records none of its history until
+   `rrcache_record` is called, and till then no chapter is full. Names are hashed by SipHash-1-3
+   under the seed of the rules. Let that be random and keep it secret, to keep others from picking
+   names whose hashes are alike, which would make calls slow. Where the handle holds a shelf
+   RRCACHE_HAS_SHELF is returned, whatever the rules are, and that shelf is as it was. */
+static inline enum rrcache_status rrcache_make(struct rrcache_shelf *shelf,
+                                               const struct rrcache_rules *rules)
 {
-    if (shelf == NULL || seed == NULL || rrcache_holds(shelf, seed, 16))
+    if (shelf == NULL || rules == NULL)
         return RRCACHE_NULL;
-    return (enum rrcache_status)rrc_make(shelf, capacity, chapter, stale, seed, 16);
+    if (rrcache_holds(shelf, rules, sizeof *rules))
+        return RRCACHE_OVERLAP;
+    return (enum rrcache_status)rrc_make(shelf, rules);
 }
 
 /* Frees the shelf of a handle, which then holds none, with all its keys and the events that are
@@ -583,6 +787,21 @@ static inline enum rrcache_status rrcache_free(struct rrcache_shelf *shelf)
     if (shelf == NULL)
         return RRCACHE_NULL;
     return (enum rrcache_status)rrc_free(shelf);
+}
+
+/* Makes a name of its wire form, for all that is asked of it: folds and hashes it, and tells in
+   which of so many parts, counted from 0, all of it lies. `name` may hold what it likes before. It
+   takes no memory. */
+static inline enum rrcache_status rrcache_make_name(struct rrcache_name *name,
+                                                    const uint8_t *octets, size_t size,
+                                                    const struct rrcache_parts *parts)
+{
+    if (name == NULL || parts == NULL || !rrcache_is_there(octets, size))
+        return RRCACHE_NULL;
+    if (rrcache_overlap(name, sizeof *name, octets, size)
+        || rrcache_overlap(name, sizeof *name, parts, sizeof *parts))
+        return RRCACHE_OVERLAP;
+    return (enum rrcache_status)rrc_make_name(rrcache_octets(octets, size), size, parts, name);
 }
 
 /* Records the history of the shelf from here on. The chapter that was open ends unrecorded, and the
@@ -601,111 +820,38 @@ static inline enum rrcache_status rrcache_record(struct rrcache_shelf *shelf)
    of the open one is freed before the call returns. No reply changes, and no key is lost. It takes
    no memory, and is refused only where a handle holds no shelf. Where nothing is recorded nothing
    is done. */
-static inline enum rrcache_status rrcache_release(struct rrcache_shelf *shelf)
+static inline enum rrcache_status rrcache_stop_and_drop(struct rrcache_shelf *shelf)
 {
     if (shelf == NULL)
         return RRCACHE_NULL;
-    return (enum rrcache_status)rrc_release(shelf);
+    return (enum rrcache_status)rrc_stop_and_drop(shelf);
 }
 
-/* Whether a response may be offered: what is needed is there, and the counts overlap nothing that
-   is handed in. */
-static inline bool rrcache_can_offer(const struct rrcache_shelf *shelf,
-                                     const struct rrcache_response *response,
-                                     const struct rrcache_counts *counts)
+/* Whether the octets of a response are there, and RRCACHE_OVERLAP where one of two stretches of
+   memory that the call writes overlaps them, or the other one. */
+static inline enum rrcache_status rrcache_can_read(const struct rrcache_response *response,
+                                                   const void *one, size_t one_size,
+                                                   const void *other, size_t other_size)
 {
-    return shelf != NULL && response != NULL && counts != NULL
-           && rrcache_is_there(response->octets, response->size)
-           && rrcache_is_there(response->zone, response->zone_size)
-           && !rrcache_holds(shelf, counts, sizeof *counts)
-           && !rrcache_touch(shelf, sizeof *shelf, counts, sizeof *counts, response->octets,
-                             response->size)
-           && !rrcache_touch(shelf, sizeof *shelf, counts, sizeof *counts, response->zone,
-                             response->zone_size);
-}
-
-/* Offers all that a response from a server of this zone says: its RRsets at or below the zone, and
-   its negative answer or that asking failed. Keys of other names than this shelf's are offered as
-   well; where there are other shelves `rrcache_offer_part` gives each its share. It compares the
-   response with no query, and one with TC set offers nothing: "What may be offered" above tells
-   more. */
-static inline enum rrcache_status rrcache_offer_message(struct rrcache_shelf *shelf,
-                                                        const struct rrcache_response *response,
-                                                        uint64_t line,
-                                                        struct rrcache_counts *counts)
-{
-    if (!rrcache_can_offer(shelf, response, counts))
+    if (response == NULL || one == NULL || other == NULL
+        || !rrcache_is_there(response->octets, response->size)
+        || !rrcache_is_there(response->zone, response->zone_size))
         return RRCACHE_NULL;
-    struct rrcache_limits limits = response->limits;
-    return (enum rrcache_status)rrc_offer_message(
-        shelf, rrcache_octets(response->octets, response->size), response->size,
-        rrcache_octets(response->zone, response->zone_size), response->zone_size, response->moment,
-        &limits, line, counts);
+    if (rrcache_overlap(one, one_size, other, other_size)
+        || rrcache_touch(one, one_size, other, other_size, response->octets, response->size)
+        || rrcache_touch(one, one_size, other, other_size, response->zone, response->zone_size))
+        return RRCACHE_OVERLAP;
+    return RRCACHE_DONE;
 }
 
-/* Offers what a response says of the names that lie in one of so many parts, counted from 0
-   (`rrcache_part_of`): of what `rrcache_offer_message` offers, what lies in that part. What lies in
-   other parts is neither offered nor counted. */
-static inline enum rrcache_status rrcache_offer_part(struct rrcache_shelf *shelf,
-                                                     const struct rrcache_response *response,
-                                                     const struct rrcache_parts *parts,
-                                                     uint64_t part, uint64_t line,
-                                                     struct rrcache_counts *counts)
-{
-    if (!rrcache_can_offer(shelf, response, counts) || parts == NULL)
-        return RRCACHE_NULL;
-    struct rrcache_limits limits = response->limits;
-    struct rrcache_parts division = *parts;
-    return (enum rrcache_status)rrc_offer_part(
-        shelf, rrcache_octets(response->octets, response->size), response->size,
-        rrcache_octets(response->zone, response->zone_size), response->zone_size, division.count,
-        division.seed, sizeof division.seed, part, response->moment, &limits, line, counts);
-}
-
-/* Whether a response may be read into a handle: what is needed is there, and nothing that is
-   written overlaps anything else. */
-static inline bool rrcache_can_read(const struct rrcache_offers *offers,
-                                    const struct rrcache_response *response,
-                                    const uint64_t *concerned)
-{
-    return offers != NULL && response != NULL && concerned != NULL
-           && rrcache_is_there(response->octets, response->size)
-           && rrcache_is_there(response->zone, response->zone_size)
-           && !rrcache_overlap(offers, sizeof *offers, concerned, sizeof *concerned)
-           && !rrcache_touch(offers, sizeof *offers, concerned, sizeof *concerned, response->octets,
-                             response->size)
-           && !rrcache_touch(offers, sizeof *offers, concerned, sizeof *concerned, response->zone,
-                             response->zone_size);
-}
-
-/* Reads a response from a server of this zone into the offers that `rrcache_offer_message` would
-   make of it, for a handle that holds none, and tells which of the parts they concern: bit 0 of
-   `concerned` is set where one lies in part 0, bit 1 for part 1, and so on. It takes no shelf and
-   writes no event. A handle that holds offers keeps them, and RRCACHE_HAS_OFFERS is returned,
-   whatever else would be refused. Where a response offers nothing, as one with TC set, `concerned`
-   is 0, and the handle is to be freed like any other. What the handle holds can be offered, and
-   cannot be read. It is what a `response` line of a trace offers. */
-static inline enum rrcache_status rrcache_read_message(struct rrcache_offers *offers,
-                                                       const struct rrcache_response *response,
-                                                       const struct rrcache_parts *parts,
-                                                       uint64_t *concerned)
-{
-    struct rrcache_limits limits;
-    struct rrcache_parts division;
-    if (!rrcache_can_read(offers, response, concerned) || parts == NULL)
-        return RRCACHE_NULL;
-    limits = response->limits;
-    division = *parts;
-    return (enum rrcache_status)rrc_read_message(
-        offers, rrcache_octets(response->octets, response->size), response->size,
-        rrcache_octets(response->zone, response->zone_size), response->zone_size, division.count,
-        division.seed, sizeof division.seed, response->moment, &limits, concerned);
-}
-
-/* Reads a response as `rrcache_read_message` does, but keeps in the handle only those of its offers
-   that are relevant to the query that was sent: with this identifier, for the name, type and class
-   of `query`, whose other fields are not read. A response with another identifier or question (in
-   which the case of letters counts for nothing) is RRCACHE_OTHER_QUERY.
+/* Reads a response from a server of this zone to a query into a handle that holds no offers: those
+   of its offers that are relevant to the query that was sent. It tells which of the parts they
+   concern: bit 0 of `concerned` is set where one lies in part 0, bit 1 for part 1, and so on. It
+   takes no shelf and writes no event. A handle that holds offers keeps them, and RRCACHE_HAS_OFFERS
+   is returned, whatever else would be refused. A response with another identifier or question (in
+   which the case of letters counts for nothing) is RRCACHE_OTHER_QUERY. Where a response offers
+   nothing, as one with TC set, `concerned` is 0, and the handle is to be freed like any other. What
+   the handle holds can be offered, and cannot be read.
 
    Relevant are: of the answer section, RRsets of the name and of at most 11 that CNAME records lead
    to from it, of the type that was asked for (any type, where that is ANY) or CNAME, and DNAME
@@ -722,42 +868,75 @@ static inline enum rrcache_status rrcache_read_message(struct rrcache_offers *of
    three ways alone: its CNAME records lead the question there; its NS, MX or SRV records name the
    other one as a host; or the other one is above the question's name, or above one that CNAME
    records lead to, and the server sends its NS, SOA, DS or DNAME records. */
-static inline enum rrcache_status
-rrcache_read_response(struct rrcache_offers *offers, const struct rrcache_response *response,
-                      const struct rrcache_query *query, uint16_t id,
-                      const struct rrcache_parts *parts, uint64_t *concerned)
+static inline enum rrcache_status rrcache_read_response(struct rrcache_offers *offers,
+                                                        const struct rrcache_response *response,
+                                                        const struct rrcache_query *query,
+                                                        const struct rrcache_parts *parts,
+                                                        uint64_t *concerned)
 {
-    struct rrcache_limits limits;
-    struct rrcache_parts division;
-    if (!rrcache_can_read(offers, response, concerned) || query == NULL || parts == NULL
-        || !rrcache_is_there(query->name, query->name_size)
-        || rrcache_touch(offers, sizeof *offers, concerned, sizeof *concerned, query->name,
-                         query->name_size))
+    enum rrcache_status status =
+        rrcache_can_read(response, offers, sizeof *offers, concerned, sizeof *concerned);
+    struct rrc_response terms = {0};
+    if (query == NULL || parts == NULL || !rrcache_is_there(query->name, query->name_size))
         return RRCACHE_NULL;
-    limits = response->limits;
-    division = *parts;
+    if (status != RRCACHE_DONE)
+        return status;
+    if (rrcache_touch(offers, sizeof *offers, concerned, sizeof *concerned, query->name,
+                      query->name_size))
+        return RRCACHE_OVERLAP;
+    terms.moment = response->moment;
+    terms.limits = response->limits;
+    terms.parts = *parts;
+    terms.id = query->id;
+    terms.rtype = query->rtype;
+    terms.rclass = query->rclass;
     return (enum rrcache_status)rrc_read_response(
         offers, rrcache_octets(response->octets, response->size), response->size,
-        rrcache_octets(response->zone, response->zone_size), response->zone_size, id,
-        rrcache_octets(query->name, query->name_size), query->name_size, query->rtype,
-        query->rclass, division.count, division.seed, sizeof division.seed, response->moment,
-        &limits, concerned);
+        rrcache_octets(response->zone, response->zone_size), response->zone_size,
+        rrcache_octets(query->name, query->name_size), query->name_size, &terms, concerned);
+}
+
+/* Reads a response as `rrcache_read_response` does, but compares it with no query, and keeps in the
+   handle all that it offers within the zone. It is what a `response` line of a trace offers. */
+static inline enum rrcache_status
+rrcache_read_message_unchecked(struct rrcache_offers *offers,
+                               const struct rrcache_response *response,
+                               const struct rrcache_parts *parts, uint64_t *concerned)
+{
+    enum rrcache_status status =
+        rrcache_can_read(response, offers, sizeof *offers, concerned, sizeof *concerned);
+    struct rrc_response terms = {0};
+    if (parts == NULL)
+        return RRCACHE_NULL;
+    if (status != RRCACHE_DONE)
+        return status;
+    terms.moment = response->moment;
+    terms.limits = response->limits;
+    terms.parts = *parts;
+    return (enum rrcache_status)rrc_read_message_unchecked(
+        offers, rrcache_octets(response->octets, response->size), response->size,
+        rrcache_octets(response->zone, response->zone_size), response->zone_size, &terms,
+        concerned);
 }
 
 /* Offers a shelf what was read of the names that lie in a part, counted from 0 and below the number
-   of parts that the message was read for, at the moment of the response. After
-   `rrcache_read_message` that is what `rrcache_offer_part` offers, without reading the message
-   again. The offers stay in their handle, so that a part may be offered again, and what the shelf
-   keeps of them outlives the handle. No name and no data are copied. */
+   of parts that the message was read for, at the moment of the response. The offers stay in their
+   handle, so that a part may be offered again, and what the shelf keeps of them outlives the
+   handle. No name and no data are copied. A shelf of another seed than that of the parts is refused
+   (RRCACHE_OTHER_SEED), since no ask would look there. */
 static inline enum rrcache_status rrcache_offer_read(struct rrcache_shelf *shelf,
-                                                     struct rrcache_offers *offers, uint64_t part,
-                                                     uint64_t line, struct rrcache_counts *counts)
+                                                     struct rrcache_offers *offers,
+                                                     const struct rrcache_share *share,
+                                                     struct rrcache_counts *counts)
 {
-    if (shelf == NULL || offers == NULL || counts == NULL
-        || rrcache_holds(shelf, offers, sizeof *offers)
-        || rrcache_touch(shelf, sizeof *shelf, offers, sizeof *offers, counts, sizeof *counts))
+    if (shelf == NULL || offers == NULL || share == NULL || counts == NULL)
         return RRCACHE_NULL;
-    return (enum rrcache_status)rrc_offer_read(shelf, offers, part, line, counts);
+    if (rrcache_holds(shelf, offers, sizeof *offers)
+        || rrcache_touch(shelf, sizeof *shelf, offers, sizeof *offers, counts, sizeof *counts)
+        || rrcache_touch(shelf, sizeof *shelf, offers, sizeof *offers, share, sizeof *share)
+        || rrcache_overlap(counts, sizeof *counts, share, sizeof *share))
+        return RRCACHE_OVERLAP;
+    return (enum rrcache_status)rrc_offer_read(shelf, offers, share, counts);
 }
 
 /* Frees the offers of a handle, which then holds none; what shelves kept of them stays. Where it
@@ -769,92 +948,163 @@ static inline enum rrcache_status rrcache_free_offers(struct rrcache_offers *off
     return (enum rrcache_status)rrc_free_offers(offers);
 }
 
+/* Offers all that a response from a server of this zone says: its RRsets at or below the zone, and
+   its negative answer or that asking failed. Keys of other names than this shelf's are offered as
+   well; where there are other shelves `rrcache_offer_part_unchecked` gives each its share. It
+   compares the response with no query, and one with TC set offers nothing: "What may be offered"
+   above tells more. */
+static inline enum rrcache_status
+rrcache_offer_message_unchecked(struct rrcache_shelf *shelf,
+                                const struct rrcache_response *response, uint64_t line,
+                                struct rrcache_counts *counts)
+{
+    enum rrcache_status status =
+        rrcache_can_read(response, shelf, sizeof *shelf, counts, sizeof *counts);
+    struct rrc_response terms = {0};
+    if (status != RRCACHE_DONE)
+        return status;
+    terms.moment = response->moment;
+    terms.line = line;
+    terms.limits = response->limits;
+    return (enum rrcache_status)rrc_offer_message_unchecked(
+        shelf, rrcache_octets(response->octets, response->size), response->size,
+        rrcache_octets(response->zone, response->zone_size), response->zone_size, &terms, counts);
+}
+
+/* Offers what a response says of the names that lie in one of so many parts, counted from 0: of
+   what `rrcache_offer_message_unchecked` offers, what lies in that part. What lies in other parts
+   is neither offered nor counted. */
+static inline enum rrcache_status
+rrcache_offer_part_unchecked(struct rrcache_shelf *shelf, const struct rrcache_response *response,
+                             const struct rrcache_parts *parts, const struct rrcache_share *share,
+                             struct rrcache_counts *counts)
+{
+    enum rrcache_status status =
+        rrcache_can_read(response, shelf, sizeof *shelf, counts, sizeof *counts);
+    struct rrc_response terms = {0};
+    if (parts == NULL || share == NULL)
+        return RRCACHE_NULL;
+    if (status != RRCACHE_DONE)
+        return status;
+    terms.moment = response->moment;
+    terms.line = share->line;
+    terms.limits = response->limits;
+    terms.parts = *parts;
+    terms.part = share->part;
+    return (enum rrcache_status)rrc_offer_part_unchecked(
+        shelf, rrcache_octets(response->octets, response->size), response->size,
+        rrcache_octets(response->zone, response->zone_size), response->zone_size, &terms, counts);
+}
+
 /* Offers one set under its owner. With `ttl` 0, RRCACHE_AUTHORITATIVE_ANSWER and any data of the
    type it clears what the shelf holds of the name, type and class, a set or that there are no such
-   data: so a key is flushed. `rrcache_offer_negative` with RRCACHE_DENIES_NAME, the same `trust`,
+   data: so a key is flushed. `rrcache_offer_negative` with RRCACHE_NXDOMAIN, the same `trust`,
    `ttl` 0 and any SOA record (the root as its owner, 22 octets of 0 as its data, will do) flushes
    that the name does not exist. No call flushes all names below one. The data of a set are told as
    they are offered: the caller leaves out repeats (RFC 2181 section 5). */
-static inline enum rrcache_status rrcache_offer_set(struct rrcache_shelf *shelf,
-                                                    const struct rrcache_set *set, uint64_t line,
-                                                    uint32_t *outcome)
+static inline enum rrcache_status
+rrcache_offer_set(struct rrcache_shelf *shelf, const struct rrcache_set *set, uint32_t *outcome)
 {
+    struct rrc_set terms = {0};
     if (shelf == NULL || set == NULL || outcome == NULL
         || !rrcache_is_there(set->owner, set->owner_size)
-        || !rrcache_is_there(set->data, set->data_size)
-        || rrcache_holds(shelf, outcome, sizeof *outcome)
+        || !rrcache_is_there(set->data, set->data_size))
+        return RRCACHE_NULL;
+    if (rrcache_holds(shelf, outcome, sizeof *outcome)
         || rrcache_touch(shelf, sizeof *shelf, outcome, sizeof *outcome, set->owner,
                          set->owner_size)
         || rrcache_touch(shelf, sizeof *shelf, outcome, sizeof *outcome, set->data, set->data_size))
-        return RRCACHE_NULL;
+        return RRCACHE_OVERLAP;
+    terms.moment = set->moment;
+    terms.line = set->line;
+    terms.ttl = set->ttl;
+    terms.trust = (uint32_t)set->trust;
+    terms.rtype = set->rtype;
+    terms.rclass = set->rclass;
     return (enum rrcache_status)rrc_offer_set(
-        shelf, rrcache_octets(set->owner, set->owner_size), set->owner_size, set->rtype,
-        set->rclass, (uint32_t)set->trust, set->ttl, rrcache_octets(set->data, set->data_size),
-        set->data_size, set->moment, line, outcome);
+        shelf, rrcache_octets(set->owner, set->owner_size), set->owner_size, &terms,
+        rrcache_octets(set->data, set->data_size), set->data_size, outcome);
 }
 
 /* Offers that a name has no data of a type, or does not exist. A class has to be one of those that
    are kept. */
 static inline enum rrcache_status rrcache_offer_negative(struct rrcache_shelf *shelf,
                                                          const struct rrcache_negative *negative,
-                                                         uint64_t line, uint32_t *outcome)
+                                                         uint32_t *outcome)
 {
+    struct rrc_negative terms = {0};
     if (shelf == NULL || negative == NULL || outcome == NULL
         || !rrcache_is_there(negative->name, negative->name_size)
         || !rrcache_is_there(negative->soa_owner, negative->soa_owner_size)
-        || !rrcache_is_there(negative->soa, negative->soa_size)
-        || rrcache_holds(shelf, outcome, sizeof *outcome)
+        || !rrcache_is_there(negative->soa, negative->soa_size))
+        return RRCACHE_NULL;
+    if (rrcache_holds(shelf, outcome, sizeof *outcome)
         || rrcache_touch(shelf, sizeof *shelf, outcome, sizeof *outcome, negative->name,
                          negative->name_size)
         || rrcache_touch(shelf, sizeof *shelf, outcome, sizeof *outcome, negative->soa_owner,
                          negative->soa_owner_size)
         || rrcache_touch(shelf, sizeof *shelf, outcome, sizeof *outcome, negative->soa,
                          negative->soa_size))
-        return RRCACHE_NULL;
+        return RRCACHE_OVERLAP;
+    terms.moment = negative->moment;
+    terms.line = negative->line;
+    terms.ttl = negative->ttl;
+    terms.trust = (uint32_t)negative->trust;
+    terms.denial = (uint32_t)negative->kind;
+    terms.rtype = negative->rtype;
+    terms.rclass = negative->rclass;
     return (enum rrcache_status)rrc_offer_negative(
-        shelf, rrcache_octets(negative->name, negative->name_size), negative->name_size,
-        negative->rtype, negative->rclass, (uint32_t)negative->denial, (uint32_t)negative->trust,
-        negative->ttl, rrcache_octets(negative->soa_owner, negative->soa_owner_size),
-        negative->soa_owner_size, rrcache_octets(negative->soa, negative->soa_size),
-        negative->soa_size, negative->moment, line, outcome);
+        shelf, rrcache_octets(negative->name, negative->name_size), negative->name_size, &terms,
+        rrcache_octets(negative->soa_owner, negative->soa_owner_size), negative->soa_owner_size,
+        rrcache_octets(negative->soa, negative->soa_size), negative->soa_size, outcome);
 }
 
 /* Offers that asking for data of a type failed. That is always kept. With `ttl` 0 it ends the
    failure that the shelf holds, and is told by no ask. Where the shelf holds none it takes a key
-   all the same, and may evict another: make it only where RRCACHE_MISS_FAILED was told. */
+   all the same, and may evict another: make it only where RRCACHE_FAILED was told. */
 static inline enum rrcache_status rrcache_offer_failure(struct rrcache_shelf *shelf,
                                                         const struct rrcache_failure *failure,
-                                                        uint64_t line, uint32_t *outcome)
+                                                        uint32_t *outcome)
 {
+    struct rrc_failure terms = {0};
     if (shelf == NULL || failure == NULL || outcome == NULL
-        || !rrcache_is_there(failure->name, failure->name_size)
-        || rrcache_holds(shelf, outcome, sizeof *outcome)
+        || !rrcache_is_there(failure->name, failure->name_size))
+        return RRCACHE_NULL;
+    if (rrcache_holds(shelf, outcome, sizeof *outcome)
         || rrcache_touch(shelf, sizeof *shelf, outcome, sizeof *outcome, failure->name,
                          failure->name_size))
-        return RRCACHE_NULL;
-    return (enum rrcache_status)rrc_offer_failure(
-        shelf, rrcache_octets(failure->name, failure->name_size), failure->name_size,
-        failure->rtype, failure->rclass, failure->ttl, failure->moment, line, outcome);
+        return RRCACHE_OVERLAP;
+    terms.moment = failure->moment;
+    terms.line = failure->line;
+    terms.ttl = failure->ttl;
+    terms.rtype = failure->rtype;
+    terms.rclass = failure->rclass;
+    return (enum rrcache_status)rrc_offer_failure(shelf,
+                                                  rrcache_octets(failure->name, failure->name_size),
+                                                  failure->name_size, &terms, outcome);
 }
 
-/* Whether a reply to a query may be told: what is needed is there, and nothing that is written
-   overlaps anything else. */
-static inline bool rrcache_can_tell(const struct rrcache_shelf *shelf,
-                                    const struct rrcache_query *query,
-                                    const struct rrcache_told *told, const uint8_t *buffer,
-                                    size_t buffer_size)
+/* Whether a reply may be told: RRCACHE_NULL where something that is needed is not there, and
+   RRCACHE_OVERLAP where something that is written overlaps anything else. */
+static inline enum rrcache_status rrcache_can_tell(const struct rrcache_shelf *shelf,
+                                                   const struct rrcache_name *name,
+                                                   const struct rrcache_question *question,
+                                                   const struct rrcache_told *told,
+                                                   const uint8_t *buffer, size_t buffer_size)
 {
-    return shelf != NULL && query != NULL && told != NULL
-           && rrcache_is_there(query->name, query->name_size)
-           && rrcache_is_there(buffer, buffer_size) && !rrcache_holds(shelf, told, sizeof *told)
-           && !rrcache_holds(shelf, buffer, buffer_size)
-           && !rrcache_holds(shelf, query->name, query->name_size)
-           && !rrcache_overlap(buffer, buffer_size, told, sizeof *told)
-           && !rrcache_touch(told, sizeof *told, buffer, buffer_size, query->name,
-                             query->name_size);
+    if (shelf == NULL || name == NULL || question == NULL || told == NULL
+        || !rrcache_is_there(buffer, buffer_size))
+        return RRCACHE_NULL;
+    if (rrcache_holds(shelf, told, sizeof *told) || rrcache_holds(shelf, buffer, buffer_size)
+        || rrcache_overlap(buffer, buffer_size, told, sizeof *told)
+        || rrcache_touch(told, sizeof *told, buffer, buffer_size, name, sizeof *name)
+        || rrcache_touch(told, sizeof *told, buffer, buffer_size, question, sizeof *question))
+        return RRCACHE_OVERLAP;
+    return RRCACHE_DONE;
 }
 
-/* Asks, which is one event: the reply is told and written to the buffer. Where the buffer is too
+/* Asks, which is one event: the reply is told and written to the buffer, and the entry that gives
+   it is moved to the front of those that go last when the shelf is full. Where the buffer is too
    small RRCACHE_SMALL is returned, `told` tells the reply and its sizes, and no event is written. A
    reply never takes more than 255 octets and those of its data. Of what `rrcache_read_response`
    read 28,551 octets are always enough: an owner of 255, 16,384 of data, and two before each of at
@@ -862,124 +1112,125 @@ static inline bool rrcache_can_tell(const struct rrcache_shelf *shelf,
    and RRCACHE_MOMENT_TOO_LARGE, so that the call with room enough may still be refused. It takes no
    memory while nothing is recorded, and RRCACHE_MEMORY does not come then. */
 static inline enum rrcache_status rrcache_ask(struct rrcache_shelf *shelf,
-                                              const struct rrcache_query *query, uint64_t line,
+                                              const struct rrcache_name *name,
+                                              const struct rrcache_question *question,
                                               struct rrcache_told *told, uint8_t *buffer,
                                               size_t buffer_size)
 {
     uint8_t none;
-    if (!rrcache_can_tell(shelf, query, told, buffer, buffer_size))
-        return RRCACHE_NULL;
-    return (enum rrcache_status)rrc_ask(
-        shelf, rrcache_octets(query->name, query->name_size), query->name_size, query->rtype,
-        query->rclass, query->moment, (uint32_t)query->purpose, (uint32_t)query->mode, line, told,
-        buffer_size == 0 ? &none : buffer, buffer_size);
+    enum rrcache_status status = rrcache_can_tell(shelf, name, question, told, buffer, buffer_size);
+    if (status != RRCACHE_DONE)
+        return status;
+    if (rrcache_holds(shelf, name, sizeof *name)
+        || rrcache_holds(shelf, question, sizeof *question))
+        return RRCACHE_OVERLAP;
+    return (enum rrcache_status)rrc_ask(shelf, name, question, told,
+                                        buffer_size == 0 ? &none : buffer, buffer_size);
 }
 
 /* What `rrcache_ask` would answer. No event is written and no key touched. It is not refused for
    its moment, which may be above 2^40, nor where numbers are spent. It takes no memory. */
 static inline enum rrcache_status rrcache_peek(const struct rrcache_shelf *shelf,
-                                               const struct rrcache_query *query,
+                                               const struct rrcache_name *name,
+                                               const struct rrcache_question *question,
                                                struct rrcache_told *told, uint8_t *buffer,
                                                size_t buffer_size)
 {
     struct rrcache_shelf look;
     uint8_t none;
-    if (!rrcache_can_tell(shelf, query, told, buffer, buffer_size))
-        return RRCACHE_NULL;
+    enum rrcache_status status = rrcache_can_tell(shelf, name, question, told, buffer, buffer_size);
+    if (status != RRCACHE_DONE)
+        return status;
     look = *shelf;
-    return (enum rrcache_status)rrc_peek(
-        &look, rrcache_octets(query->name, query->name_size), query->name_size, query->rtype,
-        query->rclass, query->moment, (uint32_t)query->purpose, (uint32_t)query->mode, told,
-        buffer_size == 0 ? &none : buffer, buffer_size);
-}
-
-/* Tells how far what the shelf holds of the name, type and class of a query is trusted, its time to
-   live and when it was stored, whether it is past its time or not. No reply tells these. That the
-   name does not exist is not told, also where an ask is answered so: a set that the shelf still
-   holds is told, or zeros. Nor are failures. No event is written and no key touched. It
-   takes no memory. */
-static inline enum rrcache_status rrcache_tell_stored(const struct rrcache_shelf *shelf,
-                                                      const struct rrcache_query *query,
-                                                      struct rrcache_stored *stored)
-{
-    struct rrcache_shelf look;
-    if (shelf == NULL || query == NULL || stored == NULL
-        || !rrcache_is_there(query->name, query->name_size)
-        || rrcache_holds(shelf, stored, sizeof *stored)
-        || rrcache_touch(shelf, sizeof *shelf, stored, sizeof *stored, query->name,
-                         query->name_size))
-        return RRCACHE_NULL;
-    look = *shelf;
-    return (enum rrcache_status)rrc_stored(&look, rrcache_octets(query->name, query->name_size),
-                                           query->name_size, query->rtype, query->rclass, stored);
-}
-
-/* Whether the CNAME record of a name is to be told in place of data of a type, by the kinds of both
-   replies: a fresh one where of the type there is stale data alone or nothing, or where the name
-   does not exist, which is older then or trusted less than the record; a stale one where there is
-   nothing. */
-static inline bool rrcache_is_alias_told(uint32_t of_alias, uint32_t of_type)
-{
-    if (of_type == RRCACHE_STALE || of_type == RRCACHE_NO_NAME)
-        return of_alias == RRCACHE_FRESH;
-    return (of_type == RRCACHE_MISS || of_type == RRCACHE_MISS_FAILED)
-           && (of_alias == RRCACHE_FRESH || of_alias == RRCACHE_STALE);
+    return (enum rrcache_status)rrc_peek(&look, name, question, told,
+                                         buffer_size == 0 ? &none : buffer, buffer_size);
 }
 
 /* Asks as `rrcache_ask` does, which is one event, for data of the type or for the name's CNAME
-   record, and `is_alias` tells which. The record is told where the type has a miss and the record
-   is fresh or stale, and where the type has stale data, or the name does not exist, and the record
-   is fresh. In each other case the reply for the type is told, and always for types CNAME and ANY
+   record, and `told->rtype` tells which: 5 where the record is told. It is told where a question
+   for type CNAME would tell it, fresh, or stale where that will do, and it governs over what a
+   question for the type tells: where that is a miss; where the record was stored later, unless what
+   answers for the type is not past its time and trusted more; or where it was stored earlier, and
+   is not past its time and trusted more. So a record and what it replaced are told apart as an
+   RRset and RRCACHE_NXDOMAIN are, and no older address is told beside a newer alias (RFC 8767
+   section 7). In each other case the reply for the type is told, and always for types CNAME and ANY
    (RFC 1034 section 4.3.2). The resolver then asks for the record's target, under the lock of that
-   name's shelf: the name in the first datum, for a name has one CNAME record (RFC 2181 section
-   10.1). `is_alias` is written where RRCACHE_DONE or RRCACHE_SMALL is returned.
+   name's shelf: the name in the first datum, for a name has one CNAME record (RFC 2181
+   section 10.1).
 
    A failure is one of the name and type that were asked for. So with RRCACHE_STALE_IF_FAILED a
-   record is told as stale where asking for the type has failed recently, but the names that it
-   leads to have no failure of their own. Where a peek at the question with RRCACHE_NO_STALE tells
-   RRCACHE_MISS_FAILED, ask for each name of its chain with RRCACHE_STALE_NOW. */
-static inline enum rrcache_status
-rrcache_ask_alias(struct rrcache_shelf *shelf, const struct rrcache_query *query, uint64_t line,
-                  struct rrcache_told *told, uint8_t *buffer, size_t buffer_size, bool *is_alias)
+   record is told as stale where asking for that type has failed recently, and not where asking for
+   type CNAME has; and the names that it leads to have no failure of their own. Where a peek at the
+   question with RRCACHE_NO_STALE tells RRCACHE_FAILED, ask for each name of its chain with
+   RRCACHE_STALE_NOW. */
+static inline enum rrcache_status rrcache_ask_alias(struct rrcache_shelf *shelf,
+                                                    const struct rrcache_name *name,
+                                                    const struct rrcache_question *question,
+                                                    struct rrcache_told *told, uint8_t *buffer,
+                                                    size_t buffer_size)
 {
-    struct rrcache_told of_type, of_alias;
-    struct rrcache_query alias;
-    enum rrcache_status status;
-    bool is_told;
-    if (!rrcache_can_tell(shelf, query, told, buffer, buffer_size) || is_alias == NULL
-        || rrcache_holds(shelf, is_alias, sizeof *is_alias)
-        || rrcache_touch(told, sizeof *told, buffer, buffer_size, is_alias, sizeof *is_alias)
-        || rrcache_overlap(is_alias, sizeof *is_alias, query->name, query->name_size))
-        return RRCACHE_NULL;
-    of_type.kind = of_alias.kind = 0;
-    alias = *query;
-    alias.rtype = 5; /* CNAME */
-    status = rrcache_peek(shelf, query, &of_type, NULL, 0);
-    if (of_type.kind == RRCACHE_MISS_FAILED && alias.mode == RRCACHE_STALE_IF_FAILED)
-        alias.mode = RRCACHE_STALE_NOW;
-    if (status == RRCACHE_DONE || status == RRCACHE_SMALL)
-        status = rrcache_peek(shelf, &alias, &of_alias, NULL, 0);
-    if (status != RRCACHE_DONE && status != RRCACHE_SMALL)
+    uint8_t none;
+    enum rrcache_status status = rrcache_can_tell(shelf, name, question, told, buffer, buffer_size);
+    if (status != RRCACHE_DONE)
         return status;
-    is_told = query->rtype != alias.rtype && query->rtype != 255 /* ANY */
-              && rrcache_is_alias_told(of_alias.kind, of_type.kind);
-    status = rrcache_ask(shelf, is_told ? &alias : query, line, told, buffer, buffer_size);
-    if (status == RRCACHE_DONE || status == RRCACHE_SMALL)
-        *is_alias = is_told;
-    return status;
+    if (rrcache_holds(shelf, name, sizeof *name)
+        || rrcache_holds(shelf, question, sizeof *question))
+        return RRCACHE_OVERLAP;
+    return (enum rrcache_status)rrc_ask_alias(shelf, name, question, told,
+                                              buffer_size == 0 ? &none : buffer, buffer_size);
+}
+
+/* What `rrcache_ask_alias` would answer, as `rrcache_peek` tells what `rrcache_ask` would. */
+static inline enum rrcache_status rrcache_peek_alias(const struct rrcache_shelf *shelf,
+                                                     const struct rrcache_name *name,
+                                                     const struct rrcache_question *question,
+                                                     struct rrcache_told *told, uint8_t *buffer,
+                                                     size_t buffer_size)
+{
+    struct rrcache_shelf look;
+    uint8_t none;
+    enum rrcache_status status = rrcache_can_tell(shelf, name, question, told, buffer, buffer_size);
+    if (status != RRCACHE_DONE)
+        return status;
+    look = *shelf;
+    return (enum rrcache_status)rrc_peek_alias(&look, name, question, told,
+                                               buffer_size == 0 ? &none : buffer, buffer_size);
+}
+
+/* Tells what the shelf holds of a name and a class for a type, whether it is past its time or not
+   and whatever answers a question: a set of the type or that there are no such data, that the name
+   does not exist, that asking for the type failed. Of the question the type and the class alone are
+   read. No event is written and no key touched. It takes no memory. */
+static inline enum rrcache_status rrcache_tell_stored(const struct rrcache_shelf *shelf,
+                                                      const struct rrcache_name *name,
+                                                      const struct rrcache_question *question,
+                                                      struct rrcache_stored *stored)
+{
+    struct rrcache_shelf look;
+    if (shelf == NULL || name == NULL || question == NULL || stored == NULL)
+        return RRCACHE_NULL;
+    if (rrcache_holds(shelf, stored, sizeof *stored)
+        || rrcache_overlap(stored, sizeof *stored, name, sizeof *name)
+        || rrcache_overlap(stored, sizeof *stored, question, sizeof *question))
+        return RRCACHE_OVERLAP;
+    look = *shelf;
+    return (enum rrcache_status)rrc_stored(&look, name, question, stored);
 }
 
 /* Removes the keys that can answer no more at a moment, which is one event, and tells how many they
    were. The first sweep of a shelf looks at all its keys, a later one at those that may have
    expired since. Who leaves the shelf to evictions need not sweep. A key by which a name does not
    exist keeps an older set of the name from being told, also after its own time; once it is removed
-   that set may be told again, fresh where its time is not over, else stale. */
-static inline enum rrcache_status rrcache_sweep(struct rrcache_shelf *shelf, uint64_t moment,
-                                                uint64_t line, uint64_t *removed)
+   that set may be told again, fresh where its time is not over, else stale. `most` is not read. */
+static inline enum rrcache_status
+rrcache_sweep(struct rrcache_shelf *shelf, const struct rrcache_sweep_at *sweep, uint64_t *removed)
 {
-    if (shelf == NULL || removed == NULL || rrcache_holds(shelf, removed, sizeof *removed))
+    if (shelf == NULL || sweep == NULL || removed == NULL)
         return RRCACHE_NULL;
-    return (enum rrcache_status)rrc_sweep(shelf, moment, line, removed);
+    if (rrcache_holds(shelf, removed, sizeof *removed) || rrcache_holds(shelf, sweep, sizeof *sweep)
+        || rrcache_overlap(sweep, sizeof *sweep, removed, sizeof *removed))
+        return RRCACHE_OVERLAP;
+    return (enum rrcache_status)rrc_sweep(shelf, sweep, removed);
 }
 
 /* Tells a moment before which no key of the shelf is fully expired, so that no sweep before it
@@ -991,44 +1242,31 @@ static inline enum rrcache_status rrcache_next_expiry(const struct rrcache_shelf
                                                       uint64_t *moment)
 {
     struct rrcache_shelf look;
-    if (shelf == NULL || moment == NULL || rrcache_holds(shelf, moment, sizeof *moment))
+    if (shelf == NULL || moment == NULL)
         return RRCACHE_NULL;
+    if (rrcache_holds(shelf, moment, sizeof *moment))
+        return RRCACHE_OVERLAP;
     look = *shelf;
     return (enum rrcache_status)rrc_next_expiry(&look, moment);
 }
 
 /* Sweeps in steps, so that no call is long: at each moment up to this one that
    `rrcache_next_expiry` tells, from the earliest on, until `most` keys or more are removed, or
-   `most` sweeps made. It tells how many keys were removed, and whether no key is left that is fully
-   expired at this moment. Each step is a sweep of its own, which is one event, and may remove no
-   key. Keys that expire fully in one second go in one step. What the steps before a refusal removed
-   stays removed, and is told. A moment above 2^40 is refused before the first step. */
-static inline enum rrcache_status rrcache_sweep_some(struct rrcache_shelf *shelf, uint64_t moment,
-                                                     uint64_t most, uint64_t line,
-                                                     uint64_t *removed, bool *is_done)
+   `most` sweeps made, where `most` is at least 1 (else RRCACHE_BAD_RULES is returned). It tells how
+   many keys were removed, and whether it came to its end: then no key is left that is fully expired
+   at this moment. Each step is a sweep of its own, which is one event, and may remove no key. Keys
+   that expire fully in one second go in one step. What the steps before a refusal removed stays
+   removed, and is told. A moment above 2^40 is refused before the first step. */
+static inline enum rrcache_status rrcache_sweep_some(struct rrcache_shelf *shelf,
+                                                     const struct rrcache_sweep_at *sweep,
+                                                     struct rrcache_swept *swept)
 {
-    enum rrcache_status status = RRCACHE_DONE;
-    uint64_t next = 0, gone = 0, in_step = 0, step;
-    if (shelf == NULL || removed == NULL || is_done == NULL
-        || rrcache_holds(shelf, removed, sizeof *removed)
-        || rrcache_holds(shelf, is_done, sizeof *is_done)
-        || rrcache_overlap(removed, sizeof *removed, is_done, sizeof *is_done))
+    if (shelf == NULL || sweep == NULL || swept == NULL)
         return RRCACHE_NULL;
-    status = rrcache_next_expiry(shelf, &next);
-    if (status == RRCACHE_DONE && moment > (uint64_t)1 << 40)
-        status = RRCACHE_MOMENT_TOO_LARGE;
-    for (step = 0; status == RRCACHE_DONE && next <= moment && gone < most && step < most; step++) {
-        status = rrcache_sweep(shelf, next, line, &in_step);
-        if (status == RRCACHE_DONE) {
-            gone += in_step;
-            status = rrcache_next_expiry(shelf, &next);
-        }
-    }
-    if (status == RRCACHE_NO_SHELF)
-        return status;
-    *removed = gone;
-    *is_done = status == RRCACHE_DONE && next > moment;
-    return status;
+    if (rrcache_holds(shelf, swept, sizeof *swept) || rrcache_holds(shelf, sweep, sizeof *sweep)
+        || rrcache_overlap(sweep, sizeof *sweep, swept, sizeof *swept))
+        return RRCACHE_OVERLAP;
+    return (enum rrcache_status)rrc_sweep_some(shelf, sweep, swept);
 }
 
 /* Takes the closed chapters and drops them, and tells how many they were, which is 0 while nothing
@@ -1036,20 +1274,26 @@ static inline enum rrcache_status rrcache_sweep_some(struct rrcache_shelf *shelf
 static inline enum rrcache_status rrcache_drop_chapters(struct rrcache_shelf *shelf,
                                                         uint64_t *dropped)
 {
-    if (shelf == NULL || dropped == NULL || rrcache_holds(shelf, dropped, sizeof *dropped))
+    if (shelf == NULL || dropped == NULL)
         return RRCACHE_NULL;
+    if (rrcache_holds(shelf, dropped, sizeof *dropped))
+        return RRCACHE_OVERLAP;
     return (enum rrcache_status)rrc_drop_chapters(shelf, dropped);
 }
 
-/* Whether the chapters of a shelf may be taken into a handle: what is needed is there, and nothing
-   that is written overlaps anything else. */
-static inline bool rrcache_can_take(const struct rrcache_shelf *shelf,
-                                    const struct rrcache_chapters *chapters, const uint64_t *count)
+/* Whether the chapters of a shelf may be taken into a handle: RRCACHE_NULL where something that is
+   needed is not there, and RRCACHE_OVERLAP where something that is written overlaps anything
+   else. */
+static inline enum rrcache_status rrcache_can_take(const struct rrcache_shelf *shelf,
+                                                   const struct rrcache_chapters *chapters,
+                                                   const uint64_t *count)
 {
-    return shelf != NULL && chapters != NULL && count != NULL
-           && !rrcache_holds(shelf, chapters, sizeof *chapters)
-           && !rrcache_touch(shelf, sizeof *shelf, chapters, sizeof *chapters, count,
-                             sizeof *count);
+    if (shelf == NULL || chapters == NULL || count == NULL)
+        return RRCACHE_NULL;
+    if (rrcache_holds(shelf, chapters, sizeof *chapters)
+        || rrcache_touch(shelf, sizeof *shelf, chapters, sizeof *chapters, count, sizeof *count))
+        return RRCACHE_OVERLAP;
+    return RRCACHE_DONE;
 }
 
 /* Takes the closed chapters out of the shelf, the oldest first, into a handle that holds none, and
@@ -1061,8 +1305,9 @@ static inline enum rrcache_status rrcache_take_chapters(struct rrcache_shelf *sh
                                                         struct rrcache_chapters *chapters,
                                                         uint64_t *count)
 {
-    if (!rrcache_can_take(shelf, chapters, count))
-        return RRCACHE_NULL;
+    enum rrcache_status status = rrcache_can_take(shelf, chapters, count);
+    if (status != RRCACHE_DONE)
+        return status;
     return (enum rrcache_status)rrc_take_chapters(shelf, chapters, count);
 }
 
@@ -1070,17 +1315,18 @@ static inline enum rrcache_status rrcache_take_chapters(struct rrcache_shelf *sh
    those that were closed and not taken before, and behind them the one that was open, which it
    closes. It tells how many they are, which is 0 where nothing was recorded. No reply changes, and
    no key is lost. RRCACHE_HISTORY_FULL is returned where the chapter has the number 2^62; after it
-   and RRCACHE_MEMORY the history is recorded as before, and `rrcache_release` can end that. Right
-   after `rrcache_record` it takes one chapter with no event, whose lines tell all that the shelf
-   holds: so keys are listed and saved. No call here makes a shelf of such a chapter; a caller may
-   offer each entry to an empty one, with the moment, trust and time to live of its line, in the
+   and RRCACHE_MEMORY the history is recorded as before, and `rrcache_stop_and_drop` can end that.
+   Right after `rrcache_record` it takes one chapter with no event, whose lines tell all that the
+   shelf holds: so keys are listed and saved. No call here makes a shelf of such a chapter; a caller
+   may offer each entry to an empty one, with the moment, trust and time to live of its line, in the
    order of their events' numbers. */
 static inline enum rrcache_status rrcache_stop_recording(struct rrcache_shelf *shelf,
                                                          struct rrcache_chapters *chapters,
                                                          uint64_t *count)
 {
-    if (!rrcache_can_take(shelf, chapters, count))
-        return RRCACHE_NULL;
+    enum rrcache_status status = rrcache_can_take(shelf, chapters, count);
+    if (status != RRCACHE_DONE)
+        return status;
     return (enum rrcache_status)rrc_stop_recording(shelf, chapters, count);
 }
 
@@ -1090,40 +1336,45 @@ static inline enum rrcache_status rrcache_stop_recording(struct rrcache_shelf *s
    begins with, one for each key that was held then, and one for each event, which are those of an
    archive. Behind the last one, and of a chapter that is not there, RRCACHE_NO_LINE is returned. It
    takes memory for the whole line, and gives it back. */
-static inline enum rrcache_status
-rrcache_chapter_line(struct rrcache_chapters *chapters, uint64_t chapter, uint64_t line,
-                     uint64_t from, uint8_t *buffer, size_t buffer_size, struct rrcache_line *told)
+static inline enum rrcache_status rrcache_chapter_line(struct rrcache_chapters *chapters,
+                                                       const struct rrcache_place *place,
+                                                       uint8_t *buffer, size_t buffer_size,
+                                                       struct rrcache_line *told)
 {
     uint8_t none;
-    if (chapters == NULL || told == NULL || !rrcache_is_there(buffer, buffer_size)
-        || rrcache_overlap(chapters, sizeof *chapters, told, sizeof *told)
-        || rrcache_touch(chapters, sizeof *chapters, told, sizeof *told, buffer, buffer_size))
+    if (chapters == NULL || place == NULL || told == NULL || !rrcache_is_there(buffer, buffer_size))
         return RRCACHE_NULL;
-    return (enum rrcache_status)rrc_chapter_line(
-        chapters, chapter, line, from, buffer_size == 0 ? &none : buffer, buffer_size, told);
+    if (rrcache_overlap(chapters, sizeof *chapters, told, sizeof *told)
+        || rrcache_touch(chapters, sizeof *chapters, told, sizeof *told, buffer, buffer_size)
+        || rrcache_touch(chapters, sizeof *chapters, told, sizeof *told, place, sizeof *place)
+        || rrcache_overlap(buffer, buffer_size, place, sizeof *place))
+        return RRCACHE_OVERLAP;
+    return (enum rrcache_status)rrc_chapter_line(chapters, place, buffer_size == 0 ? &none : buffer,
+                                                 buffer_size, told);
 }
 
-/* Writes a line of a chapter, both counted from 0, with its LF: each RRCACHE_PIECE_OCTETS of it,
-   and what is left, by one call of the sink. Where that returns other than 0 RRCACHE_SINK is
-   returned, and nothing more is written. */
+/* Writes a line of a chapter, both counted from 0, with its LF, from the octet of the place on:
+   each RRCACHE_PIECE_OCTETS of it, and what is left, by one call of the sink. Where that returns
+   other than 0 RRCACHE_SINK is returned, and nothing more is written. */
 static inline enum rrcache_status rrcache_write_line(struct rrcache_chapters *chapters,
-                                                     uint64_t chapter, uint64_t line,
+                                                     const struct rrcache_place *place,
                                                      rrcache_sink sink, void *state)
 {
     uint8_t buffer[RRCACHE_PIECE_OCTETS];
+    struct rrcache_place at;
     struct rrcache_line told;
-    uint64_t from = 0;
     enum rrcache_status status;
-    if (chapters == NULL || sink == NULL)
+    if (chapters == NULL || place == NULL || sink == NULL)
         return RRCACHE_NULL;
+    at = *place;
     do {
-        status = rrcache_chapter_line(chapters, chapter, line, from, buffer, sizeof buffer, &told);
+        status = rrcache_chapter_line(chapters, &at, buffer, sizeof buffer, &told);
         if (status != RRCACHE_DONE)
             return status;
-        if (sink(state, buffer, (size_t)told.written) != 0)
+        if (told.written != 0 && sink(state, buffer, (size_t)told.written) != 0)
             return RRCACHE_SINK;
-        from += told.written;
-    } while (from < told.size);
+        at.from += told.written;
+    } while (at.from < told.size);
     return RRCACHE_DONE;
 }
 
@@ -1135,12 +1386,16 @@ static inline enum rrcache_status rrcache_write_chapter(struct rrcache_chapters 
                                                         uint64_t chapter, rrcache_sink sink,
                                                         void *state)
 {
-    uint64_t line = 0;
-    enum rrcache_status status = rrcache_write_line(chapters, chapter, line, sink, state);
+    struct rrcache_place place = {0};
+    enum rrcache_status status;
+    place.chapter = chapter;
+    status = rrcache_write_line(chapters, &place, sink, state);
     if (status != RRCACHE_DONE)
         return status;
-    while (status == RRCACHE_DONE)
-        status = rrcache_write_line(chapters, chapter, ++line, sink, state);
+    while (status == RRCACHE_DONE) {
+        place.line += 1;
+        status = rrcache_write_line(chapters, &place, sink, state);
+    }
     return status == RRCACHE_NO_LINE ? RRCACHE_DONE : status; /* it was behind the last line */
 }
 
@@ -1168,48 +1423,27 @@ static inline enum rrcache_status rrcache_free_chapters(struct rrcache_chapters 
    at most 302,830 for each of its keys: 510 for two names, 16,384 for data, and 48 for each 11
    octets of a response, which has room for no more records. Where no response of more than 1,232
    octets is read, that is 22,270. */
-static inline enum rrcache_status rrcache_sizes(const struct rrcache_shelf *shelf, uint64_t *keys,
-                                                uint64_t *events, uint64_t *chapters,
-                                                uint64_t *octets)
+static inline enum rrcache_status rrcache_sizes(const struct rrcache_shelf *shelf,
+                                                struct rrcache_usage *sizes)
 {
     struct rrcache_shelf look;
-    if (shelf == NULL || keys == NULL || events == NULL || chapters == NULL || octets == NULL
-        || rrcache_holds(shelf, keys, sizeof *keys) || rrcache_holds(shelf, events, sizeof *events)
-        || rrcache_holds(shelf, chapters, sizeof *chapters)
-        || rrcache_holds(shelf, octets, sizeof *octets)
-        || rrcache_overlap(keys, sizeof *keys, events, sizeof *events)
-        || rrcache_overlap(chapters, sizeof *chapters, octets, sizeof *octets)
-        || rrcache_touch(keys, sizeof *keys, events, sizeof *events, chapters, sizeof *chapters)
-        || rrcache_touch(keys, sizeof *keys, events, sizeof *events, octets, sizeof *octets))
+    if (shelf == NULL || sizes == NULL)
         return RRCACHE_NULL;
+    if (rrcache_holds(shelf, sizes, sizeof *sizes))
+        return RRCACHE_OVERLAP;
     look = *shelf;
-    return (enum rrcache_status)rrc_sizes(&look, keys, events, chapters, octets);
+    return (enum rrcache_status)rrc_sizes(&look, sizes);
 }
 
-/* Tells why octets are no response: 0 they are one, 1 they end too soon, 2 a length octet has
-   reserved bits, 3 a pointer leads to no lower place, 4 a name has more than 255 octets, 5 data do
-   not fill their layout, 6 they are no response, 7 there is not one question, 8 they are more than
-   65,535. */
+/* Tells why octets are no response, by a number of `enum rrcache_message_fault`, or
+   RRCACHE_NO_FAULT where they are one. */
 static inline enum rrcache_status rrcache_fault(const uint8_t *octets, size_t size, uint32_t *fault)
 {
-    if (fault == NULL || !rrcache_is_there(octets, size)
-        || rrcache_overlap(fault, sizeof *fault, octets, size))
+    if (fault == NULL || !rrcache_is_there(octets, size))
         return RRCACHE_NULL;
+    if (rrcache_overlap(fault, sizeof *fault, octets, size))
+        return RRCACHE_OVERLAP;
     return (enum rrcache_status)rrc_fault(rrcache_octets(octets, size), size, fault);
-}
-
-/* Tells in which of so many parts all keys of a name lie, counted from 0. It takes no memory. */
-static inline enum rrcache_status rrcache_part_of(const uint8_t *name, size_t name_size,
-                                                  const struct rrcache_parts *parts, uint64_t *part)
-{
-    struct rrcache_parts division;
-    if (parts == NULL || part == NULL || !rrcache_is_there(name, name_size)
-        || rrcache_overlap(part, sizeof *part, name, name_size))
-        return RRCACHE_NULL;
-    division = *parts;
-    return (enum rrcache_status)rrc_part_of(rrcache_octets(name, name_size), name_size,
-                                            division.count, division.seed, sizeof division.seed,
-                                            part);
 }
 
 #ifdef __cplusplus

@@ -55,7 +55,7 @@ def body_of(told):
     if isinstance(told, Failure):
         return Body("failure", b"", (), 0, told.ttl)
     kind, items = ("negative", (told.soa,)) if hasattr(told, "soa") else ("positive", told.data)
-    return Body(kind, to_wire(told.owner), items, told.rank, told.ttl)
+    return Body(kind, to_wire(told.owner), items, told.trust, told.ttl)
 
 
 def entry_of(told):
@@ -141,7 +141,7 @@ def fault_in(chapter, place, line):
 
 
 def rules_of(chapter):
-    return Rules(chapter.capacity, chapter.chapter, chapter.stale)
+    return Rules(chapter.capacity, chapter.chapter, chapter.max_stale)
 
 
 def link_fault(before, closing, chapter):

@@ -16,30 +16,38 @@ HEADER = (TOP / "include" / "rrcache.h").read_text()
 # Each group: its calls, without the rrcache_ of their names, and what its page is about.
 GROUPS = {
     "make free": "make and free a shelf",
-    "offer_message offer_part offer_set offer_negative offer_failure":
-        "offer what a response says",
-    "read_message read_response offer_read free_offers":
-        "read a response once and offer it to several shelves",
-    "ask ask_alias peek tell_stored": "ask a shelf",
+    "make_name": "make a name, for all that is asked of it",
+    "read_response offer_read free_offers": "read a response once and offer it to several shelves",
+    "offer_set offer_negative offer_failure": "offer a set, a negative answer or a failure",
+    "read_message_unchecked offer_message_unchecked offer_part_unchecked":
+        "offer what a response says, compared with no query",
+    "ask ask_alias peek peek_alias tell_stored": "ask a shelf",
     "sweep next_expiry sweep_some sizes": "sweep a shelf, tell its sizes",
-    "record release drop_chapters": "record the history of a shelf, or not",
+    "record stop_and_drop drop_chapters": "record the history of a shelf, or not",
     "take_chapters stop_recording write_chapter write_line chapter_line free_chapters":
         "take the chapters of a shelf's history out and write them",
-    "part_of fault version": "tell a name's part, a message's fault and the library's version",
+    "fault status_text version":
+        "tell a message's fault, what a status says and the library's version",
 }
 # The example of rrcache(3), behind the line of its licence.
 EXAMPLE = (TOP / "examples" / "first.c").read_text().partition("\n")[2]
-# An inline function with a comment of its own: that, its prototype and its name.
-CALL = re.compile(r"/\* ((?:(?!\*/).)*?) \*/\nstatic inline "
-                  r"((?:uint32_t|enum rrcache_status)\s+(rrcache_\w+)\([^)]*\))\n\{", re.S)
+# An inline function with a comment of its own: that, its prototype and its name. Those that look at
+# what others are handed, rrcache_can_.., are no calls.
+CALL = re.compile(r"/\* ((?:(?!\*/).)*?) \*/\nstatic inline ((?:uint32_t|enum rrcache_status|"
+                  r"const char \*)\s*(rrcache_(?!can_)\w+)\([^)]*\))\n\{", re.S)
+
+
+def shown(prototype):
+    """A prototype without its first words. Where its name stands on its first line, its next lines
+    stand farther in."""
+    inset = "\n" + " " * len("static inline ")
+    is_inset = "(" in prototype.partition("\n")[0]
+    return (prototype.replace(inset, "\n") if is_inset else prototype) + ";"
 
 
 def calls():
     """The header's calls that have a comment of their own: prototype and comment by name."""
-    # Without its first words the lines behind a prototype stand farther in.
-    inset = "\n" + " " * len("static inline ")
-    return {name: (f"{prototype.replace(inset, chr(10))};", comment)
-            for comment, prototype, name in CALL.findall(HEADER)}
+    return {name: (shown(prototype), comment) for comment, prototype, name in CALL.findall(HEADER)}
 
 
 def roff(text):
@@ -95,8 +103,8 @@ def group_page(names, about):
     for name in names:
         text += f".SS {name}\n" + filled(map(" ".join, blocks(found[name][1])))
     text += (".SH RETURN VALUE\nA status, RRCACHE_DONE or the reason of a refusal, but for "
-             "\\fBrrcache_version\\fR. \\fBrrcache\\fR(3) has them all, with the order in which "
-             "they are told, and with what a refusal leaves.\n")
+             "\\fBrrcache_version\\fR and \\fBrrcache_status_text\\fR. \\fBrrcache\\fR(3) has them "
+             "all, with the order in which they are told, and with what a refusal leaves.\n")
     return page(names[0], f"{', '.join(names)} \\- {about}", text)
 
 
@@ -107,7 +115,7 @@ def whole_page():
         text += (f".SS {title}\n" if title else "") + filled(points)
     # The enums and structs, as the header has them.
     types = HEADER[HEADER.index("/* What calls return. */"):
-                   HEADER.index("/* The functions of the library proper.")]
+                   HEADER.index("/* ---- The functions of the library proper,")]
     text += f".SH TYPES\n{verbatim(types)}.SH EXAMPLES\n{verbatim(EXAMPLE)}"
     return page("rrcache", "rrcache \\- the RRset cache of a recursive DNS resolver", text)
 

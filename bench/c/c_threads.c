@@ -1,8 +1,9 @@
 /* SPDX-License-Identifier: MIT */
 /* c_threads THREADS CALLS shared|own ask|put|both: times the library for C. So many threads make so
    many calls in all on 16 shelves, each shelf under a lock: `shared`, each thread picks the shelf
-   of each name; `own`, each thread has 16 shelves of its own and takes no lock. It prints how many
-   calls there were and the nanoseconds that they took, by the clock. `bench/run c` runs it. */
+   of each name; `own`, each thread has 16 shelves of its own and takes no lock. To ask takes the
+   making of the name too, which is under no lock. It prints how many calls there were and the
+   nanoseconds that they took, by the clock. `bench/run c` runs it. */
 #include <pthread.h>
 #include <stdio.h>
 #include <stdlib.h>
@@ -27,6 +28,9 @@ struct worker {
     unsigned puts; /* of 16 calls so many are puts */
 };
 
+#define SEED "sixteen octets."
+
+static const struct rrcache_parts PARTS = {SHELVES, SEED};
 static uint8_t names[NAMES][16];
 static uint64_t parts[NAMES];
 static pthread_barrier_t start;
@@ -51,6 +55,14 @@ static uint64_t draw(uint64_t *seed)
     return *seed ^= *seed << 17;
 }
 
+static struct rrcache_name made_name(const uint8_t *octets)
+{
+    struct rrcache_name name;
+    if (rrcache_make_name(&name, octets, sizeof names[0], &PARTS) != RRCACHE_DONE)
+        fail("a name is none");
+    return name;
+}
+
 static void put(struct shelf *shelf, const uint8_t *name, uint64_t line)
 {
     static const uint8_t data[] = {0, 4, 192, 0, 2, 1, 0, 4, 192, 0, 2, 2};
@@ -64,26 +76,26 @@ static void put(struct shelf *shelf, const uint8_t *name, uint64_t line)
         .data = data,
         .data_size = sizeof data,
         .moment = MOMENT,
+        .line = line,
     };
     uint32_t outcome;
-    if (rrcache_offer_set(&shelf->cache, &set, line, &outcome) != RRCACHE_DONE)
+    if (rrcache_offer_set(&shelf->cache, &set, &outcome) != RRCACHE_DONE)
         fail("a put was refused");
 }
 
-static void ask(struct shelf *shelf, const uint8_t *name, uint64_t line)
+static void ask(struct shelf *shelf, const struct rrcache_name *name, uint64_t line)
 {
-    const struct rrcache_query query = {
-        .name = name,
-        .name_size = sizeof names[0],
+    const struct rrcache_question question = {
+        .moment = MOMENT,
+        .line = line,
         .rtype = 1,
         .rclass = RRCACHE_IN,
-        .moment = MOMENT,
         .purpose = RRCACHE_QUESTION,
         .mode = RRCACHE_NO_STALE,
     };
     struct rrcache_told told;
     uint8_t buffer[512];
-    if (rrcache_ask(&shelf->cache, &query, line, &told, buffer, sizeof buffer) != RRCACHE_DONE
+    if (rrcache_ask(&shelf->cache, name, &question, &told, buffer, sizeof buffer) != RRCACHE_DONE
         || told.kind != RRCACHE_FRESH)
         fail("an ask found nothing fresh");
 }
@@ -91,13 +103,13 @@ static void ask(struct shelf *shelf, const uint8_t *name, uint64_t line)
 /* Makes 16 shelves with all names in them. */
 static struct shelf *make_shelves(void)
 {
-    static const uint8_t seed[16] = "sixteen octets.";
+    static const struct rrcache_rules rules = {NAMES, NAMES, 0, SEED};
     struct shelf *shelves = calloc(SHELVES, sizeof *shelves);
     if (shelves == NULL)
         fail("no memory");
     for (int i = 0; i < SHELVES; i++)
         if (pthread_mutex_init(&shelves[i].lock, NULL) != 0
-            || rrcache_make(&shelves[i].cache, NAMES, NAMES, 0, seed) != RRCACHE_DONE)
+            || rrcache_make(&shelves[i].cache, &rules) != RRCACHE_DONE)
             fail("a shelf was refused");
     for (unsigned i = 0; i < NAMES; i++)
         put(&shelves[parts[i]], names[i], i);
@@ -113,6 +125,35 @@ static void free_shelves(struct shelf *shelves)
     free(shelves);
 }
 
+static struct shelf *taken(const struct worker *worker, uint64_t part)
+{
+    struct shelf *shelf = &worker->shelves[part];
+    if (worker->is_locked)
+        pthread_mutex_lock(&shelf->lock);
+    return shelf;
+}
+
+static void give(const struct worker *worker, struct shelf *shelf)
+{
+    if (worker->is_locked)
+        pthread_mutex_unlock(&shelf->lock);
+}
+
+static void put_one(const struct worker *worker, uint64_t number, uint64_t line)
+{
+    struct shelf *shelf = taken(worker, parts[number]);
+    put(shelf, names[number], line);
+    give(worker, shelf);
+}
+
+static void ask_one(const struct worker *worker, uint64_t number, uint64_t line)
+{
+    struct rrcache_name name = made_name(names[number]);
+    struct shelf *shelf = taken(worker, name.part);
+    ask(shelf, &name, line);
+    give(worker, shelf);
+}
+
 static void *work(void *argument)
 {
     struct worker *worker = argument;
@@ -120,16 +161,11 @@ static void *work(void *argument)
         worker->shelves = make_shelves();
     pthread_barrier_wait(&start);
     for (uint64_t call = 0; call < worker->calls; call++, worker->done++) {
-        uint64_t drawn = draw(&worker->seed), name = drawn % NAMES;
-        struct shelf *shelf = &worker->shelves[parts[name]];
-        if (worker->is_locked)
-            pthread_mutex_lock(&shelf->lock);
+        uint64_t drawn = draw(&worker->seed);
         if (worker->puts > (drawn >> 32 & 15))
-            put(shelf, names[name], call);
+            put_one(worker, drawn % NAMES, call);
         else
-            ask(shelf, names[name], call);
-        if (worker->is_locked)
-            pthread_mutex_unlock(&shelf->lock);
+            ask_one(worker, drawn % NAMES, call);
     }
     pthread_barrier_wait(&start);
     return NULL;
@@ -137,13 +173,11 @@ static void *work(void *argument)
 
 static void make_names(void)
 {
-    static const struct rrcache_parts division = {SHELVES, "another sixteen"};
     for (unsigned i = 0; i < NAMES; i++) {
         memcpy(names[i], "\6n00000\7example", sizeof names[0]); /* and the zero octet of the root */
         for (unsigned digit = 0, rest = i; digit < 5; digit++, rest /= 10)
             names[i][6 - digit] = (uint8_t)('0' + rest % 10);
-        if (rrcache_part_of(names[i], sizeof names[i], &division, &parts[i]) != RRCACHE_DONE)
-            fail("a name is none");
+        parts[i] = made_name(names[i]).part;
     }
 }
 

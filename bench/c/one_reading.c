@@ -12,7 +12,11 @@
 
 enum { SHELVES = 16, KEYS = 65536 };
 
-static const uint8_t ROOT[] = {0}, SEED[16] = "sixteen octets.";
+#define SEED "sixteen octets."
+
+static const uint8_t ROOT[] = {0};
+static const struct rrcache_rules RULES = {KEYS, KEYS, 0, SEED};
+static const struct rrcache_parts PARTS = {SHELVES, SEED};
 static uint8_t message[65535];
 static struct rrcache_response response = {
     .octets = message,
@@ -21,7 +25,6 @@ static struct rrcache_response response = {
     .moment = 1,
     .limits = {86400, 3600, 30},
 };
-static const struct rrcache_parts PARTS = {SHELVES, "another sixteen"};
 static struct rrcache_counts counts;
 
 static void check(uint32_t status)
@@ -34,7 +37,7 @@ static void check(uint32_t status)
 
 static void offer_whole(struct rrcache_shelf *shelves)
 {
-    check(rrcache_offer_message(shelves, &response, 1, &counts));
+    check(rrcache_offer_message_unchecked(shelves, &response, 1, &counts));
 }
 
 static uint64_t nanoseconds(void)
@@ -44,13 +47,19 @@ static uint64_t nanoseconds(void)
     return (uint64_t)now.tv_sec * 1000000000 + (uint64_t)now.tv_nsec;
 }
 
+static void offer_share(struct rrcache_shelf *shelf, struct rrcache_offers *offers, uint64_t part)
+{
+    const struct rrcache_share share = {.part = part, .line = 1};
+    check(rrcache_offer_read(shelf, offers, &share, &counts));
+}
+
 static void offer_read(struct rrcache_shelf *shelves)
 {
     struct rrcache_offers offers = {0};
     uint64_t concerned;
-    check(rrcache_read_message(&offers, &response, &PARTS, &concerned));
+    check(rrcache_read_message_unchecked(&offers, &response, &PARTS, &concerned));
     for (uint64_t part = 0; part < SHELVES; part++)
-        check(rrcache_offer_read(&shelves[part], &offers, part, 1, &counts));
+        offer_share(&shelves[part], &offers, part);
     check(rrcache_free_offers(&offers));
 }
 
@@ -60,11 +69,11 @@ static uint64_t took_longest(void)
     struct rrcache_shelf shelves[SHELVES] = {{0}};
     struct rrcache_offers offers = {0};
     uint64_t concerned, longest = 0;
-    check(rrcache_read_message(&offers, &response, &PARTS, &concerned));
+    check(rrcache_read_message_unchecked(&offers, &response, &PARTS, &concerned));
     for (uint64_t part = 0; part < SHELVES; part++) {
-        check(rrcache_make(&shelves[part], KEYS, KEYS, 0, SEED));
+        check(rrcache_make(&shelves[part], &RULES));
         uint64_t begin = nanoseconds();
-        check(rrcache_offer_read(&shelves[part], &offers, part, 1, &counts));
+        offer_share(&shelves[part], &offers, part);
         uint64_t it = nanoseconds() - begin;
         longest = it > longest ? it : longest;
         check(rrcache_free(&shelves[part]));
@@ -75,15 +84,17 @@ static uint64_t took_longest(void)
 
 static void offer_parts(struct rrcache_shelf *shelves)
 {
-    for (uint64_t part = 0; part < SHELVES; part++)
-        check(rrcache_offer_part(&shelves[part], &response, &PARTS, part, 1, &counts));
+    for (uint64_t part = 0; part < SHELVES; part++) {
+        const struct rrcache_share share = {.part = part, .line = 1};
+        check(rrcache_offer_part_unchecked(&shelves[part], &response, &PARTS, &share, &counts));
+    }
 }
 
 static uint64_t took(void (*offer)(struct rrcache_shelf *), unsigned long times)
 {
     struct rrcache_shelf shelves[SHELVES] = {{0}};
     for (int i = 0; i < SHELVES; i++)
-        check(rrcache_make(&shelves[i], KEYS, KEYS, 0, SEED));
+        check(rrcache_make(&shelves[i], &RULES));
     uint64_t begin = nanoseconds();
     for (unsigned long time = 0; time < times; time++)
         offer(shelves);

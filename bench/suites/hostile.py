@@ -43,7 +43,7 @@ def tell_message(make, size, runs):
     for _ in range(runs):
         with rrcache.Shelf(MOST_KEYS, MOST_KEYS) as shelf:
             before = memory()
-            offer.append(timed(shelf.offer_message, message, ROOT, 0)[0])
+            offer.append(timed(shelf.offer_message_unchecked, message, ROOT, 0)[0])
             kept, told = memory() - before, shelf.sizes()
     print(f"{make.__name__:12}{len(message):8,} octets: {told.keys:5,} keys, {kept:10,} octets stay"
           f" ({kept / len(message):4.1f} times; {told.octets:10,} are told),"
@@ -69,13 +69,13 @@ def sets_of(data, owner=name, rtype=TXT):
 def repeated(owner):
     """Sets of a record that came 15 times."""
     records = 15 * [record(ASKED, A, 600, ADDRESS)]
-    return lambda shelf, it, moment: shelf.offer_message(
+    return lambda shelf, it, moment: shelf.offer_message_unchecked(
         response(question(owner(it), A), records), ROOT, moment)
 
 
 def denied(shelf, it, moment):
     soa = name(it, LONG_NAMES) + name(it + 7, LONG_NAMES) + bytes(20)
-    shelf.offer_negative(capitals(it), A, rrcache.Denial.NAME, 3, 600, capitals(it), soa, moment)
+    shelf.offer_negative(capitals(it), A, rrcache.Kind.NXDOMAIN, 3, 600, capitals(it), soa, moment)
 
 
 def fill(shelf, kind, keys):
@@ -149,12 +149,12 @@ def tell_history(size):
     with rrcache.Shelf(16, 4096, record=True) as shelf:
         before = memory()
         for _ in range(20):
-            shelf.offer_message(one_key(size, 0), ROOT, 0)
+            shelf.offer_message_unchecked(one_key(size, 0), ROOT, 0)
         print(f"20 offers with a TTL of 0: {shelf.sizes().keys} keys,"
               f" {memory() - before:,} octets stay in the open chapter")
     with rrcache.Shelf(16, 64, record=True) as shelf:
         for _ in range(65):
-            shelf.offer_message(one_key(size), ROOT, 0)
+            shelf.offer_message_unchecked(one_key(size), ROOT, 0)
         print(f"a chapter of 64 events of one_key dropped {timed(shelf.drop_chapters)[0]:.1f} ms")
 
 
@@ -164,7 +164,7 @@ def tell_full(size, chapter):
         fill(shelf, "short names", 4096)
         shelf.drop_chapters()
         before = memory()
-        took, _ = timed(shelf.offer_message, many_types(size), ROOT, 1)
+        took, _ = timed(shelf.offer_message_unchecked, many_types(size), ROOT, 1)
         stay, closed = memory() - before, shelf.sizes().chapters
         left = sum(shelf.peek(name(it), A, 1).kind == rrcache.Kind.FRESH for it in range(4096))
         print(f"one message of many_types leaves {left} of 4,096 keys, in {took:.0f} ms; it closes"
@@ -213,8 +213,8 @@ def data_of(size):
 def offer_apart(message, parts):
     """Offers a message to as many shelves, each its part."""
     for part in range(parts):
-        with rrcache.Shelf(MOST_KEYS // parts, MOST_KEYS // parts) as shelf:
-            shelf.offer_part(message, ROOT, parts, SEED, part, 0)
+        with rrcache.Shelf(MOST_KEYS // parts, MOST_KEYS // parts, seed=SEED) as shelf:
+            shelf.offer_part_unchecked(message, ROOT, rrcache.Parts(parts, SEED), part, 0)
 
 
 def worst(inputs, call, runs, before=lambda shelf, it: None):
@@ -235,17 +235,17 @@ def tell_calls(size, runs):
     sets = {"one RRset of rdata of two octets": data_of(size), "one rdata": [bytes(size - 2)]}
 
     def offered(shelf, message):
-        shelf.offer_message(message, ROOT, 0)
+        shelf.offer_message_unchecked(message, ROOT, 0)
 
     calls = {
         "fault": (messages, lambda _, it: rrcache.fault(it), runs),
-        "offer_message": (messages, offered, runs),
-        "offer_part, 16 shelves": (messages, lambda _, it: offer_apart(it, 16), 1),
+        "offer_message_unchecked": (messages, offered, runs),
+        "offer_part_unchecked, 16 shelves": (messages, lambda _, it: offer_apart(it, 16), 1),
         "offer_set": (sets, lambda shelf, it: shelf.offer_set("a.", TXT, 4, 60, it, 0), runs),
         "ask": ({"one_key": messages["one_key"]}, lambda shelf, _: shelf.ask(LONG, MINFO, 1), runs,
                 offered),
-        "part_of": ({it: name(0, it) for it in ENDS},
-                    lambda _, it: rrcache.part_of(it, 16, SEED), runs),
+        "make_name": ({it: name(0, it) for it in ENDS},
+                      lambda _, it: rrcache.make_name(it, rrcache.Parts(16, SEED)).part, runs),
         "sweep, 4,096 keys": ({it: it for it in ENDS}, lambda shelf, _: shelf.sweep(10**6), runs,
                               lambda shelf, it: fill(shelf, it, 4096)),
         "free": (messages, lambda shelf, _: shelf.close(), runs, offered),
@@ -253,7 +253,7 @@ def tell_calls(size, runs):
     print(f"the input that each call took longest for, of {size:,} octets where it is a message:")
     for what, given in calls.items():
         took, longest = worst(*given)
-        print(f"  {'rrcache_' + what:32}{longest:36}{took:8.3f} ms", flush=True)
+        print(f"  {'rrcache_' + what:42}{longest:36}{took:8.3f} ms", flush=True)
 
 
 def tell_all(size, keys, runs):

@@ -7,8 +7,8 @@ libssl-dev and libexpat1-dev), and compiles bench/c/beside against both. The two
 NAMES names with one A record each, in random order, in 64 shards with room for twice the names:
 asks that hit and copy, one name that is always asked, puts that replace, and puts that evict in a
 cache with no room. The locks of rrcache's shards are mutexes, and spin locks, as unbound's are, in
-runs of their own. Each ratio is that of the medians of RUNS runs; ratios count, since machines
-differ.
+runs of their own; in others asks are peeks, under locks for readers. Each ratio is that of the
+medians of RUNS runs; ratios count, since machines differ.
 """
 import os
 import shutil
@@ -74,6 +74,7 @@ def programs():
     return {
         "rrcache": compiled("beside_rrcache", work, *own),
         "spinning": compiled("beside_spinning", "-DSPINS", work, *own),
+        "peeking": compiled("beside_peeking", "-DPEEKS", work, *own),
         # Warnings of its headers are nobody's business here.
         "unbound": compiled("beside_unbound", "-w", f"-I{unbound}", work, BESIDE / "unbound.c",
                             unbound / ".libs" / "libunbound.a", "-lssl", "-lcrypto")}
@@ -106,7 +107,8 @@ def main(args):
     made = programs()
     jemalloc = next(Path("/usr/lib").glob("*/libjemalloc.so.2"), None)
     ways = [("With mutexes and glibc's malloc:", "rrcache", None),
-            ("With spin locks, as unbound's are:", "spinning", None)]
+            ("With spin locks, as unbound's are:", "spinning", None),
+            ("With locks for readers, under which asks are peeks:", "peeking", None)]
     if jemalloc:
         ways.append(("With mutexes and jemalloc:", "rrcache", str(jemalloc)))
     head = [f"{what}, {of_threads(it)}" for it in args.threads for what in ("time", "rate")]

@@ -8,27 +8,28 @@
 #include "counters.h"
 
 enum { SHELVES = PARTS, SHELF_KEYS = 4096, SHELF_EVENTS = 4096, STALE_LIMIT = 86400 };
-/* What `ask` answers beside `enum rrcache_kind`. */
-enum { TOO_LARGE = RRCACHE_MISS_FAILED + 1 };
+/* The most octets of a reply from shelves that are offered what `rrcache_read_response` reads. */
+enum { MOST_FOUND = 28551 };
 
+/* It records no history, which nobody audits here, and so no ask takes memory. */
 struct shelf {
     pthread_mutex_t lock;
     struct rrcache_shelf cache;
-    uint64_t calls;
 };
 
-/* A set that was found: its owner, and behind it its data. What takes more fits in no message. */
+/* What was found: its owner, and behind it its data. */
 struct found {
     struct rrcache_told told;
-    uint8_t octets[NAME + MESSAGE];
+    uint8_t octets[MOST_FOUND];
 };
 
 /* On the way along the aliases of a question. */
 struct walk {
-    struct question at; /* the name that was reached */
-    size_t place;       /* of that name in the reply */
+    struct rrcache_name at; /* the name that was reached */
+    size_t place;           /* of that name in the reply */
+    uint16_t type;
     enum rrcache_mode mode;
-    bool is_stale, has_failed;
+    bool is_stale;
 };
 
 static const struct rrcache_limits LIMITS = {TTL_CAP, 10800, FAILURE_SECONDS};
@@ -43,15 +44,18 @@ static uint64_t moment(void)
 
 bool make_cache(void)
 {
-    if (getentropy(parts.seed, sizeof parts.seed) != 0)
+    struct rrcache_rules rules = {
+        .capacity = SHELF_KEYS,
+        .chapter = SHELF_EVENTS,
+        .max_stale = STALE_LIMIT,
+    };
+    if (getentropy(rules.seed, sizeof rules.seed) != 0)
         return false;
-    for (struct shelf *shelf = shelves; shelf < shelves + SHELVES; shelf++) {
-        uint8_t seed[16];
-        if (getentropy(seed, sizeof seed) != 0 || pthread_mutex_init(&shelf->lock, NULL) != 0
-            || rrcache_make(&shelf->cache, SHELF_KEYS, SHELF_EVENTS, STALE_LIMIT, seed)
-                   != RRCACHE_DONE)
+    memcpy(parts.seed, rules.seed, sizeof parts.seed);
+    for (struct shelf *shelf = shelves; shelf < shelves + SHELVES; shelf++)
+        if (pthread_mutex_init(&shelf->lock, NULL) != 0
+            || rrcache_make(&shelf->cache, &rules) != RRCACHE_DONE)
             return false;
-    }
     return true;
 }
 
@@ -61,68 +65,54 @@ void free_cache(void)
         rrcache_free(&shelf->cache);
 }
 
+void make_key(struct rrcache_name *key, const uint8_t *name, size_t size)
+{
+    rrcache_make_name(key, name, size, &parts);
+}
+
 /* ---- Looking up. */
 
-/* Asks the shelf of a name for a type. A shelf that records no history takes no memory for it. */
-static enum rrcache_status ask_shelf(struct shelf *shelf, const struct question *at, uint16_t type,
-                                     const struct walk *walk, struct found *found)
+static struct rrcache_question question_of(uint16_t type, enum rrcache_mode mode)
 {
-    const struct rrcache_query query = {
-        .name = at->name,
-        .name_size = at->size,
+    return (struct rrcache_question){
+        .moment = moment(),
         .rtype = type,
         .rclass = RRCACHE_IN,
-        .moment = moment(),
         .purpose = RRCACHE_QUESTION,
-        .mode = walk->mode,
+        .mode = mode,
     };
+}
+
+/* Asks the shelf of a name for a type: that is told, or an alias of the name that is to be followed
+   in its place. What is refused is missing. */
+static void ask(const struct walk *walk, const struct rrcache_name *name, uint16_t type,
+                struct found *found)
+{
+    const struct rrcache_question question = question_of(type, walk->mode);
+    struct shelf *shelf = &shelves[name->part];
     pthread_mutex_lock(&shelf->lock);
-    enum rrcache_status status = rrcache_ask(&shelf->cache, &query, shelf->calls++, &found->told,
-                                             found->octets, sizeof found->octets);
+    enum rrcache_status status = rrcache_ask_alias(&shelf->cache, name, &question, &found->told,
+                                                   found->octets, sizeof found->octets);
     pthread_mutex_unlock(&shelf->lock);
-    return status;
+    if (status != RRCACHE_DONE)
+        found->told.kind = RRCACHE_MISS;
 }
 
-/* What the cache says of a name and a type: one of `enum rrcache_kind`, or TOO_LARGE where the set
-   has no room in what is found. */
-static uint32_t ask(const struct question *at, uint16_t type, const struct walk *walk,
-                    struct found *found)
+/* Whether asking for this has failed recently, and there is nothing of the type that is fresh. */
+static bool has_failed(const struct question *asked)
 {
-    uint64_t part = 0;
-    enum rrcache_status status = rrcache_part_of(at->name, at->size, &parts, &part);
-    if (status == RRCACHE_DONE)
-        status = ask_shelf(&shelves[part], at, type, walk, found);
-    if (status == RRCACHE_SMALL)
-        return TOO_LARGE;
-    return status == RRCACHE_DONE ? found->told.kind
-                                  : RRCACHE_MISS; /* of a type that is not kept */
-}
-
-/* Whether the cache has a fresh CNAME record of a name that is told not to exist: then that is the
-   older of the two, or is trusted less. */
-static bool has_fresh_alias(const struct question *at)
-{
-    const struct rrcache_query query = {
-        .name = at->name,
-        .name_size = at->size,
-        .rtype = CNAME,
-        .rclass = RRCACHE_IN,
-        .moment = moment(),
-        .purpose = RRCACHE_QUESTION,
-    };
+    const struct rrcache_question question = question_of(asked->type, RRCACHE_NO_STALE);
     struct rrcache_told told = {.kind = RRCACHE_MISS};
-    uint64_t part = 0;
-    if (rrcache_part_of(at->name, at->size, &parts, &part) != RRCACHE_DONE)
-        return false;
-    pthread_mutex_lock(&shelves[part].lock);
-    rrcache_peek(&shelves[part].cache, &query, &told, NULL, 0);
-    pthread_mutex_unlock(&shelves[part].lock);
-    return told.kind == RRCACHE_FRESH;
+    struct shelf *shelf = &shelves[asked->key.part];
+    pthread_mutex_lock(&shelf->lock);
+    rrcache_peek(&shelf->cache, &asked->key, &question, &told, NULL, 0);
+    pthread_mutex_unlock(&shelf->lock);
+    return told.kind == RRCACHE_FAILED;
 }
 
-static bool is_set(uint32_t kind)
+static bool is_set(const struct found *found)
 {
-    return kind == RRCACHE_FRESH || kind == RRCACHE_STALE;
+    return found->told.kind == RRCACHE_FRESH || found->told.kind == RRCACHE_STALE;
 }
 
 /* The data that were found, each behind its length. */
@@ -133,43 +123,35 @@ static const uint8_t *data_of(const struct found *found)
 
 /* Puts what was found into the answer section, or so many octets of its data, under an owner that
    stands at a place of the reply. A message begins with all places that aliases lead to. */
-static void put_answer(struct reply *reply, size_t place, enum type type, const struct found *found,
-                       size_t size)
+static void put_answer(struct walk *walk, size_t place, const struct found *found, size_t size,
+                       struct reply *reply)
 {
     uint8_t pointer[2] = {(uint8_t)(0xc0 | place >> 8), (uint8_t)place};
-    reply->answers +=
-        put_records(reply, pointer, sizeof pointer, type, found->told.left, data_of(found), size);
+    walk->is_stale |= found->told.kind == RRCACHE_STALE;
+    reply->answers += put_records(reply, pointer, sizeof pointer, found->told.rtype,
+                                  found->told.left, data_of(found), size);
 }
 
-/* Whether the DNAME record that was found makes this alias of a name below its owner: what stands
-   in front of the owner there, so many octets, stands here in front of the record's target (RFC
-   6672 section 2.2). */
-static bool makes_alias(const struct found *dname, const struct question *below, size_t front,
-                        const uint8_t *alias, size_t alias_size)
-{
-    const uint8_t *target = data_of(dname) + 2;
-    size_t size = word_at(data_of(dname));
-    return alias_size == front + size && is_same_name(alias, front, below->name, front)
-           && is_same_name(alias + front, size, target, size);
-}
-
-/* Puts the DNAME record that an alias was made by beside it (RFC 6672 section 3.1), where it is
-   kept. No name above has one if the alias does not begin as the name does. */
+/* Puts the DNAME record that an alias was made by beside it, where it is kept: what stands in front
+   of its owner in the name stands in front of its target in the alias (RFC 6672 sections 2.2 and
+   3.1). No name above has one if the alias does not begin as the name does. */
 static void put_dname(struct walk *walk, const uint8_t *alias, size_t alias_size,
                       struct reply *reply)
 {
-    const struct question *below = &walk->at;
+    const uint8_t *below = walk->at.octets;
+    struct rrcache_name above = {0};
     struct found found;
-    for (size_t front = below->name[0] + 1u; front < below->size && front < alias_size;
-         front += below->name[front] + 1u) {
-        struct question above = {.size = below->size - front};
-        memcpy(above.name, below->name + front, above.size);
-        if (!is_same_name(alias, front, below->name, front))
+    for (size_t front = below[0] + 1u; front < walk->at.size && front < alias_size;
+         front += below[front] + 1u) {
+        if (!is_same_name(alias, front, below, front))
             return;
-        uint32_t kind = ask(&above, DNAME, walk, &found);
-        if (is_set(kind) && makes_alias(&found, below, front, alias, alias_size)) {
-            walk->is_stale |= kind == RRCACHE_STALE;
-            put_answer(reply, walk->place + front, DNAME, &found, word_at(data_of(&found)) + 2);
+        make_key(&above, below + front, walk->at.size - front);
+        ask(walk, &above, DNAME, &found);
+        if (!is_set(&found) || found.told.rtype != DNAME)
+            continue;
+        size_t size = word_at(data_of(&found));
+        if (is_same_name(alias + front, alias_size - front, data_of(&found) + 2, size)) {
+            put_answer(walk, walk->place + front, &found, size + 2, reply);
             return;
         }
     }
@@ -178,76 +160,55 @@ static void put_dname(struct walk *walk, const uint8_t *alias, size_t alias_size
 /* Puts an alias, and goes on at its target. A name has one (RFC 2181 section 10.1). */
 static void follow(struct walk *walk, const struct found *found, struct reply *reply)
 {
-    const uint8_t *data = data_of(found);
-    size_t size = word_at(data); /* of a name that the library read: at most 255 octets */
-    put_dname(walk, data + 2, size, reply);
+    const uint8_t *target = data_of(found) + 2;
+    size_t size = word_at(data_of(found)); /* of a name, since the library read it */
+    put_dname(walk, target, size, reply);
     size_t place = reply->size + 12; /* pointer, type, class, ttl and length stand before it */
-    put_answer(reply, walk->place, CNAME, found, size + 2);
+    put_answer(walk, walk->place, found, size + 2, reply);
     walk->place = place;
-    walk->at.size = size;
-    memcpy(walk->at.name, data + 2, size);
+    make_key(&walk->at, target, size);
 }
 
 /* Puts what stands at the end of the aliases. */
-static enum outcome end_walk(const struct walk *walk, uint32_t kind, const struct found *found,
-                             struct reply *reply)
+static enum outcome end_walk(struct walk *walk, const struct found *found, struct reply *reply)
 {
-    if (is_set(kind)) {
-        put_answer(reply, walk->place, walk->at.type, found, found->told.data_size);
-        return kind == RRCACHE_STALE || walk->is_stale ? IS_STALE : IS_FRESH;
+    if (is_set(found)) {
+        put_answer(walk, walk->place, found, found->told.data_size, reply);
+        return walk->is_stale ? IS_STALE : IS_FRESH;
     }
     reply->authority += put_records(reply, found->octets, found->told.owner_size, SOA,
                                     found->told.left, data_of(found), found->told.data_size);
-    reply->rcode = kind == RRCACHE_NO_NAME ? NXDOMAIN : NOERROR;
+    reply->rcode = found->told.kind == RRCACHE_NXDOMAIN ? NXDOMAIN : NOERROR;
     return IS_NEGATIVE;
-}
-
-/* That the question failed lately is one for all names of its chain: these may then be stale, and
-   else none. */
-static void note_failure(struct walk *walk, uint32_t kind)
-{
-    walk->has_failed = kind == RRCACHE_MISS_FAILED;
-    if (walk->mode == RRCACHE_STALE_IF_FAILED)
-        walk->mode =
-            walk->has_failed || kind == RRCACHE_STALE ? RRCACHE_STALE_NOW : RRCACHE_NO_STALE;
-}
-
-static enum outcome end_nowhere(const struct walk *walk, uint32_t kind)
-{
-    if (kind == TOO_LARGE)
-        return IS_REFUSED;
-    return walk->has_failed ? HAS_FAILED : IS_MISSING;
 }
 
 static enum outcome walk_on(struct walk *walk, struct reply *reply)
 {
     struct found found;
-    bool has_alias = walk->at.type != CNAME && walk->at.type != ANY;
     for (int step = 0; step <= MOST_ALIASES; step++) {
-        uint32_t kind = ask(&walk->at, walk->at.type, walk, &found);
-        if (step == 0)
-            note_failure(walk, kind);
-        bool is_denied = kind == RRCACHE_NO_NAME && !(has_alias && has_fresh_alias(&walk->at));
-        if (is_set(kind) || kind == RRCACHE_NO_DATA || is_denied)
-            return end_walk(walk, kind, &found, reply);
-        if (has_alias && kind != TOO_LARGE)
-            kind = ask(&walk->at, CNAME, walk, &found);
-        if (!is_set(kind))
-            return end_nowhere(walk, kind);
-        walk->is_stale |= kind == RRCACHE_STALE;
+        ask(walk, &walk->at, walk->type, &found);
+        if (found.told.kind == RRCACHE_MISS || found.told.kind == RRCACHE_FAILED)
+            return IS_MISSING;
+        if (found.told.rtype == walk->type) /* else it is an alias */
+            return end_walk(walk, &found, reply);
         follow(walk, &found, reply);
     }
     return IS_REFUSED;
 }
 
+/* The shelves hold a failure of the question alone, and where there is one all names of its chain
+   may be stale. */
 enum outcome look_up(const struct question *question, enum rrcache_mode mode, struct reply *reply)
 {
-    struct walk walk = {.at = *question, .place = HEADER, .mode = mode};
+    struct walk walk = {.at = question->key, .place = HEADER, .type = question->type, .mode = mode};
+    bool is_failed = has_failed(question);
+    if (mode == RRCACHE_STALE_IF_FAILED)
+        walk.mode = is_failed ? RRCACHE_STALE_NOW : RRCACHE_NO_STALE;
     begin_reply(reply, question);
     enum outcome outcome = walk_on(&walk, reply);
     if (reply->is_cut) /* it fits in no message */
         refuse(reply, question, SERVFAIL);
-    return outcome;
+    return outcome == IS_MISSING && is_failed ? HAS_FAILED : outcome;
 }
 
 /* ---- Keeping. */
@@ -268,25 +229,24 @@ static bool offer(const struct question *question, const uint8_t *message, size_
     const struct rrcache_query query = {
         .name = question->name,
         .name_size = question->size,
+        .id = (uint16_t)word_at(message),
         .rtype = question->type,
         .rclass = RRCACHE_IN,
     };
     struct rrcache_offers offers = {0};
     struct rrcache_counts counts;
-    const uint16_t id = (uint16_t)word_at(message);
     uint64_t concerned = 0;
     enum rrcache_status status =
-        rrcache_read_response(&offers, &response, &query, id, &parts, &concerned);
-    for (uint64_t part = 0; part < SHELVES; part++) {
-        struct shelf *shelf = &shelves[part];
-        if ((concerned >> part & 1) == 0)
+        rrcache_read_response(&offers, &response, &query, &parts, &concerned);
+    for (struct rrcache_share share = {0}; share.part < SHELVES; share.part++) {
+        struct shelf *shelf = &shelves[share.part];
+        if ((concerned >> share.part & 1) == 0)
             continue;
         pthread_mutex_lock(&shelf->lock);
-        rrcache_offer_read(&shelf->cache, &offers, part, shelf->calls++, &counts);
+        rrcache_offer_read(&shelf->cache, &offers, &share, &counts);
         pthread_mutex_unlock(&shelf->lock);
     }
-    if (status == RRCACHE_DONE)
-        rrcache_free_offers(&offers);
+    rrcache_free_offers(&offers);
     return status != RRCACHE_BAD_MESSAGE;
 }
 
@@ -322,29 +282,28 @@ void remember_failure(const struct question *question)
         .ttl = FAILURE_SECONDS,
         .moment = moment(),
     };
-    uint64_t part = 0;
+    struct shelf *shelf = &shelves[question->key.part];
     uint32_t outcome;
-    if (rrcache_part_of(question->name, question->size, &parts, &part) != RRCACHE_DONE)
-        return;
-    struct shelf *shelf = &shelves[part];
     pthread_mutex_lock(&shelf->lock);
-    rrcache_offer_failure(&shelf->cache, &failure, shelf->calls++, &outcome);
+    rrcache_offer_failure(&shelf->cache, &failure, &outcome);
     pthread_mutex_unlock(&shelf->lock);
 }
 
 void sweep(void)
 {
+    const struct rrcache_sweep_at now = {.moment = moment()};
     uint64_t all_keys = 0, all_octets = 0;
     for (struct shelf *shelf = shelves; shelf < shelves + SHELVES; shelf++) {
-        uint64_t removed = 0, keys = 0, events, chapters, octets = 0;
+        struct rrcache_usage sizes = {0};
+        uint64_t removed = 0;
         pthread_mutex_lock(&shelf->lock);
-        rrcache_sweep(&shelf->cache, moment(), shelf->calls++, &removed);
-        rrcache_sizes(&shelf->cache, &keys, &events, &chapters, &octets);
+        rrcache_sweep(&shelf->cache, &now, &removed);
+        rrcache_sizes(&shelf->cache, &sizes);
         pthread_mutex_unlock(&shelf->lock);
         count(SWEPT, removed);
-        set_part((uint64_t)(shelf - shelves), keys);
-        all_keys += keys;
-        all_octets += octets;
+        set_part((uint64_t)(shelf - shelves), sizes.keys);
+        all_keys += sizes.keys;
+        all_octets += sizes.octets;
     }
     set_counter(KEYS, all_keys);
     set_counter(HELD, all_octets);

@@ -37,8 +37,12 @@ static inline enum counter counter_of(enum outcome outcome)
 bool make_cache(void);
 void free_cache(void);
 
-/* Answers a question from the cache: the aliases of its name, and what is at their end. The mode is
-   one of `enum rrcache_mode`. The reply is complete where something was found. */
+/* Makes of a name, in whatever case it is spelled, what the cache knows it by. Its hash, under a
+   seed that nobody knows, is for tables too: it is hard to find names of one hash. */
+void make_key(struct rrcache_name *key, const uint8_t *name, size_t size);
+
+/* Answers a question, whose key was made, from the cache: the aliases of its name, and what is at
+   their end. The reply is complete where something was found. */
 enum outcome look_up(const struct question *question, enum rrcache_mode mode, struct reply *reply);
 
 /* Keeps what a response says, and makes the reply to its question: what is then in the cache, or,
@@ -50,8 +54,7 @@ bool keep(const struct question *question, const uint8_t *message, size_t size,
 /* Remembers for FAILURE_SECONDS that nothing came of asking (RFC 2308 section 7). */
 void remember_failure(const struct question *question);
 
-/* Removes fully expired keys, and counts the others, of each shelf and of all. The shelves record
-   no history, which nobody audits here. */
+/* Removes fully expired keys, and counts the others, of each shelf and of all. */
 void sweep(void);
 
 #endif

@@ -54,14 +54,6 @@ bool is_same_question(const struct question *one, const struct question *other)
            && is_same_name(one->name, one->size, other->name, other->size);
 }
 
-uint32_t hash_of(const uint8_t *name, size_t size, uint32_t seed)
-{
-    uint32_t hash = 2166136261 ^ seed; /* FNV-1a */
-    for (size_t i = 0; i < size; i++)
-        hash = (hash ^ fold(name[i])) * 16777619;
-    return hash ^ hash >> 16; /* its low bits are those of the octets' low bits alone */
-}
-
 size_t domain_of(const uint8_t *name, size_t size)
 {
     size_t last = 0, last_but_one = 0;

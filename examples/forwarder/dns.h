@@ -1,7 +1,7 @@
 /* SPDX-License-Identifier: MIT */
 /* dns.h: DNS messages as octets (RFC 1035 section 4). Queries of clients are read, replies to them
-   are built, and responses of upstreams are looked at. Nothing here takes memory, waits, or knows
-   of sockets and of the cache.
+   are built, and responses of upstreams are looked at. Nothing here takes memory, waits, or calls
+   sockets or the cache.
 
    Names are in wire form (RFC 1035 section 3.1), whole, at most 255 octets with the zero octet at
    their end. */
@@ -11,6 +11,8 @@
 #include <stdbool.h>
 #include <stddef.h>
 #include <stdint.h>
+
+#include "rrcache.h"
 
 /* How many octets these have: the first two just so many, the others at most. A query is one that
    is sent upstream. */
@@ -37,6 +39,7 @@ struct question {
     uint8_t name[NAME]; /* as it was spelled */
     size_t size;        /* of the name; 0: there is no question */
     uint16_t type, class;
+    struct rrcache_name key; /* what the cache knows the name by (cache.h) */
 };
 
 /* What a client sent. */
@@ -85,10 +88,6 @@ static inline unsigned word_at(const uint8_t *octets)
 bool is_same_name(const uint8_t *one, size_t one_size, const uint8_t *other, size_t other_size);
 
 bool is_same_question(const struct question *one, const struct question *other);
-
-/* A number for a name, the same in whatever case it is spelled. With a seed that nobody knows it is
-   hard to find names of one number. */
-uint32_t hash_of(const uint8_t *name, size_t size, uint32_t seed);
 
 /* How many octets of a name stand before its last two labels, as `example.com`; 0 where it has no
    more than these. */

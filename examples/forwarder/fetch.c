@@ -53,7 +53,6 @@ struct bucket {
 static struct bucket under_way[BUCKETS] = {[0 ... BUCKETS - 1] = {PTHREAD_MUTEX_INITIALIZER, {0}}};
 static struct upstream upstreams[MOST_UPSTREAMS];
 static unsigned upstream_count;
-static uint32_t seed;              /* of hashes */
 static _Atomic unsigned preferred; /* the upstream that answered last */
 
 bool add_upstream(const struct sockaddr_in *address)
@@ -62,11 +61,6 @@ bool add_upstream(const struct sockaddr_in *address)
         return false;
     upstreams[upstream_count++].address = *address;
     return true;
-}
-
-bool seed_fetches(void)
-{
-    return getentropy(&seed, sizeof seed) == 0;
 }
 
 bool make_fetcher(struct fetcher *fetcher, size_t places)
@@ -79,7 +73,7 @@ bool make_fetcher(struct fetcher *fetcher, size_t places)
 
 static struct bucket *bucket_of(const struct question *question)
 {
-    return &under_way[hash_of(question->name, question->size, seed) % BUCKETS];
+    return &under_way[question->key.hash % BUCKETS];
 }
 
 /* The fetch of a question that is under way, or NULL. The bucket's lock is held. */
@@ -421,7 +415,9 @@ void tend_fetches(struct fetcher *fetcher, const struct pollfd *polled, uint64_t
 static unsigned domain_number(const struct question *question)
 {
     size_t skipped = domain_of(question->name, question->size);
-    return hash_of(question->name + skipped, question->size - skipped, seed) % DOMAINS;
+    struct rrcache_name domain = {0};
+    make_key(&domain, question->name + skipped, question->size - skipped);
+    return (unsigned)(domain.hash % DOMAINS);
 }
 
 /* The domain that holds most places. */

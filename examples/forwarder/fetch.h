@@ -37,9 +37,6 @@ struct fetcher {
 /* Adds an upstream to those of all threads, before the first of these begins. */
 bool add_upstream(const struct sockaddr_in *address);
 
-/* Draws what names are hashed under, before the first thread begins. */
-bool seed_fetches(void);
-
 bool make_fetcher(struct fetcher *fetcher, size_t places);
 
 /* Tells what to poll for, for each place. */

@@ -84,13 +84,15 @@ static void answer(struct worker *worker, const struct asker *asker)
 static void take(struct worker *worker, struct asker *asker, const uint8_t *octets, size_t size)
 {
     struct reply reply;
+    struct question *question = &asker->query.question;
     enum rcode rcode = read_query(octets, size, &asker->query);
     count(QUERIES, 1);
     if (rcode == NOERROR) {
+        make_key(&question->key, question->name, question->size);
         answer(worker, asker);
         return;
     }
-    refuse(&reply, &asker->query.question, rcode);
+    refuse(&reply, question, rcode);
     send_reply(asker, &reply, TURNED_AWAY);
 }
 
@@ -283,7 +285,7 @@ int main(int argc, char **argv)
     sigaddset(&signals, SIGTERM);
     sigaddset(&signals, SIGINT);
     unsigned started = 0;
-    if (pthread_sigmask(SIG_BLOCK, &signals, NULL) == 0 && make_cache() && seed_fetches()
+    if (pthread_sigmask(SIG_BLOCK, &signals, NULL) == 0 && make_cache()
         && open_listeners(&options.address))
         started = start(options.threads);
     if (started == 0) {

@@ -7,11 +7,11 @@ import threading
 from typing import Any
 
 from .choices import Class, Kind, Mode, Purpose
-from .library import Closing, part_of
-from .names import to_wire
-from .offers import Offers
+from .library import Closing
+from .offers import Offers, read_message_unchecked, read_response
+from .parts import Name, Parts, names_under
 from .replies import Counts, Limits, Query, Reply
-from .shelf import Name, Shelf
+from .shelf import Shelf
 
 LINKS_MOST = 16
 
@@ -19,73 +19,87 @@ LINKS_MOST = 16
 class Cache(Closing):
     """1 to 64 shelves, each with a lock: all that is known of a name lies in one of them. Which one
     that is goes by a random seed of the cache's own, or by the one that is given. `capacity` is the
-    most keys of each; the other arguments are those of `Shelf`.
+    most keys of each; the other arguments are those of `Shelf`. `BadRules` or `BadSeed` is raised
+    where one of them is none. The cache remembers the names that it was asked for last.
 
     >>> with Cache(parts=4) as cache:
     ...     cache.ask("www.example.", 1, moment=1000).kind.name
     'MISS'
     """
 
-    def __init__(self, parts: int = 16, **rules: Any) -> None:
-        seed = rules.get("seed")
-        self._seed = os.urandom(16) if seed is None else seed
-        part_of(".", parts, self._seed)  # refuses a wrong number of them
-        self._shelves = [(threading.Lock(), Shelf(**rules)) for _ in range(parts)]
+    def __init__(self, parts: int = 16, *, seed: bytes | None = None, **rules: Any) -> None:
+        octets = os.urandom(16) if seed is None else seed
+        self._parts = Parts(parts, octets)
+        self._made = names_under(self._parts)
+        self._made(".")  # refuses a wrong number of parts
+        self._shelves = [(threading.Lock(), Shelf(seed=octets, **rules)) for _ in range(parts)]
 
-    def _part(self, name: Name) -> tuple[threading.Lock, Shelf]:
-        """The part of a name, and its lock."""
-        return self._shelves[part_of(name, len(self._shelves), self._seed)]
+    def _found(self, name: str | bytes) -> tuple[Name, threading.Lock, Shelf]:
+        """The library's name, the part that it lies in, and the lock of that."""
+        found = self._made(name)
+        return found, *self._shelves[found.part]
 
-    def ask(self, name: Name, rtype: int, moment: int, **more: Any) -> Reply:
+    def ask(self, name: str | bytes, rtype: int, moment: int, **more: Any) -> Reply:
         """Asks the part of the name, as `Shelf.ask` does."""
-        lock, shelf = self._part(name)
+        found, lock, shelf = self._found(name)
         with lock:
-            return shelf.ask(name, rtype, moment, **more)
+            return shelf.ask(found, rtype, moment, **more)
 
-    def _has_failed(self, name: Name, rtype: int, moment: int, rclass: Class | int = Class.IN,
-                    purpose: Purpose | int = Purpose.QUESTION, **_: Any) -> bool:
+    def _has_failed(self, name: str | bytes, rtype: int, moment: int,
+                    rclass: Class | int = Class.IN, purpose: Purpose | int = Purpose.QUESTION,
+                    **_: Any) -> bool:
         """Whether asking for it has failed recently, and nothing fresh is held."""
-        lock, shelf = self._part(name)
+        found, lock, shelf = self._found(name)
         with lock:
-            return shelf.peek(name, rtype, moment, purpose, rclass=rclass).kind is Kind.MISS_FAILED
+            return shelf.peek(found, rtype, moment, purpose, rclass=rclass).kind is Kind.FAILED
 
-    def follow(self, name: Name, rtype: int, moment: int, **more: Any) -> list[Reply]:
+    def follow(self, name: str | bytes, rtype: int, moment: int, **more: Any) -> list[Reply]:
         """The reply to a question, or where the name is an alias those along the chain: a CNAME
         record's for each alias, and last what the chain ends with (RFC 1034 section 3.6.2). Which
         of both a name has `Shelf.ask_alias` says. They are at most 16; those of a chain that has
         more, or leads back, end with an alias. Each is one event. A failure of the question is one
-        for all of its chain."""
+        for all of its chain. It takes and raises what `Shelf.ask` does."""
         if more.get("mode") == Mode.STALE_IF_FAILED:
             more["mode"] = Mode.STALE_NOW if self._has_failed(name, rtype, moment, **more) else (
                 Mode.NO_STALE)
         replies: list[Reply] = []
         seen = set()
         while True:
-            name = to_wire(name)
-            lock, shelf = self._part(name)
+            found, lock, shelf = self._found(name)
             with lock:
-                reply, is_alias = shelf.ask_alias(name, rtype, moment, **more)
+                reply = shelf.ask_alias(found, rtype, moment, **more)
             replies.append(reply)
-            seen.add(name.lower())
-            if not is_alias:
+            seen.add(found.octets)
+            if reply.rtype == rtype:
                 return replies
             name = reply.data[0]
             if len(replies) == LINKS_MOST or name.lower() in seen:
                 return replies
 
-    def offer_message(self, message: bytes, zone: Name, moment: int, limits: Limits = Limits(),
-                      line: int = 0, query: Query | None = None) -> Counts:
-        """Offers a response: to each part what it says of that part's names; with the query that
-        was sent only what is relevant to it. It is read once, under no lock. Where one part refuses
-        its share, that is raised, and what other parts took stays."""
+    def _offer(self, offers: Offers, line: int) -> Counts:
+        """Offers each part its share of what was read, and frees it."""
         total = Counts(0, 0, 0)
-        parts, seed = len(self._shelves), self._seed
-        with Offers(message, zone, parts, seed, moment, limits, query) as offers:
+        with offers:
             for part in offers.concerned:
                 lock, shelf = self._shelves[part]
                 with lock:
                     total = total.plus(shelf.offer_read(offers, part, line))
         return total
+
+    def offer_response(self, message: bytes, zone: str | bytes, query: Query, moment: int,
+                       limits: Limits = Limits(), line: int = 0) -> Counts:
+        """Offers a response of a server of a zone to a query: to each part what it says of that
+        part's names, of what is relevant to the query. It is read once, under no lock, as
+        `read_response` does. Where one part refuses its share, that is raised, and what other parts
+        took stays."""
+        return self._offer(read_response(message, zone, query, self._parts, moment, limits), line)
+
+    def offer_message_unchecked(self, message: bytes, zone: str | bytes, moment: int,
+                                limits: Limits = Limits(), line: int = 0) -> Counts:
+        """The same of all that a response says within the zone. It compares the response with no
+        query: that is the caller's to do."""
+        offers = read_message_unchecked(message, zone, self._parts, moment, limits)
+        return self._offer(offers, line)
 
     def sweep(self, moment: int) -> int:
         """Sweeps each part, one after another, and tells how many keys were removed. Of a history

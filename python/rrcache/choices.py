@@ -15,20 +15,20 @@ class Purpose(IntEnum):
     """What an answer is for: anything, where glue will do, or to answer a question, where it will
     not (RFC 2181 section 5.4.1)."""
 
-    ANYTHING = 0
-    QUESTION = 1
+    ANYTHING = 1
+    QUESTION = 2
 
 
 class Mode(IntEnum):
     """Whether a stale answer will do (RFC 8767 section 5): no; where a failure is held by which a
-    miss would be MISS_FAILED; at once."""
+    miss would be FAILED; at once."""
 
-    NO_STALE = 0
-    STALE_IF_FAILED = 1
-    STALE_NOW = 2
+    NO_STALE = 1
+    STALE_IF_FAILED = 2
+    STALE_NOW = 3
 
 
-class Rank(IntEnum):
+class Trust(IntEnum):
     """How far data are trusted (RFC 2181 section 5.4.1), from low to high."""
 
     ADDITIONAL = 1
@@ -37,33 +37,42 @@ class Rank(IntEnum):
     AUTHORITATIVE_ANSWER = 4
 
 
-class Denial(IntEnum):
-    """What a negative answer denies (RFC 2308 section 2): data of a type, or the name."""
-
-    TYPE = 0
-    NAME = 1
-
-
 class Outcome(IntEnum):
     """What became of an offer: it is kept; its TTL was 0 and the key holds nothing; the key holds
     what is trusted more."""
 
     KEPT = 1
     CLEARED = 2
-    LESS_TRUSTED = 3
+    OUTRANKED = 3
 
 
 class Kind(IntEnum):
-    """What a reply is. With MISS_FAILED a failure is held that is not past its time and later than
-    what else is held. NODATA and NXDOMAIN are what RFC 2308 calls NO_DATA and NO_NAME, and SERVFAIL
-    is what a resolver answers for MISS_FAILED."""
+    """What a reply is, and what is stored, which is FRESH of an RRset whether it is past its TTL or
+    not, NODATA, NXDOMAIN or FAILED. NODATA says that the name has no data of the type (RFC 2308
+    section 2.2), and NXDOMAIN that the name does not exist (section 2.1). With FAILED nothing will
+    do, and a failure is held that is not past its time and later than what else is held: a resolver
+    answers SERVFAIL (RFC 9520)."""
 
     FRESH = 1
     STALE = 2
-    NO_DATA = 3
-    NO_NAME = 4
-    MISS = 5
-    MISS_FAILED = 6
     NODATA = 3
     NXDOMAIN = 4
-    SERVFAIL = 6
+    MISS = 5
+    FAILED = 6
+
+
+class MessageFault(IntEnum):
+    """Why octets are no response: they end too soon; a length octet has reserved bits; a pointer
+    leads to no lower place; a name has more than 255 octets; data do not fill their layout; QR is
+    clear; there is not one question; they are more than 65,535. NO_FAULT, which is false, where
+    they are one."""
+
+    NO_FAULT = 0
+    SHORT = 1
+    RESERVED_BITS = 2
+    POINTER = 3
+    LONG_NAME = 4
+    LAYOUT = 5
+    NO_RESPONSE = 6
+    NOT_ONE_QUESTION = 7
+    LONG_MESSAGE = 8

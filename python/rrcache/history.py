@@ -9,21 +9,21 @@ from dataclasses import dataclass, field
 from enum import IntEnum
 from typing import NoReturn
 
-from .choices import Class, Kind, Mode, Outcome, Purpose, Rank
+from .choices import Class, Kind, Mode, Outcome, Purpose, Trust
 from .names import NameFault, to_text, to_wire
 from .replies import Reply
 
 PURPOSES = {"any": Purpose.ANYTHING, "answer": Purpose.QUESTION}
 MODES = {"none": Mode.NO_STALE, "failed": Mode.STALE_IF_FAILED, "now": Mode.STALE_NOW}
-RANKS = {f"{it:d}": it for it in Rank}
-OUTCOMES = {"kept": Outcome.KEPT, "cleared": Outcome.CLEARED, "less": Outcome.LESS_TRUSTED}
+TRUSTS = {f"{it:d}": it for it in Trust}
+OUTCOMES = {"kept": Outcome.KEPT, "cleared": Outcome.CLEARED, "less": Outcome.OUTRANKED}
 KINDS = {"fresh": Kind.FRESH, "stale": Kind.STALE, "nodata": Kind.NODATA,
          "nxdomain": Kind.NXDOMAIN, "miss": Kind.MISS}
 SLOT = re.compile("(?:(failed)?(0|[1-9][0-9]*)|nx)(?:/(0|[1-9][0-9]*))?")
 NUMBER = re.compile("0|[1-9][0-9]{0,19}")
 ITEM = re.compile("-|(?:[0-9a-f]{2})+")
 # The least and the most keys, events of a chapter, and seconds of max-stale.
-RANGES = {"capacity": (1, 65_536), "chapter": (1, 1_048_576), "stale": (0, 604_800)}
+RANGES = {"capacity": (1, 65_536), "chapter": (1, 1_048_576), "max_stale": (0, 604_800)}
 
 
 class ArchiveFault(ValueError):
@@ -68,11 +68,11 @@ class Key:
 class RRset:
     """All records of one owner, class and type. The owner is spelled as it was received.
 
-    >>> RRset(Rank.AUTHORITY, 60, "www.Example.", (bytes([192, 0, 2, 1]),)).data[0].hex()
+    >>> RRset(Trust.AUTHORITY, 60, "www.Example.", (bytes([192, 0, 2, 1]),)).data[0].hex()
     'c0000201'
     """
 
-    rank: Rank
+    trust: Trust
     ttl: int
     owner: str
     data: tuple[bytes, ...]
@@ -82,11 +82,11 @@ class RRset:
 class Negative:
     """A negative answer (RFC 2308), with the owner and the data of its SOA record.
 
-    >>> Negative(Rank.AUTHORITATIVE_ANSWER, 300, "example.", b"").owner
+    >>> Negative(Trust.AUTHORITATIVE_ANSWER, 300, "example.", b"").owner
     'example.'
     """
 
-    rank: Rank
+    trust: Trust
     ttl: int
     owner: str
     soa: bytes
@@ -190,7 +190,7 @@ class Chapter:
     first: int
     capacity: int
     chapter: int
-    stale: int
+    max_stale: int
     entries: tuple[Entry, ...]
     events: tuple[Event, ...]
     text: str = field(repr=False)
@@ -247,8 +247,8 @@ class _Fields:
     def key(self) -> Key:
         return Key(self.folded(), *self.slot())
 
-    def rank(self) -> Rank:
-        return RANKS.get(self.word()) or _none()
+    def trust(self) -> Trust:
+        return TRUSTS.get(self.word()) or _none()
 
     def data(self) -> tuple[bytes, ...]:
         return tuple(map(_item, self.word().split(",")))
@@ -256,18 +256,22 @@ class _Fields:
     def body(self) -> Body:
         word = self.word()
         if word == "set":
-            return RRset(self.rank(), self.number(2 ** 32), self.name(), self.data())
+            return RRset(self.trust(), self.number(2 ** 32), self.name(), self.data())
         if word == "negative":
-            return Negative(self.rank(), self.number(2 ** 32), self.name(), _item(self.word()))
+            return Negative(self.trust(), self.number(2 ** 32), self.name(), _item(self.word()))
         return Failure(self.number(2 ** 32)) if word == "failure" else _none()
 
-    def reply(self) -> Reply:
+    def reply(self, rtype: int) -> Reply:
+        """The reply to an ask of a type."""
         kind = KINDS.get(self.word()) or _none()
+        if kind == Kind.MISS and self:
+            return Reply(Kind.FAILED, retry_from=self.number(), rtype=rtype)
         if kind == Kind.MISS:
-            return Reply(Kind.MISS_FAILED, retry_from=self.number()) if self else Reply(kind)
+            return Reply(kind, rtype=rtype)
         left, owner = self.number(2 ** 32), to_wire(self.name())
         is_set = kind in (Kind.FRESH, Kind.STALE)
-        return Reply(kind, left, owner, self.data() if is_set else (_item(self.word()),))
+        data = self.data() if is_set else (_item(self.word()),)
+        return Reply(kind, left, owner, data, rtype=rtype)
 
 
 def _number(text: str, end: int) -> int:
@@ -317,7 +321,7 @@ def _ask(fields: _Fields) -> Ask:
     purpose, mode = PURPOSES.get(fields.word()), MODES.get(fields.word())
     if slot != Slot.SET or purpose is None or mode is None:
         _none()
-    return Ask(line, place, moment, name, rtype, rclass, purpose, mode, fields.reply())
+    return Ask(line, place, moment, name, rtype, rclass, purpose, mode, fields.reply(rtype))
 
 
 def _sweep(fields: _Fields) -> Sweep:

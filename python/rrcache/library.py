@@ -4,51 +4,57 @@ from __future__ import annotations
 
 import functools
 import os
-from ctypes import (CDLL, Structure, byref, c_size_t, c_uint16, c_uint32, c_uint64, c_void_p)
+from ctypes import CDLL, POINTER, Structure, byref, c_char_p, c_size_t, c_uint32, c_uint64
 from pathlib import Path
-from typing import Any, TypeVar
+from typing import Any, ClassVar, TypeVar
 
-from .names import to_wire
+from . import structs
+from .choices import MessageFault
 from .refusals import Status, refusal
 
-MAJOR, SONAME = 1, "librrcache.so.1"
-# What calls take: p a pointer, o octets and how many, t a type or a class, n a number of 32 bits,
-# m one of 64.
-TYPES: dict[str, list[Any]] = {
-    "p": [c_void_p], "o": [c_void_p, c_size_t], "t": [c_uint16], "n": [c_uint32],
-    "m": [c_uint64],
+# The version of the header that the package is written for. A library of another major version, or
+# of an older minor one, may lack what that declares.
+MAJOR, MINOR, SONAME = 2, 0, "librrcache.so.2"
+# What calls take beside structs: octets and how many they are, and the numbers that they write.
+OCTETS: list[Any] = [c_char_p, c_size_t]
+NUMBER, WIDE_NUMBER = POINTER(c_uint32), POINTER(c_uint64)
+SHELF, OFFERS, CHAPTERS, NAME = map(POINTER, (structs.Shelf, structs.Offers, structs.Chapters,
+                                              structs.Name))
+RESPONSE, COUNTS = POINTER(structs.ResponseTerms), POINTER(structs.Counts)
+TELLS = [SHELF, NAME, POINTER(structs.Question), POINTER(structs.Told), *OCTETS]
+CALLS: dict[str, list[Any]] = {
+    "rrc_make": [SHELF, POINTER(structs.Rules)],
+    "rrc_free": [SHELF],
+    "rrc_make_name": [*OCTETS, POINTER(structs.Parts), NAME],
+    "rrc_record": [SHELF],
+    "rrc_stop_and_drop": [SHELF],
+    "rrc_ask": TELLS,
+    "rrc_ask_alias": TELLS,
+    "rrc_peek": TELLS,
+    "rrc_peek_alias": TELLS,
+    "rrc_stored": [SHELF, NAME, POINTER(structs.Question), POINTER(structs.Stored)],
+    "rrc_read_response": [OFFERS, *OCTETS, *OCTETS, *OCTETS, RESPONSE, WIDE_NUMBER],
+    "rrc_read_message_unchecked": [OFFERS, *OCTETS, *OCTETS, RESPONSE, WIDE_NUMBER],
+    "rrc_offer_read": [SHELF, OFFERS, POINTER(structs.Share), COUNTS],
+    "rrc_free_offers": [OFFERS],
+    "rrc_offer_message_unchecked": [SHELF, *OCTETS, *OCTETS, RESPONSE, COUNTS],
+    "rrc_offer_part_unchecked": [SHELF, *OCTETS, *OCTETS, RESPONSE, COUNTS],
+    "rrc_offer_set": [SHELF, *OCTETS, POINTER(structs.SetTerms), *OCTETS, NUMBER],
+    "rrc_offer_negative": [SHELF, *OCTETS, POINTER(structs.NegativeTerms), *OCTETS, *OCTETS,
+                           NUMBER],
+    "rrc_offer_failure": [SHELF, *OCTETS, POINTER(structs.FailureTerms), NUMBER],
+    "rrc_sweep": [SHELF, POINTER(structs.SweepAt), WIDE_NUMBER],
+    "rrc_sweep_some": [SHELF, POINTER(structs.SweepAt), POINTER(structs.Swept)],
+    "rrc_next_expiry": [SHELF, WIDE_NUMBER],
+    "rrc_sizes": [SHELF, POINTER(structs.Usage)],
+    "rrc_drop_chapters": [SHELF, WIDE_NUMBER],
+    "rrc_take_chapters": [SHELF, CHAPTERS, WIDE_NUMBER],
+    "rrc_stop_recording": [SHELF, CHAPTERS, WIDE_NUMBER],
+    "rrc_chapter_line": [CHAPTERS, POINTER(structs.Place), *OCTETS, POINTER(structs.Line)],
+    "rrc_free_chapters": [CHAPTERS],
+    "rrc_fault": [*OCTETS, NUMBER],
+    "rrc_version": [],
 }
-CALLS = {
-    "rrc_make": "pmmmo", "rrc_free": "p", "rrc_record": "p", "rrc_release": "p",
-    "rrc_offer_message": "poompmp",
-    "rrc_offer_part": "poomommpmp", "rrc_read_message": "poomompp",
-    "rrc_read_response": "pootottmompp", "rrc_offer_read": "ppmmp", "rrc_free_offers": "p",
-    "rrc_offer_set": "pottnnommp",
-    "rrc_offer_negative": "pottnnnoommp", "rrc_offer_failure": "pottnmmp", "rrc_ask": "pottmnnmpo",
-    "rrc_peek": "pottmnnpo", "rrc_sweep": "pmmp", "rrc_next_expiry": "pp", "rrc_stored": "pottp",
-    "rrc_drop_chapters": "pp", "rrc_sizes": "ppppp", "rrc_take_chapters": "ppp",
-    "rrc_stop_recording": "ppp", "rrc_chapter_line": "pmmmop", "rrc_free_chapters": "p",
-    "rrc_fault": "op", "rrc_part_of": "omop", "rrc_version": "",
-}
-
-
-class Told(Structure):
-    """`struct rrcache_told`."""
-
-    _fields_ = [("kind", c_uint32), ("left", c_uint32), ("retry_from", c_uint64),
-                ("owner_size", c_uint64), ("data_size", c_uint64)]
-
-
-class StoredNumbers(Structure):
-    """`struct rrcache_stored`."""
-
-    _fields_ = [("rank", c_uint32), ("ttl", c_uint32), ("moment", c_uint64)]
-
-
-class Line(Structure):
-    """`struct rrcache_line`: how many octets a line has, and how many of them were written."""
-
-    _fields_ = [("size", c_uint64), ("written", c_uint64)]
 
 
 def path() -> str:
@@ -57,40 +63,59 @@ def path() -> str:
     return os.environ.get("RRCACHE_LIBRARY") or (str(beside) if beside.exists() else SONAME)
 
 
-@functools.cache
-def library() -> CDLL:
-    """The library, with what its calls take. It is loaded when it is called first."""
+def parts_of_version(number: int) -> tuple[int, int, int]:
+    """Major, minor and patch."""
+    return number >> 16, number >> 8 & 255, number & 255
+
+
+def loaded_from(place: str) -> CDLL:
+    """The library of a place; ImportError where there is none, or one of another version."""
     try:
-        loaded = CDLL(path())
+        loaded = CDLL(place)
     except OSError as fault:
-        raise ImportError(f"{path()} cannot be loaded ({fault}): install the library by "
+        raise ImportError(f"{place} cannot be loaded ({fault}): install the library by "
                           "bin/install-c, or name it in RRCACHE_LIBRARY") from fault
-    for name, letters in CALLS.items():
-        call = getattr(loaded, name)
-        call.argtypes = [it for letter in letters for it in TYPES[letter]]
-        call.restype = c_uint32
-    if (version := loaded.rrc_version()) >> 16 != MAJOR:
-        raise ImportError(f"{path()} has version {version >> 16}, and this package is for {MAJOR}")
+    major, minor, _ = parts_of_version(loaded.rrc_version())
+    if major != MAJOR or minor < MINOR:
+        raise ImportError(f"{place} has version {major}.{minor}, and this package is for "
+                          f"{MAJOR}.{MINOR}")
     return loaded
 
 
-def call(name: str, *arguments: Any) -> bool:
-    """Whether the buffer for a reply was too small. Any other refusal is raised."""
-    status = getattr(library(), name)(*arguments)
-    if status not in (Status.DONE, Status.SMALL):
+@functools.cache
+def library() -> CDLL:
+    """The library, with what its calls take. It is loaded when it is called first."""
+    loaded = loaded_from(path())
+    for name, types in CALLS.items():
+        export = getattr(loaded, name)
+        export.argtypes, export.restype = types, c_uint32
+    return loaded
+
+
+def call(name: str, *arguments: Any) -> None:
+    """Makes a call, and raises its refusal."""
+    if status := getattr(library(), name)(*arguments):
         raise refusal(status)
-    return bool(status == Status.SMALL)
 
 
 def told(name: str, number: type[c_uint32] | type[c_uint64], *arguments: Any) -> int:
     """The number that a call writes behind its other arguments."""
     out = number()
     call(name, *arguments, byref(out))
-    return out.value
+    return int(out.value)
 
 
 def sized(octets: bytes) -> tuple[bytes, int]:
+    """Octets and how many they are, for a call."""
     return bytes(octets), len(octets)
+
+
+def seed_of(octets: bytes) -> bytes:
+    """A seed, as structs have it: `BadSeed` is raised where octets are not 16. That not all are 0
+    the library sees to."""
+    if len(octets) != structs.SEED_OCTETS:
+        raise refusal(Status.BAD_SEED)
+    return bytes(octets)
 
 
 T = TypeVar("T", bound="Closing")
@@ -110,16 +135,17 @@ class Closing:
 
 
 class Held(Closing):
-    """What the library holds for a handle; one that begins with a null pointer holds nothing."""
+    """What the library holds for a handle, which begins as zeros and holds nothing then."""
 
-    _freed_by: str
+    _kind: ClassVar[type[Structure]]
+    _freed_by: ClassVar[str]
 
     def __init__(self) -> None:
-        self._handle = (c_void_p * 2)()
+        self._handle: Any = self._kind()
 
     def close(self) -> None:
         """Frees it; it may be closed again. Calls after that are refused."""
-        if self._handle[0]:
+        if self._handle.is_live:
             call(self._freed_by, self._handle)
 
     def __del__(self) -> None:
@@ -127,23 +153,15 @@ class Held(Closing):
             self.close()
 
 
-def fault(message: bytes) -> int:
-    """The number of the first fault of a response's octets, 0 where they have none (rrcache.h)."""
-    return told("rrc_fault", c_uint32, *sized(message))
+def fault(message: bytes) -> MessageFault:
+    """The first fault of a response's octets, NO_FAULT (0, which is false) where they have none.
 
-
-def part_of(name: str | bytes, parts: int, seed: bytes) -> int:
-    """In which of 1 to 64 parts all keys of a name lie. The seed, 16 random octets, is to keep
-    others from picking names of one part.
-
-    >>> seed = os.urandom(16)
-    >>> part_of("WWW.example.", 16, seed) == part_of("www.example.", 16, seed)
-    True
+    >>> fault(b"").name
+    'SHORT'
     """
-    return told("rrc_part_of", c_uint64, *sized(to_wire(name)), parts, *sized(seed))
+    return MessageFault(told("rrc_fault", c_uint32, *sized(message)))
 
 
 def library_version() -> tuple[int, int, int]:
     """The version of the library: major, minor and patch."""
-    version = library().rrc_version()
-    return version >> 16, version >> 8 & 255, version & 255
+    return parts_of_version(library().rrc_version())

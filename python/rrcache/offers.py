@@ -2,40 +2,68 @@
 """The offers of a message that was read once, for several parts."""
 from __future__ import annotations
 
-from ctypes import c_uint32, c_uint64
+from ctypes import c_uint64
+from typing import Any
 
-from .library import Held, sized, told
+from . import structs
+from .library import Held, seed_of, sized, told
 from .names import to_wire
+from .parts import Parts
 from .replies import Limits, Query
 
 
 class Offers(Held):
-    """What a response says that servers of a zone sent, read once and for no shelf:
-    `Shelf.offer_read` then offers the share of a part. What they are cannot be read here. It is for
-    one thread at a time. A `with` frees it at its end, and offering it after that raises
-    `NoOffers`.
+    """What a response says that servers of a zone sent, read once and for no shelf, by
+    `read_response`: `Shelf.offer_read` then offers the share of a part. What they are cannot be
+    read here. It is for one thread at a time. A `with` frees it at its end, and offering it after
+    that raises `NoOffers`.
 
-    `concerned` are the parts, of 1 to 64, that the response has something for, by the seed that
-    `part_of` takes. With the query that was sent only what is relevant to it is taken, and
-    `OtherQuery` is raised where the response has another identifier or question.
+    `concerned` are the parts, counted from 0, that the response has something for.
+    """
 
+    _kind, _freed_by = structs.Offers, "rrc_free_offers"
+
+    def __init__(self) -> None:
+        super().__init__()
+        self.concerned: list[int] = []
+
+    def _read(self, export: str, count: int, *arguments: Any) -> Offers:
+        """Reads them, for so many parts."""
+        bits = told(export, c_uint64, self._handle, *arguments)
+        self.concerned = [part for part in range(count) if bits >> part & 1]
+        return self
+
+
+def terms(moment: int, limits: Limits, line: int = 0, parts: Parts | None = None, part: int = 0,
+          query: Query | None = None) -> structs.ResponseTerms:
+    """`struct rrc_response`: what a call is handed beside the octets of a response."""
+    count, seed = parts or (0, bytes(structs.SEED_OCTETS))
+    asked = (query.id, query.rtype, query.rclass) if query else (0, 0, 0)
+    return structs.fill(structs.ResponseTerms(), moment, line, count, seed_of(seed), part, *limits,
+                        *asked)
+
+
+def read_response(message: bytes, zone: str | bytes, query: Query, parts: Parts, moment: int,
+                  limits: Limits = Limits()) -> Offers:
+    """Reads a response of a server of a zone to a query, once for all of these parts: what is
+    relevant to the query. The caller checks from which address and port it came. `OtherQuery` is
+    raised where the response has another identifier or question.
+
+    >>> import os
     >>> message = bytes([0x12, 0x34, 0x84, 0, 0, 1, 0, 0, 0, 0, 0, 0])
     >>> message += b"\\3www\\7example\\0\\0\\1\\0\\1"
-    >>> with Offers(message, "example.", 16, seed=bytes(16), moment=1000) as offers:
+    >>> query, parts = Query("www.example.", 1, id=0x1234), Parts(16, seed=os.urandom(16))
+    >>> with read_response(message, "example.", query, parts, moment=1000) as offers:
     ...     offers.concerned
     []
     """
+    return Offers()._read("rrc_read_response", parts.count, *sized(message), *sized(to_wire(zone)),
+                          *sized(to_wire(query.name)), terms(moment, limits, 0, parts, 0, query))
 
-    _freed_by = "rrc_free_offers"
 
-    def __init__(self, message: bytes, zone: str | bytes, parts: int, seed: bytes, moment: int,
-                 limits: Limits = Limits(), query: Query | None = None) -> None:
-        super().__init__()
-        octets, owner = sized(message), sized(to_wire(zone))
-        numbers = parts, *sized(seed), moment, (c_uint32 * 3)(*limits)
-        if query is None:
-            bits = told("rrc_read_message", c_uint64, self._handle, *octets, *owner, *numbers)
-        else:
-            bits = told("rrc_read_response", c_uint64, self._handle, *octets, *owner, query.id,
-                        *sized(to_wire(query.name)), query.rtype, query.rclass, *numbers)
-        self.concerned = [part for part in range(parts) if bits >> part & 1]
+def read_message_unchecked(message: bytes, zone: str | bytes, parts: Parts, moment: int,
+                           limits: Limits = Limits()) -> Offers:
+    """The same of all that a response says within the zone. It compares the response with no query:
+    that is the caller's to do."""
+    return Offers()._read("rrc_read_message_unchecked", parts.count, *sized(message),
+                          *sized(to_wire(zone)), terms(moment, limits, 0, parts))

@@ -15,10 +15,12 @@
 
 enum { NAMES = 400, READERS = 4, MOMENT = 1000, DATUM = 6, BUFFER = 300 };
 
-/* A name, and the version of its address that was offered last: 0 where nothing is held. */
+/* A name, as it is written and as it was made for asks, and the version of its address that was
+   offered last: 0 where nothing is held. */
 struct entry {
-    uint8_t name[24];
+    uint8_t octets[24];
     size_t size;
+    struct rrcache_name name;
     uint32_t version;
 };
 
@@ -28,6 +30,14 @@ static pthread_rwlock_t lock = PTHREAD_RWLOCK_WRITER_NONRECURSIVE_INITIALIZER_NP
 static atomic_int looking, most_looking, faults;
 static atomic_long looks, hits;
 static int rounds = 20000;
+
+static const struct rrcache_rules RULES = {1024, 1024, 0, {1, 2, 3, 4, 5}};
+static const struct rrcache_parts PARTS = {1, {1, 2, 3, 4, 5}};
+static const struct rrcache_question QUESTION = {.moment = MOMENT,
+                                                 .rtype = 1,
+                                                 .rclass = RRCACHE_IN,
+                                                 .purpose = RRCACHE_ANYTHING,
+                                                 .mode = RRCACHE_NO_STALE};
 
 static uint64_t next(uint64_t *state)
 {
@@ -50,22 +60,13 @@ static void expect(bool holds, const char *what)
     fprintf(stderr, "FAIL %s\n", what);
 }
 
-static struct rrcache_query question(const struct entry *entry)
-{
-    struct rrcache_query query = {
-        .name = entry->name, .name_size = entry->size, .rtype = 1, .rclass = 1, .moment = MOMENT};
-    return query;
-}
-
-static enum rrcache_status look(const struct rrcache_query *query, struct rrcache_told *told,
+static enum rrcache_status look(const struct rrcache_name *name, struct rrcache_told *told,
                                 uint8_t *buffer)
 {
 #ifdef SHARED_HANDLE
-    return (enum rrcache_status)rrc_peek(&shelf, query->name, query->name_size, query->rtype,
-                                         query->rclass, query->moment, query->purpose, query->mode,
-                                         told, buffer, BUFFER);
+    return (enum rrcache_status)rrc_peek(&shelf, name, &QUESTION, told, buffer, BUFFER);
 #else
-    return rrcache_peek(&shelf, query, told, buffer, BUFFER);
+    return rrcache_peek(&shelf, name, &QUESTION, told, buffer, BUFFER);
 #endif
 }
 
@@ -77,7 +78,7 @@ static bool is_held(const struct entry *entry, const struct rrcache_told *told,
     uint32_t version =
         (uint32_t)datum[0] << 24 | (uint32_t)datum[1] << 16 | (uint32_t)datum[2] << 8 | datum[3];
     return told->kind == RRCACHE_FRESH && told->owner_size == entry->size
-           && memcmp(buffer, entry->name, entry->size) == 0 && told->data_size == DATUM
+           && memcmp(buffer, entry->octets, entry->size) == 0 && told->data_size == DATUM
            && version == entry->version;
 }
 
@@ -85,8 +86,7 @@ static void look_once(const struct entry *entry)
 {
     uint8_t buffer[BUFFER];
     struct rrcache_told told = {0};
-    struct rrcache_query query = question(entry);
-    expect(look(&query, &told, buffer) == RRCACHE_DONE, "a peek is done");
+    expect(look(&entry->name, &told, buffer) == RRCACHE_DONE, "a peek is done");
     if (entry->version == 0)
         expect(told.kind == RRCACHE_MISS, "a peek tells a miss");
     else
@@ -96,14 +96,19 @@ static void look_once(const struct entry *entry)
 
 static void look_at_all(const struct entry *entry)
 {
+    uint8_t buffer[BUFFER];
+    struct rrcache_told told;
     struct rrcache_stored stored;
-    struct rrcache_query query = question(entry);
-    uint64_t keys, events, chapters, octets, moment;
-    expect(rrcache_tell_stored(&shelf, &query, &stored) == RRCACHE_DONE
-               && (stored.trust != 0) == (entry->version != 0),
+    struct rrcache_usage sizes;
+    uint64_t moment;
+    expect(rrcache_tell_stored(&shelf, &entry->name, &QUESTION, &stored) == RRCACHE_DONE
+               && (stored.set.trust != 0) == (entry->version != 0),
            "what is stored is told");
-    expect(rrcache_sizes(&shelf, &keys, &events, &chapters, &octets) == RRCACHE_DONE
-               && keys <= NAMES,
+    expect(rrcache_peek_alias(&shelf, &entry->name, &QUESTION, &told, buffer, sizeof buffer)
+                   == RRCACHE_DONE
+               && told.rtype == QUESTION.rtype && told.entry.number == stored.set.number,
+           "there is no alias");
+    expect(rrcache_sizes(&shelf, &sizes) == RRCACHE_DONE && sizes.keys <= NAMES,
            "the sizes are told");
     expect(rrcache_next_expiry(&shelf, &moment) == RRCACHE_DONE && moment >= MOMENT,
            "the next expiry is told");
@@ -136,7 +141,7 @@ static void offer(struct entry *entry, uint32_t version)
                            (uint8_t)(version >> 16),
                            (uint8_t)(version >> 8),
                            (uint8_t)version};
-    struct rrcache_set set = {.owner = entry->name,
+    struct rrcache_set set = {.owner = entry->octets,
                               .owner_size = entry->size,
                               .rtype = 1,
                               .rclass = 1,
@@ -146,7 +151,7 @@ static void offer(struct entry *entry, uint32_t version)
                               .data_size = DATUM,
                               .moment = MOMENT};
     uint32_t outcome;
-    expect(rrcache_offer_set(&shelf, &set, 0, &outcome) == RRCACHE_DONE, "an offer is taken");
+    expect(rrcache_offer_set(&shelf, &set, &outcome) == RRCACHE_DONE, "an offer is taken");
     entry->version = version;
 }
 
@@ -154,8 +159,8 @@ static void ask(const struct entry *entry)
 {
     uint8_t buffer[BUFFER];
     struct rrcache_told told = {0};
-    struct rrcache_query query = question(entry);
-    expect(rrcache_ask(&shelf, &query, 0, &told, buffer, sizeof buffer) == RRCACHE_DONE
+    expect(rrcache_ask(&shelf, &entry->name, &QUESTION, &told, buffer, sizeof buffer)
+                   == RRCACHE_DONE
                && (told.kind == RRCACHE_FRESH) == (entry->version != 0),
            "an ask tells what was offered");
 }
@@ -180,10 +185,12 @@ static void name_all(void)
 {
     for (int at = 0; at < NAMES; at++) {
         struct entry *entry = &entries[at];
-        int size = snprintf((char *)entry->name + 1, 16, "host%d", at);
-        entry->name[0] = (uint8_t)size;
-        memcpy(entry->name + 1 + size, "\7example", 9);
+        int size = snprintf((char *)entry->octets + 1, 16, "host%d", at);
+        entry->octets[0] = (uint8_t)size;
+        memcpy(entry->octets + 1 + size, "\7example", 9);
         entry->size = (size_t)size + 10;
+        expect(rrcache_make_name(&entry->name, entry->octets, entry->size, &PARTS) == RRCACHE_DONE,
+               "a name is made");
         if (at % 7 != 0)
             offer(entry, 1);
     }
@@ -191,11 +198,10 @@ static void name_all(void)
 
 int main(int count, char **words)
 {
-    static const uint8_t seed[16] = {1, 2, 3, 4, 5};
     pthread_t threads[READERS + 1];
     if (count > 1)
         rounds = atoi(words[1]);
-    expect(rrcache_make(&shelf, 1024, 1024, 0, seed) == RRCACHE_DONE, "a shelf is made");
+    expect(rrcache_make(&shelf, &RULES) == RRCACHE_DONE, "a shelf is made");
     name_all();
     for (uintptr_t at = 0; at < READERS; at++)
         pthread_create(&threads[at], NULL, read_on, (void *)at);

@@ -1,8 +1,10 @@
 # SPDX-License-Identifier: MIT
 """tests.c on the library for C as bin/build-c makes it: on the archive, on the shared library, on
 the archive with each malloc and realloc refused in turn and those of calls that only look counted,
-and under the sanitizers of addresses and of undefined behaviour."""
+and under the sanitizers of addresses and of undefined behaviour. The header by itself, with the
+warnings that resolvers are compiled with."""
 import re
+import shutil
 import subprocess
 from pathlib import Path
 
@@ -19,6 +21,13 @@ BUILDS = {
     "sanitized": ["librrcache.a", "-fsanitize=address,undefined", "-fno-sanitize-recover=all"],
 }
 SECONDS = 120
+# In C++ `{0}` is told to leave fields out, which it fills with zeros all the same.
+LANGUAGES = {
+    "C99": ["cc", "-std=c99", "-xc", "-Wconversion", "-Wshadow"],
+    "C11": ["cc", "-std=c11", "-xc", "-Wconversion", "-Wshadow"],
+    "C++11": ["c++", "-std=c++11", "-xc++", "-Wno-missing-field-initializers"],
+    "C++20": ["c++", "-std=c++20", "-xc++", "-Wno-missing-field-initializers"],
+}
 
 
 @pytest.fixture(scope="session")
@@ -49,3 +58,13 @@ def test_library(build, libraries, tmp_path, capsys):
     assert checks and ran.returncode == 0, ran.stdout + ran.stderr
     with capsys.disabled():
         print(f"\n{build}: {checks[1]} checks")
+
+
+@pytest.mark.parametrize("language", LANGUAGES)
+def test_header(language):
+    compiler, *words = LANGUAGES[language]
+    if shutil.which(compiler) is None:
+        pytest.skip(f"there is no {compiler} here (bin/setup installs it)")
+    subprocess.run([compiler, *words, "-Wall", "-Wextra", "-Werror", "-pedantic",
+                    f"-I{TOP / 'include'}", "-fsyntax-only", "-"], check=True,
+                   input=b'#include "rrcache.h"\n')

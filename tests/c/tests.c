@@ -28,10 +28,15 @@ static void expect(bool holds, const char *what, int line)
 
 /* ---- What is offered and asked. */
 
-static const uint8_t SEED[16] = {3, 1, 4, 1, 5, 9, 2, 6, 5, 3, 5, 8, 9, 7, 9, 3};
-/* How names are divided: the seed of their parts is the octets 0 to 15. */
-#define PARTED(count)                                                                              \
-    (&(const struct rrcache_parts){(count), {0, 1, 2, 3, 4, 5, 6, 7, 8, 9, 10, 11, 12, 13, 14, 15}})
+/* The seed of all shelves and of all names, where no other is told. */
+#define SEED                                                                                       \
+    {                                                                                              \
+        0, 1, 2, 3, 4, 5, 6, 7, 8, 9, 10, 11, 12, 13, 14, 15                                       \
+    }
+#define PARTED(count) (&(const struct rrcache_parts){(count), SEED})
+/* Octets, with how many they are. */
+#define OF(octets) (octets), sizeof(octets)
+
 static const uint8_t NAME[] = "\3www\7example"; /* the last octet is the literal's own 0 */
 static const uint8_t UPPER[] = "\3WWW\7Example";
 static const uint8_t ZONE[] = "\7example";
@@ -40,8 +45,10 @@ static const uint8_t THIRD[] = "\5third\7example";
 static const uint8_t NO_NAME[] = {3, 'w', 'w'};
 static const struct rrcache_limits LIMITS = {86400, 3600, 30};
 static const uint64_t FIRST = 1000;
+/* A moment that is too large, and the last one that is not. */
+static const uint64_t LATE = (UINT64_C(1) << 40) + 1, LAST = UINT64_C(1) << 40;
 
-enum { A = 1, CNAME = 5, SOA = 6, TXT = 16, OPT = 41, ANY = 255, PARTS = 16 };
+enum { A = 1, CNAME = 5, SOA = 6, TXT = 16, OPT = 41, ANY = 255, PARTS = 16, MAX_STALE = 3600 };
 
 /* clang-format off */
 /* A response to www.example A: two addresses of www.example for 300 seconds, authoritative (RFC
@@ -80,127 +87,459 @@ static const uint8_t ADDRESSES[] = {
     0, 4, 192, 0, 2, 2,
 };
 /* clang-format on */
-/* An address behind its length. */
+/* An address behind its length, and the name other.example. */
 static const uint8_t ADDRESS[] = {0, 4, 192, 0, 2, 9};
+static const uint8_t TARGET[] = {0,   15,  5,   'o', 't', 'h', 'e', 'r', 7,
+                                 'e', 'x', 'a', 'm', 'p', 'l', 'e', 0};
 /* The data of a SOA record: two roots and five numbers, the last of them 60. */
 static const uint8_t SOA_DATA[] = {0, 0, 0, 0, 0, 1, 0, 0, 0, 2, 0,
                                    0, 0, 3, 0, 0, 0, 4, 0, 0, 0, 60};
 
-/* What the calls take, each field in its order. */
-#define QUERY(name, size, type, class, moment, purpose, mode)                                      \
-    (&(const struct rrcache_query){(name), (size), (type), (class), (moment), (purpose), (mode)})
-#define RESPONSE(octets, size, zone, zone_size, moment, limits)                                    \
-    (&(const struct rrcache_response){(octets), (size), (zone), (zone_size), (moment), (limits)})
-#define SET(owner, size, type, class, trust, ttl, data, data_size, moment)                         \
-    (&(const struct rrcache_set){(owner), (size), (type), (class), (trust), (ttl), (data),         \
-                                 (data_size), (moment)})
-#define NEGATIVE(name, size, type, class, denial, trust, ttl, owner, owner_size, soa, soa_size,    \
-                 moment)                                                                           \
-    (&(const struct rrcache_negative){(name), (size), (type), (class), (denial), (trust), (ttl),   \
-                                      (owner), (owner_size), (soa), (soa_size), (moment)})
-#define FAILURE(name, size, type, class, ttl, moment)                                              \
-    (&(const struct rrcache_failure){(name), (size), (type), (class), (ttl), (moment)})
+#define SWEEP(moment, most)        (&(const struct rrcache_sweep_at){(moment), 1, (most)})
+#define SHARE(part)                (&(const struct rrcache_share){(part), 1})
+#define PLACE(chapter, line, from) (&(const struct rrcache_place){(chapter), (line), (from)})
+#define RULES(capacity, chapter, life)                                                             \
+    (&(const struct rrcache_rules){(capacity), (chapter), (life), SEED})
 
 /* A shelf that records its history, so that its events can be counted. */
 static uint32_t make_by(struct rrcache_shelf *shelf, uint64_t capacity, uint64_t chapter,
                         uint64_t stale)
 {
-    uint32_t status = rrcache_make(shelf, capacity, chapter, stale, SEED);
+    uint32_t status = rrcache_make(shelf, RULES(capacity, chapter, stale));
     return status == RRCACHE_DONE ? rrcache_record(shelf) : status;
 }
 
 static uint32_t make(struct rrcache_shelf *shelf)
 {
-    return make_by(shelf, 100, 4, 3600);
+    return make_by(shelf, 100, 4, MAX_STALE);
 }
 
-static uint32_t offer_answer(struct rrcache_shelf *shelf, uint64_t moment,
-                             struct rrcache_counts *counts)
+static struct rrcache_name name_of(const uint8_t *octets, size_t size)
 {
-    return rrcache_offer_message(
-        shelf, RESPONSE(ANSWER, sizeof ANSWER, ZONE, sizeof ZONE, moment, LIMITS), 1, counts);
+    struct rrcache_name name = {0};
+    EXPECT(rrcache_make_name(&name, octets, size, PARTED(PARTS)) == RRCACHE_DONE
+           && name.part < PARTS);
+    return name;
 }
+
+static uint64_t part_of(const uint8_t *name, size_t size)
+{
+    return name_of(name, size).part;
+}
+
+/* ---- What is asked. */
+
+/* A question of a client that takes nothing stale. */
+static struct rrcache_question question(uint16_t rtype, uint64_t moment)
+{
+    struct rrcache_question question = {.moment = moment,
+                                        .line = 2,
+                                        .rtype = rtype,
+                                        .rclass = RRCACHE_IN,
+                                        .purpose = RRCACHE_QUESTION,
+                                        .mode = RRCACHE_NO_STALE};
+    return question;
+}
+
+static struct rrcache_question question_by(uint16_t rtype, uint64_t moment, uint32_t purpose,
+                                           uint32_t mode)
+{
+    struct rrcache_question made = question(rtype, moment);
+    made.purpose = purpose;
+    made.mode = mode;
+    return made;
+}
+
+static struct rrcache_question question_in(uint16_t rclass, uint16_t rtype)
+{
+    struct rrcache_question made = question(rtype, FIRST);
+    made.rclass = rclass;
+    return made;
+}
+
+/* The calls that tell a reply, all under one type. */
+typedef uint32_t (*asking)(struct rrcache_shelf *shelf, const struct rrcache_name *name,
+                           const struct rrcache_question *question, struct rrcache_told *told,
+                           uint8_t *buffer, size_t size);
+
+static uint32_t to_ask(struct rrcache_shelf *shelf, const struct rrcache_name *name,
+                       const struct rrcache_question *question, struct rrcache_told *told,
+                       uint8_t *buffer, size_t size)
+{
+    return rrcache_ask(shelf, name, question, told, buffer, size);
+}
+
+static uint32_t to_ask_alias(struct rrcache_shelf *shelf, const struct rrcache_name *name,
+                             const struct rrcache_question *question, struct rrcache_told *told,
+                             uint8_t *buffer, size_t size)
+{
+    return rrcache_ask_alias(shelf, name, question, told, buffer, size);
+}
+
+static uint32_t to_peek(struct rrcache_shelf *shelf, const struct rrcache_name *name,
+                        const struct rrcache_question *question, struct rrcache_told *told,
+                        uint8_t *buffer, size_t size)
+{
+    return rrcache_peek(shelf, name, question, told, buffer, size);
+}
+
+static uint32_t to_peek_alias(struct rrcache_shelf *shelf, const struct rrcache_name *name,
+                              const struct rrcache_question *question, struct rrcache_told *told,
+                              uint8_t *buffer, size_t size)
+{
+    return rrcache_peek_alias(shelf, name, question, told, buffer, size);
+}
+
+enum { ASKINGS = 4, ASKS = 2 };
+
+/* Those that write an event come first. */
+static const asking ASKING[ASKINGS] = {to_ask, to_ask_alias, to_peek, to_peek_alias};
 
 static uint32_t ask(struct rrcache_shelf *shelf, uint64_t moment, struct rrcache_told *told,
                     uint8_t *buffer, size_t size)
 {
-    return rrcache_ask(
-        shelf, QUERY(NAME, sizeof NAME, A, RRCACHE_IN, moment, RRCACHE_QUESTION, RRCACHE_NO_STALE),
-        2, told, buffer, size);
+    struct rrcache_name name = name_of(OF(NAME));
+    struct rrcache_question asked = question(A, moment);
+    return rrcache_ask(shelf, &name, &asked, told, buffer, size);
 }
 
 static uint32_t peek(struct rrcache_shelf *shelf, uint64_t moment, struct rrcache_told *told,
                      uint8_t *buffer, size_t size)
 {
-    return rrcache_peek(
-        shelf, QUERY(NAME, sizeof NAME, A, RRCACHE_IN, moment, RRCACHE_QUESTION, RRCACHE_NO_STALE),
-        told, buffer, size);
+    struct rrcache_name name = name_of(OF(NAME));
+    struct rrcache_question asked = question(A, moment);
+    return rrcache_peek(shelf, &name, &asked, told, buffer, size);
+}
+
+/* A reply, with its octets. */
+struct reply {
+    struct rrcache_told told;
+    uint8_t octets[64];
+};
+
+static struct reply reply_by(asking call, struct rrcache_shelf *shelf, const uint8_t *octets,
+                             size_t size, struct rrcache_question question)
+{
+    struct rrcache_name name = name_of(octets, size);
+    struct reply reply;
+    memset(&reply, 0, sizeof reply);
+    EXPECT(call(shelf, &name, &question, &reply.told, reply.octets, sizeof reply.octets)
+           == RRCACHE_DONE);
+    return reply;
+}
+
+static struct reply asked(struct rrcache_shelf *shelf, const uint8_t *name, size_t size,
+                          struct rrcache_question question)
+{
+    return reply_by(to_ask, shelf, name, size, question);
+}
+
+static struct reply peeked(struct rrcache_shelf *shelf, const uint8_t *name, size_t size,
+                           struct rrcache_question question)
+{
+    return reply_by(to_peek, shelf, name, size, question);
+}
+
+/* What is told of a name for a type at a moment. */
+static uint32_t kind_at(struct rrcache_shelf *shelf, const uint8_t *name, size_t size,
+                        uint16_t rtype, uint64_t moment)
+{
+    return peeked(shelf, name, size, question(rtype, moment)).told.kind;
+}
+
+static bool is_entry(const struct rrcache_entry *entry, uint32_t kind, uint32_t trust, uint32_t ttl,
+                     uint64_t moment, uint64_t number, uint64_t age)
+{
+    return entry->kind == kind && entry->trust == trust && entry->ttl == ttl
+           && entry->moment == moment && entry->number == number && entry->age == age;
+}
+
+static bool is_no_entry(const struct rrcache_entry *entry)
+{
+    return is_entry(entry, 0, 0, 0, 0, 0, 0);
+}
+
+/* Whether two replies are the same, octets of no field left out. */
+static bool are_same(const struct reply *one, const struct reply *other)
+{
+    const struct rrcache_told *a = &one->told, *b = &other->told;
+    return a->kind == b->kind && a->rtype == b->rtype && a->left == b->left
+           && a->retry_from == b->retry_from && a->owner_size == b->owner_size
+           && a->data_size == b->data_size
+           && is_entry(&a->entry, b->entry.kind, b->entry.trust, b->entry.ttl, b->entry.moment,
+                       b->entry.number, b->entry.age)
+           && memcmp(one->octets, other->octets, sizeof one->octets) == 0;
+}
+
+/* Whether a reply has just these data. */
+static bool has_data(const struct reply *reply, const uint8_t *data, size_t size)
+{
+    return reply->told.data_size == size
+           && memcmp(reply->octets + reply->told.owner_size, data, size) == 0;
+}
+
+static struct rrcache_stored stored_of(struct rrcache_shelf *shelf, const uint8_t *octets,
+                                       size_t size, uint16_t rtype)
+{
+    struct rrcache_name name = name_of(octets, size);
+    struct rrcache_question asked = question(rtype, 0);
+    struct rrcache_stored stored;
+    memset(&stored, 7, sizeof stored);
+    EXPECT(rrcache_tell_stored(shelf, &name, &asked, &stored) == RRCACHE_DONE);
+    return stored;
+}
+
+static struct rrcache_usage sizes_of(struct rrcache_shelf *shelf)
+{
+    struct rrcache_usage sizes = {7, 7, 7, 7};
+    EXPECT(rrcache_sizes(shelf, &sizes) == RRCACHE_DONE);
+    return sizes;
 }
 
 static uint64_t events(struct rrcache_shelf *shelf)
 {
-    uint64_t keys = 0, open = 0, chapters = 0, octets = 0;
-    EXPECT(rrcache_sizes(shelf, &keys, &open, &chapters, &octets) == RRCACHE_DONE);
-    return open + 1000 * chapters;
+    struct rrcache_usage sizes = sizes_of(shelf);
+    return sizes.events + 1000 * sizes.chapters;
 }
 
 static uint64_t keys(struct rrcache_shelf *shelf)
 {
-    uint64_t held = 0, open = 0, chapters = 0, octets = 0;
-    EXPECT(rrcache_sizes(shelf, &held, &open, &chapters, &octets) == RRCACHE_DONE);
-    return held;
+    return sizes_of(shelf).keys;
 }
 
 static uint64_t octets_of_keys(struct rrcache_shelf *shelf)
 {
-    uint64_t held = 0, open = 0, chapters = 0, octets = 7;
-    EXPECT(rrcache_sizes(shelf, &held, &open, &chapters, &octets) == RRCACHE_DONE);
-    return octets;
+    return sizes_of(shelf).octets;
+}
+
+/* ---- What is offered. */
+
+static struct rrcache_response response_of(const uint8_t *octets, size_t size)
+{
+    struct rrcache_response response = {
+        .octets = octets, .size = size, .zone = ZONE, .zone_size = sizeof ZONE, .moment = FIRST};
+    response.limits = LIMITS;
+    return response;
+}
+
+static struct rrcache_query query_of(const uint8_t *name, size_t size)
+{
+    struct rrcache_query query = {
+        .name = name, .name_size = size, .id = 0x1234, .rtype = A, .rclass = RRCACHE_IN};
+    return query;
+}
+
+static struct rrcache_set set_of(const uint8_t *owner, size_t owner_size, uint16_t rtype,
+                                 const uint8_t *data, size_t data_size)
+{
+    struct rrcache_set set = {.owner = owner,
+                              .owner_size = owner_size,
+                              .rtype = rtype,
+                              .rclass = RRCACHE_IN,
+                              .trust = RRCACHE_AUTHORITATIVE_ANSWER,
+                              .ttl = 60,
+                              .data = data,
+                              .data_size = data_size,
+                              .moment = FIRST,
+                              .line = 1};
+    return set;
+}
+
+static struct rrcache_negative negative_of(const uint8_t *name, size_t size, uint16_t rtype,
+                                           enum rrcache_kind kind)
+{
+    struct rrcache_negative negative = {.name = name,
+                                        .name_size = size,
+                                        .rtype = rtype,
+                                        .rclass = RRCACHE_IN,
+                                        .kind = kind,
+                                        .trust = RRCACHE_AUTHORITY,
+                                        .ttl = 60,
+                                        .soa_owner = ZONE,
+                                        .soa_owner_size = sizeof ZONE,
+                                        .soa = SOA_DATA,
+                                        .soa_size = sizeof SOA_DATA,
+                                        .moment = FIRST,
+                                        .line = 1};
+    return negative;
+}
+
+static struct rrcache_failure failure_of(const uint8_t *name, size_t size, uint16_t rtype)
+{
+    struct rrcache_failure failure = {.name = name,
+                                      .name_size = size,
+                                      .rtype = rtype,
+                                      .rclass = RRCACHE_IN,
+                                      .ttl = 30,
+                                      .moment = FIRST,
+                                      .line = 1};
+    return failure;
+}
+
+/* What a call returns, of which a refusal leaves its outcome alone. */
+static uint32_t set_status(struct rrcache_shelf *shelf, struct rrcache_set set)
+{
+    uint32_t outcome = 7, status = rrcache_offer_set(shelf, &set, &outcome);
+    EXPECT((status != RRCACHE_DONE) == (outcome == 7));
+    return status;
+}
+
+static uint32_t negative_status(struct rrcache_shelf *shelf, struct rrcache_negative negative)
+{
+    uint32_t outcome = 7, status = rrcache_offer_negative(shelf, &negative, &outcome);
+    EXPECT((status != RRCACHE_DONE) == (outcome == 7));
+    return status;
+}
+
+static uint32_t failure_status(struct rrcache_shelf *shelf, struct rrcache_failure failure)
+{
+    uint32_t outcome = 7, status = rrcache_offer_failure(shelf, &failure, &outcome);
+    EXPECT((status != RRCACHE_DONE) == (outcome == 7));
+    return status;
+}
+
+/* What became of an offer that is made. */
+static uint32_t offer_set(struct rrcache_shelf *shelf, struct rrcache_set set)
+{
+    uint32_t outcome = 0;
+    EXPECT(rrcache_offer_set(shelf, &set, &outcome) == RRCACHE_DONE);
+    return outcome;
+}
+
+static uint32_t offer_negative(struct rrcache_shelf *shelf, struct rrcache_negative negative)
+{
+    uint32_t outcome = 0;
+    EXPECT(rrcache_offer_negative(shelf, &negative, &outcome) == RRCACHE_DONE);
+    return outcome;
+}
+
+static uint32_t offer_failure(struct rrcache_shelf *shelf, struct rrcache_failure failure)
+{
+    uint32_t outcome = 0;
+    EXPECT(rrcache_offer_failure(shelf, &failure, &outcome) == RRCACHE_DONE);
+    return outcome;
 }
 
 static uint32_t offer_address(struct rrcache_shelf *shelf, const uint8_t *name, size_t size,
-                              uint32_t trust, uint32_t ttl)
+                              enum rrcache_trust trust, uint32_t ttl)
 {
-    uint32_t outcome = 0;
-    EXPECT(rrcache_offer_set(
-               shelf, SET(name, size, A, RRCACHE_IN, trust, ttl, ADDRESS, sizeof ADDRESS, FIRST), 1,
-               &outcome)
-           == RRCACHE_DONE);
-    return outcome;
+    struct rrcache_set set = set_of(name, size, A, OF(ADDRESS));
+    set.trust = trust;
+    set.ttl = ttl;
+    return offer_set(shelf, set);
+}
+
+static uint32_t offer_denial(struct rrcache_shelf *shelf, const uint8_t *name, size_t size,
+                             enum rrcache_kind kind, enum rrcache_trust trust, uint32_t ttl)
+{
+    struct rrcache_negative negative = negative_of(name, size, A, kind);
+    negative.trust = trust;
+    negative.ttl = ttl;
+    return offer_negative(shelf, negative);
+}
+
+static uint32_t offer_message(struct rrcache_shelf *shelf, struct rrcache_response response,
+                              struct rrcache_counts *counts)
+{
+    return rrcache_offer_message_unchecked(shelf, &response, 1, counts);
+}
+
+static uint32_t offer_part(struct rrcache_shelf *shelf, struct rrcache_response response,
+                           uint64_t parts, uint64_t part, struct rrcache_counts *counts)
+{
+    return rrcache_offer_part_unchecked(shelf, &response, PARTED(parts), SHARE(part), counts);
+}
+
+static uint32_t read_message(struct rrcache_offers *offers, struct rrcache_response response,
+                             uint64_t parts, uint64_t *concerned)
+{
+    return rrcache_read_message_unchecked(offers, &response, PARTED(parts), concerned);
+}
+
+static uint32_t read_response(struct rrcache_offers *offers, struct rrcache_response response,
+                              struct rrcache_query query, uint64_t *concerned)
+{
+    return rrcache_read_response(offers, &response, &query, PARTED(1), concerned);
+}
+
+static uint32_t offer_answer(struct rrcache_shelf *shelf, uint64_t moment,
+                             struct rrcache_counts *counts)
+{
+    struct rrcache_response response = response_of(OF(ANSWER));
+    response.moment = moment;
+    return offer_message(shelf, response, counts);
 }
 
 static uint32_t offer_alias(struct rrcache_shelf *shelf, uint64_t parts, uint64_t part,
                             uint64_t moment, struct rrcache_counts *counts)
 {
-    return rrcache_offer_part(shelf,
-                              RESPONSE(ALIAS, sizeof ALIAS, ZONE, sizeof ZONE, moment, LIMITS),
-                              PARTED(parts), part, 1, counts);
+    struct rrcache_response response = response_of(OF(ALIAS));
+    response.moment = moment;
+    return offer_part(shelf, response, parts, part, counts);
 }
 
 static uint32_t read_alias(struct rrcache_offers *offers, uint64_t parts, uint64_t *concerned)
 {
-    return rrcache_read_message(offers,
-                                RESPONSE(ALIAS, sizeof ALIAS, ZONE, sizeof ZONE, FIRST, LIMITS),
-                                PARTED(parts), concerned);
+    return read_message(offers, response_of(OF(ALIAS)), parts, concerned);
 }
 
-static uint64_t part_of(const uint8_t *name, size_t size)
+static bool are_counts(const struct rrcache_counts *counts, uint64_t kept, uint64_t cleared,
+                       uint64_t outranked)
 {
-    uint64_t part = PARTS;
-    EXPECT(rrcache_part_of(name, size, PARTED(PARTS), &part) == RRCACHE_DONE && part < PARTS);
-    return part;
+    return counts->kept == kept && counts->cleared == cleared && counts->outranked == outranked;
+}
+
+/* How many keys a sweep removes. */
+static uint64_t sweep(struct rrcache_shelf *shelf, uint64_t moment)
+{
+    uint64_t removed = UINT64_MAX;
+    EXPECT(rrcache_sweep(shelf, SWEEP(moment, 0), &removed) == RRCACHE_DONE);
+    return removed;
 }
 
 /* ---- Calls on their happy path. */
 
+/* The structs that the library shares are laid out as it has them. */
 static void test_layout(void)
 {
-    EXPECT(sizeof(struct rrcache_shelf) == 16 && offsetof(struct rrcache_shelf, is_live) == 8);
+    EXPECT(sizeof(struct rrcache_shelf) == 32 && offsetof(struct rrcache_shelf, is_live) == 8
+           && offsetof(struct rrcache_shelf, seed) == 16);
     EXPECT(sizeof(struct rrcache_offers) == 16 && offsetof(struct rrcache_offers, is_live) == 8);
     EXPECT(sizeof(struct rrcache_chapters) == 16 && offsetof(struct rrcache_chapters, is_live) == 8
            && sizeof(struct rrcache_line) == 16 && offsetof(struct rrcache_line, written) == 8);
-    EXPECT(sizeof(struct rrcache_told) == 32 && sizeof(struct rrcache_counts) == 24
-           && sizeof(struct rrcache_limits) == 12 && sizeof(struct rrcache_stored) == 16);
+    EXPECT(sizeof(struct rrcache_name) == 288 && offsetof(struct rrcache_name, part) == 8
+           && offsetof(struct rrcache_name, seed) == 16 && offsetof(struct rrcache_name, size) == 32
+           && offsetof(struct rrcache_name, octets) == 33);
+    EXPECT(sizeof(struct rrcache_parts) == 24 && sizeof(struct rrcache_rules) == 40
+           && offsetof(struct rrcache_rules, seed) == 24);
+    EXPECT(sizeof(struct rrcache_question) == 32 && offsetof(struct rrcache_question, rtype) == 16
+           && offsetof(struct rrcache_question, mode) == 24);
+    EXPECT(sizeof(struct rrcache_entry) == 40 && offsetof(struct rrcache_entry, moment) == 16
+           && sizeof(struct rrcache_stored) == 120);
+    EXPECT(sizeof(struct rrcache_told) == 80 && offsetof(struct rrcache_told, retry_from) == 16
+           && offsetof(struct rrcache_told, entry) == 40);
+    EXPECT(sizeof(struct rrcache_counts) == 24 && sizeof(struct rrcache_limits) == 12
+           && sizeof(struct rrcache_sweep_at) == 24 && sizeof(struct rrcache_swept) == 16);
+    EXPECT(sizeof(struct rrcache_usage) == 32 && sizeof(struct rrcache_share) == 16
+           && sizeof(struct rrcache_place) == 24);
+    EXPECT(rrcache_version() == RRCACHE_VERSION);
+}
+
+enum { STATUSES = 27 };
+
+/* Each status has a text of its own, and so has a number that is none. */
+static void test_status_texts(void)
+{
+    const char *unknown = rrcache_status_text((enum rrcache_status)STATUSES);
+    EXPECT(RRCACHE_OTHER_SEED == STATUSES - 1 && unknown != NULL && *unknown != 0);
+    EXPECT(strcmp(unknown, rrcache_status_text((enum rrcache_status)1000)) == 0);
+    for (int one = 0; one < STATUSES; one++) {
+        const char *text = rrcache_status_text((enum rrcache_status)one);
+        bool is_its_own = text != NULL && *text != 0 && strcmp(text, unknown) != 0;
+        for (int other = 0; is_its_own && other < one; other++)
+            is_its_own = strcmp(text, rrcache_status_text((enum rrcache_status)other)) != 0;
+        EXPECT(is_its_own);
+    }
 }
 
 static void test_answers(void)
@@ -208,6 +547,8 @@ static void test_answers(void)
     struct rrcache_shelf shelf = {0};
     struct rrcache_counts counts = {9, 9, 9};
     struct rrcache_told told = {0};
+    struct rrcache_name upper = name_of(OF(UPPER));
+    struct rrcache_question anything = question_by(A, FIRST, RRCACHE_ANYTHING, RRCACHE_NO_STALE);
     uint8_t buffer[64];
     EXPECT(make(&shelf) == RRCACHE_DONE);
     EXPECT(ask(&shelf, FIRST, &told, NULL, 0) == RRCACHE_DONE);
@@ -215,11 +556,12 @@ static void test_answers(void)
            && told.data_size == 0);
     EXPECT(events(&shelf) == 1);
     EXPECT(offer_answer(&shelf, FIRST, &counts) == RRCACHE_DONE);
-    EXPECT(counts.kept == 1 && counts.cleared == 0 && counts.refused == 0 && events(&shelf) == 2);
+    EXPECT(are_counts(&counts, 1, 0, 0) && events(&shelf) == 2);
 
     memset(buffer, 0xee, sizeof buffer);
     EXPECT(ask(&shelf, FIRST + 100, &told, buffer, sizeof buffer) == RRCACHE_DONE);
-    EXPECT(told.kind == RRCACHE_FRESH && told.left == 200 && told.retry_from == 0);
+    EXPECT(told.kind == RRCACHE_FRESH && told.rtype == A && told.left == 200
+           && told.retry_from == 0);
     EXPECT(told.owner_size == sizeof NAME && told.owner_size + told.data_size == sizeof ADDRESSES);
     EXPECT(memcmp(buffer, ADDRESSES, sizeof ADDRESSES) == 0);
     EXPECT(buffer[sizeof ADDRESSES] == 0xee && buffer[sizeof buffer - 1] == 0xee);
@@ -227,9 +569,7 @@ static void test_answers(void)
 
     /* The name is asked for in any case, and a buffer of just the size will do. */
     memset(buffer, 0xee, sizeof buffer);
-    EXPECT(rrcache_ask(&shelf, QUERY(UPPER, sizeof UPPER, A, RRCACHE_IN, FIRST, 0, 0), 3, &told,
-                       buffer, sizeof ADDRESSES)
-           == RRCACHE_DONE);
+    EXPECT(rrcache_ask(&shelf, &upper, &anything, &told, buffer, sizeof ADDRESSES) == RRCACHE_DONE);
     EXPECT(memcmp(buffer, ADDRESSES, sizeof ADDRESSES) == 0 && events(&shelf) == 4);
     EXPECT(rrcache_free(&shelf) == RRCACHE_DONE && shelf.at == NULL && !shelf.is_live);
 }
@@ -241,19 +581,23 @@ static void test_small_buffers_of(bool records)
     struct rrcache_counts counts;
     struct rrcache_told told = {0};
     uint8_t buffer[sizeof ADDRESSES];
-    EXPECT(make(&shelf) == RRCACHE_DONE && (records || rrcache_release(&shelf) == RRCACHE_DONE));
+    EXPECT(make(&shelf) == RRCACHE_DONE
+           && (records || rrcache_stop_and_drop(&shelf) == RRCACHE_DONE));
     EXPECT(offer_answer(&shelf, FIRST, &counts) == RRCACHE_DONE);
     for (size_t size = 0; size < sizeof ADDRESSES; size++) {
         memset(buffer, 0xee, sizeof buffer);
         memset(&told, 0, sizeof told);
         EXPECT(ask(&shelf, FIRST, &told, buffer, size) == RRCACHE_SMALL);
-        EXPECT(told.kind == RRCACHE_FRESH && told.owner_size + told.data_size == sizeof ADDRESSES);
+        EXPECT(told.kind == RRCACHE_FRESH && told.rtype == A && told.left == 300
+               && told.owner_size + told.data_size == sizeof ADDRESSES);
+        EXPECT(
+            is_entry(&told.entry, RRCACHE_FRESH, RRCACHE_AUTHORITATIVE_ANSWER, 300, FIRST, 0, 0));
         EXPECT(peek(&shelf, FIRST, &told, buffer, size) == RRCACHE_SMALL);
         EXPECT(buffer[0] == 0xee && buffer[sizeof buffer - 1] == 0xee && events(&shelf) == records);
     }
     /* A moment that is too large tells nothing. */
     memset(&told, 7, sizeof told);
-    EXPECT(ask(&shelf, (1ULL << 40) + 1, &told, buffer, sizeof buffer) == RRCACHE_MOMENT_TOO_LARGE
+    EXPECT(ask(&shelf, LATE, &told, buffer, sizeof buffer) == RRCACHE_MOMENT_TOO_LARGE
            && told.kind == 0x07070707 && buffer[0] == 0xee && events(&shelf) == records);
     EXPECT(ask(&shelf, FIRST, &told, buffer, sizeof buffer) == RRCACHE_DONE
            && told.kind == RRCACHE_FRESH && memcmp(buffer, ADDRESSES, sizeof ADDRESSES) == 0);
@@ -276,6 +620,9 @@ static void test_peek(void)
     EXPECT(peek(&shelf, FIRST + 1, &told, buffer, sizeof buffer) == RRCACHE_DONE);
     EXPECT(told.kind == RRCACHE_FRESH && told.left == 299
            && memcmp(buffer, ADDRESSES, sizeof ADDRESSES) == 0);
+    /* It is not refused for its moment. */
+    EXPECT(peek(&shelf, UINT64_MAX, &told, buffer, sizeof buffer) == RRCACHE_DONE
+           && told.kind == RRCACHE_MISS);
     EXPECT(events(&shelf) == 1);
     EXPECT(rrcache_free(&shelf) == RRCACHE_DONE);
 }
@@ -283,66 +630,54 @@ static void test_peek(void)
 static void test_offers(void)
 {
     struct rrcache_shelf shelf = {0};
-    struct rrcache_told told = {0};
-    uint32_t outcome = 0;
-    uint8_t buffer[64];
+    struct reply reply;
     EXPECT(make(&shelf) == RRCACHE_DONE);
-    EXPECT(rrcache_offer_set(&shelf,
-                             SET(NAME, sizeof NAME, A, RRCACHE_IN, RRCACHE_AUTHORITATIVE_ANSWER, 60,
-                                 ADDRESS, sizeof ADDRESS, FIRST),
-                             1, &outcome)
-           == RRCACHE_DONE);
-    EXPECT(outcome == RRCACHE_KEPT);
-    EXPECT(rrcache_offer_set(&shelf,
-                             SET(NAME, sizeof NAME, A, RRCACHE_IN, RRCACHE_ADDITIONAL, 60, ADDRESS,
-                                 sizeof ADDRESS, FIRST),
-                             2, &outcome)
-           == RRCACHE_DONE);
-    EXPECT(outcome == RRCACHE_LESS_TRUSTED);
-    EXPECT(peek(&shelf, FIRST, &told, buffer, sizeof buffer) == RRCACHE_DONE
-           && told.kind == RRCACHE_FRESH && told.left == 60);
-    EXPECT(told.data_size == sizeof ADDRESS
-           && memcmp(buffer + told.owner_size, ADDRESS, sizeof ADDRESS) == 0);
-    EXPECT(rrcache_offer_set(&shelf,
-                             SET(NAME, sizeof NAME, A, RRCACHE_IN, RRCACHE_AUTHORITATIVE_ANSWER, 0,
-                                 ADDRESS, sizeof ADDRESS, FIRST),
-                             3, &outcome)
-           == RRCACHE_DONE);
-    EXPECT(outcome == RRCACHE_CLEARED);
+    EXPECT(offer_address(&shelf, OF(NAME), RRCACHE_AUTHORITATIVE_ANSWER, 60) == RRCACHE_KEPT);
+    EXPECT(offer_address(&shelf, OF(NAME), RRCACHE_ADDITIONAL, 60) == RRCACHE_OUTRANKED);
+    reply = peeked(&shelf, OF(NAME), question(A, FIRST));
+    EXPECT(reply.told.kind == RRCACHE_FRESH && reply.told.left == 60
+           && has_data(&reply, OF(ADDRESS)));
+    EXPECT(offer_address(&shelf, OF(NAME), RRCACHE_AUTHORITATIVE_ANSWER, 0) == RRCACHE_CLEARED);
 
-    EXPECT(rrcache_offer_negative(&shelf,
-                                  NEGATIVE(NAME, sizeof NAME, A, RRCACHE_IN, RRCACHE_DENIES_TYPE,
-                                           RRCACHE_AUTHORITY, 60, ZONE, sizeof ZONE, SOA_DATA,
-                                           sizeof SOA_DATA, FIRST),
-                                  4, &outcome)
-               == RRCACHE_DONE
-           && outcome == RRCACHE_KEPT);
-    EXPECT(peek(&shelf, FIRST + 1, &told, buffer, sizeof buffer) == RRCACHE_DONE
-           && told.kind == RRCACHE_NO_DATA && told.left == 59);
-    EXPECT(told.owner_size == sizeof ZONE && memcmp(buffer, ZONE, sizeof ZONE) == 0
-           && told.data_size == sizeof SOA_DATA + 2);
-    EXPECT(buffer[sizeof ZONE + 1] == sizeof SOA_DATA
-           && memcmp(buffer + sizeof ZONE + 2, SOA_DATA, sizeof SOA_DATA) == 0);
+    EXPECT(offer_denial(&shelf, OF(NAME), RRCACHE_NODATA, RRCACHE_AUTHORITY, 60) == RRCACHE_KEPT);
+    reply = peeked(&shelf, OF(NAME), question(A, FIRST + 1));
+    EXPECT(reply.told.kind == RRCACHE_NODATA && reply.told.left == 59);
+    EXPECT(reply.told.owner_size == sizeof ZONE && memcmp(reply.octets, ZONE, sizeof ZONE) == 0
+           && reply.told.data_size == sizeof SOA_DATA + 2);
+    EXPECT(reply.octets[sizeof ZONE + 1] == sizeof SOA_DATA
+           && memcmp(reply.octets + sizeof ZONE + 2, SOA_DATA, sizeof SOA_DATA) == 0);
 
-    EXPECT(rrcache_offer_negative(&shelf,
-                                  NEGATIVE(OTHER, sizeof OTHER, A, RRCACHE_IN, RRCACHE_DENIES_NAME,
-                                           RRCACHE_AUTHORITY, 60, ZONE, sizeof ZONE, SOA_DATA,
-                                           sizeof SOA_DATA, FIRST),
-                                  5, &outcome)
-           == RRCACHE_DONE);
-    EXPECT(rrcache_peek(&shelf, QUERY(OTHER, sizeof OTHER, TXT, RRCACHE_IN, FIRST, 1, 0), &told,
-                        buffer, sizeof buffer)
-           == RRCACHE_DONE);
-    EXPECT(told.kind == RRCACHE_NO_NAME);
+    EXPECT(offer_denial(&shelf, OF(OTHER), RRCACHE_NXDOMAIN, RRCACHE_AUTHORITY, 60)
+           == RRCACHE_KEPT);
+    EXPECT(kind_at(&shelf, OF(OTHER), TXT, FIRST) == RRCACHE_NXDOMAIN);
 
-    EXPECT(rrcache_offer_failure(&shelf, FAILURE(NAME, sizeof NAME, TXT, RRCACHE_IN, 30, FIRST), 6,
-                                 &outcome)
-               == RRCACHE_DONE
-           && outcome == RRCACHE_KEPT);
-    EXPECT(rrcache_peek(&shelf, QUERY(NAME, sizeof NAME, TXT, RRCACHE_IN, FIRST + 1, 1, 0), &told,
-                        buffer, sizeof buffer)
-           == RRCACHE_DONE);
-    EXPECT(told.kind == RRCACHE_MISS_FAILED && told.retry_from == FIRST + 30 && told.left == 0);
+    EXPECT(offer_failure(&shelf, failure_of(OF(NAME), TXT)) == RRCACHE_KEPT);
+    reply = peeked(&shelf, OF(NAME), question(TXT, FIRST + 1));
+    EXPECT(reply.told.kind == RRCACHE_FAILED && reply.told.retry_from == FIRST + 30
+           && reply.told.left == 0);
+    EXPECT(rrcache_free(&shelf) == RRCACHE_DONE);
+}
+
+/* What a failure ends with, and what its own offer with a ttl of 0 ends. */
+static void test_failures(void)
+{
+    struct rrcache_shelf shelf = {0};
+    struct rrcache_failure failure = failure_of(OF(NAME), A);
+    struct reply reply;
+    EXPECT(make(&shelf) == RRCACHE_DONE && offer_failure(&shelf, failure) == RRCACHE_KEPT);
+    EXPECT(kind_at(&shelf, OF(NAME), A, FIRST + 29) == RRCACHE_FAILED
+           && kind_at(&shelf, OF(NAME), A, FIRST + 30) == RRCACHE_MISS);
+    /* A stale answer tells no moment from which to try again, and a peek without it does. */
+    EXPECT(offer_address(&shelf, OF(NAME), RRCACHE_AUTHORITY, 10) == RRCACHE_KEPT
+           && offer_failure(&shelf, failure) == RRCACHE_KEPT);
+    reply = peeked(&shelf, OF(NAME),
+                   question_by(A, FIRST + 20, RRCACHE_QUESTION, RRCACHE_STALE_IF_FAILED));
+    EXPECT(reply.told.kind == RRCACHE_STALE && reply.told.left == 30 && reply.told.retry_from == 0);
+    reply = peeked(&shelf, OF(NAME), question(A, FIRST + 20));
+    EXPECT(reply.told.kind == RRCACHE_FAILED && reply.told.retry_from == FIRST + 30);
+    failure.ttl = 0;
+    EXPECT(offer_failure(&shelf, failure) == RRCACHE_KEPT
+           && kind_at(&shelf, OF(NAME), A, FIRST + 20) == RRCACHE_MISS);
     EXPECT(rrcache_free(&shelf) == RRCACHE_DONE);
 }
 
@@ -350,15 +685,18 @@ static void test_offers(void)
 static uint32_t text_in(struct rrcache_shelf *shelf, const uint8_t *name, size_t size,
                         uint16_t rclass, char text[2])
 {
-    uint8_t buffer[64];
-    struct rrcache_told told;
-    EXPECT(rrcache_ask(shelf,
-                       QUERY(name, size, TXT, rclass, FIRST, RRCACHE_QUESTION, RRCACHE_NO_STALE), 1,
-                       &told, buffer, sizeof buffer)
-           == RRCACHE_DONE);
-    if (told.kind == RRCACHE_FRESH)
-        memcpy(text, buffer + told.owner_size + 2, 2);
-    return told.kind;
+    struct reply reply = asked(shelf, name, size, question_in(rclass, TXT));
+    if (reply.told.kind == RRCACHE_FRESH)
+        memcpy(text, reply.octets + reply.told.owner_size + 2, 2);
+    return reply.told.kind;
+}
+
+static void offer_text(struct rrcache_shelf *shelf, uint16_t rclass, const uint8_t *text,
+                       size_t size)
+{
+    struct rrcache_set set = set_of(OF(NAME), TXT, text, size);
+    set.rclass = rclass;
+    EXPECT(offer_set(shelf, set) == RRCACHE_KEPT);
 }
 
 /* Each class of a name has data of its own (RFC 1035 section 3.2.4). */
@@ -366,35 +704,26 @@ static void test_classes(void)
 {
     static const uint8_t IN_TEXT[] = {0, 2, 1, 'I'}, CH_TEXT[] = {0, 2, 1, 'C'};
     struct rrcache_shelf shelf = {0};
-    uint32_t outcome = 0;
+    struct rrcache_negative denial = negative_of(OF(NAME), 0, RRCACHE_NXDOMAIN);
+    struct rrcache_failure failure = failure_of(OF(OTHER), TXT);
     char text[2] = {0, 0};
     EXPECT(make(&shelf) == RRCACHE_DONE);
-    EXPECT(rrcache_offer_set(&shelf,
-                             SET(NAME, sizeof NAME, TXT, RRCACHE_IN, 4, 60, IN_TEXT, 4, FIRST), 1,
-                             &outcome)
-           == RRCACHE_DONE);
-    EXPECT(rrcache_offer_set(&shelf,
-                             SET(NAME, sizeof NAME, TXT, RRCACHE_CH, 4, 60, CH_TEXT, 4, FIRST), 2,
-                             &outcome)
-           == RRCACHE_DONE);
+    offer_text(&shelf, RRCACHE_IN, OF(IN_TEXT));
+    offer_text(&shelf, RRCACHE_CH, OF(CH_TEXT));
     EXPECT(keys(&shelf) == 2);
-    EXPECT(text_in(&shelf, NAME, sizeof NAME, RRCACHE_IN, text) == RRCACHE_FRESH && text[1] == 'I');
-    EXPECT(text_in(&shelf, NAME, sizeof NAME, RRCACHE_CH, text) == RRCACHE_FRESH && text[1] == 'C');
-    EXPECT(text_in(&shelf, NAME, sizeof NAME, RRCACHE_HS, text) == RRCACHE_MISS);
-    EXPECT(text_in(&shelf, NAME, sizeof NAME, 254, text) == RRCACHE_MISS);
-    EXPECT(rrcache_offer_negative(&shelf,
-                                  NEGATIVE(NAME, sizeof NAME, 0, RRCACHE_CH, RRCACHE_DENIES_NAME, 4,
-                                           60, ZONE, sizeof ZONE, SOA_DATA, sizeof SOA_DATA, FIRST),
-                                  3, &outcome)
-           == RRCACHE_DONE);
-    EXPECT(text_in(&shelf, NAME, sizeof NAME, RRCACHE_CH, text) == RRCACHE_NXDOMAIN);
-    EXPECT(text_in(&shelf, NAME, sizeof NAME, RRCACHE_IN, text) == RRCACHE_FRESH);
-    EXPECT(rrcache_offer_failure(&shelf, FAILURE(OTHER, sizeof OTHER, TXT, RRCACHE_HS, 30, FIRST),
-                                 4, &outcome)
-           == RRCACHE_DONE);
-    EXPECT(text_in(&shelf, OTHER, sizeof OTHER, RRCACHE_HS, text) == RRCACHE_MISS_FAILED);
-    EXPECT(text_in(&shelf, OTHER, sizeof OTHER, RRCACHE_IN, text) == RRCACHE_MISS);
-    rrcache_free(&shelf);
+    EXPECT(text_in(&shelf, OF(NAME), RRCACHE_IN, text) == RRCACHE_FRESH && text[1] == 'I');
+    EXPECT(text_in(&shelf, OF(NAME), RRCACHE_CH, text) == RRCACHE_FRESH && text[1] == 'C');
+    EXPECT(text_in(&shelf, OF(NAME), RRCACHE_HS, text) == RRCACHE_MISS);
+    denial.rclass = RRCACHE_CH;
+    denial.trust = RRCACHE_AUTHORITATIVE_ANSWER;
+    EXPECT(offer_negative(&shelf, denial) == RRCACHE_KEPT);
+    EXPECT(text_in(&shelf, OF(NAME), RRCACHE_CH, text) == RRCACHE_NXDOMAIN);
+    EXPECT(text_in(&shelf, OF(NAME), RRCACHE_IN, text) == RRCACHE_FRESH);
+    failure.rclass = RRCACHE_HS;
+    EXPECT(offer_failure(&shelf, failure) == RRCACHE_KEPT);
+    EXPECT(text_in(&shelf, OF(OTHER), RRCACHE_HS, text) == RRCACHE_FAILED);
+    EXPECT(text_in(&shelf, OF(OTHER), RRCACHE_IN, text) == RRCACHE_MISS);
+    EXPECT(rrcache_free(&shelf) == RRCACHE_DONE);
 }
 
 /* A message's records count in its question's class. */
@@ -405,45 +734,35 @@ static void test_message_of_another_class(void)
     struct rrcache_counts counts = {0, 0, 0};
     char text[2] = {0, 0};
     EXPECT(make(&shelf) == RRCACHE_DONE);
-    EXPECT(rrcache_offer_message(
-               &shelf, RESPONSE(CHAOS, sizeof CHAOS, ZONE, sizeof ZONE, FIRST, LIMITS), 1, &counts)
-           == RRCACHE_DONE);
-    EXPECT(counts.kept == 1 && counts.cleared == 0 && counts.refused == 0);
-    EXPECT(text_in(&shelf, CHAOS_NAME, sizeof CHAOS_NAME, RRCACHE_CH, text) == RRCACHE_FRESH);
+    EXPECT(offer_message(&shelf, response_of(OF(CHAOS)), &counts) == RRCACHE_DONE
+           && are_counts(&counts, 1, 0, 0));
+    EXPECT(text_in(&shelf, OF(CHAOS_NAME), RRCACHE_CH, text) == RRCACHE_FRESH);
     EXPECT(text[1] == 'A');
-    EXPECT(text_in(&shelf, CHAOS_NAME, sizeof CHAOS_NAME, RRCACHE_IN, text) == RRCACHE_MISS);
-    rrcache_free(&shelf);
+    EXPECT(text_in(&shelf, OF(CHAOS_NAME), RRCACHE_IN, text) == RRCACHE_MISS);
+    EXPECT(rrcache_free(&shelf) == RRCACHE_DONE);
 }
 
 /* Classes that are not kept, and type A of CH, whose data begin with a name. */
 static void test_refused_classes(void)
 {
     struct rrcache_shelf shelf = {0};
-    uint32_t outcome = 7;
+    struct rrcache_set set = set_of(OF(NAME), A, OF(ADDRESS));
+    struct rrcache_failure failure = failure_of(OF(NAME), A);
+    struct rrcache_negative nodata = negative_of(OF(NAME), A, RRCACHE_NODATA),
+                            nxdomain = negative_of(OF(NAME), A, RRCACHE_NXDOMAIN);
     EXPECT(make(&shelf) == RRCACHE_DONE);
-    EXPECT(rrcache_offer_set(&shelf,
-                             SET(NAME, sizeof NAME, A, 2, 4, 60, ADDRESS, sizeof ADDRESS, FIRST), 1,
-                             &outcome)
-           == RRCACHE_BAD_TYPE);
-    EXPECT(rrcache_offer_set(
-               &shelf, SET(NAME, sizeof NAME, A, RRCACHE_CH, 4, 60, ADDRESS, sizeof ADDRESS, FIRST),
-               1, &outcome)
-           == RRCACHE_BAD_TYPE);
-    EXPECT(rrcache_offer_failure(&shelf, FAILURE(NAME, sizeof NAME, A, RRCACHE_CH, 30, FIRST), 1,
-                                 &outcome)
-           == RRCACHE_BAD_TYPE);
-    EXPECT(rrcache_offer_negative(&shelf,
-                                  NEGATIVE(NAME, sizeof NAME, A, RRCACHE_CH, RRCACHE_DENIES_TYPE, 4,
-                                           60, ZONE, sizeof ZONE, SOA_DATA, sizeof SOA_DATA, FIRST),
-                                  1, &outcome)
-           == RRCACHE_BAD_TYPE);
-    EXPECT(rrcache_offer_negative(&shelf,
-                                  NEGATIVE(NAME, sizeof NAME, A, 254, RRCACHE_DENIES_NAME, 4, 60,
-                                           ZONE, sizeof ZONE, SOA_DATA, sizeof SOA_DATA, FIRST),
-                                  1, &outcome)
-           == RRCACHE_BAD_TYPE);
-    EXPECT(outcome == 7 && keys(&shelf) == 0 && events(&shelf) == 0);
-    rrcache_free(&shelf);
+    set.rclass = 2;
+    EXPECT(set_status(&shelf, set) == RRCACHE_BAD_TYPE);
+    set.rclass = RRCACHE_CH;
+    EXPECT(set_status(&shelf, set) == RRCACHE_BAD_TYPE);
+    failure.rclass = RRCACHE_CH;
+    EXPECT(failure_status(&shelf, failure) == RRCACHE_BAD_TYPE);
+    nodata.rclass = RRCACHE_CH;
+    EXPECT(negative_status(&shelf, nodata) == RRCACHE_BAD_TYPE);
+    nxdomain.rclass = 254;
+    EXPECT(negative_status(&shelf, nxdomain) == RRCACHE_BAD_TYPE);
+    EXPECT(keys(&shelf) == 0 && events(&shelf) == 0);
+    EXPECT(rrcache_free(&shelf) == RRCACHE_DONE);
 }
 
 static void test_stale(void)
@@ -451,1191 +770,153 @@ static void test_stale(void)
     struct rrcache_shelf shelf = {0};
     struct rrcache_counts counts;
     struct rrcache_told told = {0};
-    uint64_t removed = 9;
+    struct reply reply;
     uint8_t buffer[64];
     EXPECT(make(&shelf) == RRCACHE_DONE && offer_answer(&shelf, FIRST, &counts) == RRCACHE_DONE);
     EXPECT(ask(&shelf, FIRST + 300, &told, buffer, sizeof buffer) == RRCACHE_DONE
            && told.kind == RRCACHE_MISS);
-    EXPECT(rrcache_ask(&shelf,
-                       QUERY(NAME, sizeof NAME, A, RRCACHE_IN, FIRST + 300, 1, RRCACHE_STALE_NOW),
-                       3, &told, buffer, sizeof buffer)
-           == RRCACHE_DONE);
-    EXPECT(told.kind == RRCACHE_STALE && told.left == 30
-           && memcmp(buffer, ADDRESSES, sizeof ADDRESSES) == 0);
-    EXPECT(rrcache_sweep(&shelf, FIRST + 300, 4, &removed) == RRCACHE_DONE && removed == 0);
-    EXPECT(rrcache_sweep(&shelf, FIRST + 4000, 5, &removed) == RRCACHE_DONE && removed == 1);
+    reply =
+        asked(&shelf, OF(NAME), question_by(A, FIRST + 300, RRCACHE_QUESTION, RRCACHE_STALE_NOW));
+    EXPECT(reply.told.kind == RRCACHE_STALE && reply.told.left == 30
+           && memcmp(reply.octets, ADDRESSES, sizeof ADDRESSES) == 0);
+    EXPECT(sweep(&shelf, FIRST + 300) == 0);
+    EXPECT(sweep(&shelf, FIRST + 4000) == 1);
     EXPECT(rrcache_free(&shelf) == RRCACHE_DONE);
 }
 
-static void test_chapters(void)
+/* ---- Names that are made once. */
+
+/* By SipHash-1-3 under the octets 0 to 15, as `openssl mac` tells it too; the tests of tests/python
+   ask OpenSSL for others. By the lower 32 bits of the hash these were parts 3, 3 and 10. */
+static void test_names(void)
+{
+    struct rrcache_name www = name_of(OF(NAME)), other = name_of(OF(OTHER)),
+                        third = name_of(OF(THIRD)), upper;
+    static const uint8_t seed[16] = SEED;
+    EXPECT(www.hash == UINT64_C(0x5b200d5244c39373) && www.part == 2);
+    EXPECT(other.hash == UINT64_C(0xaf6b398d9abd6483) && other.part == 13);
+    EXPECT(third.hash == UINT64_C(0x3cd7eb6fdf705eca) && third.part == 15);
+    EXPECT(www.size == sizeof NAME && memcmp(www.octets, NAME, sizeof NAME) == 0
+           && memcmp(www.seed, seed, sizeof seed) == 0);
+
+    /* In any case it is the same name, whatever stood there before. Behind its octets nothing is
+       written. */
+    memset(&upper, 0xee, sizeof upper);
+    EXPECT(rrcache_make_name(&upper, OF(UPPER), PARTED(PARTS)) == RRCACHE_DONE
+           && memcmp(&upper, &www, offsetof(struct rrcache_name, octets) + www.size) == 0);
+    EXPECT(upper.octets[www.size] == 0xee && upper.octets[254] == 0xee);
+
+    /* The number of parts changes the part alone. */
+    EXPECT(rrcache_make_name(&upper, OF(UPPER), PARTED(64)) == RRCACHE_DONE && upper.part == 18
+           && upper.hash == www.hash && upper.size == www.size);
+    EXPECT(rrcache_make_name(&upper, OF(UPPER), PARTED(1)) == RRCACHE_DONE && upper.part == 0
+           && upper.hash == www.hash);
+}
+
+/* A name may be copied, and its own place written over. */
+static void test_copied_names(void)
 {
     struct rrcache_shelf shelf = {0};
-    struct rrcache_counts counts;
-    struct rrcache_told told = {0};
-    uint64_t dropped = 9;
-    uint8_t buffer[64];
-    EXPECT(make(&shelf) == RRCACHE_DONE && offer_answer(&shelf, FIRST, &counts) == RRCACHE_DONE);
-    for (int n = 0; n < 8; n++)
-        EXPECT(ask(&shelf, FIRST, &told, buffer, sizeof buffer) == RRCACHE_DONE);
-    /* Nine events in chapters of four. */
-    EXPECT(events(&shelf) == 2001);
-    EXPECT(rrcache_drop_chapters(&shelf, &dropped) == RRCACHE_DONE && dropped == 2
-           && events(&shelf) == 1);
-    EXPECT(rrcache_drop_chapters(&shelf, &dropped) == RRCACHE_DONE && dropped == 0);
-    EXPECT(peek(&shelf, FIRST, &told, buffer, sizeof buffer) == RRCACHE_DONE
-           && told.kind == RRCACHE_FRESH);
-    EXPECT(rrcache_free(&shelf) == RRCACHE_DONE);
-}
-
-/* A full chapter is closed by the next call, unless that is refused for its moment. */
-static void test_full_chapter(void)
-{
-    struct rrcache_shelf shelf = {0};
-    struct rrcache_told told = {0};
-    uint64_t removed = 9;
-    EXPECT(make(&shelf) == RRCACHE_DONE);
-    for (int n = 0; n < 4; n++)
-        EXPECT(ask(&shelf, FIRST, &told, NULL, 0) == RRCACHE_DONE);
-    EXPECT(rrcache_sweep(&shelf, (1ULL << 40) + 1, 1, &removed) == RRCACHE_MOMENT_TOO_LARGE
-           && events(&shelf) == 4);
-    EXPECT(rrcache_sweep(&shelf, 1ULL << 40, 1, &removed) == RRCACHE_DONE && removed == 0
-           && events(&shelf) == 1001);
-    EXPECT(rrcache_free(&shelf) == RRCACHE_DONE);
-}
-
-/* Offers and asks as often as this with both of two shelves, and answers whether they tell the same
-   and hold as many keys and octets. */
-static bool are_alike(struct rrcache_shelf *one, struct rrcache_shelf *other, uint64_t moment)
-{
-    struct rrcache_counts counts[2];
-    struct rrcache_told told[2];
-    uint8_t buffers[2][64];
-    bool alike = true;
-    memset(told, 0, sizeof told);
-    memset(buffers, 0, sizeof buffers);
-    for (int n = 0; n < 5; n++) {
-        uint64_t at = moment + 100 * (uint64_t)n;
-        EXPECT(ask(one, at, &told[0], buffers[0], sizeof buffers[0]) == RRCACHE_DONE
-               && ask(other, at, &told[1], buffers[1], sizeof buffers[1]) == RRCACHE_DONE);
-        alike = alike && memcmp(&told[0], &told[1], sizeof told[0]) == 0
-                && memcmp(buffers[0], buffers[1], sizeof buffers[0]) == 0;
-    }
-    EXPECT(offer_answer(one, moment, &counts[0]) == RRCACHE_DONE
-           && offer_answer(other, moment, &counts[1]) == RRCACHE_DONE);
-    return alike && memcmp(&counts[0], &counts[1], sizeof counts[0]) == 0
-           && keys(one) == keys(other) && octets_of_keys(one) == octets_of_keys(other);
-}
-
-/* A shelf that records nothing has no events, and no chapter of it is ever full. It answers as one
-   does that records, and so it does when its record begins, and when that is dropped. */
-static void test_records(void)
-{
-    struct rrcache_shelf shelf = {0}, other = {0};
-    uint64_t dropped = 9;
-    EXPECT(rrcache_make(&shelf, 100, 4, 3600, SEED) == RRCACHE_DONE
-           && make(&other) == RRCACHE_DONE);
-    for (uint64_t n = 0; n < 3; n++)
-        EXPECT(are_alike(&shelf, &other, FIRST + 200 * n) && events(&shelf) == 0);
-    EXPECT(rrcache_drop_chapters(&shelf, &dropped) == RRCACHE_DONE && dropped == 0);
-    /* 18 events, of which chapters have four. */
-    EXPECT(events(&other) == 4002);
-
-    EXPECT(rrcache_release(&shelf) == RRCACHE_DONE && events(&shelf) == 0);
-    EXPECT(rrcache_record(&shelf) == RRCACHE_DONE && events(&shelf) == 0);
-    EXPECT(are_alike(&shelf, &other, FIRST + 600) && events(&shelf) == 1002);
-    EXPECT(rrcache_record(&shelf) == RRCACHE_DONE && events(&shelf) == 1002);
-    EXPECT(are_alike(&shelf, &other, FIRST + 800) && events(&shelf) == 2004);
-
-    EXPECT(rrcache_release(&shelf) == RRCACHE_DONE && events(&shelf) == 0);
-    EXPECT(rrcache_drop_chapters(&shelf, &dropped) == RRCACHE_DONE && dropped == 0);
-    EXPECT(are_alike(&shelf, &other, FIRST + 1000) && events(&shelf) == 0);
-    EXPECT(rrcache_record(&shelf) == RRCACHE_DONE && are_alike(&shelf, &other, FIRST + 1200)
-           && events(&shelf) == 1002);
-    EXPECT(rrcache_free(&shelf) == RRCACHE_DONE && rrcache_free(&other) == RRCACHE_DONE);
-}
-
-/* What a sink was handed, and which call of it is to end the writing, if any. */
-struct text {
-    char octets[16384];
-    size_t size;
-    unsigned calls, last;
-};
-
-static int write_text(void *state, const void *octets, size_t size)
-{
-    struct text *text = state;
-    EXPECT(size != 0 && size <= RRCACHE_PIECE_OCTETS);
-    if (++text->calls == text->last || size > sizeof text->octets - text->size)
-        return -1;
-    memcpy(text->octets + text->size, octets, size);
-    text->size += size;
-    return 0;
-}
-
-static bool is_text(const struct text *text, const char *wanted)
-{
-    bool same = text->size == strlen(wanted) && memcmp(text->octets, wanted, text->size) == 0;
-    if (!same)
-        printf("%.*s\n", (int)text->size, text->octets);
-    return same;
-}
-
-/* Two chapters of four events and the beginning of a third, of a shelf for three keys, by
-   docs/FORMATS.md. The second one begins with what the first one led to; the offer of class CH
-   evicts the key that was touched least recently, and the sweep removes all three. */
-static const char FIRST_CHAPTER[] =
-    "chapter 2 0 3 4 3600\n"
-    "offer 1 0 1000 www.example. 1 set 4 60 WWW.Example. c0000209 kept\n"
-    "offer 2 0 1000 www.example. 1 set 1 60 www.example. c0000209 less\n"
-    "offer 3 0 1000 other.example. nx negative 3 60 example. "
-    "0000000000010000000200000003000000040000003c kept\n"
-    "offer 4 0 1000 www.example. failed16 failure 30 kept\n";
-static const char SECOND_CHAPTER[] =
-    "chapter 3 4 3 4 3600\n"
-    "entry 3 1000 www.example. failed16 failure 30\n"
-    "entry 2 1000 other.example. nx negative 3 60 example. "
-    "0000000000010000000200000003000000040000003c\n"
-    "entry 0 1000 www.example. 1 set 4 60 WWW.Example. c0000209\n"
-    "ask 2 0 1010 www.example. 1 answer none fresh 50 WWW.Example. c0000209\n"
-    "offer 5 0 1020 other.example. 16/3 set 4 5 other.example. 0141 kept other.example. nx\n"
-    "ask 6 0 1021 other.example. 16/3 any now fresh 4 other.example. 0141\n"
-    "sweep 7 0 11000 other.example. 16/3 www.example. 1 www.example. failed16\n";
-static const char THIRD_CHAPTER[] = "chapter 4 8 3 4 3600\n"
-                                    "ask 2 0 1010 www.example. 1 answer none miss\n";
-
-/* A shelf with the events of these chapters, of which two are closed. */
-static void make_chapters(struct rrcache_shelf *shelf)
-{
-    static const uint8_t txt[] = {0, 2, 1, 'A'};
-    struct rrcache_told told = {0};
-    uint32_t outcome = 0;
-    uint64_t removed = 0;
-    uint8_t buffer[64];
-    EXPECT(make_by(shelf, 3, 4, 3600) == RRCACHE_DONE);
-    EXPECT(offer_address(shelf, UPPER, sizeof UPPER, RRCACHE_AUTHORITATIVE_ANSWER, 60)
-           == RRCACHE_KEPT);
-    EXPECT(rrcache_offer_set(shelf,
-                             SET(NAME, sizeof NAME, A, RRCACHE_IN, RRCACHE_ADDITIONAL, 60, ADDRESS,
-                                 sizeof ADDRESS, FIRST),
-                             2, &outcome)
-               == RRCACHE_DONE
-           && outcome == RRCACHE_LESS_TRUSTED);
-    EXPECT(rrcache_offer_negative(shelf,
-                                  NEGATIVE(OTHER, sizeof OTHER, A, RRCACHE_IN, RRCACHE_DENIES_NAME,
-                                           RRCACHE_AUTHORITY, 60, ZONE, sizeof ZONE, SOA_DATA,
-                                           sizeof SOA_DATA, FIRST),
-                                  3, &outcome)
-           == RRCACHE_DONE);
-    EXPECT(rrcache_offer_failure(shelf, FAILURE(NAME, sizeof NAME, TXT, RRCACHE_IN, 30, FIRST), 4,
-                                 &outcome)
-           == RRCACHE_DONE);
-    EXPECT(ask(shelf, FIRST + 10, &told, buffer, sizeof buffer) == RRCACHE_DONE);
-    EXPECT(rrcache_offer_set(shelf,
-                             SET(OTHER, sizeof OTHER, TXT, RRCACHE_CH, RRCACHE_AUTHORITATIVE_ANSWER,
-                                 5, txt, sizeof txt, FIRST + 20),
-                             5, &outcome)
-           == RRCACHE_DONE);
-    EXPECT(rrcache_ask(shelf,
-                       QUERY(OTHER, sizeof OTHER, TXT, RRCACHE_CH, FIRST + 21, RRCACHE_ANYTHING,
-                             RRCACHE_STALE_NOW),
-                       6, &told, buffer, sizeof buffer)
-           == RRCACHE_DONE);
-    EXPECT(rrcache_sweep(shelf, FIRST + 10000, 7, &removed) == RRCACHE_DONE && removed == 3);
-    EXPECT(ask(shelf, FIRST + 10, &told, buffer, sizeof buffer) == RRCACHE_DONE
-           && events(shelf) == 2001);
-}
-
-/* Chapters are taken out of a shelf, which goes on, and written as they were recorded. */
-static void test_taken_chapters(void)
-{
-    struct rrcache_shelf shelf = {0};
-    struct rrcache_chapters chapters = {0}, rest = {0};
-    struct text text = {0};
-    uint64_t count = 9;
-    make_chapters(&shelf);
-    EXPECT(rrcache_take_chapters(&shelf, &chapters, &count) == RRCACHE_DONE && count == 2
-           && events(&shelf) == 1);
-    EXPECT(rrcache_write_chapter(&chapters, 0, write_text, &text) == RRCACHE_DONE
-           && is_text(&text, FIRST_CHAPTER) && text.calls == 5);
-    text.size = 0;
-    EXPECT(rrcache_write_chapter(&chapters, 1, write_text, &text) == RRCACHE_DONE
-           && is_text(&text, SECOND_CHAPTER));
-    text.size = 0;
-    EXPECT(rrcache_write_line(&chapters, 1, 2, write_text, &text) == RRCACHE_DONE
-           && is_text(&text, "entry 2 1000 other.example. nx negative 3 60 example. "
-                             "0000000000010000000200000003000000040000003c\n"));
-
-    /* The record ends, and its open chapter is the last one. The shelf may go before them. */
-    EXPECT(rrcache_stop_recording(&shelf, &rest, &count) == RRCACHE_DONE && count == 1
-           && events(&shelf) == 0);
-    EXPECT(rrcache_free(&shelf) == RRCACHE_DONE);
-    text.size = 0;
-    EXPECT(rrcache_write_chapter(&rest, 0, write_text, &text) == RRCACHE_DONE
-           && is_text(&text, THIRD_CHAPTER));
-    EXPECT(rrcache_free_chapters(&chapters) == RRCACHE_DONE && chapters.at == NULL
-           && !chapters.is_live && rrcache_free_chapters(&rest) == RRCACHE_DONE);
-}
-
-/* A record that ends is handed out whole, and the shelf answers as before. */
-static void test_stopped_record(void)
-{
-    struct rrcache_shelf shelf = {0};
-    struct rrcache_chapters chapters = {0};
-    struct rrcache_counts counts;
-    struct rrcache_told told = {0};
-    struct text text = {0};
-    uint64_t count = 9;
-    uint8_t buffer[64];
-    EXPECT(make(&shelf) == RRCACHE_DONE && offer_answer(&shelf, FIRST, &counts) == RRCACHE_DONE);
-    for (int n = 0; n < 4; n++)
-        EXPECT(ask(&shelf, FIRST, &told, buffer, sizeof buffer) == RRCACHE_DONE);
-    EXPECT(events(&shelf) == 1001);
-    EXPECT(rrcache_stop_recording(&shelf, &chapters, &count) == RRCACHE_DONE && count == 2
-           && events(&shelf) == 0);
-    EXPECT(rrcache_write_chapter(&chapters, 1, write_text, &text) == RRCACHE_DONE
-           && is_text(&text,
-                      "chapter 3 4 100 4 3600\n"
-                      "entry 0 1000 www.example. 1 set 4 300 www.example. c0000201,c0000202\n"
-                      "ask 2 0 1000 www.example. 1 answer none fresh 300 www.example. "
-                      "c0000201,c0000202\n"));
-    EXPECT(peek(&shelf, FIRST + 1, &told, buffer, sizeof buffer) == RRCACHE_DONE
-           && told.kind == RRCACHE_FRESH && told.left == 299);
-    EXPECT(rrcache_free_chapters(&chapters) == RRCACHE_DONE);
-
-    /* Where nothing is recorded there are no chapters, and the handle is live all the same. */
-    EXPECT(rrcache_stop_recording(&shelf, &chapters, &count) == RRCACHE_DONE && count == 0);
-    EXPECT(rrcache_chapter_line(&chapters, 0, 0, 0, NULL, 0, &(struct rrcache_line){0})
-           == RRCACHE_NO_LINE);
-    EXPECT(rrcache_free_chapters(&chapters) == RRCACHE_DONE);
-    EXPECT(rrcache_take_chapters(&shelf, &chapters, &count) == RRCACHE_DONE && count == 0
-           && rrcache_free_chapters(&chapters) == RRCACHE_DONE);
-    EXPECT(rrcache_free(&shelf) == RRCACHE_DONE);
-}
-
-/* Each piece of a line, of any size and from any place, and what is left of the buffer. */
-static void test_pieces(void)
-{
-    static const char head[] = "chapter 2 0 3 4 3600\n";
-    enum { SIZE = sizeof head - 1 };
-    struct rrcache_shelf shelf = {0};
-    struct rrcache_chapters chapters = {0};
-    struct rrcache_line told;
-    uint64_t count = 0;
-    uint8_t buffer[SIZE + 4];
-    make_chapters(&shelf);
-    EXPECT(rrcache_take_chapters(&shelf, &chapters, &count) == RRCACHE_DONE && count == 2);
-    for (size_t from = 0; from <= SIZE + 1; from++)
-        for (size_t room = 0; room <= sizeof buffer; room++) {
-            size_t left = from < SIZE ? SIZE - from : 0;
-            size_t wanted = left < room ? left : room;
-            memset(buffer, 0xee, sizeof buffer);
-            told.size = told.written = 99;
-            bool right =
-                rrcache_chapter_line(&chapters, 0, 0, from, buffer, room, &told) == RRCACHE_DONE
-                && told.size == SIZE && told.written == wanted
-                && memcmp(buffer, head + (from < SIZE ? from : 0), wanted) == 0;
-            for (size_t n = wanted; n < sizeof buffer; n++)
-                right = right && buffer[n] == 0xee;
-            EXPECT(right);
-        }
-    EXPECT(rrcache_chapter_line(&chapters, 0, 0, UINT64_MAX, buffer, sizeof buffer, &told)
-               == RRCACHE_DONE
-           && told.size == SIZE && told.written == 0);
-    EXPECT(rrcache_free_chapters(&chapters) == RRCACHE_DONE
-           && rrcache_free(&shelf) == RRCACHE_DONE);
-}
-
-/* A line of more octets than a sink is handed at once: a TXT record of twelve strings of 255. */
-static void test_long_line(void)
-{
-    enum { STRINGS = 12, OCTETS = STRINGS * 256 };
-    static uint8_t data[2 + OCTETS];
-    static char wanted[256 + 2 * OCTETS];
-    struct rrcache_shelf shelf = {0};
-    struct rrcache_chapters chapters = {0};
-    static struct text text;
-    uint32_t outcome = 0;
-    uint64_t count = 0;
-    size_t size = (size_t)sprintf(wanted, "chapter 2 0 100 4 3600\n"
-                                          "offer 1 0 1000 www.example. 16 set 4 60 www.example. ");
-    data[0] = OCTETS / 256;
-    data[1] = OCTETS % 256;
-    for (int n = 0; n < OCTETS; n++) {
-        data[2 + n] = n % 256 == 0 ? 255 : (uint8_t)(n % 251);
-        size += (size_t)sprintf(wanted + size, "%02x", data[2 + n]);
-    }
-    sprintf(wanted + size, " kept\n");
-    EXPECT(make(&shelf) == RRCACHE_DONE);
-    EXPECT(rrcache_offer_set(
-               &shelf, SET(NAME, sizeof NAME, TXT, RRCACHE_IN, 4, 60, data, sizeof data, FIRST), 1,
-               &outcome)
-           == RRCACHE_DONE);
-    EXPECT(rrcache_stop_recording(&shelf, &chapters, &count) == RRCACHE_DONE && count == 1);
-    EXPECT(rrcache_write_chapter(&chapters, 0, write_text, &text) == RRCACHE_DONE
-           && is_text(&text, wanted) && text.calls == 3);
-    EXPECT(rrcache_free_chapters(&chapters) == RRCACHE_DONE
-           && rrcache_free(&shelf) == RRCACHE_DONE);
-}
-
-/* Each refusal of the calls of chapters but those of memory, and what it leaves. */
-static void test_refused_chapters(void)
-{
-    struct rrcache_shelf shelf = {0};
-    struct rrcache_chapters chapters = {0}, none = {0};
-    struct rrcache_line told = {7, 7};
-    struct text text = {0};
-    uint64_t count = 7;
-    uint8_t buffer[64] = {7};
-    EXPECT(rrcache_take_chapters(&shelf, &chapters, &count) == RRCACHE_NO_SHELF
-           && rrcache_stop_recording(&shelf, &chapters, &count) == RRCACHE_NO_SHELF);
-    make_chapters(&shelf);
-    EXPECT(rrcache_chapter_line(&none, 0, 0, 0, buffer, sizeof buffer, &told) == RRCACHE_NO_CHAPTERS
-           && rrcache_write_chapter(&none, 0, write_text, &text) == RRCACHE_NO_CHAPTERS
-           && rrcache_write_line(&none, 0, 0, write_text, &text) == RRCACHE_NO_CHAPTERS
-           && rrcache_free_chapters(&none) == RRCACHE_NO_CHAPTERS && count == 7);
-    EXPECT(rrcache_take_chapters(&shelf, &chapters, &count) == RRCACHE_DONE && count == 2);
-
-    count = 7;
-    EXPECT(rrcache_take_chapters(&shelf, &chapters, &count) == RRCACHE_HAS_CHAPTERS
-           && rrcache_stop_recording(&shelf, &chapters, &count) == RRCACHE_HAS_CHAPTERS
-           && rrcache_take_chapters(&(struct rrcache_shelf){0}, &chapters, &count)
-                  == RRCACHE_NO_SHELF
-           && count == 7 && events(&shelf) == 1);
-    EXPECT(
-        rrcache_chapter_line(&chapters, 2, 0, 0, buffer, sizeof buffer, &told) == RRCACHE_NO_LINE
-        && rrcache_chapter_line(&chapters, 0, 5, 0, buffer, sizeof buffer, &told) == RRCACHE_NO_LINE
-        && rrcache_chapter_line(&chapters, 1, 8, 0, buffer, sizeof buffer, &told) == RRCACHE_NO_LINE
-        && rrcache_chapter_line(&chapters, UINT64_MAX, UINT64_MAX, 0, buffer, sizeof buffer, &told)
-               == RRCACHE_NO_LINE);
-    EXPECT(rrcache_write_chapter(&chapters, 2, write_text, &text) == RRCACHE_NO_LINE
-           && text.calls == 0 && told.size == 7 && told.written == 7 && buffer[0] == 7);
-
-    /* A sink that ends the writing with its second line. */
-    text.last = 2;
-    EXPECT(rrcache_write_chapter(&chapters, 0, write_text, &text) == RRCACHE_SINK
-           && is_text(&text, "chapter 2 0 3 4 3600\n") && text.calls == 2);
-    text.last = 3;
-    EXPECT(rrcache_write_line(&chapters, 0, 0, write_text, &text) == RRCACHE_SINK);
-    EXPECT(rrcache_free_chapters(&chapters) == RRCACHE_DONE
-           && rrcache_free(&shelf) == RRCACHE_DONE);
-}
-
-/* What may not be null or overlap of the calls of chapters. */
-static void test_null_chapters(void)
-{
-    struct rrcache_shelf shelf = {0};
-    union {
-        struct rrcache_chapters chapters;
-        struct rrcache_line told;
-        uint64_t count;
-        uint8_t octets[64];
-    } memory;
-    struct rrcache_chapters *chapters = &memory.chapters;
-    struct rrcache_line told, *near = (struct rrcache_line *)(void *)(memory.octets + 8);
-    uint64_t count;
-    uint8_t buffer[32];
-    memset(&memory, 0, sizeof memory);
-    EXPECT(make(&shelf) == RRCACHE_DONE);
-#define IS_NULL(call) EXPECT((call) == RRCACHE_NULL)
-    IS_NULL(rrcache_take_chapters(NULL, chapters, &count));
-    IS_NULL(rrcache_take_chapters(&shelf, NULL, &count));
-    IS_NULL(rrcache_take_chapters(&shelf, chapters, NULL));
-    IS_NULL(rrcache_take_chapters(&shelf, (struct rrcache_chapters *)(void *)&shelf, &count));
-    IS_NULL(rrcache_take_chapters(&shelf, chapters, &memory.count));
-    IS_NULL(rrcache_take_chapters(&shelf, chapters, (uint64_t *)(void *)&shelf));
-    IS_NULL(rrcache_stop_recording(NULL, chapters, &count));
-    IS_NULL(rrcache_stop_recording(&shelf, NULL, &count));
-    IS_NULL(rrcache_stop_recording(&shelf, chapters, NULL));
-    IS_NULL(rrcache_stop_recording(&shelf, (struct rrcache_chapters *)(void *)&shelf, &count));
-    IS_NULL(rrcache_stop_recording(&shelf, chapters, &memory.count));
-    IS_NULL(rrcache_stop_recording(&shelf, chapters, (uint64_t *)(void *)&shelf));
-    IS_NULL(rrcache_chapter_line(NULL, 0, 0, 0, buffer, sizeof buffer, &told));
-    IS_NULL(rrcache_chapter_line(chapters, 0, 0, 0, NULL, 1, &told));
-    IS_NULL(rrcache_chapter_line(chapters, 0, 0, 0, buffer, sizeof buffer, NULL));
-    IS_NULL(rrcache_chapter_line(chapters, 0, 0, 0, buffer, sizeof buffer, near));
-    IS_NULL(rrcache_chapter_line(chapters, 0, 0, 0, memory.octets + 15, 1, &told));
-    IS_NULL(rrcache_chapter_line(chapters, 0, 0, 0, (uint8_t *)&told + 15, 1, &told));
-    IS_NULL(rrcache_write_line(NULL, 0, 0, write_text, NULL));
-    IS_NULL(rrcache_write_line(chapters, 0, 0, NULL, NULL));
-    IS_NULL(rrcache_write_chapter(NULL, 0, write_text, NULL));
-    IS_NULL(rrcache_write_chapter(chapters, 0, NULL, NULL));
-    IS_NULL(rrcache_free_chapters(NULL));
-#undef IS_NULL
-    EXPECT(events(&shelf) == 0 && !chapters->is_live && rrcache_free(&shelf) == RRCACHE_DONE);
-}
-
-/* What is renewed often is removed by its last time, whether that is the latest or the earliest. */
-static void test_renewed(void)
-{
-    enum { TIMES = 200, STALE = 3600 };
-    struct rrcache_shelf shelf = {0};
-    uint32_t outcome = 0;
-    uint64_t removed = 9;
-    EXPECT(make(&shelf) == RRCACHE_DONE);
-    for (uint32_t n = 1; n <= TIMES; n++) {
-        EXPECT(offer_address(&shelf, NAME, sizeof NAME, 4, 1000 - n) == RRCACHE_KEPT);
-        EXPECT(rrcache_offer_set(&shelf,
-                                 SET(OTHER, sizeof OTHER, A, RRCACHE_IN, 4, 60, ADDRESS,
-                                     sizeof ADDRESS, FIRST + n),
-                                 1, &outcome)
-               == RRCACHE_DONE);
-    }
-    EXPECT(rrcache_sweep(&shelf, FIRST + TIMES + 60 + STALE - 1, 1, &removed) == RRCACHE_DONE
-           && removed == 0);
-    EXPECT(rrcache_sweep(&shelf, FIRST + TIMES + 60 + STALE, 1, &removed) == RRCACHE_DONE
-           && removed == 1);
-    EXPECT(rrcache_sweep(&shelf, FIRST + 1000 - TIMES + STALE - 1, 1, &removed) == RRCACHE_DONE
-           && removed == 0);
-    EXPECT(rrcache_sweep(&shelf, FIRST + 1000 - TIMES + STALE, 1, &removed) == RRCACHE_DONE
-           && removed == 1 && keys(&shelf) == 0);
-    EXPECT(rrcache_free(&shelf) == RRCACHE_DONE);
-}
-
-/* As many names that failed as a shelf may hold, which is more than it marks before it marks them
-   anew: each of them is found. */
-static void test_failed_names(void)
-{
-    struct rrcache_shelf shelf = {0};
-    struct rrcache_told told = {0};
-    uint32_t outcome = 0;
-    uint8_t name[] = "\2aa\7example", buffer[64];
-    EXPECT(rrcache_make(&shelf, 64, 4, 0, SEED) == RRCACHE_DONE);
-    for (int n = 0; n < 64; n++) {
-        name[1] = (uint8_t)('a' + n / 8);
-        name[2] = (uint8_t)('a' + n % 8);
-        EXPECT(rrcache_offer_failure(&shelf, FAILURE(name, sizeof name, A, RRCACHE_IN, 30, FIRST),
-                                     1, &outcome)
-               == RRCACHE_DONE);
-    }
-    for (int n = 0; n < 64; n++) {
-        name[1] = (uint8_t)('a' + n / 8);
-        name[2] = (uint8_t)('a' + n % 8);
-        EXPECT(rrcache_peek(&shelf, QUERY(name, sizeof name, A, RRCACHE_IN, FIRST, 1, 0), &told,
-                            buffer, sizeof buffer)
-                   == RRCACHE_DONE
-               && told.kind == RRCACHE_MISS_FAILED);
-    }
-    EXPECT(peek(&shelf, FIRST, &told, buffer, sizeof buffer) == RRCACHE_DONE
-           && told.kind == RRCACHE_MISS);
-    EXPECT(rrcache_free(&shelf) == RRCACHE_DONE);
-}
-
-/* How many keys a shelf holds is told through all that changes it. */
-static void test_keys(void)
-{
-    struct rrcache_shelf shelf = {0};
-    struct rrcache_counts counts;
-    struct rrcache_told told = {0};
-    uint64_t number = 9;
-    uint32_t outcome = 0;
-    uint8_t buffer[64];
-    EXPECT(make_by(&shelf, 3, 4, 0) == RRCACHE_DONE && keys(&shelf) == 0);
-    EXPECT(ask(&shelf, FIRST, &told, buffer, sizeof buffer) == RRCACHE_DONE && keys(&shelf) == 0);
-    EXPECT(offer_answer(&shelf, FIRST, &counts) == RRCACHE_DONE && keys(&shelf) == 1);
-    EXPECT(offer_address(&shelf, UPPER, sizeof UPPER, 4, 60) == RRCACHE_KEPT && keys(&shelf) == 1);
-    EXPECT(offer_address(&shelf, NAME, sizeof NAME, 1, 60) == RRCACHE_LESS_TRUSTED
-           && keys(&shelf) == 1);
-    EXPECT(offer_address(&shelf, OTHER, sizeof OTHER, 4, 60) == RRCACHE_KEPT && keys(&shelf) == 2);
-    EXPECT(
-        rrcache_offer_negative(&shelf,
-                               NEGATIVE(NAME, sizeof NAME, TXT, RRCACHE_IN, RRCACHE_DENIES_TYPE, 3,
-                                        60, ZONE, sizeof ZONE, SOA_DATA, sizeof SOA_DATA, FIRST),
-                               1, &outcome)
-            == RRCACHE_DONE
-        && keys(&shelf) == 3);
-    EXPECT(ask(&shelf, FIRST, &told, buffer, sizeof buffer) == RRCACHE_DONE
-           && told.kind == RRCACHE_FRESH && keys(&shelf) == 3);
-
-    /* There is room for three: the key touched least recently goes, which is that of OTHER. */
-    EXPECT(rrcache_offer_failure(&shelf, FAILURE(NAME, sizeof NAME, SOA, RRCACHE_IN, 30, FIRST), 1,
-                                 &outcome)
-               == RRCACHE_DONE
-           && keys(&shelf) == 3);
-    EXPECT(rrcache_peek(&shelf, QUERY(OTHER, sizeof OTHER, A, RRCACHE_IN, FIRST, 0, 0), &told,
-                        buffer, sizeof buffer)
-               == RRCACHE_DONE
-           && told.kind == RRCACHE_MISS);
-    EXPECT(rrcache_drop_chapters(&shelf, &number) == RRCACHE_DONE && number == 1
-           && keys(&shelf) == 3);
-
-    /* A ttl of 0 clears the key; what is fully expired is counted until it is swept. */
-    EXPECT(offer_address(&shelf, THIRD, sizeof THIRD, 4, 0) == RRCACHE_CLEARED
-           && keys(&shelf) == 3);
-    EXPECT(offer_address(&shelf, NAME, sizeof NAME, 4, 0) == RRCACHE_CLEARED && keys(&shelf) == 2);
-    EXPECT(rrcache_sweep(&shelf, FIRST + 29, 1, &number) == RRCACHE_DONE && number == 0
-           && keys(&shelf) == 2);
-    EXPECT(rrcache_peek(&shelf, QUERY(NAME, sizeof NAME, TXT, RRCACHE_IN, FIRST + 60, 0, 0), &told,
-                        buffer, sizeof buffer)
-           == RRCACHE_DONE);
-    EXPECT(told.kind == RRCACHE_MISS && keys(&shelf) == 2);
-    EXPECT(rrcache_sweep(&shelf, FIRST + 30, 1, &number) == RRCACHE_DONE && number == 1
-           && keys(&shelf) == 1);
-    EXPECT(rrcache_sweep(&shelf, FIRST + 60, 1, &number) == RRCACHE_DONE && number == 1
-           && keys(&shelf) == 0);
-    EXPECT(rrcache_free(&shelf) == RRCACHE_DONE);
-}
-
-/* How many octets the keys have is told through all that changes them: by hand, since www.example
-   has 13, other.example and third.example 15 and example 9, an address 4 and 48 for its record, and
-   the SOA record's data 22. */
-static void test_octets_of_keys(void)
-{
-    struct rrcache_shelf shelf = {0};
-    struct rrcache_counts counts;
-    struct rrcache_told told = {0};
-    uint64_t number = 9;
-    uint32_t outcome = 0;
-    uint8_t buffer[64];
-    EXPECT(make_by(&shelf, 2, 3, 0) == RRCACHE_DONE && octets_of_keys(&shelf) == 0);
-
-    /* A set of one address: 13 + 13 + 52. */
-    EXPECT(offer_address(&shelf, NAME, sizeof NAME, 3, 60) == RRCACHE_KEPT
-           && octets_of_keys(&shelf) == 78);
-    /* One of two takes its place: 13 + 13 + 2 * 52. What is refused, and what is asked for, changes
-       nothing. */
-    EXPECT(offer_answer(&shelf, FIRST, &counts) == RRCACHE_DONE && octets_of_keys(&shelf) == 130);
-    EXPECT(offer_address(&shelf, NAME, sizeof NAME, 1, 60) == RRCACHE_LESS_TRUSTED
-           && octets_of_keys(&shelf) == 130);
-    /* That other.example has no address: 15 + 9 + 22. */
-    EXPECT(
-        rrcache_offer_negative(&shelf,
-                               NEGATIVE(OTHER, sizeof OTHER, A, RRCACHE_IN, RRCACHE_DENIES_TYPE, 3,
-                                        60, ZONE, sizeof ZONE, SOA_DATA, sizeof SOA_DATA, FIRST),
-                               1, &outcome)
-            == RRCACHE_DONE
-        && octets_of_keys(&shelf) == 130 + 46);
-    EXPECT(ask(&shelf, FIRST, &told, buffer, sizeof buffer) == RRCACHE_DONE
-           && told.kind == RRCACHE_FRESH && octets_of_keys(&shelf) == 130 + 46);
-    EXPECT(rrcache_drop_chapters(&shelf, &number) == RRCACHE_DONE && number == 1
-           && octets_of_keys(&shelf) == 130 + 46);
-    /* There is room for two: that asking for third.example failed, 15, evicts other.example. */
-    EXPECT(rrcache_offer_failure(&shelf, FAILURE(THIRD, sizeof THIRD, A, RRCACHE_IN, 30, FIRST), 1,
-                                 &outcome)
-               == RRCACHE_DONE
-           && keys(&shelf) == 2 && octets_of_keys(&shelf) == 130 + 15);
-    /* In the place of the two addresses: that there is none, 13 + 9 + 22, then one again, and none
-       by a ttl of 0. */
-    EXPECT(rrcache_offer_negative(&shelf,
-                                  NEGATIVE(NAME, sizeof NAME, A, RRCACHE_IN, RRCACHE_DENIES_TYPE, 4,
-                                           60, ZONE, sizeof ZONE, SOA_DATA, sizeof SOA_DATA, FIRST),
-                                  1, &outcome)
-               == RRCACHE_DONE
-           && octets_of_keys(&shelf) == 44 + 15);
-    EXPECT(offer_address(&shelf, UPPER, sizeof UPPER, 4, 60) == RRCACHE_KEPT
-           && octets_of_keys(&shelf) == 78 + 15);
-    EXPECT(offer_address(&shelf, NAME, sizeof NAME, 4, 0) == RRCACHE_CLEARED
-           && octets_of_keys(&shelf) == 15);
-    EXPECT(offer_address(&shelf, NAME, sizeof NAME, 4, 60) == RRCACHE_KEPT
-           && octets_of_keys(&shelf) == 78 + 15);
-
-    /* What is fully expired is counted until it is swept. */
-    EXPECT(rrcache_sweep(&shelf, FIRST + 30, 1, &number) == RRCACHE_DONE && number == 1
-           && octets_of_keys(&shelf) == 78);
-    EXPECT(rrcache_sweep(&shelf, FIRST + 60, 1, &number) == RRCACHE_DONE && number == 1
-           && keys(&shelf) == 0 && octets_of_keys(&shelf) == 0);
-    EXPECT(rrcache_free(&shelf) == RRCACHE_DONE);
-}
-
-/* A message of two names, which lie in two of sixteen shelves: each is kept where its name is asked
-   for, and nowhere else. */
-static void test_parts(void)
-{
-    struct rrcache_shelf shelves[PARTS], whole = {0};
-    struct rrcache_counts counts, all = {0, 0, 0};
-    struct rrcache_told told = {0};
-    uint64_t alias = part_of(NAME, sizeof NAME), target = part_of(OTHER, sizeof OTHER);
-    uint8_t buffer[64];
-    memset(shelves, 0, sizeof shelves);
-    EXPECT(alias != target);
-    for (uint64_t part = 0; part < PARTS; part++) {
-        counts = (struct rrcache_counts){9, 9, 9};
-        EXPECT(make(&shelves[part]) == RRCACHE_DONE
-               && offer_alias(&shelves[part], PARTS, part, FIRST, &counts) == RRCACHE_DONE);
-        uint64_t share = part == alias || part == target;
-        EXPECT(counts.kept == share && counts.cleared == 0 && counts.refused == 0);
-        EXPECT(keys(&shelves[part]) == share && events(&shelves[part]) == share);
-        all.kept += counts.kept;
-    }
-    EXPECT(rrcache_peek(&shelves[alias], QUERY(NAME, sizeof NAME, CNAME, RRCACHE_IN, FIRST, 1, 0),
-                        &told, buffer, sizeof buffer)
-           == RRCACHE_DONE);
-    EXPECT(told.kind == RRCACHE_FRESH && told.data_size == 2 + sizeof OTHER
-           && memcmp(buffer + told.owner_size + 2, OTHER, sizeof OTHER) == 0);
-    EXPECT(rrcache_peek(&shelves[target], QUERY(OTHER, sizeof OTHER, A, RRCACHE_IN, FIRST, 1, 0),
-                        &told, buffer, sizeof buffer)
-           == RRCACHE_DONE);
-    EXPECT(told.kind == RRCACHE_FRESH && told.data_size == sizeof ADDRESS
-           && memcmp(buffer + told.owner_size, ADDRESS, sizeof ADDRESS) == 0);
-    EXPECT(rrcache_peek(&shelves[alias], QUERY(OTHER, sizeof OTHER, A, RRCACHE_IN, FIRST, 1, 0),
-                        &told, buffer, sizeof buffer)
-           == RRCACHE_DONE);
-    EXPECT(told.kind == RRCACHE_MISS);
-
-    /* All together is what the whole message offers, which is also the share of one part alone. */
-    EXPECT(make(&whole) == RRCACHE_DONE);
-    EXPECT(rrcache_offer_message(
-               &whole, RESPONSE(ALIAS, sizeof ALIAS, ZONE, sizeof ZONE, FIRST, LIMITS), 1, &counts)
-           == RRCACHE_DONE);
-    EXPECT(counts.kept == all.kept && keys(&whole) == 2 && events(&whole) == 2);
-    EXPECT(offer_alias(&whole, 1, 0, FIRST, &counts) == RRCACHE_DONE && counts.kept == 2
-           && keys(&whole) == 2 && events(&whole) == 4);
-
-    /* What is refused or cleared is counted in the share that it is of. */
-    EXPECT(offer_address(&shelves[target], OTHER, sizeof OTHER, 4, 60) == RRCACHE_KEPT);
-    EXPECT(offer_alias(&shelves[target], PARTS, target, FIRST, &counts) == RRCACHE_DONE);
-    EXPECT(counts.kept == 0 && counts.cleared == 0 && counts.refused == 1
-           && keys(&shelves[target]) == 1);
-    uint8_t cleared[sizeof ALIAS];
-    memcpy(cleared, ALIAS, sizeof cleared);
-    memset(cleared + 35, 0, 4); /* the alias's ttl */
-    EXPECT(rrcache_offer_part(&shelves[alias],
-                              RESPONSE(cleared, sizeof cleared, ZONE, sizeof ZONE, FIRST, LIMITS),
-                              PARTED(PARTS), alias, 1, &counts)
-           == RRCACHE_DONE);
-    EXPECT(counts.kept == 0 && counts.cleared == 1 && counts.refused == 0
-           && keys(&shelves[alias]) == 0);
-    for (uint64_t part = 0; part < PARTS; part++)
-        EXPECT(rrcache_free(&shelves[part]) == RRCACHE_DONE);
-    EXPECT(rrcache_free(&whole) == RRCACHE_DONE);
-}
-
-static uint32_t read_response(struct rrcache_offers *offers, const uint8_t *name, size_t size,
-                              uint16_t type, uint16_t id, uint64_t *concerned)
-{
-    return rrcache_read_response(
-        offers, RESPONSE(POISON, sizeof POISON, ZONE, sizeof ZONE, FIRST, LIMITS),
-        QUERY(name, size, type, RRCACHE_IN, 0, 0, 0), id, PARTED(1), concerned);
-}
-
-/* Of a response what is relevant to its query is kept, and of another response nothing. */
-static void test_relevant(void)
-{
-    struct rrcache_shelf shelf = {0};
-    struct rrcache_offers offers = {0};
-    struct rrcache_counts counts;
-    struct rrcache_told told = {0};
-    uint64_t concerned = 7;
-    uint8_t buffer[64];
-    EXPECT(make(&shelf) == RRCACHE_DONE);
-    EXPECT(read_response(&offers, UPPER, sizeof UPPER, A, 0x1234, &concerned) == RRCACHE_DONE
-           && concerned == 1);
-    EXPECT(rrcache_offer_read(&shelf, &offers, 0, 1, &counts) == RRCACHE_DONE && counts.kept == 1);
-    EXPECT(peek(&shelf, FIRST, &told, buffer, sizeof buffer) == RRCACHE_DONE
-           && told.kind == RRCACHE_FRESH);
-    EXPECT(rrcache_peek(&shelf, QUERY(THIRD, sizeof THIRD, A, RRCACHE_IN, FIRST, 0, 0), &told,
-                        buffer, sizeof buffer)
-               == RRCACHE_DONE
-           && told.kind == RRCACHE_MISS);
-    EXPECT(read_response(&offers, NAME, sizeof NAME, A, 0x1234, &concerned) == RRCACHE_HAS_OFFERS
-           && rrcache_free_offers(&offers) == RRCACHE_DONE);
-
-    /* Without the query all of it is kept. */
-    EXPECT(rrcache_read_message(&offers,
-                                RESPONSE(POISON, sizeof POISON, ZONE, sizeof ZONE, FIRST, LIMITS),
-                                PARTED(1), &concerned)
-           == RRCACHE_DONE);
-    EXPECT(rrcache_offer_read(&shelf, &offers, 0, 1, &counts) == RRCACHE_DONE && counts.kept == 2
-           && rrcache_free_offers(&offers) == RRCACHE_DONE);
-
-    /* A chain of aliases is relevant. */
-    EXPECT(rrcache_read_response(
-               &offers, RESPONSE(ALIAS, sizeof ALIAS, ZONE, sizeof ZONE, FIRST, LIMITS),
-               QUERY(NAME, sizeof NAME, A, RRCACHE_IN, 0, 0, 0), 0x1234, PARTED(1), &concerned)
-               == RRCACHE_DONE
-           && rrcache_offer_read(&shelf, &offers, 0, 1, &counts) == RRCACHE_DONE && counts.kept == 2
-           && rrcache_free_offers(&offers) == RRCACHE_DONE);
-
-    /* What is refused leaves the handle empty, and nothing told. */
-    concerned = 7;
-    EXPECT(read_response(&offers, NAME, sizeof NAME, A, 0x1235, &concerned) == RRCACHE_OTHER_QUERY);
-    EXPECT(read_response(&offers, NAME, sizeof NAME, TXT, 0x1234, &concerned)
-           == RRCACHE_OTHER_QUERY);
-    EXPECT(read_response(&offers, THIRD, sizeof THIRD, A, 0x1234, &concerned)
-           == RRCACHE_OTHER_QUERY);
-    EXPECT(read_response(&offers, NO_NAME, sizeof NO_NAME, A, 0x1234, &concerned)
-           == RRCACHE_BAD_NAME);
-    EXPECT(rrcache_read_response(&offers, RESPONSE(POISON, 30, ZONE, sizeof ZONE, FIRST, LIMITS),
-                                 QUERY(NAME, sizeof NAME, A, RRCACHE_IN, 0, 0, 0), 0x1234,
-                                 PARTED(1), &concerned)
-           == RRCACHE_BAD_MESSAGE);
-    EXPECT(rrcache_read_response(
-               &offers, RESPONSE(POISON, sizeof POISON, ZONE, sizeof ZONE, FIRST, LIMITS),
-               QUERY(NAME, sizeof NAME, A, RRCACHE_IN, 0, 0, 0), 0x1234, PARTED(0), &concerned)
-           == RRCACHE_BAD_RULES);
-    EXPECT(rrcache_read_response(&offers,
-                                 RESPONSE(POISON, sizeof POISON, ZONE, sizeof ZONE, FIRST,
-                                          ((struct rrcache_limits){0, 1, 1})),
-                                 QUERY(NAME, sizeof NAME, A, RRCACHE_IN, 0, 0, 0), 0x1234,
-                                 PARTED(1), &concerned)
-           == RRCACHE_BAD_LIMITS);
-    EXPECT(rrcache_read_response(&offers, NULL, QUERY(NAME, sizeof NAME, A, RRCACHE_IN, 0, 0, 0),
-                                 0x1234, PARTED(1), &concerned)
-               == RRCACHE_NULL
-           && read_response(&offers, NULL, 1, A, 0x1234, &concerned) == RRCACHE_NULL
-           && read_response(NULL, NAME, sizeof NAME, A, 0x1234, &concerned) == RRCACHE_NULL
-           && read_response(&offers, NAME, sizeof NAME, A, 0x1234, NULL) == RRCACHE_NULL);
-    EXPECT(read_response(&offers, (uint8_t *)&concerned, 13, A, 0x1234, &concerned)
-           == RRCACHE_NULL);
-    EXPECT(concerned == 7 && rrcache_free_offers(&offers) == RRCACHE_NO_OFFERS
-           && rrcache_free(&shelf) == RRCACHE_DONE);
-}
-
-/* Sweeps in steps: what dies in one second goes in one. */
-static void test_sweep_some(void)
-{
-    struct rrcache_shelf shelf = {0};
-    uint64_t next = 7, removed = 7;
-    bool is_done = false;
-    EXPECT(make(&shelf) == RRCACHE_DONE);
-    EXPECT(rrcache_next_expiry(&shelf, &next) == RRCACHE_DONE && next == UINT64_MAX);
-    EXPECT(rrcache_sweep_some(&shelf, FIRST, 10, 1, &removed, &is_done) == RRCACHE_DONE
-           && removed == 0 && is_done && events(&shelf) == 0);
-    EXPECT(offer_address(&shelf, NAME, sizeof NAME, 4, 60) == RRCACHE_KEPT
-           && offer_address(&shelf, OTHER, sizeof OTHER, 4, 60) == RRCACHE_KEPT
-           && offer_address(&shelf, THIRD, sizeof THIRD, 4, 90) == RRCACHE_KEPT);
-
-    /* A set may be stale for 3,600 seconds. */
-    EXPECT(rrcache_next_expiry(&shelf, &next) == RRCACHE_DONE && next == FIRST + 3660
-           && events(&shelf) == 3);
-    EXPECT(rrcache_sweep_some(&shelf, FIRST + 3659, 10, 1, &removed, &is_done) == RRCACHE_DONE
-           && removed == 0 && is_done && events(&shelf) == 3);
-    EXPECT(rrcache_sweep_some(&shelf, ((uint64_t)1 << 40) + 1, 10, 1, &removed, &is_done)
-               == RRCACHE_MOMENT_TOO_LARGE
-           && removed == 0 && !is_done);
-    EXPECT(rrcache_sweep_some(&shelf, FIRST + 3690, 0, 1, &removed, &is_done) == RRCACHE_DONE
-           && removed == 0 && !is_done && events(&shelf) == 3);
-    EXPECT(rrcache_sweep_some(&shelf, FIRST + 3690, 1, 1, &removed, &is_done) == RRCACHE_DONE
-           && removed == 2 && !is_done && keys(&shelf) == 1);
-    EXPECT(rrcache_next_expiry(&shelf, &next) == RRCACHE_DONE && next == FIRST + 3690);
-    EXPECT(rrcache_sweep_some(&shelf, FIRST + 3690, 1, 1, &removed, &is_done) == RRCACHE_DONE
-           && removed == 1 && is_done && keys(&shelf) == 0);
-    EXPECT(rrcache_free(&shelf) == RRCACHE_DONE);
-    next = removed = 7;
-    EXPECT(rrcache_next_expiry(&shelf, &next) == RRCACHE_NO_SHELF && next == 7);
-    EXPECT(rrcache_sweep_some(&shelf, FIRST, 1, 1, &removed, &is_done) == RRCACHE_NO_SHELF
-           && removed == 7);
-}
-
-/* What is held: its rank, its TTL as it was stored, and when, also past its time. */
-static void test_stored(void)
-{
-    struct rrcache_shelf shelf = {0};
-    struct rrcache_stored stored = {7, 7, 7};
-    uint32_t outcome;
-#define STORED(name, type, class)                                                                  \
-    rrcache_tell_stored(&shelf, QUERY(name, sizeof name, type, class, 0, 0, 0), &stored)
-    EXPECT(STORED(NAME, A, RRCACHE_IN) == RRCACHE_NO_SHELF && stored.trust == 7);
-    EXPECT(make(&shelf) == RRCACHE_DONE);
-    EXPECT(STORED(NAME, A, RRCACHE_IN) == RRCACHE_DONE && stored.trust == 0 && stored.ttl == 0
-           && stored.moment == 0);
-    EXPECT(offer_address(&shelf, NAME, sizeof NAME, RRCACHE_AUTHORITY, 60) == RRCACHE_KEPT);
-    EXPECT(STORED(UPPER, A, RRCACHE_IN) == RRCACHE_DONE && stored.trust == RRCACHE_AUTHORITY
-           && stored.ttl == 60 && stored.moment == FIRST);
-    EXPECT(STORED(NAME, TXT, RRCACHE_IN) == RRCACHE_DONE && stored.trust == 0);
-    EXPECT(STORED(NAME, A, RRCACHE_CH) == RRCACHE_DONE && stored.trust == 0);
-    EXPECT(rrcache_offer_negative(&shelf,
-                                  NEGATIVE(OTHER, sizeof OTHER, TXT, RRCACHE_IN,
-                                           RRCACHE_DENIES_TYPE, RRCACHE_AUTHORITY, 40, ZONE,
-                                           sizeof ZONE, SOA_DATA, sizeof SOA_DATA, FIRST + 5),
-                                  1, &outcome)
-           == RRCACHE_DONE);
-    EXPECT(STORED(OTHER, TXT, RRCACHE_IN) == RRCACHE_DONE && stored.trust == RRCACHE_AUTHORITY
-           && stored.ttl == 40 && stored.moment == FIRST + 5);
-    EXPECT(events(&shelf) == 2);
-    /* The largest TTL (RFC 2181 section 8). */
-    EXPECT(offer_address(&shelf, THIRD, sizeof THIRD, RRCACHE_AUTHORITY, (1u << 31) - 1)
-           == RRCACHE_KEPT);
-    EXPECT(STORED(THIRD, A, RRCACHE_IN) == RRCACHE_DONE && stored.ttl == (1u << 31) - 1);
-    stored.ttl = 7;
-    EXPECT(STORED(NO_NAME, TXT, RRCACHE_IN) == RRCACHE_BAD_NAME && stored.ttl == 7);
-    EXPECT(rrcache_tell_stored(&shelf, NULL, &stored) == RRCACHE_NULL
-           && rrcache_tell_stored(NULL, QUERY(NAME, sizeof NAME, A, 1, 0, 0, 0), &stored)
-                  == RRCACHE_NULL
-           && rrcache_tell_stored(&shelf, QUERY(NAME, sizeof NAME, A, 1, 0, 0, 0), NULL)
-                  == RRCACHE_NULL);
-    EXPECT(rrcache_tell_stored(&shelf, QUERY((uint8_t *)&stored, 13, A, 1, 0, 0, 0), &stored)
-           == RRCACHE_NULL);
-    EXPECT(rrcache_free(&shelf) == RRCACHE_DONE);
-#undef STORED
-}
-
-/* An ask that tells of an alias where that is what the shelf has. */
-static void test_alias(void)
-{
-    static const uint8_t target[] = {0,   15,  5,   'o', 't', 'h', 'e', 'r', 7,
-                                     'e', 'x', 'a', 'm', 'p', 'l', 'e', 0};
-    struct rrcache_shelf shelf = {0};
-    struct rrcache_counts counts;
-    struct rrcache_told told = {0};
-    uint8_t buffer[64];
-    bool is_alias = false;
-#define ASK_ALIAS(name, type, moment, mode, size)                                                  \
-    rrcache_ask_alias(&shelf,                                                                      \
-                      QUERY(name, sizeof name, type, RRCACHE_IN, moment, RRCACHE_QUESTION, mode),  \
-                      7, &told, buffer, size, &is_alias)
-    EXPECT(make(&shelf) == RRCACHE_DONE);
-    EXPECT(rrcache_offer_message(
-               &shelf, RESPONSE(ALIAS, sizeof ALIAS, ZONE, sizeof ZONE, FIRST, LIMITS), 1, &counts)
-               == RRCACHE_DONE
-           && events(&shelf) == 2);
-    EXPECT(ASK_ALIAS(NAME, A, FIRST, RRCACHE_NO_STALE, sizeof buffer) == RRCACHE_DONE);
-    EXPECT(is_alias && told.kind == RRCACHE_FRESH && told.left == 300);
-    EXPECT(told.owner_size == sizeof NAME && told.data_size == sizeof target
-           && memcmp(buffer + told.owner_size, target, sizeof target) == 0);
-    EXPECT(events(&shelf) == 3);
-    EXPECT(ASK_ALIAS(OTHER, A, FIRST, RRCACHE_NO_STALE, sizeof buffer) == RRCACHE_DONE && !is_alias
-           && told.kind == RRCACHE_FRESH && told.data_size == sizeof ADDRESS);
-    EXPECT(ASK_ALIAS(NAME, CNAME, FIRST, RRCACHE_NO_STALE, sizeof buffer) == RRCACHE_DONE
-           && !is_alias && told.kind == RRCACHE_FRESH && told.data_size == sizeof target);
-    EXPECT(ASK_ALIAS(THIRD, A, FIRST, RRCACHE_NO_STALE, sizeof buffer) == RRCACHE_DONE && !is_alias
-           && told.kind == RRCACHE_MISS);
-
-    /* What is too small for the alias is told as it is, and no event is written. */
-    uint64_t before = events(&shelf);
-    EXPECT(ASK_ALIAS(NAME, A, FIRST, RRCACHE_NO_STALE, 8) == RRCACHE_SMALL && is_alias
-           && told.data_size == sizeof target && events(&shelf) == before);
-    is_alias = false;
-    EXPECT(ASK_ALIAS(NAME, A, FIRST, 3, sizeof buffer) == RRCACHE_BAD_CHOICE && !is_alias);
-
-    /* Fresh data of the type come first, then a fresh alias, then what is stale of the type. */
-    EXPECT(offer_address(&shelf, NAME, sizeof NAME, RRCACHE_AUTHORITATIVE_ANSWER, 60)
-           == RRCACHE_KEPT);
-    EXPECT(ASK_ALIAS(NAME, A, FIRST + 59, RRCACHE_STALE_NOW, sizeof buffer) == RRCACHE_DONE
-           && !is_alias && told.kind == RRCACHE_FRESH);
-    EXPECT(ASK_ALIAS(NAME, A, FIRST + 60, RRCACHE_STALE_NOW, sizeof buffer) == RRCACHE_DONE
-           && is_alias && told.kind == RRCACHE_FRESH);
-    EXPECT(ASK_ALIAS(NAME, A, FIRST + 300, RRCACHE_STALE_NOW, sizeof buffer) == RRCACHE_DONE
-           && !is_alias && told.kind == RRCACHE_STALE && told.data_size == sizeof ADDRESS);
-    EXPECT(rrcache_free(&shelf) == RRCACHE_DONE);
-
-    /* RFC 1034 section 4.3.2: for a question of type ANY no alias is followed. */
-    EXPECT(make(&shelf) == RRCACHE_DONE);
-    EXPECT(rrcache_offer_message(
-               &shelf, RESPONSE(ALIAS, sizeof ALIAS, ZONE, sizeof ZONE, FIRST, LIMITS), 1, &counts)
-           == RRCACHE_DONE);
-    EXPECT(ASK_ALIAS(NAME, ANY, FIRST, RRCACHE_NO_STALE, sizeof buffer) == RRCACHE_DONE && !is_alias
-           && told.kind == RRCACHE_MISS);
-
-    /* RFC 8767 section 5: after a failure of the question its alias may be stale. */
-    uint32_t outcome;
-    EXPECT(ASK_ALIAS(NAME, A, FIRST + 301, RRCACHE_STALE_IF_FAILED, sizeof buffer) == RRCACHE_DONE
-           && !is_alias && told.kind == RRCACHE_MISS);
-    EXPECT(rrcache_offer_failure(&shelf, FAILURE(NAME, sizeof NAME, A, RRCACHE_IN, 30, FIRST + 301),
-                                 1, &outcome)
-           == RRCACHE_DONE);
-    EXPECT(ASK_ALIAS(NAME, A, FIRST + 302, RRCACHE_STALE_IF_FAILED, sizeof buffer) == RRCACHE_DONE
-           && is_alias && told.kind == RRCACHE_STALE && told.left == 30);
-    EXPECT(ASK_ALIAS(NAME, A, FIRST + 302, RRCACHE_NO_STALE, sizeof buffer) == RRCACHE_DONE
-           && !is_alias && told.kind == RRCACHE_MISS_FAILED);
-    EXPECT(ASK_ALIAS(NAME, TXT, FIRST + 302, RRCACHE_STALE_IF_FAILED, sizeof buffer) == RRCACHE_DONE
-           && !is_alias && told.kind == RRCACHE_MISS);
-    EXPECT(rrcache_free(&shelf) == RRCACHE_DONE);
-
-    /* A CNAME record that is newer than that the name does not exist, and trusted as much. */
-    EXPECT(make(&shelf) == RRCACHE_DONE);
-    EXPECT(rrcache_offer_negative(&shelf,
-                                  NEGATIVE(NAME, sizeof NAME, 0, RRCACHE_IN, RRCACHE_DENIES_NAME,
-                                           RRCACHE_NON_AUTHORITATIVE_ANSWER, 3600, ZONE,
-                                           sizeof ZONE, SOA_DATA, sizeof SOA_DATA, FIRST),
-                                  1, &outcome)
-           == RRCACHE_DONE);
-    EXPECT(ASK_ALIAS(NAME, A, FIRST, RRCACHE_NO_STALE, sizeof buffer) == RRCACHE_DONE && !is_alias
-           && told.kind == RRCACHE_NO_NAME);
-    EXPECT(rrcache_offer_message(
-               &shelf, RESPONSE(ALIAS, sizeof ALIAS, ZONE, sizeof ZONE, FIRST, LIMITS), 1, &counts)
-           == RRCACHE_DONE);
-    EXPECT(ASK_ALIAS(NAME, A, FIRST, RRCACHE_NO_STALE, sizeof buffer) == RRCACHE_DONE && is_alias
-           && told.kind == RRCACHE_FRESH && told.data_size == sizeof target);
-    /* Once that is past its time the name is denied again, if that is not. */
-    EXPECT(ASK_ALIAS(NAME, A, FIRST + 300, RRCACHE_NO_STALE, sizeof buffer) == RRCACHE_DONE
-           && !is_alias && told.kind == RRCACHE_NO_NAME);
-    EXPECT(rrcache_free(&shelf) == RRCACHE_DONE);
-#undef ASK_ALIAS
-}
-
-/* Whether two shelves tell the same of a name's addresses and alias. */
-static bool tell_alike(struct rrcache_shelf *one, struct rrcache_shelf *other, const uint8_t *name,
-                       size_t size)
-{
-    static const uint16_t TYPES[] = {A, CNAME};
-    for (unsigned i = 0; i < 2; i++) {
-        struct rrcache_told told[2] = {{0, 0, 0, 0, 0}, {0, 0, 0, 0, 0}};
-        uint8_t buffer[2][64] = {{0}, {0}};
-        if (rrcache_peek(one, QUERY(name, size, TYPES[i], RRCACHE_IN, FIRST, 1, 0), &told[0],
-                         buffer[0], sizeof buffer[0])
-                != RRCACHE_DONE
-            || rrcache_peek(other, QUERY(name, size, TYPES[i], RRCACHE_IN, FIRST, 1, 0), &told[1],
-                            buffer[1], sizeof buffer[1])
-                   != RRCACHE_DONE
-            || memcmp(&told[0], &told[1], sizeof told[0]) != 0
-            || memcmp(buffer[0], buffer[1], sizeof buffer[0]) != 0)
-            return false;
-    }
-    return true;
-}
-
-enum { NAMES = 2900, NAME_SIZE = 15 };
-
-static void write_name(uint8_t *name, unsigned number)
-{
-    memcpy(name, "\5n0000\7example", NAME_SIZE); /* and the zero octet of the root */
-    for (unsigned digit = 0; digit < 4; digit++, number /= 10)
-        name[5 - digit] = (uint8_t)('0' + number % 10);
-}
-
-/* A response as large as one can be, in which each record has a name of its own: as ANSWER, with
-   n0000.example to n2899.example, and answers its size. */
-static size_t write_many(uint8_t *message)
-{
-    uint8_t *at = message;
-    memcpy(at, ANSWER, 29); /* its header and its question */
-    at[6] = NAMES >> 8, at[7] = NAMES & 255, at += 29;
-    for (unsigned number = 0; number < NAMES; number++, at += 22) {
-        uint8_t name[NAME_SIZE];
-        write_name(name, number);
-        memcpy(at, name, 6);
-        memcpy(at + 6, "\xc0\x10\0\1\0\1\0\0\1\x2c\0\4\xc0\0\2\1", 16);
-    }
-    return (size_t)(at - message);
-}
-
-/* One reading of a message for sixteen shelves, beside a reading for each: the same is counted,
-   kept and told by both. */
-static void compare_readings(const uint8_t *message, size_t size, uint64_t wanted)
-{
-    struct rrcache_offers offers = {0};
-    uint64_t concerned = 0, kept = 0;
-    EXPECT(rrcache_read_message(&offers, RESPONSE(message, size, ZONE, sizeof ZONE, FIRST, LIMITS),
-                                PARTED(PARTS), &concerned)
-           == RRCACHE_DONE);
-    for (uint64_t part = 0; part < PARTS; part++) {
-        struct rrcache_shelf read = {0}, offered = {0};
-        struct rrcache_counts counts[2] = {{9, 9, 9}, {8, 8, 8}};
-        bool alike = true;
-        EXPECT(make_by(&read, 4096, 4096, 0) == RRCACHE_DONE
-               && make_by(&offered, 4096, 4096, 0) == RRCACHE_DONE);
-        EXPECT(rrcache_offer_read(&read, &offers, part, 1, &counts[0]) == RRCACHE_DONE);
-        EXPECT(rrcache_offer_part(&offered,
-                                  RESPONSE(message, size, ZONE, sizeof ZONE, FIRST, LIMITS),
-                                  PARTED(PARTS), part, 1, &counts[1])
-               == RRCACHE_DONE);
-        EXPECT(memcmp(&counts[0], &counts[1], sizeof counts[0]) == 0);
-        EXPECT((concerned >> part & 1) == (counts[0].kept != 0));
-        EXPECT(keys(&read) == keys(&offered) && events(&read) == events(&offered));
-        for (unsigned number = 0; number < NAMES; number++) {
-            uint8_t name[NAME_SIZE];
-            write_name(name, number);
-            alike = alike && tell_alike(&read, &offered, name, sizeof name);
-        }
-        EXPECT(alike && tell_alike(&read, &offered, NAME, sizeof NAME)
-               && tell_alike(&read, &offered, OTHER, sizeof OTHER));
-        kept += counts[0].kept;
-        EXPECT(rrcache_free(&read) == RRCACHE_DONE && rrcache_free(&offered) == RRCACHE_DONE);
-    }
-    EXPECT(kept == wanted && concerned >> PARTS == 0);
-    EXPECT(rrcache_free_offers(&offers) == RRCACHE_DONE);
-}
-
-static void test_one_reading(void)
-{
-    static uint8_t many[65535];
-    compare_readings(ALIAS, sizeof ALIAS, 2);
-    compare_readings(many, write_many(many), NAMES);
-
-    /* What is refused or cleared is counted as well, and a part may be offered again. */
-    struct rrcache_shelf shelf = {0};
-    struct rrcache_offers offers = {0};
-    struct rrcache_counts counts;
+    struct rrcache_name name = name_of(OF(UPPER)), copy = name;
+    struct rrcache_question asked = question(A, FIRST);
+    struct rrcache_stored stored;
     struct rrcache_told told;
-    uint64_t target = part_of(OTHER, sizeof OTHER), concerned;
-    uint8_t buffer[64], cleared[sizeof ALIAS];
-    EXPECT(make(&shelf) == RRCACHE_DONE && read_alias(&offers, PARTS, &concerned) == RRCACHE_DONE);
-    EXPECT(concerned == (UINT64_C(1) << part_of(NAME, sizeof NAME) | UINT64_C(1) << target));
-    EXPECT(rrcache_offer_read(&shelf, &offers, target, 1, &counts) == RRCACHE_DONE
-           && counts.kept == 1 && keys(&shelf) == 1);
-    EXPECT(offer_address(&shelf, OTHER, sizeof OTHER, 4, 60) == RRCACHE_KEPT);
-    EXPECT(rrcache_offer_read(&shelf, &offers, target, 1, &counts) == RRCACHE_DONE
-           && counts.kept == 0 && counts.cleared == 0 && counts.refused == 1);
-
-    /* What a shelf keeps outlives the offers. */
-    EXPECT(rrcache_free_offers(&offers) == RRCACHE_DONE && offers.at == NULL && !offers.is_live);
-    EXPECT(rrcache_peek(&shelf, QUERY(OTHER, sizeof OTHER, A, RRCACHE_IN, FIRST, 1, 0), &told,
-                        buffer, sizeof buffer)
-               == RRCACHE_DONE
-           && told.kind == RRCACHE_FRESH && memcmp(buffer, OTHER, sizeof OTHER) == 0);
-
-    memcpy(cleared, ALIAS, sizeof cleared);
-    memset(cleared + 35, 0, 4); /* the alias's ttl */
-    EXPECT(rrcache_read_message(&offers,
-                                RESPONSE(cleared, sizeof cleared, ZONE, sizeof ZONE, FIRST, LIMITS),
-                                PARTED(1), &concerned)
-               == RRCACHE_DONE
-           && concerned == 1);
-    EXPECT(rrcache_offer_read(&shelf, &offers, 0, 1, &counts) == RRCACHE_DONE && counts.kept == 0
-           && counts.cleared == 1 && counts.refused == 1);
-
-    /* With TC set nothing is offered, and the handle is to be freed all the same. */
-    EXPECT(rrcache_free_offers(&offers) == RRCACHE_DONE);
-    memcpy(cleared, ALIAS, sizeof cleared);
-    cleared[2] |= 2;
-    EXPECT(rrcache_read_message(&offers,
-                                RESPONSE(cleared, sizeof cleared, ZONE, sizeof ZONE, FIRST, LIMITS),
-                                PARTED(64), &concerned)
-               == RRCACHE_DONE
-           && concerned == 0 && offers.is_live);
-    EXPECT(rrcache_offer_read(&shelf, &offers, 63, 1, &counts) == RRCACHE_DONE && counts.kept == 0);
-    EXPECT(rrcache_free_offers(&offers) == RRCACHE_DONE && rrcache_free(&shelf) == RRCACHE_DONE);
-}
-
-/* Each refusal of a reading and of what was read, the first that is due. */
-static void test_refused_readings(void)
-{
-    struct rrcache_shelf shelf = {0};
-    struct rrcache_offers offers = {0};
-    struct rrcache_limits wrong = LIMITS;
-    struct rrcache_counts counts = {7, 7, 7};
-    uint64_t concerned = 7;
-    wrong.cap = 0;
-    EXPECT(rrcache_free_offers(&offers) == RRCACHE_NO_OFFERS);
-    EXPECT(rrcache_offer_read(&shelf, &offers, 0, 1, &counts) == RRCACHE_NO_SHELF
-           && counts.kept == 7);
-    EXPECT(make(&shelf) == RRCACHE_DONE
-           && rrcache_offer_read(&shelf, &offers, 0, 1, &counts) == RRCACHE_NO_OFFERS
-           && counts.kept == 7 && events(&shelf) == 0);
-    EXPECT(rrcache_read_message(&offers, RESPONSE(NULL, 0, NO_NAME, sizeof NO_NAME, FIRST, wrong),
-                                PARTED(0), &concerned)
-               == RRCACHE_BAD_RULES
-           && read_alias(&offers, 65, &concerned) == RRCACHE_BAD_RULES);
-    EXPECT(rrcache_read_message(&offers, RESPONSE(NULL, 0, NO_NAME, sizeof NO_NAME, FIRST, wrong),
-                                PARTED(1), &concerned)
-           == RRCACHE_BAD_LIMITS);
-    EXPECT(rrcache_read_message(&offers, RESPONSE(NULL, 0, NO_NAME, sizeof NO_NAME, FIRST, LIMITS),
-                                PARTED(1), &concerned)
-           == RRCACHE_BAD_NAME);
-    EXPECT(rrcache_read_message(&offers, RESPONSE(NULL, 0, ZONE, sizeof ZONE, FIRST, LIMITS),
-                                PARTED(1), &concerned)
-           == RRCACHE_BAD_MESSAGE);
-    EXPECT(concerned == 7 && offers.at == NULL && !offers.is_live);
-
-    EXPECT(read_alias(&offers, 2, &concerned) == RRCACHE_DONE && concerned != 7);
-    concerned = 7;
-    EXPECT(read_alias(&offers, 0, &concerned) == RRCACHE_HAS_OFFERS && concerned == 7
-           && offers.is_live);
-    EXPECT(rrcache_offer_read(&shelf, &offers, 2, 1, &counts) == RRCACHE_BAD_RULES
-           && counts.kept == 0 && events(&shelf) == 0);
-    EXPECT(rrcache_free_offers(&offers) == RRCACHE_DONE);
-
-    /* A moment that is too large is read, and refused with the first offer. */
-    EXPECT(rrcache_read_message(
-               &offers,
-               RESPONSE(ALIAS, sizeof ALIAS, ZONE, sizeof ZONE, (UINT64_C(1) << 40) + 1, LIMITS),
-               PARTED(1), &concerned)
-               == RRCACHE_DONE
-           && concerned == 1);
-    counts.refused = 7;
-    EXPECT(rrcache_offer_read(&shelf, &offers, 0, 1, &counts) == RRCACHE_MOMENT_TOO_LARGE
-           && counts.refused == 0 && events(&shelf) == 0);
-    EXPECT(rrcache_free_offers(&offers) == RRCACHE_DONE && rrcache_free(&shelf) == RRCACHE_DONE);
-}
-
-static void test_octets(void)
-{
-    uint32_t fault = 9;
-    uint64_t part = 99, other = 98;
-    EXPECT(rrcache_fault(ANSWER, sizeof ANSWER, &fault) == RRCACHE_DONE && fault == 0);
-    EXPECT(rrcache_fault(ANSWER, sizeof ANSWER - 1, &fault) == RRCACHE_DONE && fault == 1);
-    EXPECT(rrcache_fault(NULL, 0, &fault) == RRCACHE_DONE && fault == 1);
-    uint8_t query[sizeof ANSWER];
-    memcpy(query, ANSWER, sizeof query);
-    query[2] = 0;
-    EXPECT(rrcache_fault(query, sizeof query, &fault) == RRCACHE_DONE && fault == 6);
-    EXPECT(rrcache_part_of(NAME, sizeof NAME, PARTED(64), &part) == RRCACHE_DONE && part < 64);
-    EXPECT(rrcache_part_of(UPPER, sizeof UPPER, PARTED(64), &other) == RRCACHE_DONE
-           && other == part);
-    EXPECT(rrcache_part_of(NAME, sizeof NAME, PARTED(1), &part) == RRCACHE_DONE && part == 0);
-    /* By SipHash-1-3, which OpenSSL tells for the tests of tests/python. By the lower 32 bits of
-       the hash these were parts 3, 3 and 10. */
-    EXPECT(part_of(NAME, sizeof NAME) == 2 && part_of(OTHER, sizeof OTHER) == 13
-           && part_of(THIRD, sizeof THIRD) == 15);
-    EXPECT(part_of(UPPER, sizeof UPPER) == 2);
-    EXPECT(rrcache_part_of(NAME, sizeof NAME, PARTED(0), &part) == RRCACHE_BAD_RULES
-           && rrcache_part_of(NAME, sizeof NAME, PARTED(65), &part) == RRCACHE_BAD_RULES);
-    EXPECT(rrcache_part_of(NO_NAME, sizeof NO_NAME, PARTED(4), &part) == RRCACHE_BAD_NAME
-           && part == 0);
-}
-
-/* A seed has 16 octets: the inline functions hand in no other, the library proper asks. It is
-   looked at behind the number of parts, and before all else. */
-static void test_seeds(void)
-{
-    static const uint8_t seed[17] = {1};
-    const struct rrcache_limits wrong = {0, 1, 1};
-    struct rrcache_shelf shelf = {0};
-    struct rrcache_offers offers = {0};
-    struct rrcache_counts counts = {7, 7, 7};
-    struct rrcache_parts parts = *PARTED(PARTS);
-    uint64_t told = 7;
+    uint8_t buffer[64];
+    memset(&name, 0xee, sizeof name);
     EXPECT(make(&shelf) == RRCACHE_DONE);
-    for (size_t size = 0; size <= 17; size++) {
-        bool is_seed = size == 16;
-        uint32_t in_turn = is_seed ? RRCACHE_BAD_LIMITS : RRCACHE_BAD_SEED;
-        EXPECT(rrc_part_of(NAME, sizeof NAME, PARTS, seed, size, &told)
-               == (is_seed ? RRCACHE_DONE : RRCACHE_BAD_SEED));
-        EXPECT((told != 7) == is_seed);
-        told = 7;
-        EXPECT(rrc_part_of(NO_NAME, sizeof NO_NAME, 0, seed, size, &told) == RRCACHE_BAD_RULES
-               && rrc_part_of(NO_NAME, sizeof NO_NAME, 65, seed, size, &told) == RRCACHE_BAD_RULES);
-        EXPECT(rrc_part_of(NO_NAME, sizeof NO_NAME, 1, seed, size, &told)
-               == (is_seed ? RRCACHE_BAD_NAME : RRCACHE_BAD_SEED));
-        EXPECT(rrc_offer_part(&shelf, ALIAS, 30, NO_NAME, sizeof NO_NAME, PARTS, seed, size, PARTS,
-                              FIRST, &wrong, 1, &counts)
-                   == RRCACHE_BAD_RULES
-               && rrc_offer_part(&shelf, ALIAS, 30, NO_NAME, sizeof NO_NAME, PARTS, seed, size, 0,
-                                 FIRST, &wrong, 1, &counts)
-                      == in_turn);
-        EXPECT(rrc_read_message(&offers, ALIAS, 30, NO_NAME, sizeof NO_NAME, 65, seed, size, FIRST,
-                                &wrong, &told)
-                   == RRCACHE_BAD_RULES
-               && rrc_read_message(&offers, ALIAS, 30, NO_NAME, sizeof NO_NAME, 64, seed, size,
-                                   FIRST, &wrong, &told)
-                      == in_turn);
-        EXPECT(rrc_read_response(&offers, ALIAS, 30, NO_NAME, sizeof NO_NAME, 1, NO_NAME,
-                                 sizeof NO_NAME, A, RRCACHE_IN, 0, seed, size, FIRST, &wrong, &told)
-                   == RRCACHE_BAD_RULES
-               && rrc_read_response(&offers, ALIAS, 30, NO_NAME, sizeof NO_NAME, 1, NO_NAME,
-                                    sizeof NO_NAME, A, RRCACHE_IN, 1, seed, size, FIRST, &wrong,
-                                    &told)
-                      == in_turn);
-        EXPECT(told == 7 && counts.kept == 0 && events(&shelf) == 0 && !offers.is_live);
-    }
+    EXPECT(offer_address(&shelf, OF(NAME), RRCACHE_AUTHORITY, 60) == RRCACHE_KEPT);
+    for (int call = 0; call < ASKINGS; call++)
+        EXPECT(ASKING[call](&shelf, &copy, &asked, &told, buffer, sizeof buffer) == RRCACHE_DONE
+               && told.kind == RRCACHE_FRESH && told.data_size == sizeof ADDRESS);
+    EXPECT(rrcache_tell_stored(&shelf, &copy, &asked, &stored) == RRCACHE_DONE
+           && stored.set.kind == RRCACHE_FRESH);
+    name = name_of(OF(NAME));
+    EXPECT(memcmp(&name, &copy, sizeof name) == 0);
+    EXPECT(rrcache_free(&shelf) == RRCACHE_DONE);
+}
 
-    /* By another seed, whichever octet is another, names lie elsewhere. */
+/* Whether all calls that are handed a name return this for it, and tell nothing. */
+static bool are_refused_for(struct rrcache_shelf *shelf, const struct rrcache_name *name,
+                            uint32_t wanted)
+{
+    struct rrcache_question asked = question(A, FIRST);
+    struct rrcache_stored stored;
+    struct rrcache_told told;
+    uint8_t buffer[64] = {7};
+    bool right = true;
+    memset(&told, 7, sizeof told);
+    memset(&stored, 7, sizeof stored);
+    for (int call = 0; call < ASKINGS; call++)
+        right = ASKING[call](shelf, name, &asked, &told, buffer, sizeof buffer) == wanted && right;
+    right = rrcache_tell_stored(shelf, name, &asked, &stored) == wanted && right;
+    return right && told.kind == 0x07070707 && stored.failure.age == UINT64_C(0x0707070707070707)
+           && buffer[0] == 7;
+}
+
+/* A shelf is asked for names of its own seed alone, whichever octet of another is another. */
+static void test_two_seeds(void)
+{
+    struct rrcache_shelf shelf = {0}, other_shelf = {0};
+    struct rrcache_rules rules = *RULES(100, 4, MAX_STALE);
+    struct rrcache_name name = name_of(OF(NAME)), other;
+    struct rrcache_parts parts;
+    rules.seed[15] ^= 1;
+    EXPECT(make(&shelf) == RRCACHE_DONE && rrcache_make(&other_shelf, &rules) == RRCACHE_DONE);
+    EXPECT(offer_address(&shelf, OF(NAME), RRCACHE_AUTHORITY, 60) == RRCACHE_KEPT
+           && offer_address(&other_shelf, OF(NAME), RRCACHE_AUTHORITY, 60) == RRCACHE_KEPT);
     for (size_t place = 0; place < sizeof parts.seed; place++) {
-        uint64_t moved = 0;
-        parts = *PARTED(64);
-        parts.seed[place] ^= 0x80;
-        for (unsigned number = 0; number < 100; number++) {
-            uint8_t name[NAME_SIZE];
-            uint64_t by_one = 64, by_other = 64;
-            write_name(name, number);
-            moved += rrcache_part_of(name, sizeof name, PARTED(64), &by_one) == RRCACHE_DONE
-                     && rrcache_part_of(name, sizeof name, &parts, &by_other) == RRCACHE_DONE
-                     && by_one != by_other;
-        }
-        EXPECT(moved > 50);
+        parts = *PARTED(PARTS);
+        parts.seed[place] ^= 1;
+        EXPECT(rrcache_make_name(&other, OF(NAME), &parts) == RRCACHE_DONE);
+        EXPECT(are_refused_for(&shelf, &other, RRCACHE_OTHER_SEED) && events(&shelf) == 1);
     }
+    /* The last of these is the seed of the other shelf. */
+    EXPECT(are_refused_for(&other_shelf, &name, RRCACHE_OTHER_SEED));
+    struct rrcache_question asked = question(A, FIRST);
+    struct rrcache_told told;
+    uint8_t buffer[64];
+    EXPECT(rrcache_ask(&other_shelf, &other, &asked, &told, buffer, sizeof buffer) == RRCACHE_DONE
+           && told.kind == RRCACHE_FRESH);
+    EXPECT(rrcache_ask(&shelf, &name, &asked, &told, buffer, sizeof buffer) == RRCACHE_DONE
+           && told.kind == RRCACHE_FRESH);
+    EXPECT(rrcache_free(&shelf) == RRCACHE_DONE && rrcache_free(&other_shelf) == RRCACHE_DONE);
+}
 
-    /* The parts are read before anything is written. */
-    parts = *PARTED(PARTS);
-    EXPECT(rrcache_part_of(NAME, sizeof NAME, &parts, &parts.count) == RRCACHE_DONE
-           && parts.count == 2);
+/* What is no name, and no division: the first that is due, and the name is as it was. */
+static void test_names_refused(void)
+{
+    struct rrcache_shelf shelf = {0};
+    struct rrcache_name name, before;
+    static const struct rrcache_name none = {0};
+    struct rrcache_parts parts = {0};
+    memset(&name, 7, sizeof name);
+    before = name;
+    EXPECT(rrcache_make_name(&name, OF(NO_NAME), &parts) == RRCACHE_BAD_RULES);
+    parts.count = 65;
+    EXPECT(rrcache_make_name(&name, OF(NO_NAME), &parts) == RRCACHE_BAD_RULES);
+    parts.count = (UINT64_C(1) << 32) + 1;
+    EXPECT(rrcache_make_name(&name, OF(NO_NAME), &parts) == RRCACHE_BAD_RULES);
+    parts.count = 64;
+    EXPECT(rrcache_make_name(&name, OF(NO_NAME), &parts) == RRCACHE_BAD_SEED
+           && rrcache_make_name(&name, OF(NAME), &parts) == RRCACHE_BAD_SEED);
+    parts.seed[15] = 1;
+    EXPECT(rrcache_make_name(&name, OF(NO_NAME), &parts) == RRCACHE_BAD_NAME
+           && rrcache_make_name(&name, NULL, 0, &parts) == RRCACHE_BAD_NAME);
+    EXPECT(memcmp(&name, &before, sizeof name) == 0);
+    EXPECT(rrcache_make_name(&name, OF(NAME), &parts) == RRCACHE_DONE && name.part < 64);
+
+    /* A name of zeros is none, whatever its seed is. */
+    EXPECT(make(&shelf) == RRCACHE_DONE && are_refused_for(&shelf, &none, RRCACHE_BAD_NAME));
+    name = none;
+    memcpy(name.seed, shelf.seed, sizeof name.seed);
+    EXPECT(are_refused_for(&shelf, &name, RRCACHE_BAD_NAME) && events(&shelf) == 0);
     EXPECT(rrcache_free(&shelf) == RRCACHE_DONE);
 }
 
 static uint32_t status_of(const char *name, size_t size)
 {
-    uint64_t part;
-    return rrcache_part_of((const uint8_t *)name, size, PARTED(PARTS), &part);
+    struct rrcache_name made;
+    return rrcache_make_name(&made, (const uint8_t *)name, size, PARTED(PARTS));
 }
 
 /* The status of the wire form of labels of so many octets each, which end with the root. */
@@ -1670,56 +951,1670 @@ static void test_wire_forms(void)
            && status_of_labels("\77\77\77\74\1") == RRCACHE_BAD_NAME);
 }
 
+/* ---- What is stored, and what a reply tells of it. */
+
+/* The entry that gives a reply: fresh, stale, no data, no such name; with a miss there is none. */
+static void test_entries(void)
+{
+    struct rrcache_shelf shelf = {0};
+    struct rrcache_counts counts;
+    struct rrcache_negative nodata = negative_of(OF(OTHER), TXT, RRCACHE_NODATA),
+                            nxdomain = negative_of(OF(THIRD), 0, RRCACHE_NXDOMAIN);
+    struct reply reply;
+    nodata.moment = FIRST + 5;
+    nxdomain.moment = FIRST + 6;
+    nxdomain.trust = RRCACHE_NON_AUTHORITATIVE_ANSWER;
+    nxdomain.ttl = 90;
+    EXPECT(make_by(&shelf, 100, 100, MAX_STALE) == RRCACHE_DONE);
+    EXPECT(offer_answer(&shelf, FIRST, &counts) == RRCACHE_DONE);
+    EXPECT(offer_negative(&shelf, nodata) == RRCACHE_KEPT
+           && offer_negative(&shelf, nxdomain) == RRCACHE_KEPT
+           && offer_failure(&shelf, failure_of(OF(NAME), TXT)) == RRCACHE_KEPT);
+
+    reply = peeked(&shelf, OF(NAME), question(A, FIRST + 299));
+    EXPECT(reply.told.kind == RRCACHE_FRESH && reply.told.rtype == A && reply.told.left == 1);
+    EXPECT(is_entry(&reply.told.entry, RRCACHE_FRESH, 4, 300, FIRST, 0, 3));
+    reply =
+        peeked(&shelf, OF(NAME), question_by(A, FIRST + 300, RRCACHE_QUESTION, RRCACHE_STALE_NOW));
+    EXPECT(reply.told.kind == RRCACHE_STALE && reply.told.rtype == A && reply.told.left == 30);
+    EXPECT(is_entry(&reply.told.entry, RRCACHE_FRESH, 4, 300, FIRST, 0, 3));
+    reply = peeked(&shelf, OF(OTHER), question(TXT, FIRST + 10));
+    EXPECT(reply.told.kind == RRCACHE_NODATA && reply.told.rtype == TXT && reply.told.left == 55);
+    EXPECT(is_entry(&reply.told.entry, RRCACHE_NODATA, 3, 60, FIRST + 5, 1, 2));
+    reply = peeked(&shelf, OF(THIRD), question(SOA, FIRST + 10));
+    EXPECT(reply.told.kind == RRCACHE_NXDOMAIN && reply.told.rtype == SOA && reply.told.left == 86);
+    EXPECT(is_entry(&reply.told.entry, RRCACHE_NXDOMAIN, 2, 90, FIRST + 6, 2, 1));
+
+    /* Misses: nothing held, what is past its time, and a failure. */
+    reply = peeked(&shelf, OF(NAME), question(SOA, FIRST));
+    EXPECT(reply.told.kind == RRCACHE_MISS && reply.told.rtype == SOA
+           && is_no_entry(&reply.told.entry));
+    reply = peeked(&shelf, OF(NAME), question(A, FIRST + 300));
+    EXPECT(reply.told.kind == RRCACHE_MISS && is_no_entry(&reply.told.entry));
+    reply = peeked(&shelf, OF(NAME), question(TXT, FIRST));
+    EXPECT(reply.told.kind == RRCACHE_FAILED && reply.told.rtype == TXT
+           && is_no_entry(&reply.told.entry));
+    EXPECT(rrcache_free(&shelf) == RRCACHE_DONE);
+}
+
+/* Additional data serve the resolver itself alone (RFC 2181 section 5.4.1). */
+static void test_purposes(void)
+{
+    struct rrcache_shelf shelf = {0};
+    struct reply reply;
+    EXPECT(make(&shelf) == RRCACHE_DONE);
+    EXPECT(offer_address(&shelf, OF(NAME), RRCACHE_ADDITIONAL, 60) == RRCACHE_KEPT);
+    reply = peeked(&shelf, OF(NAME), question(A, FIRST));
+    EXPECT(reply.told.kind == RRCACHE_MISS && is_no_entry(&reply.told.entry));
+    reply = peeked(&shelf, OF(NAME), question_by(A, FIRST, RRCACHE_ANYTHING, RRCACHE_NO_STALE));
+    EXPECT(reply.told.kind == RRCACHE_FRESH
+           && is_entry(&reply.told.entry, RRCACHE_FRESH, RRCACHE_ADDITIONAL, 60, FIRST, 0, 0));
+    EXPECT(rrcache_free(&shelf) == RRCACHE_DONE);
+}
+
+/* What is held: what it is, its rank, its TTL as it was stored, and when, also past its time. */
+static void test_stored(void)
+{
+    struct rrcache_shelf shelf = {0};
+    struct rrcache_stored stored;
+    struct rrcache_negative nodata = negative_of(OF(OTHER), TXT, RRCACHE_NODATA);
+    EXPECT(make_by(&shelf, 100, 100, MAX_STALE) == RRCACHE_DONE);
+    stored = stored_of(&shelf, OF(NAME), A);
+    EXPECT(is_no_entry(&stored.set) && is_no_entry(&stored.nxdomain)
+           && is_no_entry(&stored.failure));
+    EXPECT(offer_address(&shelf, OF(NAME), RRCACHE_AUTHORITY, 60) == RRCACHE_KEPT);
+    stored = stored_of(&shelf, OF(UPPER), A);
+    EXPECT(is_entry(&stored.set, RRCACHE_FRESH, RRCACHE_AUTHORITY, 60, FIRST, 0, 0)
+           && is_no_entry(&stored.nxdomain) && is_no_entry(&stored.failure));
+    stored = stored_of(&shelf, OF(NAME), TXT);
+    EXPECT(is_no_entry(&stored.set));
+    nodata.moment = FIRST + 5;
+    nodata.ttl = 40;
+    EXPECT(offer_negative(&shelf, nodata) == RRCACHE_KEPT);
+    stored = stored_of(&shelf, OF(OTHER), TXT);
+    EXPECT(is_entry(&stored.set, RRCACHE_NODATA, RRCACHE_AUTHORITY, 40, FIRST + 5, 1, 0));
+
+    /* All three of one name, each with its own number and age. */
+    EXPECT(offer_denial(&shelf, OF(NAME), RRCACHE_NXDOMAIN, RRCACHE_AUTHORITATIVE_ANSWER, 50)
+               == RRCACHE_KEPT
+           && offer_failure(&shelf, failure_of(OF(NAME), A)) == RRCACHE_KEPT);
+    stored = stored_of(&shelf, OF(NAME), A);
+    EXPECT(is_entry(&stored.set, RRCACHE_FRESH, RRCACHE_AUTHORITY, 60, FIRST, 0, 3)
+           && is_entry(&stored.nxdomain, RRCACHE_NXDOMAIN, RRCACHE_AUTHORITATIVE_ANSWER, 50, FIRST,
+                       2, 1)
+           && is_entry(&stored.failure, RRCACHE_FAILED, 0, 30, FIRST, 3, 0));
+    /* Of another type the name does not exist all the same. */
+    stored = stored_of(&shelf, OF(NAME), SOA);
+    EXPECT(is_no_entry(&stored.set) && stored.nxdomain.number == 2 && is_no_entry(&stored.failure));
+
+    /* The largest TTL (RFC 2181 section 8). */
+    EXPECT(offer_address(&shelf, OF(THIRD), RRCACHE_AUTHORITY, (1u << 31) - 1) == RRCACHE_KEPT);
+    stored = stored_of(&shelf, OF(THIRD), A);
+    EXPECT(stored.set.ttl == (1u << 31) - 1);
+    EXPECT(events(&shelf) == 5 && rrcache_free(&shelf) == RRCACHE_DONE);
+}
+
+/* Of a question about what is stored the type and the class are looked at, and nothing else. */
+static void test_stored_refused(void)
+{
+    struct rrcache_shelf shelf = {0};
+    struct rrcache_name name = name_of(OF(NAME));
+    static const struct rrcache_name none = {0};
+    struct rrcache_question asked = {0};
+    struct rrcache_stored stored;
+    memset(&stored, 7, sizeof stored);
+    EXPECT(rrcache_tell_stored(&shelf, &none, &asked, &stored) == RRCACHE_NO_SHELF);
+    EXPECT(make(&shelf) == RRCACHE_DONE);
+    EXPECT(rrcache_tell_stored(&shelf, &none, &asked, &stored) == RRCACHE_BAD_TYPE);
+    asked.rtype = A;
+    EXPECT(rrcache_tell_stored(&shelf, &none, &asked, &stored) == RRCACHE_BAD_TYPE);
+    asked.rclass = 254;
+    EXPECT(rrcache_tell_stored(&shelf, &none, &asked, &stored) == RRCACHE_BAD_TYPE);
+    asked.rclass = RRCACHE_CH;
+    EXPECT(rrcache_tell_stored(&shelf, &none, &asked, &stored) == RRCACHE_BAD_NAME);
+    EXPECT(stored.set.kind == 0x07070707 && stored.failure.kind == 0x07070707);
+    EXPECT(offer_address(&shelf, OF(NAME), RRCACHE_AUTHORITY, 60) == RRCACHE_KEPT);
+    EXPECT(rrcache_tell_stored(&shelf, &name, &asked, &stored) == RRCACHE_DONE
+           && is_no_entry(&stored.set));
+    asked.rclass = RRCACHE_IN;
+    EXPECT(rrcache_tell_stored(&shelf, &name, &asked, &stored) == RRCACHE_DONE
+           && stored.set.kind == RRCACHE_FRESH);
+    /* Of a type that is not kept it is known that the name does not exist. */
+    asked.rtype = ANY;
+    EXPECT(offer_denial(&shelf, OF(NAME), RRCACHE_NXDOMAIN, RRCACHE_AUTHORITY, 60) == RRCACHE_KEPT);
+    EXPECT(rrcache_tell_stored(&shelf, &name, &asked, &stored) == RRCACHE_DONE
+           && is_no_entry(&stored.set) && stored.nxdomain.kind == RRCACHE_NXDOMAIN);
+    EXPECT(rrcache_free(&shelf) == RRCACHE_DONE);
+}
+
+/* Whether the addresses of three names have these ages, by what is stored and by a peek. */
+static bool have_ages(struct rrcache_shelf *shelf, uint64_t www, uint64_t other, uint64_t third)
+{
+    static const struct {
+        const uint8_t *octets;
+        size_t size;
+    } names[] = {{OF(NAME)}, {OF(OTHER)}, {OF(THIRD)}};
+    const uint64_t wanted[] = {www, other, third};
+    bool right = true;
+    for (int n = 0; n < 3; n++) {
+        struct rrcache_stored stored = stored_of(shelf, names[n].octets, names[n].size, A);
+        struct reply reply = peeked(shelf, names[n].octets, names[n].size, question(A, FIRST));
+        right = right && stored.set.age == wanted[n] && reply.told.entry.age == wanted[n];
+    }
+    return right;
+}
+
+/* Ages are counted in touches: an offer that is kept, and an ask that is answered. The ask tells
+   the age from before it. */
+static void test_ages_of_asks(struct rrcache_shelf *shelf)
+{
+    EXPECT(offer_address(shelf, OF(NAME), RRCACHE_AUTHORITY, 60) == RRCACHE_KEPT
+           && have_ages(shelf, 0, 0, 0));
+    EXPECT(offer_address(shelf, OF(OTHER), RRCACHE_AUTHORITY, 60) == RRCACHE_KEPT
+           && have_ages(shelf, 1, 0, 0));
+    EXPECT(offer_address(shelf, OF(THIRD), RRCACHE_AUTHORITY, 60) == RRCACHE_KEPT
+           && have_ages(shelf, 2, 1, 0));
+    EXPECT(asked(shelf, OF(NAME), question(A, FIRST)).told.entry.age == 2
+           && have_ages(shelf, 0, 2, 1));
+    EXPECT(asked(shelf, OF(NAME), question(A, FIRST)).told.entry.age == 0
+           && have_ages(shelf, 0, 3, 2));
+    /* A miss, an ask that is refused and one whose buffer is too small touch nothing. */
+    struct rrcache_told told;
+    EXPECT(asked(shelf, OF(NAME), question(TXT, FIRST)).told.kind == RRCACHE_MISS
+           && ask(shelf, LATE, &told, NULL, 0) == RRCACHE_MOMENT_TOO_LARGE
+           && ask(shelf, FIRST, &told, NULL, 0) == RRCACHE_SMALL && have_ages(shelf, 0, 3, 2));
+    EXPECT(asked(shelf, OF(THIRD), question(A, FIRST)).told.entry.age == 2
+           && have_ages(shelf, 1, 4, 0));
+}
+
+/* Nor do offers that are not kept and sweeps. */
+static void test_ages_of_offers(struct rrcache_shelf *shelf)
+{
+    EXPECT(offer_address(shelf, OF(NAME), RRCACHE_ADDITIONAL, 60) == RRCACHE_OUTRANKED
+           && have_ages(shelf, 1, 4, 0));
+    EXPECT(offer_address(shelf, OF(OTHER), RRCACHE_AUTHORITY, 60) == RRCACHE_KEPT
+           && have_ages(shelf, 2, 0, 1));
+    struct rrcache_set text = set_of(OF(NAME), TXT, OF(ADDRESS));
+    text.ttl = 0;
+    EXPECT(offer_set(shelf, text) == RRCACHE_CLEARED && have_ages(shelf, 2, 0, 1));
+    EXPECT(offer_failure(shelf, failure_of(OF(NAME), TXT)) == RRCACHE_KEPT
+           && have_ages(shelf, 3, 1, 2));
+    EXPECT(sweep(shelf, FIRST) == 0 && have_ages(shelf, 3, 1, 2));
+    /* What is swept or cleared leaves the ages of the rest: that asking failed, then an address. */
+    EXPECT(sweep(shelf, FIRST + 30) == 1 && have_ages(shelf, 3, 1, 2));
+    EXPECT(offer_address(shelf, OF(THIRD), RRCACHE_AUTHORITY, 0) == RRCACHE_CLEARED
+           && have_ages(shelf, 3, 1, 0) && keys(shelf) == 2);
+}
+
+/* Of the offers of a message those touch that are kept. */
+static void test_ages_of_messages(struct rrcache_shelf *shelf)
+{
+    struct rrcache_counts counts;
+    struct rrcache_stored stored;
+    EXPECT(offer_message(shelf, response_of(OF(ALIAS)), &counts) == RRCACHE_DONE
+           && are_counts(&counts, 1, 0, 1));
+    /* The CNAME record is kept, and the address of other.example outranked. */
+    stored = stored_of(shelf, OF(NAME), CNAME);
+    EXPECT(stored.set.age == 0 && have_ages(shelf, 4, 2, 0));
+}
+
+static void test_ages(void)
+{
+    struct rrcache_shelf lean = {0}, shelf = {0};
+    EXPECT(rrcache_make(&lean, RULES(100, 4, 0)) == RRCACHE_DONE
+           && make_by(&shelf, 100, 4, 0) == RRCACHE_DONE);
+    for (int turn = 0; turn < 2; turn++) {
+        struct rrcache_shelf *its = turn == 0 ? &lean : &shelf;
+        test_ages_of_asks(its);
+        test_ages_of_offers(its);
+        test_ages_of_messages(its);
+        EXPECT(rrcache_free(its) == RRCACHE_DONE);
+    }
+}
+
+/* ---- Chapters and records. */
+
+static void test_chapters(void)
+{
+    struct rrcache_shelf shelf = {0};
+    struct rrcache_counts counts;
+    struct rrcache_told told = {0};
+    uint64_t dropped = 9;
+    uint8_t buffer[64];
+    EXPECT(make(&shelf) == RRCACHE_DONE && offer_answer(&shelf, FIRST, &counts) == RRCACHE_DONE);
+    for (int n = 0; n < 8; n++)
+        EXPECT(ask(&shelf, FIRST, &told, buffer, sizeof buffer) == RRCACHE_DONE);
+    /* Nine events in chapters of four. */
+    EXPECT(events(&shelf) == 2001);
+    EXPECT(rrcache_drop_chapters(&shelf, &dropped) == RRCACHE_DONE && dropped == 2
+           && events(&shelf) == 1);
+    EXPECT(rrcache_drop_chapters(&shelf, &dropped) == RRCACHE_DONE && dropped == 0);
+    EXPECT(peek(&shelf, FIRST, &told, buffer, sizeof buffer) == RRCACHE_DONE
+           && told.kind == RRCACHE_FRESH);
+    EXPECT(rrcache_free(&shelf) == RRCACHE_DONE);
+}
+
+/* A full chapter is closed by the next call, unless that is refused for its moment. */
+static void test_full_chapter(void)
+{
+    struct rrcache_shelf shelf = {0};
+    struct rrcache_told told = {0};
+    uint64_t removed = 9;
+    EXPECT(make(&shelf) == RRCACHE_DONE);
+    for (int n = 0; n < 4; n++)
+        EXPECT(ask(&shelf, FIRST, &told, NULL, 0) == RRCACHE_DONE);
+    EXPECT(rrcache_sweep(&shelf, SWEEP(LATE, 0), &removed) == RRCACHE_MOMENT_TOO_LARGE
+           && removed == 9 && events(&shelf) == 4);
+    EXPECT(sweep(&shelf, LAST) == 0 && events(&shelf) == 1001);
+    EXPECT(rrcache_free(&shelf) == RRCACHE_DONE);
+}
+
+/* Offers and asks as often as this with both of two shelves, and answers whether they tell the same
+   and hold as many keys and octets. */
+static bool are_alike(struct rrcache_shelf *one, struct rrcache_shelf *other, uint64_t moment)
+{
+    struct rrcache_counts counts[2];
+    bool alike = true;
+    for (int n = 0; n < 5; n++) {
+        struct rrcache_question now = question(A, moment + 100 * (uint64_t)n);
+        struct reply replies[] = {asked(one, OF(NAME), now), asked(other, OF(NAME), now)};
+        alike = alike && are_same(&replies[0], &replies[1]);
+    }
+    EXPECT(offer_answer(one, moment, &counts[0]) == RRCACHE_DONE
+           && offer_answer(other, moment, &counts[1]) == RRCACHE_DONE);
+    return alike && memcmp(&counts[0], &counts[1], sizeof counts[0]) == 0
+           && keys(one) == keys(other) && octets_of_keys(one) == octets_of_keys(other);
+}
+
+/* A shelf that records nothing has no events, and no chapter of it is ever full. It answers as one
+   does that records, and so it does when its record begins, and when that is dropped. */
+static void test_records(void)
+{
+    struct rrcache_shelf shelf = {0}, other = {0};
+    uint64_t dropped = 9;
+    EXPECT(rrcache_make(&shelf, RULES(100, 4, MAX_STALE)) == RRCACHE_DONE
+           && make(&other) == RRCACHE_DONE);
+    for (uint64_t n = 0; n < 3; n++)
+        EXPECT(are_alike(&shelf, &other, FIRST + 200 * n) && events(&shelf) == 0);
+    EXPECT(rrcache_drop_chapters(&shelf, &dropped) == RRCACHE_DONE && dropped == 0);
+    /* 18 events, of which chapters have four. */
+    EXPECT(events(&other) == 4002);
+
+    EXPECT(rrcache_stop_and_drop(&shelf) == RRCACHE_DONE && events(&shelf) == 0);
+    EXPECT(rrcache_record(&shelf) == RRCACHE_DONE && events(&shelf) == 0);
+    EXPECT(are_alike(&shelf, &other, FIRST + 600) && events(&shelf) == 1002);
+    EXPECT(rrcache_record(&shelf) == RRCACHE_DONE && events(&shelf) == 1002);
+    EXPECT(are_alike(&shelf, &other, FIRST + 800) && events(&shelf) == 2004);
+
+    EXPECT(rrcache_stop_and_drop(&shelf) == RRCACHE_DONE && events(&shelf) == 0);
+    EXPECT(rrcache_drop_chapters(&shelf, &dropped) == RRCACHE_DONE && dropped == 0);
+    EXPECT(are_alike(&shelf, &other, FIRST + 1000) && events(&shelf) == 0);
+    EXPECT(rrcache_record(&shelf) == RRCACHE_DONE && are_alike(&shelf, &other, FIRST + 1200)
+           && events(&shelf) == 1002);
+    EXPECT(rrcache_free(&shelf) == RRCACHE_DONE && rrcache_free(&other) == RRCACHE_DONE);
+}
+
+/* What a sink was handed, and which call of it is to end the writing, if any. */
+struct text {
+    char octets[16384];
+    size_t size;
+    unsigned calls, last;
+};
+
+static int write_text(void *state, const void *octets, size_t size)
+{
+    struct text *text = state;
+    EXPECT(size != 0 && size <= RRCACHE_PIECE_OCTETS);
+    if (++text->calls == text->last || size > sizeof text->octets - text->size)
+        return -1;
+    memcpy(text->octets + text->size, octets, size);
+    text->size += size;
+    return 0;
+}
+
+static bool is_text(const struct text *text, const char *wanted)
+{
+    bool same = text->size == strlen(wanted) && memcmp(text->octets, wanted, text->size) == 0;
+    if (!same)
+        printf("%.*s\n", (int)text->size, text->octets);
+    return same;
+}
+
+/* Whether a line of a chapter is this. */
+static bool is_line(struct rrcache_chapters *chapters, uint64_t chapter, uint64_t line,
+                    const char *wanted)
+{
+    static struct text text;
+    memset(&text, 0, sizeof text);
+    return rrcache_write_line(chapters, PLACE(chapter, line, 0), write_text, &text) == RRCACHE_DONE
+           && is_text(&text, wanted);
+}
+
+static bool is_chapter(struct rrcache_chapters *chapters, uint64_t chapter, const char *wanted)
+{
+    static struct text text;
+    memset(&text, 0, sizeof text);
+    return rrcache_write_chapter(chapters, chapter, write_text, &text) == RRCACHE_DONE
+           && is_text(&text, wanted);
+}
+
+/* Two chapters of four events and the beginning of a third, of a shelf for three keys, by
+   docs/FORMATS.md. The second one begins with what the first one led to; the offer of class CH
+   evicts the key that was touched least recently, and the sweep removes all three. */
+static const char FIRST_CHAPTER[] =
+    "chapter 2 0 3 4 3600\n"
+    "offer 1 0 1000 www.example. 1 set 4 60 WWW.Example. c0000209 kept\n"
+    "offer 2 0 1000 www.example. 1 set 1 60 www.example. c0000209 less\n"
+    "offer 3 0 1000 other.example. nx negative 3 60 example. "
+    "0000000000010000000200000003000000040000003c kept\n"
+    "offer 4 0 1000 www.example. failed16 failure 30 kept\n";
+static const char SECOND_CHAPTER[] =
+    "chapter 3 4 3 4 3600\n"
+    "entry 3 1000 www.example. failed16 failure 30\n"
+    "entry 2 1000 other.example. nx negative 3 60 example. "
+    "0000000000010000000200000003000000040000003c\n"
+    "entry 0 1000 www.example. 1 set 4 60 WWW.Example. c0000209\n"
+    "ask 2 0 1010 www.example. 1 answer none fresh 50 WWW.Example. c0000209\n"
+    "offer 5 0 1020 other.example. 16/3 set 4 5 other.example. 0141 kept other.example. nx\n"
+    "ask 6 0 1021 other.example. 16/3 any now fresh 4 other.example. 0141\n"
+    "sweep 7 0 11000 other.example. 16/3 www.example. 1 www.example. failed16\n";
+static const char THIRD_CHAPTER[] = "chapter 4 8 3 4 3600\n"
+                                    "ask 2 0 1010 www.example. 1 answer none miss\n";
+
+/* The events of the first of these chapters. */
+static void write_first_chapter(struct rrcache_shelf *shelf)
+{
+    struct rrcache_set set = set_of(OF(UPPER), A, OF(ADDRESS));
+    struct rrcache_negative denial = negative_of(OF(OTHER), A, RRCACHE_NXDOMAIN);
+    struct rrcache_failure failure = failure_of(OF(NAME), TXT);
+    EXPECT(offer_set(shelf, set) == RRCACHE_KEPT);
+    set = set_of(OF(NAME), A, OF(ADDRESS));
+    set.trust = RRCACHE_ADDITIONAL;
+    set.line = 2;
+    EXPECT(offer_set(shelf, set) == RRCACHE_OUTRANKED);
+    denial.line = 3;
+    EXPECT(offer_negative(shelf, denial) == RRCACHE_KEPT);
+    failure.line = 4;
+    EXPECT(offer_failure(shelf, failure) == RRCACHE_KEPT);
+}
+
+/* Those of the second one. */
+static void write_second_chapter(struct rrcache_shelf *shelf)
+{
+    static const uint8_t txt[] = {0, 2, 1, 'A'};
+    const struct rrcache_sweep_at terms = {.moment = FIRST + 10000, .line = 7};
+    struct rrcache_set set = set_of(OF(OTHER), TXT, OF(txt));
+    struct rrcache_question anything =
+        question_by(TXT, FIRST + 21, RRCACHE_ANYTHING, RRCACHE_STALE_NOW);
+    uint64_t removed = 0;
+    EXPECT(asked(shelf, OF(NAME), question(A, FIRST + 10)).told.kind == RRCACHE_FRESH);
+    set.rclass = anything.rclass = RRCACHE_CH;
+    set.ttl = 5;
+    set.moment = FIRST + 20;
+    set.line = 5;
+    EXPECT(offer_set(shelf, set) == RRCACHE_KEPT);
+    anything.line = 6;
+    EXPECT(asked(shelf, OF(OTHER), anything).told.kind == RRCACHE_FRESH);
+    EXPECT(rrcache_sweep(shelf, &terms, &removed) == RRCACHE_DONE && removed == 3);
+}
+
+/* A shelf with the events of these chapters, of which two are closed. */
+static void make_chapters(struct rrcache_shelf *shelf)
+{
+    EXPECT(make_by(shelf, 3, 4, MAX_STALE) == RRCACHE_DONE);
+    write_first_chapter(shelf);
+    write_second_chapter(shelf);
+    EXPECT(asked(shelf, OF(NAME), question(A, FIRST + 10)).told.kind == RRCACHE_MISS
+           && events(shelf) == 2001);
+}
+
+/* Chapters are taken out of a shelf, which goes on, and written as they were recorded. */
+static void test_taken_chapters(void)
+{
+    struct rrcache_shelf shelf = {0};
+    struct rrcache_chapters chapters = {0}, rest = {0};
+    struct text text = {0};
+    uint64_t count = 9;
+    make_chapters(&shelf);
+    EXPECT(rrcache_take_chapters(&shelf, &chapters, &count) == RRCACHE_DONE && count == 2
+           && events(&shelf) == 1);
+    EXPECT(rrcache_write_chapter(&chapters, 0, write_text, &text) == RRCACHE_DONE
+           && is_text(&text, FIRST_CHAPTER) && text.calls == 5);
+    EXPECT(is_chapter(&chapters, 1, SECOND_CHAPTER));
+    EXPECT(is_line(&chapters, 1, 2,
+                   "entry 2 1000 other.example. nx negative 3 60 example. "
+                   "0000000000010000000200000003000000040000003c\n"));
+
+    /* The record ends, and its open chapter is the last one. The shelf may go before them. */
+    EXPECT(rrcache_stop_recording(&shelf, &rest, &count) == RRCACHE_DONE && count == 1
+           && events(&shelf) == 0);
+    EXPECT(rrcache_free(&shelf) == RRCACHE_DONE);
+    EXPECT(is_chapter(&rest, 0, THIRD_CHAPTER));
+    EXPECT(rrcache_free_chapters(&chapters) == RRCACHE_DONE && chapters.at == NULL
+           && !chapters.is_live && rrcache_free_chapters(&rest) == RRCACHE_DONE);
+}
+
+/* A record that ends is handed out whole, and the shelf answers as before. */
+static void test_stopped_record(void)
+{
+    struct rrcache_shelf shelf = {0};
+    struct rrcache_chapters chapters = {0};
+    struct rrcache_counts counts;
+    struct rrcache_told told = {0};
+    uint64_t count = 9;
+    uint8_t buffer[64];
+    EXPECT(make(&shelf) == RRCACHE_DONE && offer_answer(&shelf, FIRST, &counts) == RRCACHE_DONE);
+    for (int n = 0; n < 4; n++)
+        EXPECT(ask(&shelf, FIRST, &told, buffer, sizeof buffer) == RRCACHE_DONE);
+    EXPECT(events(&shelf) == 1001);
+    EXPECT(rrcache_stop_recording(&shelf, &chapters, &count) == RRCACHE_DONE && count == 2
+           && events(&shelf) == 0);
+    EXPECT(is_chapter(&chapters, 1,
+                      "chapter 3 4 100 4 3600\n"
+                      "entry 0 1000 www.example. 1 set 4 300 www.example. c0000201,c0000202\n"
+                      "ask 2 0 1000 www.example. 1 answer none fresh 300 www.example. "
+                      "c0000201,c0000202\n"));
+    EXPECT(peek(&shelf, FIRST + 1, &told, buffer, sizeof buffer) == RRCACHE_DONE
+           && told.kind == RRCACHE_FRESH && told.left == 299);
+    EXPECT(rrcache_free_chapters(&chapters) == RRCACHE_DONE);
+
+    /* Where nothing is recorded there are no chapters, and the handle is live all the same. */
+    EXPECT(rrcache_stop_recording(&shelf, &chapters, &count) == RRCACHE_DONE && count == 0);
+    EXPECT(rrcache_chapter_line(&chapters, PLACE(0, 0, 0), NULL, 0, &(struct rrcache_line){0})
+           == RRCACHE_NO_LINE);
+    EXPECT(rrcache_free_chapters(&chapters) == RRCACHE_DONE);
+    EXPECT(rrcache_take_chapters(&shelf, &chapters, &count) == RRCACHE_DONE && count == 0
+           && rrcache_free_chapters(&chapters) == RRCACHE_DONE);
+    EXPECT(rrcache_free(&shelf) == RRCACHE_DONE);
+}
+
+/* The number that a reply tells of its entry is that of the event that stored it, by which the
+   event is found in the archive: behind the line of its chapter, and of each entry. */
+static void test_numbers(void)
+{
+    static const char stored[] =
+        "offer 1 0 1000 www.example. 1 set 3 60 www.example. c0000209 kept\n";
+    struct rrcache_shelf shelf = {0};
+    struct rrcache_chapters chapters = {0};
+    struct rrcache_entry entry;
+    uint64_t count = 0;
+    EXPECT(make(&shelf) == RRCACHE_DONE);
+    EXPECT(asked(&shelf, OF(NAME), question(A, FIRST)).told.kind == RRCACHE_MISS);
+    EXPECT(offer_address(&shelf, OF(OTHER), RRCACHE_AUTHORITY, 60) == RRCACHE_KEPT
+           && offer_address(&shelf, OF(NAME), RRCACHE_AUTHORITY, 60) == RRCACHE_KEPT);
+    EXPECT(offer_address(&shelf, OF(NAME), RRCACHE_ADDITIONAL, 60) == RRCACHE_OUTRANKED);
+    entry = asked(&shelf, OF(NAME), question(A, FIRST)).told.entry;
+    EXPECT(is_entry(&entry, RRCACHE_FRESH, RRCACHE_AUTHORITY, 60, FIRST, 2, 0));
+    EXPECT(peeked(&shelf, OF(OTHER), question(A, FIRST)).told.entry.number == 1);
+    EXPECT(rrcache_stop_recording(&shelf, &chapters, &count) == RRCACHE_DONE && count == 2);
+    EXPECT(is_line(&chapters, 0, 0, "chapter 2 0 100 4 3600\n")
+           && is_line(&chapters, 0, 1 + entry.number, stored));
+    /* The chapter behind begins with the same numbers. */
+    EXPECT(is_chapter(&chapters, 1,
+                      "chapter 3 4 100 4 3600\n"
+                      "entry 2 1000 www.example. 1 set 3 60 www.example. c0000209\n"
+                      "entry 1 1000 other.example. 1 set 3 60 other.example. c0000209\n"
+                      "ask 2 0 1000 www.example. 1 answer none fresh 60 www.example. c0000209\n"));
+    EXPECT(rrcache_free_chapters(&chapters) == RRCACHE_DONE
+           && rrcache_free(&shelf) == RRCACHE_DONE);
+}
+
+/* Events take numbers where they are not recorded too. */
+static void test_numbers_before_a_record(void)
+{
+    struct rrcache_shelf shelf = {0};
+    struct rrcache_chapters chapters = {0};
+    uint64_t count = 0;
+    EXPECT(rrcache_make(&shelf, RULES(100, 4, MAX_STALE)) == RRCACHE_DONE);
+    EXPECT(offer_address(&shelf, OF(NAME), RRCACHE_AUTHORITY, 60) == RRCACHE_KEPT
+           && offer_address(&shelf, OF(OTHER), RRCACHE_AUTHORITY, 60) == RRCACHE_KEPT
+           && asked(&shelf, OF(NAME), question(A, FIRST)).told.entry.number == 0);
+    EXPECT(rrcache_record(&shelf) == RRCACHE_DONE);
+    EXPECT(offer_address(&shelf, OF(THIRD), RRCACHE_AUTHORITY, 60) == RRCACHE_KEPT);
+    EXPECT(stored_of(&shelf, OF(NAME), A).set.number == 0
+           && stored_of(&shelf, OF(OTHER), A).set.number == 1
+           && stored_of(&shelf, OF(THIRD), A).set.number == 3);
+    EXPECT(rrcache_stop_recording(&shelf, &chapters, &count) == RRCACHE_DONE && count == 1);
+    EXPECT(is_chapter(&chapters, 0,
+                      "chapter 2 3 100 4 3600\n"
+                      "entry 0 1000 www.example. 1 set 3 60 www.example. c0000209\n"
+                      "entry 1 1000 other.example. 1 set 3 60 other.example. c0000209\n"
+                      "offer 1 0 1000 third.example. 1 set 3 60 third.example. c0000209 kept\n"));
+    EXPECT(rrcache_free_chapters(&chapters) == RRCACHE_DONE
+           && rrcache_free(&shelf) == RRCACHE_DONE);
+}
+
+/* Each piece of a line, of any size and from any place, and what is left of the buffer. */
+static void test_pieces(void)
+{
+    static const char head[] = "chapter 2 0 3 4 3600\n";
+    enum { SIZE = sizeof head - 1 };
+    struct rrcache_shelf shelf = {0};
+    struct rrcache_chapters chapters = {0};
+    struct rrcache_line told;
+    uint64_t count = 0;
+    uint8_t buffer[SIZE + 4];
+    make_chapters(&shelf);
+    EXPECT(rrcache_take_chapters(&shelf, &chapters, &count) == RRCACHE_DONE && count == 2);
+    for (size_t from = 0; from <= SIZE + 1; from++)
+        for (size_t room = 0; room <= sizeof buffer; room++) {
+            size_t left = from < SIZE ? SIZE - from : 0;
+            size_t wanted = left < room ? left : room;
+            memset(buffer, 0xee, sizeof buffer);
+            told.size = told.written = 99;
+            bool right = rrcache_chapter_line(&chapters, PLACE(0, 0, from), buffer, room, &told)
+                             == RRCACHE_DONE
+                         && told.size == SIZE && told.written == wanted
+                         && memcmp(buffer, head + (from < SIZE ? from : 0), wanted) == 0;
+            for (size_t n = wanted; n < sizeof buffer; n++)
+                right = right && buffer[n] == 0xee;
+            EXPECT(right);
+        }
+    EXPECT(rrcache_chapter_line(&chapters, PLACE(0, 0, UINT64_MAX), buffer, sizeof buffer, &told)
+               == RRCACHE_DONE
+           && told.size == SIZE && told.written == 0);
+    EXPECT(rrcache_free_chapters(&chapters) == RRCACHE_DONE
+           && rrcache_free(&shelf) == RRCACHE_DONE);
+}
+
+/* A line is written from an octet of it on; from its end on the sink is not called. */
+static void test_lines_from_a_place(void)
+{
+    struct rrcache_shelf shelf = {0};
+    struct rrcache_chapters chapters = {0};
+    struct text text = {0};
+    uint64_t count = 0;
+    make_chapters(&shelf);
+    EXPECT(rrcache_take_chapters(&shelf, &chapters, &count) == RRCACHE_DONE && count == 2);
+    EXPECT(rrcache_write_line(&chapters, PLACE(1, 0, 8), write_text, &text) == RRCACHE_DONE
+           && is_text(&text, "3 4 3 4 3600\n"));
+    EXPECT(rrcache_write_line(&chapters, PLACE(1, 0, 21), write_text, &text) == RRCACHE_DONE
+           && rrcache_write_line(&chapters, PLACE(1, 0, UINT64_MAX), write_text, &text)
+                  == RRCACHE_DONE
+           && text.calls == 1);
+    EXPECT(rrcache_free_chapters(&chapters) == RRCACHE_DONE
+           && rrcache_free(&shelf) == RRCACHE_DONE);
+}
+
+/* A line of more octets than a sink is handed at once: a TXT record of twelve strings of 255. */
+static void test_long_line(void)
+{
+    enum { STRINGS = 12, OCTETS = STRINGS * 256 };
+    static uint8_t data[2 + OCTETS];
+    static char wanted[256 + 2 * OCTETS];
+    struct rrcache_shelf shelf = {0};
+    struct rrcache_chapters chapters = {0};
+    static struct text text;
+    uint64_t count = 0;
+    size_t size = (size_t)sprintf(wanted, "chapter 2 0 100 4 3600\n"
+                                          "offer 1 0 1000 www.example. 16 set 4 60 www.example. ");
+    data[0] = OCTETS / 256;
+    data[1] = OCTETS % 256;
+    for (int n = 0; n < OCTETS; n++) {
+        data[2 + n] = n % 256 == 0 ? 255 : (uint8_t)(n % 251);
+        size += (size_t)sprintf(wanted + size, "%02x", data[2 + n]);
+    }
+    sprintf(wanted + size, " kept\n");
+    EXPECT(make(&shelf) == RRCACHE_DONE);
+    EXPECT(offer_set(&shelf, set_of(OF(NAME), TXT, OF(data))) == RRCACHE_KEPT);
+    EXPECT(rrcache_stop_recording(&shelf, &chapters, &count) == RRCACHE_DONE && count == 1);
+    EXPECT(rrcache_write_chapter(&chapters, 0, write_text, &text) == RRCACHE_DONE
+           && is_text(&text, wanted) && text.calls == 3);
+    EXPECT(rrcache_free_chapters(&chapters) == RRCACHE_DONE
+           && rrcache_free(&shelf) == RRCACHE_DONE);
+}
+
+/* Whether a line of chapters is told to be none, and nothing of it. */
+static bool is_no_line(struct rrcache_chapters *chapters, uint64_t chapter, uint64_t line,
+                       uint32_t status)
+{
+    struct rrcache_line told = {7, 7};
+    uint8_t buffer[64] = {7};
+    return rrcache_chapter_line(chapters, PLACE(chapter, line, 0), buffer, sizeof buffer, &told)
+               == status
+           && told.size == 7 && told.written == 7 && buffer[0] == 7;
+}
+
+/* Handles that hold no shelf, no chapters, or chapters already. */
+static void test_refused_handles(void)
+{
+    struct rrcache_shelf shelf = {0};
+    struct rrcache_chapters chapters = {0}, none = {0};
+    struct text text = {0};
+    uint64_t count = 7;
+    EXPECT(rrcache_take_chapters(&shelf, &chapters, &count) == RRCACHE_NO_SHELF
+           && rrcache_stop_recording(&shelf, &chapters, &count) == RRCACHE_NO_SHELF);
+    make_chapters(&shelf);
+    EXPECT(is_no_line(&none, 0, 0, RRCACHE_NO_CHAPTERS)
+           && rrcache_write_chapter(&none, 0, write_text, &text) == RRCACHE_NO_CHAPTERS
+           && rrcache_write_line(&none, PLACE(0, 0, 0), write_text, &text) == RRCACHE_NO_CHAPTERS
+           && rrcache_free_chapters(&none) == RRCACHE_NO_CHAPTERS && count == 7);
+    EXPECT(rrcache_take_chapters(&shelf, &chapters, &count) == RRCACHE_DONE && count == 2);
+    count = 7;
+    EXPECT(rrcache_take_chapters(&shelf, &chapters, &count) == RRCACHE_HAS_CHAPTERS
+           && rrcache_stop_recording(&shelf, &chapters, &count) == RRCACHE_HAS_CHAPTERS
+           && rrcache_take_chapters(&(struct rrcache_shelf){0}, &chapters, &count)
+                  == RRCACHE_NO_SHELF
+           && count == 7 && events(&shelf) == 1);
+    EXPECT(rrcache_free_chapters(&chapters) == RRCACHE_DONE
+           && rrcache_free(&shelf) == RRCACHE_DONE);
+}
+
+/* Lines that there are not, and a sink that ends the writing. */
+static void test_refused_chapters(void)
+{
+    struct rrcache_shelf shelf = {0};
+    struct rrcache_chapters chapters = {0};
+    struct text text = {0};
+    uint64_t count = 7;
+    make_chapters(&shelf);
+    EXPECT(rrcache_take_chapters(&shelf, &chapters, &count) == RRCACHE_DONE && count == 2);
+    EXPECT(is_no_line(&chapters, 2, 0, RRCACHE_NO_LINE)
+           && is_no_line(&chapters, 0, 5, RRCACHE_NO_LINE)
+           && is_no_line(&chapters, 1, 8, RRCACHE_NO_LINE)
+           && is_no_line(&chapters, UINT64_MAX, UINT64_MAX, RRCACHE_NO_LINE));
+    EXPECT(rrcache_write_chapter(&chapters, 2, write_text, &text) == RRCACHE_NO_LINE
+           && rrcache_write_line(&chapters, PLACE(0, 5, 0), write_text, &text) == RRCACHE_NO_LINE
+           && text.calls == 0);
+
+    /* A sink that ends the writing with its second line. */
+    text.last = 2;
+    EXPECT(rrcache_write_chapter(&chapters, 0, write_text, &text) == RRCACHE_SINK
+           && is_text(&text, "chapter 2 0 3 4 3600\n") && text.calls == 2);
+    text.last = 3;
+    EXPECT(rrcache_write_line(&chapters, PLACE(0, 0, 0), write_text, &text) == RRCACHE_SINK);
+    EXPECT(rrcache_free_chapters(&chapters) == RRCACHE_DONE
+           && rrcache_free(&shelf) == RRCACHE_DONE);
+}
+
+/* ---- Sweeps and sizes. */
+
+/* What is renewed often is removed by its last time, whether that is the latest or the earliest. */
+static void test_renewed(void)
+{
+    enum { TIMES = 200 };
+    struct rrcache_shelf shelf = {0};
+    EXPECT(make(&shelf) == RRCACHE_DONE);
+    for (uint32_t n = 1; n <= TIMES; n++) {
+        struct rrcache_set set = set_of(OF(OTHER), A, OF(ADDRESS));
+        set.moment = FIRST + n;
+        EXPECT(offer_address(&shelf, OF(NAME), 4, 1000 - n) == RRCACHE_KEPT);
+        EXPECT(offer_set(&shelf, set) == RRCACHE_KEPT);
+    }
+    EXPECT(sweep(&shelf, FIRST + TIMES + 60 + MAX_STALE - 1) == 0);
+    EXPECT(sweep(&shelf, FIRST + TIMES + 60 + MAX_STALE) == 1);
+    EXPECT(sweep(&shelf, FIRST + 1000 - TIMES + MAX_STALE - 1) == 0);
+    EXPECT(sweep(&shelf, FIRST + 1000 - TIMES + MAX_STALE) == 1 && keys(&shelf) == 0);
+    EXPECT(rrcache_free(&shelf) == RRCACHE_DONE);
+}
+
+/* As many names that failed as a shelf may hold, which is more than it marks before it marks them
+   anew: each of them is found. */
+static void test_failed_names(void)
+{
+    struct rrcache_shelf shelf = {0};
+    uint8_t name[] = "\2aa\7example";
+    EXPECT(rrcache_make(&shelf, RULES(64, 4, 0)) == RRCACHE_DONE);
+    for (int n = 0; n < 64; n++) {
+        name[1] = (uint8_t)('a' + n / 8);
+        name[2] = (uint8_t)('a' + n % 8);
+        EXPECT(offer_failure(&shelf, failure_of(OF(name), A)) == RRCACHE_KEPT);
+    }
+    for (int n = 0; n < 64; n++) {
+        name[1] = (uint8_t)('a' + n / 8);
+        name[2] = (uint8_t)('a' + n % 8);
+        EXPECT(kind_at(&shelf, OF(name), A, FIRST) == RRCACHE_FAILED);
+    }
+    EXPECT(kind_at(&shelf, OF(NAME), A, FIRST) == RRCACHE_MISS);
+    EXPECT(rrcache_free(&shelf) == RRCACHE_DONE);
+}
+
+/* How many keys a shelf holds is told through all that changes it. */
+static void test_keys(void)
+{
+    struct rrcache_shelf shelf = {0};
+    struct rrcache_counts counts;
+    uint64_t number = 9;
+    EXPECT(make_by(&shelf, 3, 4, 0) == RRCACHE_DONE && keys(&shelf) == 0);
+    EXPECT(asked(&shelf, OF(NAME), question(A, FIRST)).told.kind == RRCACHE_MISS
+           && keys(&shelf) == 0);
+    EXPECT(offer_answer(&shelf, FIRST, &counts) == RRCACHE_DONE && keys(&shelf) == 1);
+    EXPECT(offer_address(&shelf, OF(UPPER), 4, 60) == RRCACHE_KEPT && keys(&shelf) == 1);
+    EXPECT(offer_address(&shelf, OF(NAME), 1, 60) == RRCACHE_OUTRANKED && keys(&shelf) == 1);
+    EXPECT(offer_address(&shelf, OF(OTHER), 4, 60) == RRCACHE_KEPT && keys(&shelf) == 2);
+    EXPECT(offer_negative(&shelf, negative_of(OF(NAME), TXT, RRCACHE_NODATA)) == RRCACHE_KEPT
+           && keys(&shelf) == 3);
+    EXPECT(asked(&shelf, OF(NAME), question(A, FIRST)).told.kind == RRCACHE_FRESH
+           && keys(&shelf) == 3);
+
+    /* There is room for three: the key touched least recently goes, which is that of OTHER. */
+    EXPECT(offer_failure(&shelf, failure_of(OF(NAME), SOA)) == RRCACHE_KEPT && keys(&shelf) == 3);
+    EXPECT(peeked(&shelf, OF(OTHER), question_by(A, FIRST, RRCACHE_ANYTHING, RRCACHE_NO_STALE))
+               .told.kind
+           == RRCACHE_MISS);
+    EXPECT(rrcache_drop_chapters(&shelf, &number) == RRCACHE_DONE && number == 1
+           && keys(&shelf) == 3);
+
+    /* A ttl of 0 clears the key; what is fully expired is counted until it is swept. */
+    EXPECT(offer_address(&shelf, OF(THIRD), 4, 0) == RRCACHE_CLEARED && keys(&shelf) == 3);
+    EXPECT(offer_address(&shelf, OF(NAME), 4, 0) == RRCACHE_CLEARED && keys(&shelf) == 2);
+    EXPECT(sweep(&shelf, FIRST + 29) == 0 && keys(&shelf) == 2);
+    EXPECT(kind_at(&shelf, OF(NAME), TXT, FIRST + 60) == RRCACHE_MISS && keys(&shelf) == 2);
+    EXPECT(sweep(&shelf, FIRST + 30) == 1 && keys(&shelf) == 1);
+    EXPECT(sweep(&shelf, FIRST + 60) == 1 && keys(&shelf) == 0);
+    EXPECT(rrcache_free(&shelf) == RRCACHE_DONE);
+}
+
+/* How many octets the keys have is told through all that changes them: by hand, since www.example
+   has 13, other.example and third.example 15 and example 9, an address 4 and 48 for its record, and
+   the SOA record's data 22. */
+static void test_octets_of_keys(void)
+{
+    struct rrcache_shelf shelf = {0};
+    struct rrcache_counts counts;
+    uint64_t number = 9;
+    EXPECT(make_by(&shelf, 2, 3, 0) == RRCACHE_DONE && octets_of_keys(&shelf) == 0);
+
+    /* A set of one address: 13 + 13 + 52. */
+    EXPECT(offer_address(&shelf, OF(NAME), 3, 60) == RRCACHE_KEPT && octets_of_keys(&shelf) == 78);
+    /* One of two takes its place: 13 + 13 + 2 * 52. What is outranked, and what is asked for,
+       changes nothing. */
+    EXPECT(offer_answer(&shelf, FIRST, &counts) == RRCACHE_DONE && octets_of_keys(&shelf) == 130);
+    EXPECT(offer_address(&shelf, OF(NAME), 1, 60) == RRCACHE_OUTRANKED
+           && octets_of_keys(&shelf) == 130);
+    /* That other.example has no address: 15 + 9 + 22. */
+    EXPECT(offer_denial(&shelf, OF(OTHER), RRCACHE_NODATA, 3, 60) == RRCACHE_KEPT
+           && octets_of_keys(&shelf) == 130 + 46);
+    EXPECT(asked(&shelf, OF(NAME), question(A, FIRST)).told.kind == RRCACHE_FRESH
+           && octets_of_keys(&shelf) == 130 + 46);
+    EXPECT(rrcache_drop_chapters(&shelf, &number) == RRCACHE_DONE && number == 1
+           && octets_of_keys(&shelf) == 130 + 46);
+    /* There is room for two: that asking for third.example failed, 15, evicts other.example. */
+    EXPECT(offer_failure(&shelf, failure_of(OF(THIRD), A)) == RRCACHE_KEPT && keys(&shelf) == 2
+           && octets_of_keys(&shelf) == 130 + 15);
+    /* In the place of the two addresses: that there is none, 13 + 9 + 22, then one again, and none
+       by a ttl of 0. */
+    EXPECT(offer_denial(&shelf, OF(NAME), RRCACHE_NODATA, 4, 60) == RRCACHE_KEPT
+           && octets_of_keys(&shelf) == 44 + 15);
+    EXPECT(offer_address(&shelf, OF(UPPER), 4, 60) == RRCACHE_KEPT
+           && octets_of_keys(&shelf) == 78 + 15);
+    EXPECT(offer_address(&shelf, OF(NAME), 4, 0) == RRCACHE_CLEARED
+           && octets_of_keys(&shelf) == 15);
+    EXPECT(offer_address(&shelf, OF(NAME), 4, 60) == RRCACHE_KEPT
+           && octets_of_keys(&shelf) == 78 + 15);
+
+    /* What is fully expired is counted until it is swept. */
+    EXPECT(sweep(&shelf, FIRST + 30) == 1 && octets_of_keys(&shelf) == 78);
+    EXPECT(sweep(&shelf, FIRST + 60) == 1 && keys(&shelf) == 0 && octets_of_keys(&shelf) == 0);
+    EXPECT(rrcache_free(&shelf) == RRCACHE_DONE);
+}
+
+static uint64_t next_expiry(struct rrcache_shelf *shelf)
+{
+    uint64_t next = 7;
+    EXPECT(rrcache_next_expiry(shelf, &next) == RRCACHE_DONE);
+    return next;
+}
+
+/* Whether a sweep in steps returns and tells this, with so many events. */
+static bool sweeps_some(struct rrcache_shelf *shelf, uint64_t moment, uint64_t most,
+                        uint32_t status, uint64_t removed, uint32_t is_done, uint64_t steps)
+{
+    struct rrcache_swept swept = {7, 7};
+    uint64_t before = events(shelf);
+    return rrcache_sweep_some(shelf, SWEEP(moment, most), &swept) == status
+           && swept.removed == removed && swept.is_done == is_done
+           && events(shelf) == before + steps;
+}
+
+/* Sweeps in steps: what dies in one second goes in one. */
+static void test_sweep_some(void)
+{
+    struct rrcache_shelf shelf = {0};
+    struct rrcache_swept swept = {7, 7};
+    uint64_t next = 7;
+    EXPECT(make_by(&shelf, 100, 100, MAX_STALE) == RRCACHE_DONE
+           && next_expiry(&shelf) == UINT64_MAX);
+    EXPECT(sweeps_some(&shelf, FIRST, 10, RRCACHE_DONE, 0, 1, 0));
+    EXPECT(offer_address(&shelf, OF(NAME), 4, 60) == RRCACHE_KEPT
+           && offer_address(&shelf, OF(OTHER), 4, 60) == RRCACHE_KEPT
+           && offer_address(&shelf, OF(THIRD), 4, 90) == RRCACHE_KEPT);
+
+    /* A set may be stale for 3,600 seconds. */
+    EXPECT(next_expiry(&shelf) == FIRST + 3660 && events(&shelf) == 3);
+    EXPECT(sweeps_some(&shelf, FIRST + 3659, 10, RRCACHE_DONE, 0, 1, 0));
+    EXPECT(sweeps_some(&shelf, LATE, 10, RRCACHE_MOMENT_TOO_LARGE, 0, 0, 0)
+           && sweeps_some(&shelf, FIRST + 3690, 0, RRCACHE_BAD_RULES, 0, 0, 0)
+           && sweeps_some(&shelf, LATE, 0, RRCACHE_BAD_RULES, 0, 0, 0));
+    /* As many keys as were to be, or more: two go in one second. */
+    EXPECT(sweeps_some(&shelf, FIRST + 3690, 1, RRCACHE_DONE, 2, 0, 1) && keys(&shelf) == 1);
+    EXPECT(next_expiry(&shelf) == FIRST + 3690);
+    EXPECT(sweeps_some(&shelf, FIRST + 3690, 2, RRCACHE_DONE, 1, 1, 1) && keys(&shelf) == 0);
+    EXPECT(sweeps_some(&shelf, LAST, 1, RRCACHE_DONE, 0, 1, 0));
+    EXPECT(rrcache_free(&shelf) == RRCACHE_DONE);
+    EXPECT(rrcache_next_expiry(&shelf, &next) == RRCACHE_NO_SHELF && next == 7);
+    EXPECT(rrcache_sweep_some(&shelf, SWEEP(FIRST, 0), &swept) == RRCACHE_NO_SHELF
+           && swept.removed == 7 && swept.is_done == 7);
+}
+
+/* As many sweeps as were to be: before the first one a key is still due at the time that it had
+   before it was renewed, and that step removes nothing. */
+static void test_sweep_some_by_steps(void)
+{
+    struct rrcache_shelf shelf = {0};
+    struct rrcache_swept swept = {7, 7};
+    uint64_t next;
+    EXPECT(make_by(&shelf, 100, 100, MAX_STALE) == RRCACHE_DONE);
+    EXPECT(offer_address(&shelf, OF(NAME), 4, 60) == RRCACHE_KEPT
+           && offer_address(&shelf, OF(NAME), 4, 90) == RRCACHE_KEPT);
+    EXPECT(next_expiry(&shelf) == FIRST + 3660);
+    EXPECT(sweeps_some(&shelf, FIRST + 3700, 1, RRCACHE_DONE, 0, 0, 1) && keys(&shelf) == 1);
+    next = next_expiry(&shelf);
+    EXPECT(next > FIRST + 3660 && next <= FIRST + 3690);
+    EXPECT(rrcache_sweep_some(&shelf, SWEEP(FIRST + 3690, 100), &swept) == RRCACHE_DONE
+           && swept.removed == 1 && swept.is_done == 1 && keys(&shelf) == 0);
+    EXPECT(rrcache_free(&shelf) == RRCACHE_DONE);
+}
+
+/* A sweep in steps is gone on with until it is done, by whatever steps. */
+static void test_sweep_some_to_the_end(void)
+{
+    enum { KEYS = 50 };
+    uint8_t name[] = "\2aa\7example";
+    for (uint64_t most = 1; most <= 3; most++) {
+        struct rrcache_shelf shelf = {0};
+        struct rrcache_swept swept = {0, 0};
+        uint64_t removed = 0, calls = 0;
+        EXPECT(rrcache_make(&shelf, RULES(100, 4, 0)) == RRCACHE_DONE);
+        for (uint32_t n = 0; n < KEYS; n++) {
+            name[1] = (uint8_t)('a' + n / 10);
+            name[2] = (uint8_t)('a' + n % 10);
+            EXPECT(offer_address(&shelf, OF(name), 4, 10 + n / 2) == RRCACHE_KEPT);
+        }
+        for (; !swept.is_done && calls < 10 * KEYS; calls++) {
+            EXPECT(rrcache_sweep_some(&shelf, SWEEP(FIRST + 20, most), &swept) == RRCACHE_DONE);
+            EXPECT(swept.removed <= most + 1);
+            removed += swept.removed;
+        }
+        /* Those of 10 to 20 seconds, two of each. */
+        EXPECT(swept.is_done == 1 && removed == 22 && keys(&shelf) == KEYS - 22
+               && calls >= 22 / (most + 1));
+        EXPECT(rrcache_free(&shelf) == RRCACHE_DONE);
+    }
+}
+
+/* ---- Messages of more than one name, and what of them is relevant. */
+
+/* A message of two names, which lie in two of sixteen shelves: each is kept where its name is asked
+   for, and nowhere else. */
+static void test_parts(void)
+{
+    struct rrcache_shelf shelves[PARTS];
+    struct rrcache_counts counts;
+    struct reply reply;
+    uint64_t alias = part_of(OF(NAME)), target = part_of(OF(OTHER)), kept = 0;
+    memset(shelves, 0, sizeof shelves);
+    EXPECT(alias != target);
+    for (uint64_t part = 0; part < PARTS; part++) {
+        counts = (struct rrcache_counts){9, 9, 9};
+        EXPECT(make(&shelves[part]) == RRCACHE_DONE
+               && offer_alias(&shelves[part], PARTS, part, FIRST, &counts) == RRCACHE_DONE);
+        uint64_t share = part == alias || part == target;
+        EXPECT(are_counts(&counts, share, 0, 0));
+        EXPECT(keys(&shelves[part]) == share && events(&shelves[part]) == share);
+        kept += counts.kept;
+    }
+    reply = peeked(&shelves[alias], OF(NAME), question(CNAME, FIRST));
+    EXPECT(kept == 2 && reply.told.kind == RRCACHE_FRESH && has_data(&reply, OF(TARGET)));
+    reply = peeked(&shelves[target], OF(OTHER), question(A, FIRST));
+    EXPECT(reply.told.kind == RRCACHE_FRESH && has_data(&reply, OF(ADDRESS)));
+    EXPECT(kind_at(&shelves[alias], OF(OTHER), A, FIRST) == RRCACHE_MISS);
+
+    /* What is outranked or cleared is counted in the share that it is of. */
+    EXPECT(offer_address(&shelves[target], OF(OTHER), 4, 60) == RRCACHE_KEPT);
+    EXPECT(offer_alias(&shelves[target], PARTS, target, FIRST, &counts) == RRCACHE_DONE);
+    EXPECT(are_counts(&counts, 0, 0, 1) && keys(&shelves[target]) == 1);
+    uint8_t cleared[sizeof ALIAS];
+    memcpy(cleared, ALIAS, sizeof cleared);
+    memset(cleared + 35, 0, 4); /* the alias's ttl */
+    EXPECT(offer_part(&shelves[alias], response_of(OF(cleared)), PARTS, alias, &counts)
+           == RRCACHE_DONE);
+    EXPECT(are_counts(&counts, 0, 1, 0) && keys(&shelves[alias]) == 0);
+    for (uint64_t part = 0; part < PARTS; part++)
+        EXPECT(rrcache_free(&shelves[part]) == RRCACHE_DONE);
+}
+
+/* All parts together are offered what the whole message offers, which is also the share of one part
+   alone. */
+static void test_whole_message(void)
+{
+    struct rrcache_shelf whole = {0};
+    struct rrcache_counts counts;
+    EXPECT(make(&whole) == RRCACHE_DONE);
+    EXPECT(offer_message(&whole, response_of(OF(ALIAS)), &counts) == RRCACHE_DONE);
+    EXPECT(are_counts(&counts, 2, 0, 0) && keys(&whole) == 2 && events(&whole) == 2);
+    EXPECT(offer_alias(&whole, 1, 0, FIRST, &counts) == RRCACHE_DONE && counts.kept == 2
+           && keys(&whole) == 2 && events(&whole) == 4);
+    EXPECT(rrcache_free(&whole) == RRCACHE_DONE);
+}
+
+/* Of a response what is relevant to its query is kept, and of another response nothing. */
+static void test_relevant(void)
+{
+    struct rrcache_shelf shelf = {0};
+    struct rrcache_offers offers = {0};
+    struct rrcache_counts counts;
+    struct rrcache_response poison = response_of(OF(POISON));
+    uint64_t concerned = 7;
+    EXPECT(make(&shelf) == RRCACHE_DONE);
+    EXPECT(read_response(&offers, poison, query_of(OF(UPPER)), &concerned) == RRCACHE_DONE
+           && concerned == 1);
+    EXPECT(rrcache_offer_read(&shelf, &offers, SHARE(0), &counts) == RRCACHE_DONE
+           && are_counts(&counts, 1, 0, 0));
+    EXPECT(kind_at(&shelf, OF(NAME), A, FIRST) == RRCACHE_FRESH);
+    EXPECT(peeked(&shelf, OF(THIRD), question_by(A, FIRST, RRCACHE_ANYTHING, RRCACHE_NO_STALE))
+               .told.kind
+           == RRCACHE_MISS);
+    EXPECT(read_response(&offers, poison, query_of(OF(NAME)), &concerned) == RRCACHE_HAS_OFFERS
+           && rrcache_free_offers(&offers) == RRCACHE_DONE);
+
+    /* Without the query all of it is kept. */
+    EXPECT(read_message(&offers, poison, 1, &concerned) == RRCACHE_DONE);
+    EXPECT(rrcache_offer_read(&shelf, &offers, SHARE(0), &counts) == RRCACHE_DONE
+           && counts.kept == 2 && rrcache_free_offers(&offers) == RRCACHE_DONE);
+
+    /* A chain of aliases is relevant. */
+    EXPECT(read_response(&offers, response_of(OF(ALIAS)), query_of(OF(NAME)), &concerned)
+               == RRCACHE_DONE
+           && rrcache_offer_read(&shelf, &offers, SHARE(0), &counts) == RRCACHE_DONE
+           && counts.kept == 2 && rrcache_free_offers(&offers) == RRCACHE_DONE);
+    EXPECT(rrcache_free(&shelf) == RRCACHE_DONE);
+}
+
+/* What is refused of a response, the first that is due, leaves the handle empty and nothing told.
+ */
+static void test_refused_responses(void)
+{
+    struct rrcache_offers offers = {0};
+    struct rrcache_response response = response_of(POISON, 30);
+    struct rrcache_query query = query_of(OF(NO_NAME));
+    struct rrcache_parts parts = {0};
+    uint64_t concerned = 7;
+#define REFUSED(status)                                                                            \
+    EXPECT(rrcache_read_response(&offers, &response, &query, &parts, &concerned) == (status)       \
+           && concerned == 7 && offers.at == NULL && !offers.is_live)
+    query.id = 0x1235;
+    query.rtype = query.rclass = 0;
+    response.zone = NO_NAME;
+    response.zone_size = sizeof NO_NAME;
+    response.limits.cap = 0;
+    REFUSED(RRCACHE_BAD_RULES);
+    parts.count = 65;
+    REFUSED(RRCACHE_BAD_RULES);
+    parts.count = 1;
+    REFUSED(RRCACHE_BAD_SEED);
+    parts = *PARTED(1);
+    REFUSED(RRCACHE_BAD_LIMITS);
+    response.limits = LIMITS;
+    REFUSED(RRCACHE_BAD_NAME);
+    response.zone = ZONE;
+    response.zone_size = sizeof ZONE;
+    REFUSED(RRCACHE_BAD_NAME);
+    query.name = THIRD;
+    query.name_size = sizeof THIRD;
+    REFUSED(RRCACHE_BAD_MESSAGE);
+#undef REFUSED
+    EXPECT(rrcache_free_offers(&offers) == RRCACHE_NO_OFFERS);
+}
+
+/* A response to another query than the one that was sent: another identifier, type, class or name,
+   or one that was forgotten. */
+static void test_other_queries(void)
+{
+    struct rrcache_offers offers = {0};
+    struct rrcache_response response = response_of(OF(POISON));
+    struct rrcache_query query;
+    uint64_t concerned = 7;
+#define OTHER_QUERY(field, value)                                                                  \
+    (query = query_of(OF(NAME)), query.field = (value),                                            \
+     EXPECT(read_response(&offers, response, query, &concerned) == RRCACHE_OTHER_QUERY             \
+            && concerned == 7 && offers.at == NULL && !offers.is_live))
+    OTHER_QUERY(id, 0x1235);
+    OTHER_QUERY(id, 0);
+    OTHER_QUERY(rtype, TXT);
+    OTHER_QUERY(rtype, 0);
+    OTHER_QUERY(rclass, RRCACHE_CH);
+    OTHER_QUERY(rclass, 0);
+#undef OTHER_QUERY
+    EXPECT(read_response(&offers, response, query_of(OF(THIRD)), &concerned) == RRCACHE_OTHER_QUERY
+           && concerned == 7 && rrcache_free_offers(&offers) == RRCACHE_NO_OFFERS);
+    EXPECT(read_response(&offers, response, query_of(OF(NAME)), &concerned) == RRCACHE_DONE
+           && rrcache_free_offers(&offers) == RRCACHE_DONE);
+}
+
+/* A response of which all was forgotten, then one with limits alone, then one with no octets; and a
+   query of which all was. */
+static void test_forgotten_responses(void)
+{
+    static const uint32_t statuses[] = {RRCACHE_BAD_LIMITS, RRCACHE_BAD_NAME, RRCACHE_BAD_MESSAGE};
+    static const struct rrcache_query no_query = {0};
+    struct rrcache_shelf shelf = {0};
+    struct rrcache_offers offers = {0};
+    struct rrcache_response responses[3] = {{0}, {0}, response_of(NULL, 0)};
+    struct rrcache_counts counts;
+    uint64_t concerned;
+    responses[1].limits = LIMITS;
+    EXPECT(make(&shelf) == RRCACHE_DONE);
+    for (int n = 0; n < 3; n++)
+        EXPECT(offer_message(&shelf, responses[n], &counts) == statuses[n]
+               && offer_part(&shelf, responses[n], 1, 0, &counts) == statuses[n]
+               && read_message(&offers, responses[n], 1, &concerned) == statuses[n]
+               && read_response(&offers, responses[n], query_of(OF(NAME)), &concerned)
+                      == statuses[n]);
+    EXPECT(read_response(&offers, response_of(OF(ANSWER)), no_query, &concerned)
+           == RRCACHE_BAD_NAME);
+    EXPECT(!offers.is_live && events(&shelf) == 0 && rrcache_free(&shelf) == RRCACHE_DONE);
+}
+
+/* Whether two shelves tell the same of a name's addresses and alias. */
+static bool tell_alike(struct rrcache_shelf *one, struct rrcache_shelf *other, const uint8_t *name,
+                       size_t size)
+{
+    static const uint16_t TYPES[] = {A, CNAME};
+    for (unsigned i = 0; i < 2; i++) {
+        struct rrcache_question now = question(TYPES[i], FIRST);
+        struct reply replies[] = {peeked(one, name, size, now), peeked(other, name, size, now)};
+        if (!are_same(&replies[0], &replies[1]))
+            return false;
+    }
+    return true;
+}
+
+enum { NAMES = 2900, NAME_SIZE = 15 };
+
+static void write_name(uint8_t *name, unsigned number)
+{
+    memcpy(name, "\5n0000\7example", NAME_SIZE); /* and the zero octet of the root */
+    for (unsigned digit = 0; digit < 4; digit++, number /= 10)
+        name[5 - digit] = (uint8_t)('0' + number % 10);
+}
+
+/* A response as large as one can be, in which each record has a name of its own: as ANSWER, with
+   n0000.example to n2899.example, and answers its size. */
+static size_t write_many(uint8_t *message)
+{
+    uint8_t *at = message;
+    memcpy(at, ANSWER, 29); /* its header and its question */
+    at[6] = NAMES >> 8, at[7] = NAMES & 255, at += 29;
+    for (unsigned number = 0; number < NAMES; number++, at += 22) {
+        uint8_t name[NAME_SIZE];
+        write_name(name, number);
+        memcpy(at, name, 6);
+        memcpy(at + 6, "\xc0\x10\0\1\0\1\0\0\1\x2c\0\4\xc0\0\2\1", 16);
+    }
+    return (size_t)(at - message);
+}
+
+/* Offers a part of what was read to one shelf, and the same part of the message to another one, and
+   answers how many offers are kept by both. */
+static uint64_t compare_shares(struct rrcache_offers *offers, struct rrcache_response response,
+                               uint64_t part)
+{
+    struct rrcache_shelf read = {0}, offered = {0};
+    struct rrcache_counts counts[2] = {{9, 9, 9}, {8, 8, 8}};
+    bool alike = true;
+    EXPECT(make_by(&read, 4096, 4096, 0) == RRCACHE_DONE
+           && make_by(&offered, 4096, 4096, 0) == RRCACHE_DONE);
+    EXPECT(rrcache_offer_read(&read, offers, SHARE(part), &counts[0]) == RRCACHE_DONE);
+    EXPECT(offer_part(&offered, response, PARTS, part, &counts[1]) == RRCACHE_DONE);
+    EXPECT(memcmp(&counts[0], &counts[1], sizeof counts[0]) == 0);
+    EXPECT(keys(&read) == keys(&offered) && events(&read) == events(&offered));
+    for (unsigned number = 0; number < NAMES; number++) {
+        uint8_t name[NAME_SIZE];
+        write_name(name, number);
+        alike = alike && tell_alike(&read, &offered, OF(name));
+    }
+    EXPECT(alike && tell_alike(&read, &offered, OF(NAME))
+           && tell_alike(&read, &offered, OF(OTHER)));
+    EXPECT(rrcache_free(&read) == RRCACHE_DONE && rrcache_free(&offered) == RRCACHE_DONE);
+    return counts[0].kept;
+}
+
+/* One reading of a message for sixteen shelves, beside a reading for each: the same is counted,
+   kept and told by both. */
+static void compare_readings(struct rrcache_response response, uint64_t wanted)
+{
+    struct rrcache_offers offers = {0};
+    uint64_t concerned = 0, all = 0;
+    EXPECT(read_message(&offers, response, PARTS, &concerned) == RRCACHE_DONE);
+    for (uint64_t part = 0; part < PARTS; part++) {
+        uint64_t kept = compare_shares(&offers, response, part);
+        EXPECT((concerned >> part & 1) == (kept != 0));
+        all += kept;
+    }
+    EXPECT(all == wanted && concerned >> PARTS == 0);
+    EXPECT(rrcache_free_offers(&offers) == RRCACHE_DONE);
+}
+
+/* What is outranked is counted as well, a part may be offered again, and what a shelf keeps
+   outlives the offers. */
+static void test_offers_again(void)
+{
+    struct rrcache_shelf shelf = {0};
+    struct rrcache_offers offers = {0};
+    struct rrcache_counts counts;
+    struct reply reply;
+    uint64_t target = part_of(OF(OTHER)), concerned = 0;
+    EXPECT(make(&shelf) == RRCACHE_DONE && read_alias(&offers, PARTS, &concerned) == RRCACHE_DONE);
+    EXPECT(concerned == (UINT64_C(1) << part_of(OF(NAME)) | UINT64_C(1) << target));
+    EXPECT(rrcache_offer_read(&shelf, &offers, SHARE(target), &counts) == RRCACHE_DONE
+           && counts.kept == 1 && keys(&shelf) == 1);
+    EXPECT(offer_address(&shelf, OF(OTHER), 4, 60) == RRCACHE_KEPT);
+    EXPECT(rrcache_offer_read(&shelf, &offers, SHARE(target), &counts) == RRCACHE_DONE
+           && are_counts(&counts, 0, 0, 1));
+    EXPECT(rrcache_free_offers(&offers) == RRCACHE_DONE && offers.at == NULL && !offers.is_live);
+    reply = peeked(&shelf, OF(OTHER), question(A, FIRST));
+    EXPECT(reply.told.kind == RRCACHE_FRESH && memcmp(reply.octets, OTHER, sizeof OTHER) == 0);
+    EXPECT(rrcache_free(&shelf) == RRCACHE_DONE);
+}
+
+/* A ttl of 0 clears, and with TC set nothing is offered; the handle is to be freed all the same. */
+static void test_empty_readings(void)
+{
+    struct rrcache_shelf shelf = {0};
+    struct rrcache_offers offers = {0};
+    struct rrcache_counts counts;
+    uint8_t changed[sizeof ALIAS];
+    uint64_t concerned;
+    EXPECT(make(&shelf) == RRCACHE_DONE && offer_address(&shelf, OF(OTHER), 4, 60) == RRCACHE_KEPT);
+    memcpy(changed, ALIAS, sizeof changed);
+    memset(changed + 35, 0, 4); /* the alias's ttl */
+    EXPECT(read_message(&offers, response_of(OF(changed)), 1, &concerned) == RRCACHE_DONE
+           && concerned == 1);
+    EXPECT(rrcache_offer_read(&shelf, &offers, SHARE(0), &counts) == RRCACHE_DONE
+           && are_counts(&counts, 0, 1, 1));
+    EXPECT(rrcache_free_offers(&offers) == RRCACHE_DONE);
+    memcpy(changed, ALIAS, sizeof changed);
+    changed[2] |= 2;
+    EXPECT(read_message(&offers, response_of(OF(changed)), 64, &concerned) == RRCACHE_DONE
+           && concerned == 0 && offers.is_live);
+    EXPECT(rrcache_offer_read(&shelf, &offers, SHARE(63), &counts) == RRCACHE_DONE
+           && are_counts(&counts, 0, 0, 0) && events(&shelf) == 3);
+    EXPECT(rrcache_free_offers(&offers) == RRCACHE_DONE && rrcache_free(&shelf) == RRCACHE_DONE);
+}
+
+static void test_one_reading(void)
+{
+    static uint8_t many[65535];
+    compare_readings(response_of(OF(ALIAS)), 2);
+    compare_readings(response_of(many, write_many(many)), NAMES);
+    test_offers_again();
+    test_empty_readings();
+}
+
+/* Each refusal of a reading, the first that is due. */
+static void test_refused_readings(void)
+{
+    struct rrcache_offers offers = {0};
+    struct rrcache_response response = response_of(NULL, 0);
+    struct rrcache_parts parts = {0};
+    uint64_t concerned = 7;
+#define REFUSED(status)                                                                            \
+    EXPECT(rrcache_read_message_unchecked(&offers, &response, &parts, &concerned) == (status)      \
+           && concerned == 7 && offers.at == NULL && !offers.is_live)
+    response.zone = NO_NAME;
+    response.zone_size = sizeof NO_NAME;
+    response.limits.recheck = 301;
+    REFUSED(RRCACHE_BAD_RULES);
+    parts.count = 65;
+    REFUSED(RRCACHE_BAD_RULES);
+    parts.count = 64;
+    REFUSED(RRCACHE_BAD_SEED);
+    parts.seed[7] = 1;
+    REFUSED(RRCACHE_BAD_LIMITS);
+    response.limits = LIMITS;
+    REFUSED(RRCACHE_BAD_NAME);
+    response.zone = ZONE;
+    response.zone_size = sizeof ZONE;
+    REFUSED(RRCACHE_BAD_MESSAGE);
+#undef REFUSED
+    EXPECT(rrcache_free_offers(&offers) == RRCACHE_NO_OFFERS);
+    EXPECT(read_alias(&offers, 2, &concerned) == RRCACHE_DONE && concerned != 7);
+    concerned = 7;
+    EXPECT(read_alias(&offers, 0, &concerned) == RRCACHE_HAS_OFFERS && concerned == 7
+           && offers.is_live);
+    EXPECT(rrcache_free_offers(&offers) == RRCACHE_DONE);
+}
+
+/* What is refused of an offer of what was read. */
+static void test_refused_shares(void)
+{
+    struct rrcache_shelf shelf = {0};
+    struct rrcache_offers offers = {0};
+    struct rrcache_response late = response_of(OF(ALIAS));
+    struct rrcache_counts counts = {7, 7, 7};
+    uint64_t concerned = 7;
+    EXPECT(rrcache_offer_read(&shelf, &offers, SHARE(0), &counts) == RRCACHE_NO_SHELF
+           && are_counts(&counts, 7, 7, 7));
+    EXPECT(make(&shelf) == RRCACHE_DONE
+           && rrcache_offer_read(&shelf, &offers, SHARE(0), &counts) == RRCACHE_NO_OFFERS
+           && are_counts(&counts, 7, 7, 7) && events(&shelf) == 0);
+    EXPECT(read_alias(&offers, 2, &concerned) == RRCACHE_DONE);
+    EXPECT(rrcache_offer_read(&shelf, &offers, SHARE(2), &counts) == RRCACHE_BAD_RULES
+           && are_counts(&counts, 0, 0, 0) && events(&shelf) == 0);
+    EXPECT(rrcache_free_offers(&offers) == RRCACHE_DONE);
+
+    /* A moment that is too large is read, and refused with the first offer. */
+    late.moment = LATE;
+    EXPECT(read_message(&offers, late, 1, &concerned) == RRCACHE_DONE && concerned == 1);
+    counts.outranked = 7;
+    EXPECT(rrcache_offer_read(&shelf, &offers, SHARE(0), &counts) == RRCACHE_MOMENT_TOO_LARGE
+           && are_counts(&counts, 0, 0, 0) && events(&shelf) == 0);
+    EXPECT(rrcache_free_offers(&offers) == RRCACHE_DONE && rrcache_free(&shelf) == RRCACHE_DONE);
+}
+
+/* What was read by another seed than the shelf's is refused, in one reading and in each, behind
+   what is refused of the message and before its moment. */
+static void test_shares_of_another_seed(void)
+{
+    struct rrcache_shelf shelf = {0};
+    struct rrcache_offers offers = {0};
+    struct rrcache_response response = response_of(OF(ALIAS));
+    struct rrcache_parts parts = *PARTED(2);
+    struct rrcache_counts counts = {7, 7, 7};
+    uint64_t concerned = 7;
+    parts.seed[15] ^= 1;
+    response.moment = LATE;
+    EXPECT(make(&shelf) == RRCACHE_DONE
+           && rrcache_read_message_unchecked(&offers, &response, &parts, &concerned)
+                  == RRCACHE_DONE);
+    EXPECT(rrcache_offer_read(&shelf, &offers, SHARE(2), &counts) == RRCACHE_BAD_RULES);
+    for (uint64_t part = 0; part < 2; part++) {
+        counts.kept = 7;
+        EXPECT(rrcache_offer_read(&shelf, &offers, SHARE(part), &counts) == RRCACHE_OTHER_SEED
+               && are_counts(&counts, 0, 0, 0) && events(&shelf) == 0);
+        counts.kept = 7;
+        EXPECT(rrcache_offer_part_unchecked(&shelf, &response, &parts, SHARE(part), &counts)
+                   == RRCACHE_OTHER_SEED
+               && are_counts(&counts, 0, 0, 0) && events(&shelf) == 0);
+    }
+    response.size -= 1;
+    EXPECT(rrcache_offer_part_unchecked(&shelf, &response, &parts, SHARE(0), &counts)
+           == RRCACHE_BAD_MESSAGE);
+    EXPECT(rrcache_free_offers(&offers) == RRCACHE_DONE && rrcache_free(&shelf) == RRCACHE_DONE);
+}
+
+/* The fault of a message in which one octet is another. */
+static uint32_t fault_with(const uint8_t *octets, size_t size, size_t place, uint8_t octet)
+{
+    uint8_t changed[128];
+    uint32_t fault = 99;
+    memcpy(changed, octets, size);
+    changed[place] = octet;
+    EXPECT(rrcache_fault(changed, size, &fault) == RRCACHE_DONE);
+    return fault;
+}
+
+static void test_faults(void)
+{
+    uint32_t fault = 9;
+    static uint8_t many[65536];
+    EXPECT(rrcache_fault(OF(ANSWER), &fault) == RRCACHE_DONE && fault == RRCACHE_NO_FAULT);
+    EXPECT(rrcache_fault(ANSWER, sizeof ANSWER - 1, &fault) == RRCACHE_DONE
+           && fault == RRCACHE_SHORT);
+    EXPECT(rrcache_fault(NULL, 0, &fault) == RRCACHE_DONE && fault == RRCACHE_SHORT);
+    EXPECT(fault_with(OF(ANSWER), 2, 0) == RRCACHE_NO_RESPONSE
+           && fault_with(OF(ANSWER), 5, 2) == RRCACHE_NOT_ONE_QUESTION
+           && fault_with(OF(ANSWER), 12, 64) == RRCACHE_RESERVED_BITS);
+    /* The first record's owner is a pointer to itself, or it has one octet of data too many. */
+    EXPECT(fault_with(OF(ANSWER), 30, 29) == RRCACHE_POINTER
+           && fault_with(OF(ALIAS), 40, 9) == RRCACHE_LAYOUT);
+    memcpy(many, ANSWER, sizeof ANSWER);
+    EXPECT(rrcache_fault(OF(many), &fault) == RRCACHE_DONE && fault == RRCACHE_LONG_MESSAGE);
+    /* A name of labels of 63 octets: the fourth is too many. */
+    for (int label = 0; label < 4; label++)
+        many[12 + 64 * label] = 63;
+    EXPECT(rrcache_fault(many, 1000, &fault) == RRCACHE_DONE && fault == RRCACHE_LONG_NAME);
+}
+
+/* By another seed, whichever octet is another, names lie elsewhere. */
+static void test_seeds(void)
+{
+    for (size_t place = 0; place < 16; place++) {
+        struct rrcache_parts parts = *PARTED(64);
+        uint64_t moved = 0;
+        parts.seed[place] ^= 0x80;
+        for (unsigned number = 0; number < 100; number++) {
+            uint8_t octets[NAME_SIZE];
+            struct rrcache_name by_one, by_other;
+            write_name(octets, number);
+            moved += rrcache_make_name(&by_one, OF(octets), PARTED(64)) == RRCACHE_DONE
+                     && rrcache_make_name(&by_other, OF(octets), &parts) == RRCACHE_DONE
+                     && by_one.part != by_other.part;
+        }
+        EXPECT(moved > 50);
+    }
+}
+
+/* ---- Aliases. */
+
+/* What a shelf holds of a name: an address, its CNAME record, that it has no address, that it does
+   not exist, that asking for its address failed, or for its record. */
+enum what { NOTHING, ADDR, RECORD, NO_ADDR, DENIED, FAILURE, ITS_FAILURE };
+
+struct held {
+    enum what what;
+    enum rrcache_trust trust;
+    uint32_t ttl;
+};
+
+/* A name of which this is offered, in this order and at one moment, and what a question for its
+   address is told so many seconds later. */
+struct alias_case {
+    const char *what;
+    struct held held[3];
+    uint32_t later, mode;
+    uint16_t rtype;
+    uint32_t kind;
+};
+
+enum { NONE = RRCACHE_NO_STALE, IF_FAILS = RRCACHE_STALE_IF_FAILED, NOW = RRCACHE_STALE_NOW };
+enum {
+    FRESH = RRCACHE_FRESH,
+    STALE = RRCACHE_STALE,
+    NODATA = RRCACHE_NODATA,
+    NXDOMAIN = RRCACHE_NXDOMAIN,
+    MISS = RRCACHE_MISS,
+    FAILED = RRCACHE_FAILED
+};
+
+/* Where there is nothing of the type that will do. */
+static const struct alias_case MISSES[] = {
+    {"nothing", {{NOTHING, 0, 0}}, 0, NONE, A, MISS},
+    {"a record", {{RECORD, 4, 300}}, 299, NONE, CNAME, FRESH},
+    {"an expired record", {{RECORD, 4, 300}}, 300, NONE, A, MISS},
+    {"a stale record", {{RECORD, 4, 300}}, 300, NOW, CNAME, STALE},
+    {"one near its end", {{RECORD, 4, 300}}, 3899, NOW, CNAME, STALE},
+    {"one fully expired", {{RECORD, 4, 300}}, 3900, NOW, A, MISS},
+    {"additional data", {{RECORD, 1, 300}}, 0, NONE, A, MISS},
+    {"glue beside it", {{RECORD, 4, 300}, {ADDR, 1, 300}}, 0, NONE, CNAME, FRESH},
+    {"glue behind it", {{RECORD, 2, 300}, {ADDR, 1, 300}}, 0, NONE, CNAME, FRESH},
+    {"an expired address before it", {{ADDR, 4, 60}, {RECORD, 2, 300}}, 60, NONE, CNAME, FRESH},
+    {"an expired address behind it", {{RECORD, 2, 300}, {ADDR, 4, 60}}, 60, NONE, CNAME, FRESH},
+    {"a failure beside it", {{RECORD, 4, 300}, {FAILURE, 0, 30}}, 0, NONE, CNAME, FRESH},
+};
+
+/* Where the record was stored later than an address. */
+static const struct alias_case LATER_RECORDS[] = {
+    {"trusted as much", {{ADDR, 4, 300}, {RECORD, 4, 300}}, 0, NONE, CNAME, FRESH},
+    {"trusted more", {{ADDR, 2, 300}, {RECORD, 4, 300}}, 0, NONE, CNAME, FRESH},
+    {"trusted less", {{ADDR, 4, 300}, {RECORD, 2, 300}}, 0, NONE, A, FRESH},
+    {"trusted less, and stale will do", {{ADDR, 4, 300}, {RECORD, 2, 300}}, 299, NOW, A, FRESH},
+    {"trusted less than a stale address", {{ADDR, 4, 60}, {RECORD, 2, 300}}, 60, NOW, CNAME, FRESH},
+    /* RFC 8767 section 7: no older address is told beside a newer alias. */
+    {"both expired", {{ADDR, 4, 60}, {RECORD, 4, 60}}, 60, NOW, CNAME, STALE},
+    {"both expired, trusted less", {{ADDR, 4, 60}, {RECORD, 2, 60}}, 60, NOW, CNAME, STALE},
+    {"both expired, nothing stale will do", {{ADDR, 4, 60}, {RECORD, 4, 60}}, 60, NONE, A, MISS},
+    {"the record expired", {{ADDR, 4, 300}, {RECORD, 4, 60}}, 60, NONE, A, FRESH},
+    {"the record stale", {{ADDR, 4, 300}, {RECORD, 4, 60}}, 60, NOW, CNAME, STALE},
+    {"the record stale, trusted less", {{ADDR, 4, 300}, {RECORD, 2, 60}}, 60, NOW, A, FRESH},
+    {"the record fully expired", {{ADDR, 4, 300}, {RECORD, 4, 60}}, 3660, NOW, A, STALE},
+};
+
+/* Where the record was stored earlier than an address. */
+static const struct alias_case EARLIER_RECORDS[] = {
+    {"trusted as much", {{RECORD, 4, 300}, {ADDR, 4, 300}}, 0, NONE, A, FRESH},
+    {"trusted more", {{RECORD, 4, 300}, {ADDR, 2, 300}}, 0, NONE, CNAME, FRESH},
+    {"trusted less", {{RECORD, 2, 300}, {ADDR, 4, 300}}, 0, NONE, A, FRESH},
+    {"trusted more, but expired", {{RECORD, 4, 60}, {ADDR, 2, 300}}, 60, NOW, A, FRESH},
+    {"both expired", {{RECORD, 4, 60}, {ADDR, 2, 60}}, 60, NOW, A, STALE},
+    {"a stale address trusted as much", {{RECORD, 4, 300}, {ADDR, 4, 60}}, 60, NOW, A, STALE},
+    {"a stale address trusted less", {{RECORD, 4, 300}, {ADDR, 2, 60}}, 60, NOW, CNAME, FRESH},
+};
+
+/* Where the name was denied, or that it has an address. */
+static const struct alias_case DENIALS[] = {
+    {"no such name", {{DENIED, 4, 300}}, 0, NONE, A, NXDOMAIN},
+    {"a record later", {{DENIED, 4, 300}, {RECORD, 4, 300}}, 0, NONE, CNAME, FRESH},
+    {"trusted more", {{DENIED, 2, 300}, {RECORD, 4, 300}}, 0, NONE, CNAME, FRESH},
+    {"trusted less", {{DENIED, 4, 300}, {RECORD, 2, 300}}, 0, NONE, A, NXDOMAIN},
+    {"the denial expired", {{DENIED, 4, 60}, {RECORD, 2, 300}}, 60, NONE, CNAME, FRESH},
+    {"the record expired", {{DENIED, 4, 300}, {RECORD, 4, 60}}, 60, NONE, A, NXDOMAIN},
+    {"the record stale", {{DENIED, 4, 300}, {RECORD, 4, 60}}, 60, NOW, CNAME, STALE},
+    {"a record earlier", {{RECORD, 4, 300}, {DENIED, 4, 300}}, 0, NONE, A, NXDOMAIN},
+    {"earlier, trusted more", {{RECORD, 4, 300}, {DENIED, 2, 300}}, 0, NONE, CNAME, FRESH},
+    /* A denial that is held governs over an earlier record also after its own time. */
+    {"earlier, the denial expired", {{RECORD, 4, 300}, {DENIED, 4, 60}}, 60, NONE, A, MISS},
+    {"no address", {{NO_ADDR, 4, 300}}, 0, NONE, A, NODATA},
+    {"no address, a record later", {{NO_ADDR, 4, 300}, {RECORD, 4, 300}}, 0, NONE, CNAME, FRESH},
+    {"later, trusted less", {{NO_ADDR, 4, 300}, {RECORD, 2, 300}}, 0, NONE, A, NODATA},
+    {"no address, expired", {{NO_ADDR, 4, 60}, {RECORD, 2, 300}}, 60, NONE, CNAME, FRESH},
+    {"no address, the record expired", {{NO_ADDR, 4, 300}, {RECORD, 4, 60}}, 60, NONE, A, NODATA},
+    {"no address, the record stale", {{NO_ADDR, 4, 300}, {RECORD, 4, 60}}, 60, NOW, CNAME, STALE},
+    {"no address, a record earlier", {{RECORD, 4, 300}, {NO_ADDR, 4, 300}}, 0, NONE, A, NODATA},
+    {"earlier, trusted more", {{RECORD, 4, 300}, {NO_ADDR, 2, 300}}, 0, NONE, CNAME, FRESH},
+    {"earlier, expired", {{RECORD, 4, 300}, {NO_ADDR, 4, 60}}, 60, NONE, CNAME, FRESH},
+};
+
+/* Where asking for the address has failed (RFC 8767 section 5), or stale data wait for that. */
+static const struct alias_case FAILURES[] = {
+    {"no failure", {{RECORD, 4, 60}}, 60, IF_FAILS, A, MISS},
+    {"a failure", {{RECORD, 4, 60}, {FAILURE, 0, 100}}, 60, IF_FAILS, CNAME, STALE},
+    {"a failure of its type", {{RECORD, 4, 60}, {ITS_FAILURE, 0, 100}}, 60, IF_FAILS, A, MISS},
+    {"a failure before", {{FAILURE, 0, 100}, {RECORD, 4, 60}}, 60, IF_FAILS, CNAME, STALE},
+    {"a failure of the past", {{RECORD, 4, 60}, {FAILURE, 0, 60}}, 60, IF_FAILS, A, MISS},
+    {"nothing stale will do", {{RECORD, 4, 60}, {FAILURE, 0, 100}}, 60, NONE, A, FAILED},
+    {"later one", {{ADDR, 4, 60}, {RECORD, 4, 60}, {FAILURE, 0, 99}}, 60, IF_FAILS, CNAME, STALE},
+    {"an earlier one", {{RECORD, 4, 60}, {ADDR, 4, 60}, {FAILURE, 0, 99}}, 60, IF_FAILS, A, STALE},
+    {"between", {{ADDR, 4, 60}, {FAILURE, 0, 99}, {RECORD, 4, 300}}, 60, IF_FAILS, CNAME, FRESH},
+    {"before them", {{FAILURE, 0, 99}, {ADDR, 4, 60}, {RECORD, 4, 60}}, 60, IF_FAILS, A, MISS},
+};
+
+static void hold(struct rrcache_shelf *shelf, struct held held)
+{
+    struct rrcache_failure failure = failure_of(OF(NAME), A);
+    struct rrcache_set alias = set_of(OF(NAME), CNAME, OF(TARGET));
+    switch (held.what) {
+    case NOTHING:
+        break;
+    case ADDR:
+        EXPECT(offer_address(shelf, OF(NAME), held.trust, held.ttl) == RRCACHE_KEPT);
+        break;
+    case RECORD:
+        alias.trust = held.trust;
+        alias.ttl = held.ttl;
+        EXPECT(offer_set(shelf, alias) == RRCACHE_KEPT);
+        break;
+    case NO_ADDR:
+        EXPECT(offer_denial(shelf, OF(NAME), RRCACHE_NODATA, held.trust, held.ttl) == RRCACHE_KEPT);
+        break;
+    case DENIED:
+        EXPECT(offer_denial(shelf, OF(NAME), RRCACHE_NXDOMAIN, held.trust, held.ttl)
+               == RRCACHE_KEPT);
+        break;
+    case ITS_FAILURE:
+        failure.rtype = CNAME;
+        /* fall through */
+    case FAILURE:
+        failure.ttl = held.ttl;
+        EXPECT(offer_failure(shelf, failure) == RRCACHE_KEPT);
+        break;
+    }
+}
+
+/* Whether www.example is told so, by a peek, which writes no event, and by an ask, which writes
+   one. */
+static bool tells(struct rrcache_shelf *shelf, struct rrcache_question question, uint16_t rtype,
+                  uint32_t kind)
+{
+    uint64_t before = events(shelf);
+    struct reply look = reply_by(to_peek_alias, shelf, OF(NAME), question);
+    bool is_unseen = events(shelf) == before;
+    struct reply reply = reply_by(to_ask_alias, shelf, OF(NAME), question);
+    bool is_alias = rtype == CNAME && (kind == RRCACHE_FRESH || kind == RRCACHE_STALE);
+    return is_unseen && events(shelf) == before + 1 && are_same(&look, &reply)
+           && reply.told.rtype == rtype && reply.told.kind == kind
+           && has_data(&reply, OF(TARGET)) == is_alias
+           && (reply.told.entry.kind == 0) == (kind == RRCACHE_MISS || kind == RRCACHE_FAILED);
+}
+
+static void test_alias_cases(const struct alias_case *cases, size_t count)
+{
+    for (size_t n = 0; n < count; n++) {
+        struct rrcache_shelf shelf = {0};
+        EXPECT(make_by(&shelf, 100, 100, MAX_STALE) == RRCACHE_DONE);
+        for (int place = 0; place < 3; place++)
+            hold(&shelf, cases[n].held[place]);
+        bool right =
+            tells(&shelf, question_by(A, FIRST + cases[n].later, RRCACHE_QUESTION, cases[n].mode),
+                  cases[n].rtype, cases[n].kind);
+        if (!right)
+            printf("alias case: %s\n", cases[n].what);
+        EXPECT(right && rrcache_free(&shelf) == RRCACHE_DONE);
+    }
+}
+
+static void test_aliases(void)
+{
+    test_alias_cases(MISSES, sizeof MISSES / sizeof *MISSES);
+    test_alias_cases(LATER_RECORDS, sizeof LATER_RECORDS / sizeof *LATER_RECORDS);
+    test_alias_cases(EARLIER_RECORDS, sizeof EARLIER_RECORDS / sizeof *EARLIER_RECORDS);
+    test_alias_cases(DENIALS, sizeof DENIALS / sizeof *DENIALS);
+    test_alias_cases(FAILURES, sizeof FAILURES / sizeof *FAILURES);
+}
+
+/* A record is told for each type but CNAME and ANY (RFC 1034 section 4.3.2), in its own class. */
+static void test_types_of_aliases(void)
+{
+    struct rrcache_shelf shelf = {0};
+    EXPECT(make_by(&shelf, 100, 100, MAX_STALE) == RRCACHE_DONE);
+    hold(&shelf, (struct held){RECORD, 4, 60});
+    EXPECT(tells(&shelf, question(TXT, FIRST), CNAME, RRCACHE_FRESH)
+           && tells(&shelf, question(CNAME, FIRST), CNAME, RRCACHE_FRESH)
+           && tells(&shelf, question(ANY, FIRST), ANY, RRCACHE_MISS)
+           && tells(&shelf, question(OPT, FIRST), CNAME, RRCACHE_FRESH)
+           && tells(&shelf, question_in(RRCACHE_CH, TXT), TXT, RRCACHE_MISS));
+    /* A failure is of one type. */
+    hold(&shelf, (struct held){FAILURE, 0, 100});
+    EXPECT(
+        tells(&shelf, question_by(TXT, FIRST + 60, RRCACHE_QUESTION, IF_FAILS), TXT, RRCACHE_MISS)
+        && tells(&shelf, question_by(A, FIRST + 60, RRCACHE_QUESTION, IF_FAILS), CNAME,
+                 RRCACHE_STALE)
+        && tells(&shelf, question_by(CNAME, FIRST + 60, RRCACHE_QUESTION, IF_FAILS), CNAME,
+                 RRCACHE_MISS)
+        && tells(&shelf, question_by(ANY, FIRST + 60, RRCACHE_QUESTION, NOW), ANY, RRCACHE_MISS));
+    hold(&shelf, (struct held){DENIED, 4, 60});
+    EXPECT(tells(&shelf, question(CNAME, FIRST), CNAME, RRCACHE_NXDOMAIN)
+           && tells(&shelf, question(ANY, FIRST), ANY, RRCACHE_NXDOMAIN));
+    /* Additional data do for the resolver itself. */
+    EXPECT(rrcache_free(&shelf) == RRCACHE_DONE
+           && make_by(&shelf, 100, 100, MAX_STALE) == RRCACHE_DONE);
+    hold(&shelf, (struct held){RECORD, 1, 60});
+    EXPECT(tells(&shelf, question_by(A, FIRST, RRCACHE_ANYTHING, NONE), CNAME, RRCACHE_FRESH));
+    EXPECT(rrcache_free(&shelf) == RRCACHE_DONE);
+}
+
+/* An expired denial that is swept gives its earlier record back. */
+static void test_alias_behind_a_denial(void)
+{
+    struct rrcache_shelf shelf = {0};
+    EXPECT(make_by(&shelf, 100, 100, MAX_STALE) == RRCACHE_DONE);
+    hold(&shelf, (struct held){RECORD, 4, 300});
+    hold(&shelf, (struct held){DENIED, 4, 60});
+    EXPECT(tells(&shelf, question(A, FIRST + 60), A, RRCACHE_MISS));
+    EXPECT(sweep(&shelf, FIRST + 60) == 1);
+    EXPECT(tells(&shelf, question(A, FIRST + 60), CNAME, RRCACHE_FRESH));
+    EXPECT(rrcache_free(&shelf) == RRCACHE_DONE);
+}
+
+/* An alias of a message: what is told of it, its entry, and its event, which is one ask for the
+   record. */
+static void test_alias(void)
+{
+    struct rrcache_shelf shelf = {0};
+    struct rrcache_chapters chapters = {0};
+    struct rrcache_counts counts;
+    struct rrcache_name name = name_of(OF(NAME));
+    struct rrcache_question asked = question(A, FIRST + 10);
+    struct rrcache_told told;
+    struct reply reply;
+    uint64_t count = 0;
+    uint8_t small[8];
+    EXPECT(make_by(&shelf, 100, 100, MAX_STALE) == RRCACHE_DONE);
+    EXPECT(offer_message(&shelf, response_of(OF(ALIAS)), &counts) == RRCACHE_DONE
+           && events(&shelf) == 2);
+    /* What is too small for the alias is told as it is, and no event is written. */
+    EXPECT(rrcache_ask_alias(&shelf, &name, &asked, &told, OF(small)) == RRCACHE_SMALL
+           && told.rtype == CNAME && told.data_size == sizeof TARGET && events(&shelf) == 2);
+    EXPECT(rrcache_peek_alias(&shelf, &name, &asked, &told, OF(small)) == RRCACHE_SMALL
+           && told.rtype == CNAME && told.entry.age == 1 && events(&shelf) == 2);
+    reply = reply_by(to_ask_alias, &shelf, OF(NAME), asked);
+    EXPECT(reply.told.kind == RRCACHE_FRESH && reply.told.rtype == CNAME && reply.told.left == 290
+           && reply.told.owner_size == sizeof NAME && has_data(&reply, OF(TARGET)));
+    EXPECT(is_entry(&reply.told.entry, RRCACHE_FRESH, 4, 300, FIRST, 0, 1) && events(&shelf) == 3);
+    reply = reply_by(to_ask_alias, &shelf, OF(OTHER), asked);
+    EXPECT(reply.told.kind == RRCACHE_FRESH && reply.told.rtype == A
+           && has_data(&reply, OF(ADDRESS)));
+    reply = reply_by(to_ask_alias, &shelf, OF(THIRD), asked);
+    EXPECT(reply.told.kind == RRCACHE_MISS && reply.told.rtype == A);
+    EXPECT(rrcache_stop_recording(&shelf, &chapters, &count) == RRCACHE_DONE && count == 1);
+    EXPECT(is_line(&chapters, 0, 3,
+                   "ask 2 0 1010 www.example. 5 answer none fresh 290 www.example. "
+                   "056f74686572076578616d706c6500\n")
+           && is_line(&chapters, 0, 5, "ask 2 0 1010 third.example. 1 answer none miss\n"));
+    EXPECT(rrcache_free_chapters(&chapters) == RRCACHE_DONE
+           && rrcache_free(&shelf) == RRCACHE_DONE);
+}
+
 /* ---- Refusals. */
 
 static void test_no_shelf(void)
 {
     struct rrcache_shelf shelf = {0};
     struct rrcache_counts counts = {7, 7, 7};
-    struct rrcache_told told = {7, 7, 7, 7, 7};
-    uint32_t outcome = 7;
-    uint64_t number = 7, other = 7, third = 7, fourth = 7;
-    uint8_t buffer[64] = {7};
+    struct rrcache_usage sizes = {7, 7, 7, 7};
+    struct rrcache_name name = name_of(OF(NAME));
+    uint64_t number = 7;
     EXPECT(rrcache_free(&shelf) == RRCACHE_NO_SHELF);
-    EXPECT(offer_alias(&shelf, PARTS, 0, FIRST, &counts) == RRCACHE_NO_SHELF && counts.kept == 7);
-    EXPECT(offer_answer(&shelf, FIRST, &counts) == RRCACHE_NO_SHELF && counts.kept == 7);
-    EXPECT(rrcache_offer_set(
-               &shelf, SET(NAME, sizeof NAME, A, RRCACHE_IN, 4, 60, ADDRESS, sizeof ADDRESS, FIRST),
-               1, &outcome)
-           == RRCACHE_NO_SHELF);
-    EXPECT(rrcache_offer_negative(&shelf,
-                                  NEGATIVE(NAME, sizeof NAME, A, RRCACHE_IN, 0, 3, 60, ZONE,
-                                           sizeof ZONE, SOA_DATA, sizeof SOA_DATA, FIRST),
-                                  4, &outcome)
-           == RRCACHE_NO_SHELF);
-    EXPECT(rrcache_offer_failure(&shelf, FAILURE(NAME, sizeof NAME, A, RRCACHE_IN, 30, FIRST), 6,
-                                 &outcome)
-               == RRCACHE_NO_SHELF
-           && outcome == 7);
-    EXPECT(ask(&shelf, FIRST, &told, buffer, sizeof buffer) == RRCACHE_NO_SHELF);
-    EXPECT(peek(&shelf, FIRST, &told, buffer, sizeof buffer) == RRCACHE_NO_SHELF && told.kind == 7
-           && buffer[0] == 7);
-    EXPECT(rrcache_sweep(&shelf, FIRST, 1, &number) == RRCACHE_NO_SHELF
-           && rrcache_drop_chapters(&shelf, &number) == RRCACHE_NO_SHELF);
-    EXPECT(rrcache_record(&shelf) == RRCACHE_NO_SHELF && rrcache_release(&shelf) == RRCACHE_NO_SHELF
-           && shelf.at == NULL && !shelf.is_live);
-    EXPECT(rrcache_sizes(&shelf, &number, &other, &third, &fourth) == RRCACHE_NO_SHELF
-           && number == 7 && other == 7 && third == 7 && fourth == 7);
+    EXPECT(offer_alias(&shelf, PARTS, 0, FIRST, &counts) == RRCACHE_NO_SHELF
+           && offer_answer(&shelf, FIRST, &counts) == RRCACHE_NO_SHELF
+           && are_counts(&counts, 7, 7, 7));
+    EXPECT(set_status(&shelf, set_of(OF(NAME), A, OF(ADDRESS))) == RRCACHE_NO_SHELF);
+    EXPECT(negative_status(&shelf, negative_of(OF(NAME), A, RRCACHE_NODATA)) == RRCACHE_NO_SHELF);
+    EXPECT(failure_status(&shelf, failure_of(OF(NAME), A)) == RRCACHE_NO_SHELF);
+    EXPECT(are_refused_for(&shelf, &name, RRCACHE_NO_SHELF));
+    EXPECT(rrcache_sweep(&shelf, SWEEP(FIRST, 1), &number) == RRCACHE_NO_SHELF
+           && rrcache_drop_chapters(&shelf, &number) == RRCACHE_NO_SHELF && number == 7);
+    EXPECT(rrcache_record(&shelf) == RRCACHE_NO_SHELF
+           && rrcache_stop_and_drop(&shelf) == RRCACHE_NO_SHELF && shelf.at == NULL
+           && !shelf.is_live);
+    EXPECT(rrcache_sizes(&shelf, &sizes) == RRCACHE_NO_SHELF && sizes.keys == 7 && sizes.events == 7
+           && sizes.chapters == 7 && sizes.octets == 7);
     EXPECT(make(&shelf) == RRCACHE_DONE && rrcache_free(&shelf) == RRCACHE_DONE
            && rrcache_free(&shelf) == RRCACHE_NO_SHELF);
 }
 
+/* Rules out of their ranges, and a seed of zeros. */
 static void test_making_refused(void)
 {
     struct rrcache_shelf shelf = {0};
-    EXPECT(rrcache_make(&shelf, 0, 4, 0, SEED) == RRCACHE_BAD_RULES
-           && rrcache_make(&shelf, 65537, 4, 0, SEED) == RRCACHE_BAD_RULES);
-    EXPECT(rrcache_make(&shelf, 1, 0, 0, SEED) == RRCACHE_BAD_RULES
-           && rrcache_make(&shelf, 1, 1048577, 0, SEED) == RRCACHE_BAD_RULES);
-    EXPECT(rrcache_make(&shelf, 1, 1, 604801, SEED) == RRCACHE_BAD_RULES);
-    EXPECT(rrc_make(&shelf, 1, 1, 0, SEED, 15) == RRCACHE_BAD_SEED && shelf.at == NULL
-           && !shelf.is_live);
-    EXPECT(rrcache_make(&shelf, 65536, 1048576, 604800, SEED) == RRCACHE_DONE);
+    struct rrcache_rules rules = {0};
+    EXPECT(rrcache_make(&shelf, RULES(0, 4, 0)) == RRCACHE_BAD_RULES
+           && rrcache_make(&shelf, RULES(65537, 4, 0)) == RRCACHE_BAD_RULES);
+    EXPECT(rrcache_make(&shelf, RULES(1, 0, 0)) == RRCACHE_BAD_RULES
+           && rrcache_make(&shelf, RULES(1, 1048577, 0)) == RRCACHE_BAD_RULES);
+    EXPECT(rrcache_make(&shelf, RULES(1, 1, 604801)) == RRCACHE_BAD_RULES);
+    EXPECT(rrcache_make(&shelf, &rules) == RRCACHE_BAD_RULES);
+    rules.capacity = rules.chapter = 1;
+    EXPECT(rrcache_make(&shelf, &rules) == RRCACHE_BAD_SEED && shelf.at == NULL && !shelf.is_live);
+    for (size_t place = 0; place < sizeof rules.seed; place++) {
+        rules.seed[place] = 1;
+        EXPECT(rrcache_make(&shelf, &rules) == RRCACHE_DONE
+               && memcmp(shelf.seed, rules.seed, sizeof rules.seed) == 0
+               && rrcache_free(&shelf) == RRCACHE_DONE);
+        rules.seed[place] = 0;
+    }
+    EXPECT(rrcache_make(&shelf, RULES(65536, 1048576, 604800)) == RRCACHE_DONE);
     EXPECT(make(&shelf) == RRCACHE_HAS_SHELF && rrcache_free(&shelf) == RRCACHE_DONE);
 }
 
@@ -1728,76 +2623,120 @@ static void test_making_refused(void)
 static void test_has_shelf(void)
 {
     struct rrcache_shelf shelf = {0}, before;
+    static const struct rrcache_rules zeros = {0};
     struct rrcache_counts counts;
-    struct rrcache_told told = {0};
-    uint8_t buffer[64];
     EXPECT(make(&shelf) == RRCACHE_DONE && offer_answer(&shelf, FIRST, &counts) == RRCACHE_DONE);
     before = shelf;
     EXPECT(make(&shelf) == RRCACHE_HAS_SHELF
-           && rrcache_make(&shelf, 0, 0, 604801, SEED) == RRCACHE_HAS_SHELF);
-    EXPECT(rrc_make(&shelf, 1, 1, 0, SEED, 15) == RRCACHE_HAS_SHELF);
-    EXPECT(shelf.at == before.at && shelf.is_live && events(&shelf) == 1 && keys(&shelf) == 1);
-    EXPECT(ask(&shelf, FIRST, &told, buffer, sizeof buffer) == RRCACHE_DONE
-           && told.kind == RRCACHE_FRESH);
+           && rrcache_make(&shelf, RULES(0, 0, 604801)) == RRCACHE_HAS_SHELF
+           && rrcache_make(&shelf, &zeros) == RRCACHE_HAS_SHELF);
+    EXPECT(shelf.at == before.at && shelf.is_live
+           && memcmp(shelf.seed, before.seed, sizeof shelf.seed) == 0);
+    EXPECT(events(&shelf) == 1 && keys(&shelf) == 1
+           && asked(&shelf, OF(NAME), question(A, FIRST)).told.kind == RRCACHE_FRESH);
     EXPECT(rrcache_free(&shelf) == RRCACHE_DONE);
 }
 
 /* Each refusal of a message that reads what is handed in writes that no offer was made. */
-static void test_refused_counts(void)
+static bool refuses(struct rrcache_shelf *shelf, struct rrcache_response response, uint32_t status)
+{
+    struct rrcache_counts counts = {7, 7, 7};
+    return offer_message(shelf, response, &counts) == status && are_counts(&counts, 0, 0, 0);
+}
+
+static bool refuses_part(struct rrcache_shelf *shelf, struct rrcache_response response,
+                         const struct rrcache_parts *parts, uint64_t part, uint32_t status)
+{
+    struct rrcache_counts counts = {7, 7, 7};
+    return rrcache_offer_part_unchecked(shelf, &response, parts, SHARE(part), &counts) == status
+           && are_counts(&counts, 0, 0, 0);
+}
+
+/* Of more than one the first is told: the limits before the zone, and that before the message, and
+   its moment last. */
+static void test_refused_messages(void)
 {
     struct rrcache_shelf shelf = {0};
-    struct rrcache_counts counts;
-    const struct rrcache_limits bad = {0, 3600, 30};
-    const uint64_t late = (1ULL << 40) + 1;
+    struct rrcache_response response = response_of(ANSWER, 30);
     EXPECT(make(&shelf) == RRCACHE_DONE);
-#define REFUSES(call, status)                                                                      \
-    (memset(&counts, 7, sizeof counts),                                                            \
-     (call) == (status) && counts.kept == 0 && counts.cleared == 0 && counts.refused == 0)
-    EXPECT(REFUSES(
-        rrcache_offer_message(
-            &shelf, RESPONSE(ANSWER, sizeof ANSWER, ZONE, sizeof ZONE, FIRST, bad), 1, &counts),
-        RRCACHE_BAD_LIMITS));
-    EXPECT(
-        REFUSES(rrcache_offer_message(
-                    &shelf, RESPONSE(ANSWER, sizeof ANSWER, NO_NAME, sizeof NO_NAME, FIRST, LIMITS),
-                    1, &counts),
-                RRCACHE_BAD_NAME));
-    EXPECT(REFUSES(rrcache_offer_message(
-                       &shelf, RESPONSE(ANSWER, 30, ZONE, sizeof ZONE, FIRST, LIMITS), 1, &counts),
-                   RRCACHE_BAD_MESSAGE));
-    EXPECT(REFUSES(offer_answer(&shelf, late, &counts), RRCACHE_MOMENT_TOO_LARGE));
-    EXPECT(REFUSES(offer_alias(&shelf, 0, 0, FIRST, &counts), RRCACHE_BAD_RULES)
-           && REFUSES(offer_alias(&shelf, 65, 0, FIRST, &counts), RRCACHE_BAD_RULES));
-    EXPECT(REFUSES(offer_alias(&shelf, PARTS, PARTS, FIRST, &counts), RRCACHE_BAD_RULES));
-    EXPECT(REFUSES(rrcache_offer_part(&shelf,
-                                      RESPONSE(ALIAS, sizeof ALIAS, ZONE, sizeof ZONE, FIRST, bad),
-                                      PARTED(1), 0, 1, &counts),
-                   RRCACHE_BAD_LIMITS));
-    EXPECT(REFUSES(
-        rrcache_offer_part(&shelf,
-                           RESPONSE(ALIAS, sizeof ALIAS, NO_NAME, sizeof NO_NAME, FIRST, LIMITS),
-                           PARTED(1), 0, 1, &counts),
-        RRCACHE_BAD_NAME));
-    EXPECT(REFUSES(rrcache_offer_part(&shelf, RESPONSE(ALIAS, 30, ZONE, sizeof ZONE, FIRST, LIMITS),
-                                      PARTED(1), 0, 1, &counts),
-                   RRCACHE_BAD_MESSAGE));
-    EXPECT(REFUSES(offer_alias(&shelf, 1, 0, late, &counts), RRCACHE_MOMENT_TOO_LARGE));
-    /* Of more than one the first is told: the parts before the limits, these before the zone, and
-     * that before the message. */
-    EXPECT(
-        REFUSES(rrcache_offer_part(&shelf, RESPONSE(ALIAS, 30, NO_NAME, sizeof NO_NAME, late, bad),
-                                   PARTED(0), 0, 1, &counts),
-                RRCACHE_BAD_RULES));
-    EXPECT(
-        REFUSES(rrcache_offer_part(&shelf, RESPONSE(ALIAS, 30, NO_NAME, sizeof NO_NAME, late, bad),
-                                   PARTED(1), 0, 1, &counts),
-                RRCACHE_BAD_LIMITS));
-    EXPECT(REFUSES(rrcache_offer_part(&shelf,
-                                      RESPONSE(ALIAS, 30, NO_NAME, sizeof NO_NAME, late, LIMITS),
-                                      PARTED(1), 0, 1, &counts),
-                   RRCACHE_BAD_NAME));
-#undef REFUSES
+    response.moment = LATE;
+    response.zone = NO_NAME;
+    response.zone_size = sizeof NO_NAME;
+    response.limits.recheck = 301;
+    EXPECT(refuses(&shelf, response, RRCACHE_BAD_LIMITS));
+    response.limits = LIMITS;
+    EXPECT(refuses(&shelf, response, RRCACHE_BAD_NAME));
+    response.zone = ZONE;
+    response.zone_size = sizeof ZONE;
+    EXPECT(refuses(&shelf, response, RRCACHE_BAD_MESSAGE));
+    response.size = sizeof ANSWER;
+    EXPECT(refuses(&shelf, response, RRCACHE_MOMENT_TOO_LARGE));
     EXPECT(events(&shelf) == 0 && rrcache_free(&shelf) == RRCACHE_DONE);
+}
+
+/* The same of a part, before which the number of parts and the seed are looked at. */
+static void test_refused_parts(void)
+{
+    struct rrcache_shelf shelf = {0};
+    struct rrcache_response response = response_of(ALIAS, 30);
+    struct rrcache_parts parts = {0};
+    const uint64_t part = part_of(OF(NAME));
+    EXPECT(make(&shelf) == RRCACHE_DONE);
+    response.moment = LATE;
+    response.zone = NO_NAME;
+    response.zone_size = sizeof NO_NAME;
+    response.limits.cap = 0;
+    EXPECT(refuses_part(&shelf, response, &parts, 0, RRCACHE_BAD_RULES));
+    parts.count = 65;
+    EXPECT(refuses_part(&shelf, response, &parts, part, RRCACHE_BAD_RULES));
+    parts.count = UINT64_C(1) << 32;
+    EXPECT(refuses_part(&shelf, response, &parts, part, RRCACHE_BAD_RULES));
+    parts.count = PARTS;
+    EXPECT(
+        refuses_part(&shelf, response, &parts, PARTS, RRCACHE_BAD_RULES)
+        && refuses_part(&shelf, response, &parts, (UINT64_C(1) << 32) + part, RRCACHE_BAD_RULES));
+    EXPECT(refuses_part(&shelf, response, &parts, part, RRCACHE_BAD_SEED));
+    parts = *PARTED(PARTS);
+    EXPECT(refuses_part(&shelf, response, &parts, part, RRCACHE_BAD_LIMITS));
+    response.limits = LIMITS;
+    EXPECT(refuses_part(&shelf, response, &parts, part, RRCACHE_BAD_NAME));
+    response.zone = ZONE;
+    response.zone_size = sizeof ZONE;
+    EXPECT(refuses_part(&shelf, response, &parts, part, RRCACHE_BAD_MESSAGE));
+    response.size = sizeof ALIAS;
+    EXPECT(refuses_part(&shelf, response, &parts, part, RRCACHE_MOMENT_TOO_LARGE));
+    EXPECT(events(&shelf) == 0 && rrcache_free(&shelf) == RRCACHE_DONE);
+}
+
+/* Numbers of limits that are not in their ranges. */
+static void test_refused_limits(void)
+{
+    static const struct {
+        struct rrcache_limits limits;
+        uint32_t status;
+    } cases[] = {
+        {{0, 3600, 30}, RRCACHE_BAD_LIMITS},    {{604801, 3600, 30}, RRCACHE_BAD_LIMITS},
+        {{86400, 0, 30}, RRCACHE_BAD_LIMITS},   {{86400, 604801, 30}, RRCACHE_BAD_LIMITS},
+        {{86400, 3600, 0}, RRCACHE_BAD_LIMITS}, {{86400, 3600, 301}, RRCACHE_BAD_LIMITS},
+        {{0, 0, 0}, RRCACHE_BAD_LIMITS},        {{1, 1, 1}, RRCACHE_DONE},
+        {{604800, 604800, 300}, RRCACHE_DONE},  {RRCACHE_LIMITS, RRCACHE_DONE},
+    };
+    struct rrcache_shelf shelf = {0};
+    EXPECT(make(&shelf) == RRCACHE_DONE);
+    for (size_t n = 0; n < sizeof cases / sizeof *cases; n++) {
+        struct rrcache_response response = response_of(OF(ANSWER));
+        struct rrcache_offers offers = {0};
+        struct rrcache_counts counts;
+        uint64_t concerned;
+        response.limits = cases[n].limits;
+        EXPECT(offer_message(&shelf, response, &counts) == cases[n].status);
+        EXPECT(offer_part(&shelf, response, 1, 0, &counts) == cases[n].status);
+        EXPECT(read_message(&offers, response, 1, &concerned) == cases[n].status);
+        EXPECT((rrcache_free_offers(&offers) == RRCACHE_DONE) == (cases[n].status == RRCACHE_DONE));
+        EXPECT(read_response(&offers, response, query_of(OF(NAME)), &concerned) == cases[n].status);
+        EXPECT((rrcache_free_offers(&offers) == RRCACHE_DONE) == (cases[n].status == RRCACHE_DONE));
+    }
+    EXPECT(rrcache_free(&shelf) == RRCACHE_DONE);
 }
 
 /* That a name does not exist has no type, so none is asked for; that it has no data of a type has
@@ -1805,478 +2744,685 @@ static void test_refused_counts(void)
 static void test_denied_names(void)
 {
     struct rrcache_shelf shelf = {0};
-    struct rrcache_told told = {0};
-    uint32_t outcome = 7;
-    uint8_t buffer[64];
     EXPECT(make(&shelf) == RRCACHE_DONE);
-    EXPECT(
-        rrcache_offer_negative(&shelf,
-                               NEGATIVE(NAME, sizeof NAME, OPT, RRCACHE_IN, RRCACHE_DENIES_TYPE, 3,
-                                        60, ZONE, sizeof ZONE, SOA_DATA, sizeof SOA_DATA, FIRST),
-                               1, &outcome)
-            == RRCACHE_BAD_TYPE
-        && outcome == 7);
-    EXPECT(
-        rrcache_offer_negative(&shelf,
-                               NEGATIVE(NAME, sizeof NAME, OPT, RRCACHE_IN, RRCACHE_DENIES_NAME, 3,
-                                        60, ZONE, sizeof ZONE, SOA_DATA, sizeof SOA_DATA, FIRST),
-                               1, &outcome)
-            == RRCACHE_DONE
-        && outcome == RRCACHE_KEPT);
-    EXPECT(
-        rrcache_offer_negative(&shelf,
-                               NEGATIVE(OTHER, sizeof OTHER, 0, RRCACHE_IN, RRCACHE_DENIES_NAME, 3,
-                                        60, ZONE, sizeof ZONE, SOA_DATA, sizeof SOA_DATA, FIRST),
-                               2, &outcome)
-            == RRCACHE_DONE
-        && outcome == RRCACHE_KEPT);
-    EXPECT(peek(&shelf, FIRST, &told, buffer, sizeof buffer) == RRCACHE_DONE
-           && told.kind == RRCACHE_NO_NAME);
+    EXPECT(negative_status(&shelf, negative_of(OF(NAME), OPT, RRCACHE_NODATA)) == RRCACHE_BAD_TYPE);
+    EXPECT(offer_negative(&shelf, negative_of(OF(NAME), OPT, RRCACHE_NXDOMAIN)) == RRCACHE_KEPT);
+    EXPECT(offer_negative(&shelf, negative_of(OF(OTHER), 0, RRCACHE_NXDOMAIN)) == RRCACHE_KEPT);
+    EXPECT(kind_at(&shelf, OF(NAME), A, FIRST) == RRCACHE_NXDOMAIN);
+    /* A question of a type that is not kept is told so too. */
+    EXPECT(kind_at(&shelf, OF(NAME), OPT, FIRST) == RRCACHE_NXDOMAIN
+           && kind_at(&shelf, OF(NAME), ANY, FIRST) == RRCACHE_NXDOMAIN
+           && kind_at(&shelf, OF(THIRD), OPT, FIRST) == RRCACHE_MISS);
     EXPECT(rrcache_free(&shelf) == RRCACHE_DONE);
 }
 
+/* Whether each of the calls that tell a reply returns this for a question, and tells nothing. */
+static bool is_refused(struct rrcache_shelf *shelf, struct rrcache_question question,
+                       uint32_t status)
+{
+    struct rrcache_name name = name_of(OF(NAME));
+    bool right = true;
+    for (int call = 0; call < ASKINGS; call++) {
+        struct rrcache_told told;
+        uint8_t buffer[64] = {7};
+        memset(&told, 7, sizeof told);
+        right = ASKING[call](shelf, &name, &question, &told, buffer, sizeof buffer) == status
+                && told.kind == 0x07070707 && told.owner_size == UINT64_C(0x0707070707070707)
+                && buffer[0] == 7 && right;
+    }
+    return right;
+}
+
+/* Questions with a purpose or a mode that there is not, or of what is never kept: each field that
+   may not be 0 is. */
+static void test_refused_questions(void)
+{
+    static const uint32_t wrong[] = {0, 4, 7, UINT32_MAX};
+    static const uint16_t classes[] = {0, 2, 5, 254, 255, UINT16_MAX};
+    struct rrcache_shelf shelf = {0};
+    struct rrcache_question asked;
+    static const struct rrcache_question zeros = {0};
+    EXPECT(make(&shelf) == RRCACHE_DONE);
+    EXPECT(is_refused(&shelf, zeros, RRCACHE_BAD_CHOICE));
+    for (size_t n = 0; n < sizeof wrong / sizeof *wrong; n++) {
+        asked = question(A, FIRST);
+        asked.mode = wrong[n];
+        EXPECT(is_refused(&shelf, asked, RRCACHE_BAD_CHOICE));
+        asked = question(A, FIRST);
+        asked.purpose = wrong[n];
+        EXPECT(is_refused(&shelf, asked, RRCACHE_BAD_CHOICE));
+    }
+    asked = question(A, FIRST);
+    asked.purpose = 3;
+    EXPECT(is_refused(&shelf, asked, RRCACHE_BAD_CHOICE));
+    for (size_t n = 0; n < sizeof classes / sizeof *classes; n++)
+        EXPECT(is_refused(&shelf, question_in(classes[n], A), RRCACHE_BAD_TYPE));
+    EXPECT(is_refused(&shelf, question(0, FIRST), RRCACHE_BAD_TYPE)
+           && is_refused(&shelf, question_in(RRCACHE_CH, 0), RRCACHE_BAD_TYPE));
+    EXPECT(events(&shelf) == 0);
+    /* A moment and a line of 0 will do, each class that is kept, and any other type. */
+    asked = question(A, 0);
+    asked.line = 0;
+    EXPECT(reply_by(to_ask, &shelf, OF(NAME), asked).told.kind == RRCACHE_MISS);
+    EXPECT(peeked(&shelf, OF(NAME), question_in(RRCACHE_CH, A)).told.kind == RRCACHE_MISS
+           && peeked(&shelf, OF(NAME), question_in(RRCACHE_HS, A)).told.kind == RRCACHE_MISS
+           && peeked(&shelf, OF(NAME), question(UINT16_MAX, FIRST)).told.kind == RRCACHE_MISS);
+    EXPECT(rrcache_free(&shelf) == RRCACHE_DONE);
+}
+
+/* Where more than one refusal is due of a question, the first is told: what is wrong is put right
+   one by one. */
+static void test_order_of_refusals(void)
+{
+    for (int call = 0; call < ASKINGS; call++) {
+        struct rrcache_shelf shelf = {0};
+        struct rrcache_counts counts;
+        struct rrcache_name name = {0};
+        struct rrcache_parts parts = *PARTED(PARTS);
+        struct rrcache_question asked = {.moment = LATE, .rclass = 2};
+        struct rrcache_told told;
+        uint8_t buffer[64];
+#define RETURNS(size, status)                                                                      \
+    EXPECT(ASKING[call](&shelf, &name, &asked, &told, buffer, (size)) == (status))
+        RETURNS(0, RRCACHE_NO_SHELF);
+        EXPECT(make(&shelf) == RRCACHE_DONE && offer_answer(&shelf, LAST, &counts) == RRCACHE_DONE);
+        RETURNS(0, RRCACHE_BAD_CHOICE);
+        asked.mode = RRCACHE_NO_STALE;
+        RETURNS(0, RRCACHE_BAD_CHOICE);
+        asked.purpose = RRCACHE_QUESTION;
+        RETURNS(0, RRCACHE_BAD_TYPE);
+        asked.rclass = RRCACHE_IN;
+        RETURNS(0, RRCACHE_BAD_TYPE);
+        asked.rtype = A;
+        RETURNS(0, RRCACHE_BAD_NAME);
+        parts.seed[0] ^= 1;
+        EXPECT(rrcache_make_name(&name, OF(NAME), &parts) == RRCACHE_DONE);
+        RETURNS(0, RRCACHE_OTHER_SEED);
+        name = name_of(OF(NAME));
+        RETURNS(0, RRCACHE_SMALL);
+        RETURNS(sizeof buffer, call < ASKS ? RRCACHE_MOMENT_TOO_LARGE : RRCACHE_DONE);
+        asked.moment = LAST;
+        RETURNS(sizeof buffer, RRCACHE_DONE);
+#undef RETURNS
+        EXPECT(told.kind == RRCACHE_FRESH && rrcache_free(&shelf) == RRCACHE_DONE);
+    }
+}
+
+/* Sets of which one field is wrong, or forgotten and so 0. */
+static void test_refused_sets(struct rrcache_shelf *shelf)
+{
+    static const struct rrcache_set zeros = {0};
+    struct rrcache_set set;
+#define REFUSED(field, value, status)                                                              \
+    (set = set_of(OF(NAME), A, OF(ADDRESS)), set.field = (value),                                  \
+     EXPECT(set_status(shelf, set) == (status)))
+    REFUSED(trust, (enum rrcache_trust)0, RRCACHE_BAD_CHOICE);
+    REFUSED(trust, (enum rrcache_trust)5, RRCACHE_BAD_CHOICE);
+    REFUSED(rtype, 0, RRCACHE_BAD_TYPE);
+    REFUSED(rtype, OPT, RRCACHE_BAD_TYPE);
+    REFUSED(rclass, 0, RRCACHE_BAD_TYPE);
+    REFUSED(rclass, 254, RRCACHE_BAD_TYPE);
+    REFUSED(owner_size, 0, RRCACHE_BAD_NAME);
+    REFUSED(owner_size, 3, RRCACHE_BAD_NAME);
+    REFUSED(data_size, sizeof ADDRESS - 1, RRCACHE_BAD_DATA);
+    REFUSED(data_size, 1, RRCACHE_BAD_DATA);
+    REFUSED(rtype, SOA, RRCACHE_BAD_DATA);
+    REFUSED(data_size, 0, RRCACHE_WRONG_BODY);
+    REFUSED(ttl, 1u << 31, RRCACHE_WRONG_BODY);
+    REFUSED(moment, LATE, RRCACHE_MOMENT_TOO_LARGE);
+#undef REFUSED
+    set = set_of(OF(NO_NAME), A, NULL, 0);
+    EXPECT(set_status(shelf, set) == RRCACHE_BAD_NAME);
+    set = set_of(OF(NAME), A, NULL, 0);
+    EXPECT(set_status(shelf, set) == RRCACHE_WRONG_BODY);
+    EXPECT(set_status(shelf, zeros) == RRCACHE_BAD_CHOICE);
+}
+
+static void test_refused_negatives(struct rrcache_shelf *shelf)
+{
+    static const struct rrcache_negative zeros = {0};
+    struct rrcache_negative negative;
+#define REFUSED(field, value, status)                                                              \
+    (negative = negative_of(OF(NAME), A, RRCACHE_NODATA), negative.field = (value),                \
+     EXPECT(negative_status(shelf, negative) == (status)))
+    for (int kind = 0; kind <= 7; kind++)
+        if (kind != RRCACHE_NODATA && kind != RRCACHE_NXDOMAIN)
+            REFUSED(kind, (enum rrcache_kind)kind, RRCACHE_BAD_CHOICE);
+    REFUSED(trust, (enum rrcache_trust)0, RRCACHE_BAD_CHOICE);
+    REFUSED(trust, (enum rrcache_trust)5, RRCACHE_BAD_CHOICE);
+    REFUSED(rtype, 0, RRCACHE_BAD_TYPE);
+    REFUSED(rtype, OPT, RRCACHE_BAD_TYPE);
+    REFUSED(rclass, 0, RRCACHE_BAD_TYPE);
+    REFUSED(name_size, 0, RRCACHE_BAD_NAME);
+    REFUSED(name_size, 3, RRCACHE_BAD_NAME);
+    REFUSED(soa_owner_size, 0, RRCACHE_BAD_NAME);
+    REFUSED(soa_owner_size, 3, RRCACHE_BAD_NAME);
+    REFUSED(soa_size, 0, RRCACHE_BAD_DATA);
+    REFUSED(soa_size, 21, RRCACHE_BAD_DATA);
+    REFUSED(ttl, 1u << 31, RRCACHE_WRONG_BODY);
+    REFUSED(moment, LATE, RRCACHE_MOMENT_TOO_LARGE);
+#undef REFUSED
+    negative = negative_of(OF(NAME), 0, RRCACHE_NXDOMAIN);
+    negative.rclass = 0;
+    EXPECT(negative_status(shelf, negative) == RRCACHE_BAD_TYPE);
+    EXPECT(negative_status(shelf, zeros) == RRCACHE_BAD_CHOICE);
+}
+
+static void test_refused_failures(struct rrcache_shelf *shelf)
+{
+    static const struct rrcache_failure zeros = {0};
+    struct rrcache_failure failure;
+#define REFUSED(field, value, status)                                                              \
+    (failure = failure_of(OF(NAME), A), failure.field = (value),                                   \
+     EXPECT(failure_status(shelf, failure) == (status)))
+    REFUSED(rtype, 0, RRCACHE_BAD_TYPE);
+    REFUSED(rtype, OPT, RRCACHE_BAD_TYPE);
+    REFUSED(rclass, 0, RRCACHE_BAD_TYPE);
+    REFUSED(name_size, 0, RRCACHE_BAD_NAME);
+    REFUSED(name_size, 3, RRCACHE_BAD_NAME);
+    REFUSED(ttl, 1u << 31, RRCACHE_WRONG_BODY);
+    REFUSED(moment, LATE, RRCACHE_MOMENT_TOO_LARGE);
+#undef REFUSED
+    EXPECT(failure_status(shelf, zeros) == RRCACHE_BAD_TYPE);
+}
+
+/* Of a set all that is wrong is put right one by one, and the first refusal that is due is told. */
+static void test_order_of_set_refusals(struct rrcache_shelf *shelf)
+{
+    struct rrcache_set set = {.owner = NO_NAME,
+                              .owner_size = sizeof NO_NAME,
+                              .rtype = OPT,
+                              .rclass = RRCACHE_IN,
+                              .ttl = UINT32_MAX,
+                              .data = ADDRESS,
+                              .data_size = 1,
+                              .moment = LATE};
+    EXPECT(set_status(shelf, set) == RRCACHE_BAD_CHOICE);
+    set.trust = RRCACHE_ADDITIONAL;
+    EXPECT(set_status(shelf, set) == RRCACHE_BAD_TYPE);
+    set.rtype = A;
+    EXPECT(set_status(shelf, set) == RRCACHE_BAD_NAME);
+    set.owner = NAME;
+    set.owner_size = sizeof NAME;
+    EXPECT(set_status(shelf, set) == RRCACHE_BAD_DATA);
+    set.data_size = 0;
+    EXPECT(set_status(shelf, set) == RRCACHE_WRONG_BODY);
+    set.data_size = sizeof ADDRESS;
+    EXPECT(set_status(shelf, set) == RRCACHE_WRONG_BODY);
+    set.ttl = 60;
+    EXPECT(set_status(shelf, set) == RRCACHE_MOMENT_TOO_LARGE);
+}
+
+/* What is refused of offers and sweeps leaves no event. */
 static void test_refusals(void)
 {
     struct rrcache_shelf shelf = {0};
-    struct rrcache_counts counts = {7, 7, 7};
-    struct rrcache_told told = {7, 7, 7, 7, 7};
-    uint32_t outcome = 7;
     uint64_t removed = 7;
-    uint8_t buffer[64] = {7};
-    const uint64_t late = (1ULL << 40) + 1;
-    const struct rrcache_limits bad = {86400, 3600, 301};
     EXPECT(make(&shelf) == RRCACHE_DONE);
-
-    EXPECT(rrcache_offer_message(&shelf, RESPONSE(ANSWER, 30, ZONE, sizeof ZONE, FIRST, LIMITS), 1,
-                                 &counts)
-           == RRCACHE_BAD_MESSAGE);
-    EXPECT(counts.kept == 0 && counts.cleared == 0 && counts.refused == 0);
-    EXPECT(rrcache_offer_message(
-               &shelf, RESPONSE(ANSWER, sizeof ANSWER, ZONE, sizeof ZONE, FIRST, bad), 1, &counts)
-           == RRCACHE_BAD_LIMITS);
-    EXPECT(rrcache_offer_message(
-               &shelf, RESPONSE(ANSWER, sizeof ANSWER, NO_NAME, sizeof NO_NAME, FIRST, LIMITS), 1,
-               &counts)
-           == RRCACHE_BAD_NAME);
-    EXPECT(offer_answer(&shelf, late, &counts) == RRCACHE_MOMENT_TOO_LARGE && counts.kept == 0);
-
-    const uint64_t part = part_of(NAME, sizeof NAME);
-    counts.kept = 7;
-    EXPECT(offer_alias(&shelf, 0, 0, FIRST, &counts) == RRCACHE_BAD_RULES && counts.kept == 0);
-    EXPECT(offer_alias(&shelf, 65, 0, FIRST, &counts) == RRCACHE_BAD_RULES
-           && offer_alias(&shelf, 1ULL << 32, 0, FIRST, &counts) == RRCACHE_BAD_RULES);
-    EXPECT(offer_alias(&shelf, PARTS, PARTS, FIRST, &counts) == RRCACHE_BAD_RULES);
-    EXPECT(offer_alias(&shelf, PARTS, (1ULL << 32) + part, FIRST, &counts) == RRCACHE_BAD_RULES);
-    EXPECT(offer_alias(&shelf, PARTS, part, late, &counts) == RRCACHE_MOMENT_TOO_LARGE
-           && counts.kept == 0);
-    EXPECT(rrcache_offer_part(&shelf, RESPONSE(ALIAS, 30, ZONE, sizeof ZONE, FIRST, LIMITS),
-                              PARTED(PARTS), part, 1, &counts)
-           == RRCACHE_BAD_MESSAGE);
-    EXPECT(rrcache_offer_part(&shelf, RESPONSE(ALIAS, sizeof ALIAS, ZONE, sizeof ZONE, FIRST, bad),
-                              PARTED(PARTS), part, 1, &counts)
-           == RRCACHE_BAD_LIMITS);
-    EXPECT(rrcache_offer_part(&shelf,
-                              RESPONSE(ALIAS, sizeof ALIAS, NO_NAME, sizeof NO_NAME, FIRST, LIMITS),
-                              PARTED(PARTS), part, 1, &counts)
-           == RRCACHE_BAD_NAME);
-
-    EXPECT(ask(&shelf, late, &told, buffer, sizeof buffer) == RRCACHE_MOMENT_TOO_LARGE);
-    EXPECT(rrcache_ask(&shelf, QUERY(NO_NAME, sizeof NO_NAME, A, RRCACHE_IN, FIRST, 0, 0), 1, &told,
-                       buffer, sizeof buffer)
-           == RRCACHE_BAD_NAME);
-    EXPECT(rrcache_ask(&shelf, QUERY(NAME, sizeof NAME, A, RRCACHE_IN, FIRST, 2, 0), 1, &told,
-                       buffer, sizeof buffer)
-           == RRCACHE_BAD_CHOICE);
-    EXPECT(rrcache_ask(&shelf, QUERY(NAME, sizeof NAME, A, RRCACHE_IN, FIRST, 0, 3), 1, &told,
-                       buffer, sizeof buffer)
-           == RRCACHE_BAD_CHOICE);
-    EXPECT(rrcache_peek(&shelf, QUERY(NAME, sizeof NAME, A, RRCACHE_IN, FIRST, 0, 3), &told, buffer,
-                        sizeof buffer)
-           == RRCACHE_BAD_CHOICE);
-    EXPECT(rrcache_peek(&shelf, QUERY(NAME, sizeof NAME, A, RRCACHE_IN, FIRST, 2, 0), &told, buffer,
-                        sizeof buffer)
-           == RRCACHE_BAD_CHOICE);
-    EXPECT(rrcache_peek(&shelf, QUERY(NO_NAME, sizeof NO_NAME, A, RRCACHE_IN, FIRST, 0, 0), &told,
-                        buffer, sizeof buffer)
-           == RRCACHE_BAD_NAME);
-    EXPECT(told.kind == 7 && told.owner_size == 7 && buffer[0] == 7);
-
-    EXPECT(rrcache_offer_set(
-               &shelf, SET(NAME, sizeof NAME, A, RRCACHE_IN, 0, 60, ADDRESS, sizeof ADDRESS, FIRST),
-               1, &outcome)
-           == RRCACHE_BAD_CHOICE);
-    EXPECT(rrcache_offer_set(
-               &shelf, SET(NAME, sizeof NAME, A, RRCACHE_IN, 5, 60, ADDRESS, sizeof ADDRESS, FIRST),
-               1, &outcome)
-           == RRCACHE_BAD_CHOICE);
-    EXPECT(rrcache_offer_set(
-               &shelf,
-               SET(NAME, sizeof NAME, OPT, RRCACHE_IN, 4, 60, ADDRESS, sizeof ADDRESS, FIRST), 1,
-               &outcome)
-           == RRCACHE_BAD_TYPE);
-    EXPECT(rrcache_offer_set(
-               &shelf,
-               SET(NAME, sizeof NAME, A, RRCACHE_IN, 4, 60, ADDRESS, sizeof ADDRESS - 1, FIRST), 1,
-               &outcome)
-           == RRCACHE_BAD_DATA);
-    EXPECT(rrcache_offer_set(
-               &shelf, SET(NAME, sizeof NAME, A, RRCACHE_IN, 4, 60, ADDRESS, 1, FIRST), 1, &outcome)
-           == RRCACHE_BAD_DATA);
-    EXPECT(rrcache_offer_set(
-               &shelf,
-               SET(NAME, sizeof NAME, SOA, RRCACHE_IN, 4, 60, ADDRESS, sizeof ADDRESS, FIRST), 1,
-               &outcome)
-           == RRCACHE_BAD_DATA);
-    EXPECT(rrcache_offer_set(&shelf, SET(NAME, sizeof NAME, A, RRCACHE_IN, 4, 60, NULL, 0, FIRST),
-                             1, &outcome)
-           == RRCACHE_WRONG_BODY);
-    EXPECT(rrcache_offer_set(
-               &shelf,
-               SET(NAME, sizeof NAME, A, RRCACHE_IN, 4, 1u << 31, ADDRESS, sizeof ADDRESS, FIRST),
-               1, &outcome)
-           == RRCACHE_WRONG_BODY);
-    EXPECT(rrcache_offer_set(
-               &shelf,
-               SET(NO_NAME, sizeof NO_NAME, A, RRCACHE_IN, 4, 60, ADDRESS, sizeof ADDRESS, FIRST),
-               1, &outcome)
-           == RRCACHE_BAD_NAME);
-    EXPECT(rrcache_offer_set(
-               &shelf, SET(NAME, sizeof NAME, A, RRCACHE_IN, 4, 60, ADDRESS, sizeof ADDRESS, late),
-               1, &outcome)
-           == RRCACHE_MOMENT_TOO_LARGE);
-    EXPECT(rrcache_offer_negative(&shelf,
-                                  NEGATIVE(NAME, sizeof NAME, A, RRCACHE_IN, 2, 3, 60, ZONE,
-                                           sizeof ZONE, SOA_DATA, sizeof SOA_DATA, FIRST),
-                                  1, &outcome)
-           == RRCACHE_BAD_CHOICE);
-    EXPECT(rrcache_offer_negative(&shelf,
-                                  NEGATIVE(NAME, sizeof NAME, A, RRCACHE_IN, 0, 3, 60, ZONE,
-                                           sizeof ZONE, SOA_DATA, 21, FIRST),
-                                  1, &outcome)
-           == RRCACHE_BAD_DATA);
-    EXPECT(rrcache_offer_negative(&shelf,
-                                  NEGATIVE(NAME, sizeof NAME, A, RRCACHE_IN, 0, 5, 60, ZONE,
-                                           sizeof ZONE, SOA_DATA, sizeof SOA_DATA, FIRST),
-                                  1, &outcome)
-           == RRCACHE_BAD_CHOICE);
-    EXPECT(rrcache_offer_negative(&shelf,
-                                  NEGATIVE(NAME, sizeof NAME, OPT, RRCACHE_IN, 0, 3, 60, ZONE,
-                                           sizeof ZONE, SOA_DATA, sizeof SOA_DATA, FIRST),
-                                  1, &outcome)
-           == RRCACHE_BAD_TYPE);
-    EXPECT(rrcache_offer_negative(&shelf,
-                                  NEGATIVE(NO_NAME, sizeof NO_NAME, A, RRCACHE_IN, 0, 3, 60, ZONE,
-                                           sizeof ZONE, SOA_DATA, sizeof SOA_DATA, FIRST),
-                                  1, &outcome)
-           == RRCACHE_BAD_NAME);
-    EXPECT(rrcache_offer_negative(&shelf,
-                                  NEGATIVE(NAME, sizeof NAME, A, RRCACHE_IN, 0, 3, 60, NO_NAME,
-                                           sizeof NO_NAME, SOA_DATA, sizeof SOA_DATA, FIRST),
-                                  1, &outcome)
-           == RRCACHE_BAD_NAME);
-    EXPECT(rrcache_offer_negative(&shelf,
-                                  NEGATIVE(NAME, sizeof NAME, A, RRCACHE_IN, 0, 3, 1u << 31, ZONE,
-                                           sizeof ZONE, SOA_DATA, sizeof SOA_DATA, FIRST),
-                                  1, &outcome)
-           == RRCACHE_WRONG_BODY);
-    EXPECT(rrcache_offer_negative(&shelf,
-                                  NEGATIVE(NAME, sizeof NAME, A, RRCACHE_IN, 0, 3, 60, ZONE,
-                                           sizeof ZONE, SOA_DATA, sizeof SOA_DATA, late),
-                                  1, &outcome)
-           == RRCACHE_MOMENT_TOO_LARGE);
-    EXPECT(rrcache_offer_failure(&shelf, FAILURE(NAME, sizeof NAME, OPT, RRCACHE_IN, 30, FIRST), 1,
-                                 &outcome)
-           == RRCACHE_BAD_TYPE);
-    EXPECT(rrcache_offer_failure(&shelf, FAILURE(NO_NAME, sizeof NO_NAME, A, RRCACHE_IN, 30, FIRST),
-                                 1, &outcome)
-           == RRCACHE_BAD_NAME);
-    EXPECT(rrcache_offer_failure(&shelf, FAILURE(NAME, sizeof NAME, A, RRCACHE_IN, 30, late), 1,
-                                 &outcome)
-           == RRCACHE_MOMENT_TOO_LARGE);
-    EXPECT(rrcache_offer_failure(&shelf, FAILURE(NAME, sizeof NAME, A, RRCACHE_IN, 1u << 31, FIRST),
-                                 1, &outcome)
-               == RRCACHE_WRONG_BODY
-           && outcome == 7);
-    EXPECT(rrcache_sweep(&shelf, late, 1, &removed) == RRCACHE_MOMENT_TOO_LARGE && removed == 7);
-
-    EXPECT(events(&shelf) == 0);
+    test_refused_sets(&shelf);
+    test_refused_negatives(&shelf);
+    test_refused_failures(&shelf);
+    test_order_of_set_refusals(&shelf);
+    EXPECT(rrcache_sweep(&shelf, SWEEP(LATE, 1), &removed) == RRCACHE_MOMENT_TOO_LARGE
+           && removed == 7);
+    EXPECT(is_refused(&shelf, question_by(A, LATE, 3, RRCACHE_NO_STALE), RRCACHE_BAD_CHOICE));
+    EXPECT(events(&shelf) == 0 && keys(&shelf) == 0);
     EXPECT(rrcache_free(&shelf) == RRCACHE_DONE);
+}
+
+/* ---- Pointers that are null, and memory that overlaps. */
+
+#define IS_NULL(call) EXPECT((call) == RRCACHE_NULL)
+
+/* A pointer that may not be null, where each call tells a reply; a buffer may be where it has no
+   octets. */
+static void test_null_asks(struct rrcache_shelf *shelf)
+{
+    struct rrcache_name name = name_of(OF(NAME));
+    struct rrcache_question asked = question(A, FIRST);
+    struct rrcache_stored stored;
+    struct rrcache_told told;
+    uint8_t buffer[64];
+    for (int call = 0; call < ASKINGS; call++) {
+        IS_NULL(ASKING[call](NULL, &name, &asked, &told, OF(buffer)));
+        IS_NULL(ASKING[call](shelf, NULL, &asked, &told, OF(buffer)));
+        IS_NULL(ASKING[call](shelf, &name, NULL, &told, OF(buffer)));
+        IS_NULL(ASKING[call](shelf, &name, &asked, NULL, OF(buffer)));
+        IS_NULL(ASKING[call](shelf, &name, &asked, &told, NULL, 1));
+    }
+    EXPECT(rrcache_peek(shelf, &name, &asked, &told, NULL, 0) == RRCACHE_DONE);
+    IS_NULL(rrcache_tell_stored(NULL, &name, &asked, &stored));
+    IS_NULL(rrcache_tell_stored(shelf, NULL, &asked, &stored));
+    IS_NULL(rrcache_tell_stored(shelf, &name, NULL, &stored));
+    IS_NULL(rrcache_tell_stored(shelf, &name, &asked, NULL));
+    IS_NULL(rrcache_make_name(NULL, OF(NAME), PARTED(1)));
+    IS_NULL(rrcache_make_name(&name, NULL, 1, PARTED(1)));
+    IS_NULL(rrcache_make_name(&name, OF(NAME), NULL));
+}
+
+/* The same of calls that read a message. */
+static void test_null_readings(void)
+{
+    struct rrcache_offers offers = {0};
+    struct rrcache_response response = response_of(OF(ALIAS)), no_octets = response_of(NULL, 1),
+                            no_zone = response;
+    struct rrcache_query query = query_of(OF(NAME)), no_name = query_of(NULL, 1);
+    uint64_t concerned;
+    no_zone.zone = NULL;
+    IS_NULL(read_message(NULL, response, PARTS, &concerned));
+    IS_NULL(read_message(&offers, response, PARTS, NULL));
+    IS_NULL(read_message(&offers, no_octets, PARTS, &concerned));
+    IS_NULL(read_message(&offers, no_zone, PARTS, &concerned));
+    IS_NULL(rrcache_read_message_unchecked(&offers, NULL, PARTED(PARTS), &concerned));
+    IS_NULL(rrcache_read_message_unchecked(&offers, &response, NULL, &concerned));
+    IS_NULL(read_response(NULL, response, query, &concerned));
+    IS_NULL(read_response(&offers, response, query, NULL));
+    IS_NULL(read_response(&offers, response, no_name, &concerned));
+    IS_NULL(read_response(&offers, no_octets, query, &concerned));
+    IS_NULL(read_response(&offers, no_zone, query, &concerned));
+    IS_NULL(rrcache_read_response(&offers, NULL, &query, PARTED(1), &concerned));
+    IS_NULL(rrcache_read_response(&offers, &response, NULL, PARTED(1), &concerned));
+    IS_NULL(rrcache_read_response(&offers, &response, &query, NULL, &concerned));
+    IS_NULL(rrcache_free_offers(NULL));
+    EXPECT(!offers.is_live);
+}
+
+static void test_null_messages(struct rrcache_shelf *shelf)
+{
+    struct rrcache_offers offers = {0};
+    struct rrcache_response response = response_of(OF(ALIAS)), no_octets = response_of(NULL, 1),
+                            no_zone = response;
+    struct rrcache_counts counts;
+    no_zone.zone = NULL;
+    IS_NULL(offer_message(NULL, response, &counts));
+    IS_NULL(offer_message(shelf, response, NULL));
+    IS_NULL(offer_message(shelf, no_octets, &counts));
+    IS_NULL(offer_message(shelf, no_zone, &counts));
+    IS_NULL(rrcache_offer_message_unchecked(shelf, NULL, 1, &counts));
+    IS_NULL(offer_part(NULL, response, PARTS, 0, &counts));
+    IS_NULL(offer_part(shelf, response, PARTS, 0, NULL));
+    IS_NULL(offer_part(shelf, no_octets, PARTS, 0, &counts));
+    IS_NULL(offer_part(shelf, no_zone, PARTS, 0, &counts));
+    IS_NULL(rrcache_offer_part_unchecked(shelf, NULL, PARTED(1), SHARE(0), &counts));
+    IS_NULL(rrcache_offer_part_unchecked(shelf, &response, NULL, SHARE(0), &counts));
+    IS_NULL(rrcache_offer_part_unchecked(shelf, &response, PARTED(1), NULL, &counts));
+    IS_NULL(rrcache_offer_read(NULL, &offers, SHARE(0), &counts));
+    IS_NULL(rrcache_offer_read(shelf, NULL, SHARE(0), &counts));
+    IS_NULL(rrcache_offer_read(shelf, &offers, NULL, &counts));
+    IS_NULL(rrcache_offer_read(shelf, &offers, SHARE(0), NULL));
+}
+
+static void test_null_offers(struct rrcache_shelf *shelf)
+{
+    struct rrcache_set set = set_of(OF(NAME), A, OF(ADDRESS));
+    struct rrcache_negative negative = negative_of(OF(NAME), A, RRCACHE_NODATA);
+    struct rrcache_failure failure = failure_of(OF(NAME), A);
+    uint32_t outcome;
+    IS_NULL(rrcache_offer_set(NULL, &set, &outcome));
+    IS_NULL(rrcache_offer_set(shelf, NULL, &outcome));
+    IS_NULL(rrcache_offer_set(shelf, &set, NULL));
+    IS_NULL(set_status(shelf, set_of(NULL, 1, A, OF(ADDRESS))));
+    IS_NULL(set_status(shelf, set_of(OF(NAME), A, NULL, 1)));
+    IS_NULL(rrcache_offer_negative(NULL, &negative, &outcome));
+    IS_NULL(rrcache_offer_negative(shelf, NULL, &outcome));
+    IS_NULL(rrcache_offer_negative(shelf, &negative, NULL));
+    IS_NULL(negative_status(shelf, negative_of(NULL, 1, A, RRCACHE_NODATA)));
+    negative.soa_owner = NULL;
+    IS_NULL(negative_status(shelf, negative));
+    negative.soa_owner = ZONE;
+    negative.soa = NULL;
+    IS_NULL(negative_status(shelf, negative));
+    IS_NULL(rrcache_offer_failure(NULL, &failure, &outcome));
+    IS_NULL(rrcache_offer_failure(shelf, NULL, &outcome));
+    IS_NULL(rrcache_offer_failure(shelf, &failure, NULL));
+    IS_NULL(failure_status(shelf, failure_of(NULL, 1, A)));
+}
+
+static void test_null_upkeep(struct rrcache_shelf *shelf)
+{
+    struct rrcache_swept swept;
+    struct rrcache_usage sizes;
+    uint64_t number;
+    uint32_t fault;
+    IS_NULL(rrcache_make(NULL, RULES(1, 1, 0)));
+    IS_NULL(rrcache_make(shelf, NULL));
+    IS_NULL(rrcache_free(NULL));
+    IS_NULL(rrcache_record(NULL));
+    IS_NULL(rrcache_stop_and_drop(NULL));
+    IS_NULL(rrcache_sweep(NULL, SWEEP(FIRST, 1), &number));
+    IS_NULL(rrcache_sweep(shelf, NULL, &number));
+    IS_NULL(rrcache_sweep(shelf, SWEEP(FIRST, 1), NULL));
+    IS_NULL(rrcache_sweep_some(NULL, SWEEP(FIRST, 1), &swept));
+    IS_NULL(rrcache_sweep_some(shelf, NULL, &swept));
+    IS_NULL(rrcache_sweep_some(shelf, SWEEP(FIRST, 1), NULL));
+    IS_NULL(rrcache_next_expiry(NULL, &number));
+    IS_NULL(rrcache_next_expiry(shelf, NULL));
+    IS_NULL(rrcache_drop_chapters(NULL, &number));
+    IS_NULL(rrcache_drop_chapters(shelf, NULL));
+    IS_NULL(rrcache_sizes(NULL, &sizes));
+    IS_NULL(rrcache_sizes(shelf, NULL));
+    IS_NULL(rrcache_fault(NULL, 1, &fault));
+    IS_NULL(rrcache_fault(OF(ANSWER), NULL));
+}
+
+static void test_null_chapters(struct rrcache_shelf *shelf)
+{
+    struct rrcache_chapters chapters = {0};
+    struct rrcache_line told;
+    uint64_t count;
+    uint8_t buffer[32];
+    IS_NULL(rrcache_take_chapters(NULL, &chapters, &count));
+    IS_NULL(rrcache_take_chapters(shelf, NULL, &count));
+    IS_NULL(rrcache_take_chapters(shelf, &chapters, NULL));
+    IS_NULL(rrcache_stop_recording(NULL, &chapters, &count));
+    IS_NULL(rrcache_stop_recording(shelf, NULL, &count));
+    IS_NULL(rrcache_stop_recording(shelf, &chapters, NULL));
+    IS_NULL(rrcache_chapter_line(NULL, PLACE(0, 0, 0), OF(buffer), &told));
+    IS_NULL(rrcache_chapter_line(&chapters, NULL, OF(buffer), &told));
+    IS_NULL(rrcache_chapter_line(&chapters, PLACE(0, 0, 0), NULL, 1, &told));
+    IS_NULL(rrcache_chapter_line(&chapters, PLACE(0, 0, 0), OF(buffer), NULL));
+    IS_NULL(rrcache_write_line(NULL, PLACE(0, 0, 0), write_text, NULL));
+    IS_NULL(rrcache_write_line(&chapters, NULL, write_text, NULL));
+    IS_NULL(rrcache_write_line(&chapters, PLACE(0, 0, 0), NULL, NULL));
+    IS_NULL(rrcache_write_chapter(NULL, 0, write_text, NULL));
+    IS_NULL(rrcache_write_chapter(&chapters, 0, NULL, NULL));
+    IS_NULL(rrcache_free_chapters(NULL));
+    EXPECT(!chapters.is_live);
 }
 
 static void test_null(void)
 {
     struct rrcache_shelf shelf = {0};
-    struct rrcache_offers offers = {0};
-    struct rrcache_counts counts;
-    struct rrcache_told told;
-    uint32_t number;
-    uint64_t wide;
-    bool is_done;
-    uint8_t buffer[64] = {0};
-    EXPECT(rrcache_make(NULL, 1, 1, 0, SEED) == RRCACHE_NULL
-           && rrcache_make(&shelf, 1, 1, 0, NULL) == RRCACHE_NULL);
-    EXPECT(rrcache_free(NULL) == RRCACHE_NULL && make(&shelf) == RRCACHE_DONE);
-    EXPECT(rrcache_offer_message(&shelf, RESPONSE(NULL, 1, ZONE, sizeof ZONE, FIRST, LIMITS), 1,
-                                 &counts)
-           == RRCACHE_NULL);
-    EXPECT(rrcache_offer_message(&shelf, NULL, 1, &counts) == RRCACHE_NULL
-           && rrcache_offer_part(&shelf, NULL, PARTED(PARTS), 0, 1, &counts) == RRCACHE_NULL);
-    EXPECT(rrcache_offer_part(&shelf,
-                              RESPONSE(ALIAS, sizeof ALIAS, ZONE, sizeof ZONE, FIRST, LIMITS), NULL,
-                              0, 1, &counts)
-           == RRCACHE_NULL);
-    EXPECT(rrcache_read_message(&offers,
-                                RESPONSE(ALIAS, sizeof ALIAS, ZONE, sizeof ZONE, FIRST, LIMITS),
-                                NULL, &wide)
-           == RRCACHE_NULL);
-    EXPECT(rrcache_read_response(
-               &offers, RESPONSE(ALIAS, sizeof ALIAS, ZONE, sizeof ZONE, FIRST, LIMITS),
-               QUERY(NAME, sizeof NAME, A, RRCACHE_IN, 0, 0, 0), 0x1234, NULL, &wide)
-           == RRCACHE_NULL);
-    EXPECT(rrcache_offer_set(&shelf, NULL, 1, &number) == RRCACHE_NULL
-           && rrcache_offer_negative(&shelf, NULL, 1, &number) == RRCACHE_NULL
-           && rrcache_offer_failure(&shelf, NULL, 1, &number) == RRCACHE_NULL);
-    EXPECT(rrcache_ask(&shelf, NULL, 1, &told, buffer, sizeof buffer) == RRCACHE_NULL
-           && rrcache_peek(&shelf, NULL, &told, buffer, sizeof buffer) == RRCACHE_NULL);
-    EXPECT(rrcache_offer_part(&shelf, RESPONSE(ALIAS, sizeof ALIAS, NULL, 1, FIRST, LIMITS),
-                              PARTED(PARTS), 0, 1, &counts)
-           == RRCACHE_NULL);
-    EXPECT(offer_alias(NULL, PARTS, 0, FIRST, &counts) == RRCACHE_NULL
-           && offer_alias(&shelf, PARTS, 0, FIRST, NULL) == RRCACHE_NULL);
-    EXPECT(read_alias(NULL, PARTS, &wide) == RRCACHE_NULL
-           && read_alias(&offers, PARTS, NULL) == RRCACHE_NULL);
-    EXPECT(rrcache_read_message(&offers, RESPONSE(NULL, 1, ZONE, sizeof ZONE, FIRST, LIMITS),
-                                PARTED(PARTS), &wide)
-           == RRCACHE_NULL);
-    EXPECT(rrcache_read_message(&offers, RESPONSE(ALIAS, sizeof ALIAS, NULL, 1, FIRST, LIMITS),
-                                PARTED(PARTS), &wide)
-           == RRCACHE_NULL);
-    EXPECT(rrcache_read_message(&offers, NULL, PARTED(PARTS), &wide) == RRCACHE_NULL);
-    EXPECT(rrcache_offer_read(NULL, &offers, 0, 1, &counts) == RRCACHE_NULL
-           && rrcache_offer_read(&shelf, NULL, 0, 1, &counts) == RRCACHE_NULL);
-    EXPECT(rrcache_offer_read(&shelf, &offers, 0, 1, NULL) == RRCACHE_NULL
-           && rrcache_free_offers(NULL) == RRCACHE_NULL);
-    EXPECT(rrcache_offer_set(
-               &shelf, SET(NAME, sizeof NAME, A, RRCACHE_IN, 4, 60, ADDRESS, sizeof ADDRESS, FIRST),
-               1, NULL)
-           == RRCACHE_NULL);
-    EXPECT(rrcache_offer_negative(&shelf,
-                                  NEGATIVE(NAME, sizeof NAME, A, RRCACHE_IN, 0, 3, 60, NULL, 1,
-                                           SOA_DATA, sizeof SOA_DATA, FIRST),
-                                  1, &number)
-           == RRCACHE_NULL);
-    EXPECT(rrcache_offer_failure(NULL, FAILURE(NAME, sizeof NAME, A, RRCACHE_IN, 30, FIRST), 1,
-                                 &number)
-           == RRCACHE_NULL);
-    EXPECT(ask(&shelf, FIRST, NULL, buffer, sizeof buffer) == RRCACHE_NULL
-           && ask(&shelf, FIRST, &told, NULL, 1) == RRCACHE_NULL);
-    EXPECT(peek(NULL, FIRST, &told, buffer, sizeof buffer) == RRCACHE_NULL);
-    EXPECT(rrcache_ask(&shelf, QUERY(buffer, 13, A, RRCACHE_IN, FIRST, 0, 0), 1, &told, buffer,
-                       sizeof buffer)
-           == RRCACHE_NULL);
-    EXPECT(rrcache_peek(&shelf, QUERY(buffer + 8, 13, A, RRCACHE_IN, FIRST, 0, 0), &told, buffer, 9)
-           == RRCACHE_NULL);
-    EXPECT(rrcache_next_expiry(&shelf, NULL) == RRCACHE_NULL
-           && rrcache_sweep_some(&shelf, FIRST, 1, 1, NULL, &is_done) == RRCACHE_NULL
-           && rrcache_sweep_some(&shelf, FIRST, 1, 1, &wide, NULL) == RRCACHE_NULL);
-    EXPECT(rrcache_sweep(&shelf, FIRST, 1, NULL) == RRCACHE_NULL
-           && rrcache_drop_chapters(&shelf, NULL) == RRCACHE_NULL);
-    EXPECT(rrcache_record(NULL) == RRCACHE_NULL && rrcache_release(NULL) == RRCACHE_NULL);
-    uint64_t four[4] = {0};
-    EXPECT(rrcache_sizes(NULL, four, four + 1, four + 2, four + 3) == RRCACHE_NULL
-           && rrcache_sizes(&shelf, NULL, four + 1, four + 2, four + 3) == RRCACHE_NULL
-           && rrcache_sizes(&shelf, four, NULL, four + 2, four + 3) == RRCACHE_NULL
-           && rrcache_sizes(&shelf, four, four + 1, NULL, four + 3) == RRCACHE_NULL
-           && rrcache_sizes(&shelf, four, four + 1, four + 2, NULL) == RRCACHE_NULL);
-    /* Two of the four are one. */
-    for (int one = 0; one < 4; one++)
-        for (int two = 0; two < 4; two++) {
-            uint64_t *its[] = {four, four + 1, four + 2, four + 3};
-            its[one] = four + two;
-            EXPECT(one == two
-                   || rrcache_sizes(&shelf, its[0], its[1], its[2], its[3]) == RRCACHE_NULL);
-        }
-    EXPECT(rrcache_fault(NULL, 1, &number) == RRCACHE_NULL
-           && rrcache_part_of(NAME, sizeof NAME, PARTED(1), NULL) == RRCACHE_NULL
-           && rrcache_part_of(NAME, sizeof NAME, NULL, &wide) == RRCACHE_NULL);
+    EXPECT(make(&shelf) == RRCACHE_DONE);
+    test_null_asks(&shelf);
+    test_null_readings();
+    test_null_messages(&shelf);
+    test_null_offers(&shelf);
+    test_null_upkeep(&shelf);
+    test_null_chapters(&shelf);
     EXPECT(events(&shelf) == 0 && rrcache_free(&shelf) == RRCACHE_DONE);
 }
 
-/* What a call writes, and what else it is handed, lie in one stretch of memory: each pair in turn
-   overlaps by an octet. */
+/* One stretch of memory that all lies in which a call is handed, each pair of what it writes and
+   what else it is handed overlapping in turn. The handle lies at SHELF, and the rest before it. */
+enum { ROOM = 2048, SHELF = 1024, END = SHELF + sizeof(struct rrcache_shelf) };
+
+static uint8_t *memory;
+
+#define AT(type, place) ((type *)(void *)(memory + (place)))
+#define OVERLAPS(call)  EXPECT((call) == RRCACHE_OVERLAP)
+
+/* Where a name, a question, what is told and a buffer lie. */
+enum { TOLD = 128, NAMED = 256, ASKED = 704, BUFFER = 832 };
+
+static void place_question(size_t place)
+{
+    struct rrcache_question asked = question(A, FIRST);
+    memcpy(memory + place, &asked, sizeof asked);
+}
+
+static void test_overlaps_of_an_ask(struct rrcache_shelf *shelf, asking call)
+{
+    const struct rrcache_name *name = AT(struct rrcache_name, NAMED);
+    const struct rrcache_question *asked = AT(struct rrcache_question, ASKED);
+    struct rrcache_told *told = AT(struct rrcache_told, TOLD);
+    uint8_t *buffer = memory + BUFFER;
+    /* The handle with what is told, before it and behind it, and with the buffer. */
+    OVERLAPS(call(shelf, name, asked, AT(struct rrcache_told, END - 8), buffer, 64));
+    OVERLAPS(
+        call(shelf, name, asked, AT(struct rrcache_told, SHELF + 8 - sizeof *told), buffer, 64));
+    OVERLAPS(call(shelf, name, asked, told, memory + END - 1, 8));
+    OVERLAPS(call(shelf, name, asked, told, memory + SHELF - 7, 8));
+    /* The two with each other, and with what is read. */
+    OVERLAPS(call(shelf, name, asked, told, memory + TOLD + sizeof *told - 1, 8));
+    OVERLAPS(call(shelf, name, asked, told, memory + TOLD - 7, 8));
+    OVERLAPS(
+        call(shelf, name, asked, AT(struct rrcache_told, NAMED + sizeof *name - 8), buffer, 64));
+    OVERLAPS(
+        call(shelf, name, asked, AT(struct rrcache_told, ASKED + sizeof *asked - 8), buffer, 8));
+    OVERLAPS(call(shelf, name, asked, told, memory + NAMED + sizeof *name - 1, 8));
+    OVERLAPS(call(shelf, name, asked, told, memory + ASKED + sizeof *asked - 1, 8));
+}
+
+/* What a call that writes into the shelf reads may not overlap the handle. */
+static void test_overlaps_of_what_is_asked(struct rrcache_shelf *shelf, asking call, bool writes)
+{
+    const struct rrcache_name *name = AT(struct rrcache_name, NAMED);
+    const struct rrcache_question *asked = AT(struct rrcache_question, ASKED);
+    struct rrcache_told *told = AT(struct rrcache_told, TOLD);
+    uint8_t *buffer = memory + BUFFER;
+    /* Behind the handle all is 0. */
+    EXPECT(call(shelf, AT(struct rrcache_name, END - 8), asked, told, buffer, 64)
+           == (writes ? RRCACHE_OVERLAP : RRCACHE_BAD_NAME));
+    EXPECT(call(shelf, name, AT(struct rrcache_question, END - 8), told, buffer, 64)
+           == (writes ? RRCACHE_OVERLAP : RRCACHE_BAD_CHOICE));
+}
+
+/* What is only read may overlap, and what lies side by side is no overlap, nor are no octets. */
+static void test_no_overlaps_of_an_ask(struct rrcache_shelf *shelf, asking call)
+{
+    const struct rrcache_name *name = AT(struct rrcache_name, NAMED);
+    const struct rrcache_question *asked = AT(struct rrcache_question, ASKED);
+    struct rrcache_told *told = AT(struct rrcache_told, TOLD);
+    EXPECT(call(shelf, name, AT(struct rrcache_question, NAMED + 128), told, memory + BUFFER, 64)
+           == RRCACHE_DONE);
+    EXPECT(call(shelf, name, asked, told, memory + TOLD + sizeof *told, 8) == RRCACHE_DONE
+           && call(shelf, name, asked, told, memory + NAMED + sizeof *name, 8) == RRCACHE_DONE
+           && call(shelf, name, asked, told, memory + SHELF - 8, 8) == RRCACHE_DONE
+           && call(shelf, name, asked, told, memory + END, 8) == RRCACHE_DONE);
+    EXPECT(call(shelf, name, asked, told, memory + TOLD, 0) == RRCACHE_DONE
+           && call(shelf, name, asked, told, memory + SHELF + 1, 0) == RRCACHE_DONE);
+}
+
+static void test_overlaps_of_asks(struct rrcache_shelf *shelf)
+{
+    struct rrcache_name name = name_of(OF(NAME));
+    memcpy(memory + NAMED, &name, sizeof name);
+    place_question(ASKED);
+    for (int call = 0; call < ASKINGS; call++) {
+        test_overlaps_of_an_ask(shelf, ASKING[call]);
+        test_overlaps_of_what_is_asked(shelf, ASKING[call], call < ASKS);
+    }
+    OVERLAPS(rrcache_tell_stored(shelf, AT(struct rrcache_name, NAMED),
+                                 AT(struct rrcache_question, ASKED),
+                                 AT(struct rrcache_stored, END - 8)));
+    OVERLAPS(rrcache_tell_stored(shelf, AT(struct rrcache_name, NAMED),
+                                 AT(struct rrcache_question, ASKED),
+                                 AT(struct rrcache_stored, NAMED + sizeof name - 8)));
+    OVERLAPS(rrcache_tell_stored(shelf, AT(struct rrcache_name, NAMED),
+                                 AT(struct rrcache_question, ASKED),
+                                 AT(struct rrcache_stored, ASKED + 24)));
+}
+
+/* Whether both calls that offer a message say that something overlaps. */
+static bool offers_overlap(struct rrcache_shelf *shelf, struct rrcache_response response,
+                           struct rrcache_counts *counts)
+{
+    return offer_message(shelf, response, counts) == RRCACHE_OVERLAP
+           && offer_part(shelf, response, 1, 0, counts) == RRCACHE_OVERLAP;
+}
+
+/* Whether both that read one do. */
+static bool readings_overlap(struct rrcache_offers *offers, struct rrcache_response response,
+                             uint64_t *concerned)
+{
+    return read_message(offers, response, 1, concerned) == RRCACHE_OVERLAP
+           && read_response(offers, response, query_of(OF(NAME)), concerned) == RRCACHE_OVERLAP;
+}
+
+/* A response whose zone lies there. */
+static struct rrcache_response response_of_zone(const uint8_t *zone, size_t size)
+{
+    struct rrcache_response response = response_of(OF(ALIAS));
+    response.zone = zone;
+    response.zone_size = size;
+    return response;
+}
+
+/* A message, its zone and what it is compared with. What is counted lies at 64, offers at 0. */
+static void test_overlaps_of_messages(struct rrcache_shelf *shelf)
+{
+    struct rrcache_counts *counts = AT(struct rrcache_counts, 64);
+    struct rrcache_offers *offers = AT(struct rrcache_offers, 0);
+    struct rrcache_response response = response_of(OF(ALIAS));
+    uint64_t *concerned = AT(uint64_t, 64);
+    uint8_t *const of_shelf = memory + END - 1, *const of_offers = memory + sizeof *offers - 1;
+    EXPECT(offers_overlap(shelf, response, AT(struct rrcache_counts, END - 8)));
+    EXPECT(offers_overlap(shelf, response_of(of_shelf, 8), counts));
+    EXPECT(offers_overlap(shelf, response_of_zone(of_shelf, 8), counts));
+    EXPECT(offers_overlap(shelf, response_of(memory + 64 + sizeof *counts - 1, 8), counts));
+    EXPECT(offers_overlap(shelf, response_of_zone(memory + 64 + sizeof *counts - 1, 8), counts));
+
+    EXPECT(readings_overlap(offers, response, AT(uint64_t, sizeof *offers - 8)));
+    EXPECT(readings_overlap(offers, response_of(of_offers, 8), concerned));
+    EXPECT(readings_overlap(offers, response_of_zone(of_offers, 8), concerned));
+    EXPECT(readings_overlap(offers, response_of(memory + 71, 8), concerned));
+    EXPECT(readings_overlap(offers, response_of_zone(memory + 71, 8), concerned));
+    OVERLAPS(read_response(offers, response, query_of(of_offers, 8), concerned));
+    OVERLAPS(read_response(offers, response, query_of(memory + 71, 8), concerned));
+
+    OVERLAPS(rrcache_offer_read(shelf, AT(struct rrcache_offers, END - 8), SHARE(0), counts));
+    OVERLAPS(rrcache_offer_read(shelf, offers, SHARE(0), AT(struct rrcache_counts, END - 8)));
+    OVERLAPS(rrcache_offer_read(shelf, offers, SHARE(0), AT(struct rrcache_counts, 8)));
+    OVERLAPS(rrcache_offer_read(shelf, offers, AT(struct rrcache_share, END - 8), counts));
+    OVERLAPS(rrcache_offer_read(shelf, offers, AT(struct rrcache_share, 8), counts));
+    OVERLAPS(rrcache_offer_read(shelf, offers, AT(struct rrcache_share, 80), counts));
+}
+
+/* A negative answer of which one list of octets lies elsewhere: its name, its SOA record's owner or
+   that record's data. */
+static struct rrcache_negative negative_at(int which, const uint8_t *octets, size_t size)
+{
+    struct rrcache_negative negative = negative_of(OF(NAME), A, RRCACHE_NODATA);
+    if (which == 0) {
+        negative.name = octets;
+        negative.name_size = size;
+    } else if (which == 1) {
+        negative.soa_owner = octets;
+        negative.soa_owner_size = size;
+    } else {
+        negative.soa = octets;
+        negative.soa_size = size;
+    }
+    return negative;
+}
+
+/* What is offered and its outcome, which lies at 64. */
+static void test_overlaps_of_offers(struct rrcache_shelf *shelf)
+{
+    uint32_t *const outcome = AT(uint32_t, 64), *const in_shelf = AT(uint32_t, END - 4);
+    const uint8_t *const places[] = {memory + END - 1, memory + 64 + sizeof *outcome - 1};
+    struct rrcache_set set = set_of(OF(NAME), A, OF(ADDRESS));
+    struct rrcache_negative negative = negative_of(OF(NAME), A, RRCACHE_NODATA);
+    struct rrcache_failure failure = failure_of(OF(NAME), A);
+    OVERLAPS(rrcache_offer_set(shelf, &set, in_shelf));
+    OVERLAPS(rrcache_offer_negative(shelf, &negative, in_shelf));
+    OVERLAPS(rrcache_offer_failure(shelf, &failure, in_shelf));
+    for (int place = 0; place < 2; place++) {
+        set = set_of(places[place], 8, A, OF(ADDRESS));
+        OVERLAPS(rrcache_offer_set(shelf, &set, outcome));
+        set = set_of(OF(NAME), A, places[place], 8);
+        OVERLAPS(rrcache_offer_set(shelf, &set, outcome));
+        for (int which = 0; which < 3; which++) {
+            negative = negative_at(which, places[place], 8);
+            OVERLAPS(rrcache_offer_negative(shelf, &negative, outcome));
+        }
+        failure = failure_of(places[place], 8, A);
+        OVERLAPS(rrcache_offer_failure(shelf, &failure, outcome));
+    }
+}
+
+static void test_overlaps_of_upkeep(struct rrcache_shelf *shelf)
+{
+    struct rrcache_sweep_at terms = *SWEEP(FIRST, 1);
+    memcpy(memory + 64, &terms, sizeof terms);
+    OVERLAPS(rrcache_make(shelf, AT(struct rrcache_rules, END - 8)));
+    OVERLAPS(rrcache_sweep(shelf, SWEEP(FIRST, 1), AT(uint64_t, END - 8)));
+    OVERLAPS(rrcache_sweep(shelf, AT(struct rrcache_sweep_at, END - 8), AT(uint64_t, 0)));
+    OVERLAPS(rrcache_sweep(shelf, AT(struct rrcache_sweep_at, 64), AT(uint64_t, 80)));
+    OVERLAPS(rrcache_sweep_some(shelf, SWEEP(FIRST, 1), AT(struct rrcache_swept, END - 8)));
+    OVERLAPS(rrcache_sweep_some(shelf, AT(struct rrcache_sweep_at, END - 8),
+                                AT(struct rrcache_swept, 0)));
+    OVERLAPS(
+        rrcache_sweep_some(shelf, AT(struct rrcache_sweep_at, 64), AT(struct rrcache_swept, 80)));
+    OVERLAPS(rrcache_next_expiry(shelf, AT(uint64_t, END - 8)));
+    OVERLAPS(rrcache_drop_chapters(shelf, AT(uint64_t, END - 8)));
+    OVERLAPS(rrcache_sizes(shelf, AT(struct rrcache_usage, END - 8)));
+    OVERLAPS(rrcache_fault(memory + 67, 8, AT(uint32_t, 64)));
+    OVERLAPS(rrcache_make_name(AT(struct rrcache_name, 0), memory + sizeof(struct rrcache_name) - 1,
+                               8, PARTED(1)));
+    OVERLAPS(rrcache_make_name(AT(struct rrcache_name, 0), OF(NAME),
+                               AT(struct rrcache_parts, sizeof(struct rrcache_name) - 8)));
+}
+
+/* Chapters lie at 0, and what is told of their lines at 64. */
+static void test_overlaps_of_chapters(struct rrcache_shelf *shelf)
+{
+    struct rrcache_chapters *chapters = AT(struct rrcache_chapters, 0);
+    struct rrcache_line *told = AT(struct rrcache_line, 64);
+    const struct rrcache_place *place = AT(struct rrcache_place, 128);
+    uint64_t *count = AT(uint64_t, 64);
+    uint8_t *buffer = memory + BUFFER;
+    OVERLAPS(rrcache_take_chapters(shelf, AT(struct rrcache_chapters, END - 8), count));
+    OVERLAPS(rrcache_take_chapters(shelf, chapters, AT(uint64_t, END - 8)));
+    OVERLAPS(rrcache_take_chapters(shelf, chapters, AT(uint64_t, 8)));
+    OVERLAPS(rrcache_stop_recording(shelf, AT(struct rrcache_chapters, END - 8), count));
+    OVERLAPS(rrcache_stop_recording(shelf, chapters, AT(uint64_t, END - 8)));
+    OVERLAPS(rrcache_stop_recording(shelf, chapters, AT(uint64_t, 8)));
+    OVERLAPS(rrcache_chapter_line(chapters, place, buffer, 8, AT(struct rrcache_line, 8)));
+    OVERLAPS(rrcache_chapter_line(chapters, place, memory + sizeof *chapters - 1, 8, told));
+    OVERLAPS(rrcache_chapter_line(chapters, place, memory + 64 + sizeof *told - 1, 8, told));
+    OVERLAPS(rrcache_chapter_line(chapters, AT(struct rrcache_place, 8), buffer, 8, told));
+    OVERLAPS(rrcache_chapter_line(chapters, AT(struct rrcache_place, 72), buffer, 8, told));
+    OVERLAPS(rrcache_chapter_line(chapters, place, memory + 128 + sizeof *place - 1, 8, told));
+}
+
+/* A null pointer is told before an overlap, and that before a handle that holds nothing. */
+static void test_order_of_overlaps(struct rrcache_shelf *shelf)
+{
+    struct rrcache_shelf empty = {0};
+    struct rrcache_name name = name_of(OF(NAME));
+    struct rrcache_question asked = question(A, FIRST);
+    struct rrcache_response response = response_of(memory, 8);
+    IS_NULL(rrcache_sweep(shelf, NULL, AT(uint64_t, END - 8)));
+    IS_NULL(rrcache_ask(shelf, NULL, &asked, AT(struct rrcache_told, END - 8), memory, 8));
+    IS_NULL(rrcache_read_message_unchecked(AT(struct rrcache_offers, 0), &response, NULL,
+                                           AT(uint64_t, 64)));
+    IS_NULL(rrcache_read_response(AT(struct rrcache_offers, 0), &response, NULL, PARTED(1),
+                                  AT(uint64_t, 64)));
+    IS_NULL(rrcache_offer_part_unchecked(shelf, &response, PARTED(1), NULL,
+                                         AT(struct rrcache_counts, 0)));
+    OVERLAPS(rrcache_next_expiry(&empty, (uint64_t *)(void *)&empty));
+    OVERLAPS(rrcache_ask(&empty, &name, &asked, AT(struct rrcache_told, 0), memory, 8));
+}
+
 static void test_overlaps(void)
 {
-    /* Places of 64 octets for the handle, a record and octets, so that any two can be made to
-     * overlap. */
-    union {
-        uint8_t octets[512];
-        uint64_t aligned;
-    } memory;
-    struct rrcache_shelf held = {0}, *shelf = (struct rrcache_shelf *)(void *)memory.octets;
-    uint8_t *end = memory.octets + sizeof held; /* the octet behind the handle */
-    uint8_t *const apart = memory.octets + 64, *const far = memory.octets + 128;
-    uint64_t other;
-    struct rrcache_counts *counts = (struct rrcache_counts *)(void *)apart;
-    struct rrcache_told *told = (struct rrcache_told *)(void *)apart;
-    uint64_t *wide = (uint64_t *)(void *)apart;
-    uint32_t *number = (uint32_t *)(void *)apart;
-    struct rrcache_offers none = {0}, *offers = (struct rrcache_offers *)(void *)apart;
-    memset(&memory, 0, sizeof memory);
-    memcpy(far, NAME, sizeof NAME);
-#define IS_NULL(call) EXPECT((call) == RRCACHE_NULL)
-    EXPECT(rrcache_make(shelf, 100, 4, 3600, end - 1) == RRCACHE_NULL && !shelf->is_live
-           && rrcache_make(shelf, 100, 4, 3600, end) == RRCACHE_DONE
-           && rrcache_record(shelf) == RRCACHE_DONE);
+    struct rrcache_shelf held;
+    memory = calloc(1, ROOM);
+    if (memory == NULL)
+        exit(2);
+    struct rrcache_shelf *shelf = AT(struct rrcache_shelf, SHELF);
+    OVERLAPS(rrcache_make(shelf, AT(struct rrcache_rules, END - 8)));
+    EXPECT(!shelf->is_live && make(shelf) == RRCACHE_DONE);
     memcpy(&held, shelf, sizeof held);
+    test_overlaps_of_asks(shelf);
+    test_overlaps_of_messages(shelf);
+    test_overlaps_of_offers(shelf);
+    test_overlaps_of_upkeep(shelf);
+    test_overlaps_of_chapters(shelf);
+    test_order_of_overlaps(shelf);
 
-    /* The handle with what else is written, and with what is read. */
-    IS_NULL(rrcache_sweep(shelf, FIRST, 1, (uint64_t *)(void *)(memory.octets + 8)));
-    IS_NULL(rrcache_next_expiry(shelf, (uint64_t *)(void *)(memory.octets + 8)));
-    IS_NULL(rrcache_sweep_some(shelf, FIRST, 1, 1, (uint64_t *)(void *)(memory.octets + 8),
-                               (bool *)far));
-    IS_NULL(rrcache_sweep_some(shelf, FIRST, 1, 1, wide, (bool *)(end - 1)));
-    IS_NULL(rrcache_sweep_some(shelf, FIRST, 1, 1, wide, (bool *)(apart + 7)));
-    IS_NULL(rrcache_drop_chapters(shelf, (uint64_t *)(void *)(memory.octets + 8)));
-    IS_NULL(
-        rrcache_sizes(shelf, (uint64_t *)(void *)(memory.octets + 8), wide, wide + 1, wide + 2));
-    IS_NULL(
-        rrcache_sizes(shelf, wide, (uint64_t *)(void *)(memory.octets + 8), wide + 1, wide + 2));
-    IS_NULL(
-        rrcache_sizes(shelf, wide, wide + 1, (uint64_t *)(void *)(memory.octets + 8), wide + 2));
-    IS_NULL(
-        rrcache_sizes(shelf, wide, wide + 1, wide + 2, (uint64_t *)(void *)(memory.octets + 8)));
-    IS_NULL(ask(shelf, FIRST, (struct rrcache_told *)(void *)(memory.octets + 8), far, 64));
-    IS_NULL(peek(shelf, FIRST, (struct rrcache_told *)(void *)(memory.octets + 8), far, 64));
-    IS_NULL(ask(shelf, FIRST, told, end - 1, 8));
-    IS_NULL(peek(shelf, FIRST, told, end - 1, 8));
-    IS_NULL(rrcache_ask(shelf, QUERY(end - 1, 1, A, RRCACHE_IN, FIRST, 0, 0), 1, told, far, 64));
-    IS_NULL(rrcache_peek(shelf, QUERY(end - 1, 1, A, RRCACHE_IN, FIRST, 0, 0), told, far, 64));
-    IS_NULL(rrcache_ask_alias(shelf, QUERY(NAME, sizeof NAME, A, RRCACHE_IN, FIRST, 0, 0), 1, told,
-                              far, 64, (bool *)(end - 1)));
-    IS_NULL(offer_answer(shelf, FIRST, (struct rrcache_counts *)(void *)(memory.octets + 8)));
-    IS_NULL(offer_alias(shelf, 1, 0, FIRST, (struct rrcache_counts *)(void *)(memory.octets + 8)));
-    IS_NULL(rrcache_offer_message(shelf, RESPONSE(end - 1, 8, ZONE, sizeof ZONE, FIRST, LIMITS), 1,
-                                  counts));
-    IS_NULL(rrcache_offer_message(shelf, RESPONSE(ANSWER, sizeof ANSWER, end - 1, 8, FIRST, LIMITS),
-                                  1, counts));
-    IS_NULL(rrcache_offer_part(shelf, RESPONSE(end - 1, 8, ZONE, sizeof ZONE, FIRST, LIMITS),
-                               PARTED(1), 0, 1, counts));
-    IS_NULL(rrcache_offer_part(shelf, RESPONSE(ALIAS, sizeof ALIAS, end - 1, 8, FIRST, LIMITS),
-                               PARTED(1), 0, 1, counts));
-    IS_NULL(rrcache_offer_read(shelf, (struct rrcache_offers *)(void *)(memory.octets + 8), 0, 1,
-                               counts));
-    IS_NULL(rrcache_offer_read(shelf, &none, 0, 1,
-                               (struct rrcache_counts *)(void *)(memory.octets + 8)));
-    IS_NULL(rrcache_offer_read(shelf, offers, 0, 1, (struct rrcache_counts *)(void *)(apart + 8)));
-    IS_NULL(read_alias(offers, 1, (uint64_t *)(void *)(apart + 8)));
-    IS_NULL(rrcache_read_message(
-        offers, RESPONSE(apart + sizeof *offers - 1, 8, ZONE, sizeof ZONE, FIRST, LIMITS),
-        PARTED(1), &other));
-    IS_NULL(rrcache_read_message(
-        offers, RESPONSE(ALIAS, sizeof ALIAS, apart + sizeof *offers - 1, 8, FIRST, LIMITS),
-        PARTED(1), &other));
-    IS_NULL(rrcache_read_message(&none, RESPONSE(apart + 7, 8, ZONE, sizeof ZONE, FIRST, LIMITS),
-                                 PARTED(1), wide));
-    IS_NULL(rrcache_read_message(&none, RESPONSE(ALIAS, sizeof ALIAS, apart + 7, 8, FIRST, LIMITS),
-                                 PARTED(1), wide));
-    IS_NULL(rrcache_offer_set(
-        shelf, SET(end - 1, 8, A, RRCACHE_IN, 4, 60, ADDRESS, sizeof ADDRESS, FIRST), 1, number));
-    IS_NULL(rrcache_offer_set(
-        shelf, SET(NAME, sizeof NAME, A, RRCACHE_IN, 4, 60, end - 1, 8, FIRST), 1, number));
-    IS_NULL(rrcache_offer_set(
-        shelf, SET(NAME, sizeof NAME, A, RRCACHE_IN, 4, 60, ADDRESS, sizeof ADDRESS, FIRST), 1,
-        (uint32_t *)(void *)(memory.octets + 12)));
-    IS_NULL(rrcache_offer_negative(shelf,
-                                   NEGATIVE(end - 1, 8, A, RRCACHE_IN, 0, 3, 60, ZONE, sizeof ZONE,
-                                            SOA_DATA, sizeof SOA_DATA, FIRST),
-                                   1, number));
-    IS_NULL(rrcache_offer_negative(shelf,
-                                   NEGATIVE(NAME, sizeof NAME, A, RRCACHE_IN, 0, 3, 60, end - 1, 8,
-                                            SOA_DATA, sizeof SOA_DATA, FIRST),
-                                   1, number));
-    IS_NULL(rrcache_offer_negative(
-        shelf,
-        NEGATIVE(NAME, sizeof NAME, A, RRCACHE_IN, 0, 3, 60, ZONE, sizeof ZONE, end - 1, 8, FIRST),
-        1, number));
-    IS_NULL(rrcache_offer_negative(shelf,
-                                   NEGATIVE(NAME, sizeof NAME, A, RRCACHE_IN, 0, 3, 60, ZONE,
-                                            sizeof ZONE, SOA_DATA, sizeof SOA_DATA, FIRST),
-                                   1, (uint32_t *)(void *)(memory.octets + 12)));
-    IS_NULL(rrcache_offer_failure(shelf, FAILURE(end - 1, 8, A, RRCACHE_IN, 30, FIRST), 1, number));
-    IS_NULL(rrcache_offer_failure(shelf, FAILURE(NAME, sizeof NAME, A, RRCACHE_IN, 30, FIRST), 1,
-                                  (uint32_t *)(void *)(memory.octets + 12)));
-
-    /* What else is written, with itself and with what is read. */
-    IS_NULL(ask(shelf, FIRST, told, apart + sizeof *told - 1, 64));
-    IS_NULL(peek(shelf, FIRST, told, apart + sizeof *told - 1, 64));
-    IS_NULL(rrcache_ask(shelf, QUERY(apart + sizeof *told - 1, 8, A, RRCACHE_IN, FIRST, 0, 0), 1,
-                        told, far, 64));
-    IS_NULL(rrcache_peek(shelf, QUERY(apart + sizeof *told - 1, 8, A, RRCACHE_IN, FIRST, 0, 0),
-                         told, far, 64));
-    IS_NULL(rrcache_ask(shelf, QUERY(far, sizeof NAME, A, RRCACHE_IN, FIRST, 0, 0), 1, told,
-                        far + sizeof NAME - 1, 64));
-    IS_NULL(rrcache_peek(shelf, QUERY(far, sizeof NAME, A, RRCACHE_IN, FIRST, 0, 0), told,
-                         far + sizeof NAME - 1, 64));
-    IS_NULL(rrcache_ask_alias(shelf, QUERY(NAME, sizeof NAME, A, RRCACHE_IN, FIRST, 0, 0), 1, told,
-                              far, 64, (bool *)(apart + sizeof *told - 1)));
-    IS_NULL(rrcache_ask_alias(shelf, QUERY(NAME, sizeof NAME, A, RRCACHE_IN, FIRST, 0, 0), 1, told,
-                              far, 64, (bool *)(far + 63)));
-    IS_NULL(rrcache_ask_alias(shelf, QUERY(far, sizeof NAME, A, RRCACHE_IN, FIRST, 0, 0), 1, told,
-                              apart + sizeof *told, 8, (bool *)far));
-    IS_NULL(rrcache_sizes(shelf, wide, wide, wide + 1, wide + 2));
-    IS_NULL(rrcache_sizes(shelf, wide, wide + 1, wide, wide + 2));
-    IS_NULL(rrcache_sizes(shelf, wide + 1, wide, wide, wide + 2));
-    IS_NULL(rrcache_sizes(shelf, wide, wide + 1, wide + 2, wide));
-    IS_NULL(rrcache_sizes(shelf, wide, wide + 1, wide + 2, wide + 1));
-    IS_NULL(rrcache_sizes(shelf, wide, wide + 1, wide + 2, wide + 2));
-    IS_NULL(rrcache_offer_message(
-        shelf, RESPONSE(apart + sizeof *counts - 1, 8, ZONE, sizeof ZONE, FIRST, LIMITS), 1,
-        counts));
-    IS_NULL(rrcache_offer_message(
-        shelf, RESPONSE(ANSWER, sizeof ANSWER, apart + sizeof *counts - 1, 8, FIRST, LIMITS), 1,
-        counts));
-    IS_NULL(rrcache_offer_part(
-        shelf, RESPONSE(apart + sizeof *counts - 1, 8, ZONE, sizeof ZONE, FIRST, LIMITS), PARTED(1),
-        0, 1, counts));
-    IS_NULL(rrcache_offer_part(
-        shelf, RESPONSE(ALIAS, sizeof ALIAS, apart + sizeof *counts - 1, 8, FIRST, LIMITS),
-        PARTED(1), 0, 1, counts));
-    IS_NULL(rrcache_offer_set(
-        shelf, SET(apart + 3, 8, A, RRCACHE_IN, 4, 60, ADDRESS, sizeof ADDRESS, FIRST), 1, number));
-    IS_NULL(rrcache_offer_set(
-        shelf, SET(NAME, sizeof NAME, A, RRCACHE_IN, 4, 60, apart + 3, 8, FIRST), 1, number));
-    IS_NULL(rrcache_offer_negative(shelf,
-                                   NEGATIVE(apart + 3, 8, A, RRCACHE_IN, 0, 3, 60, ZONE,
-                                            sizeof ZONE, SOA_DATA, sizeof SOA_DATA, FIRST),
-                                   1, number));
-    IS_NULL(rrcache_offer_negative(shelf,
-                                   NEGATIVE(NAME, sizeof NAME, A, RRCACHE_IN, 0, 3, 60, apart + 3,
-                                            8, SOA_DATA, sizeof SOA_DATA, FIRST),
-                                   1, number));
-    IS_NULL(rrcache_offer_negative(shelf,
-                                   NEGATIVE(NAME, sizeof NAME, A, RRCACHE_IN, 0, 3, 60, ZONE,
-                                            sizeof ZONE, apart + 3, 8, FIRST),
-                                   1, number));
-    IS_NULL(
-        rrcache_offer_failure(shelf, FAILURE(apart + 3, 8, A, RRCACHE_IN, 30, FIRST), 1, number));
-    IS_NULL(rrcache_fault(apart + 3, 8, number));
-    IS_NULL(rrcache_part_of(apart + 7, 8, PARTED(1), wide));
-#undef IS_NULL
-
-    /* Nothing was written, and what lies side by side, or is only read, is no overlap. */
+    /* Nothing was written. */
     EXPECT(memcmp(&held, shelf, sizeof held) == 0 && events(shelf) == 0);
-    EXPECT(rrcache_ask(shelf, QUERY(far, sizeof NAME, A, RRCACHE_IN, FIRST, 0, 0), 1, told,
-                       far + sizeof NAME, 64)
-           == RRCACHE_DONE);
-    EXPECT(ask(shelf, FIRST, told, apart + sizeof *told, 0) == RRCACHE_DONE
-           && ask(shelf, FIRST, told, apart, 0) == RRCACHE_DONE);
-    EXPECT(rrcache_offer_negative(shelf,
-                                  NEGATIVE(far, sizeof NAME, A, RRCACHE_IN, 0, 3, 60, far,
-                                           sizeof NAME, SOA_DATA, sizeof SOA_DATA, FIRST),
-                                  1, number)
-           == RRCACHE_DONE);
-    EXPECT(rrcache_sizes(shelf, wide, wide + 1, wide + 2, wide + 3) == RRCACHE_DONE
-           && rrcache_free(shelf) == RRCACHE_DONE);
+    place_question(NAMED + 128);
+    for (int call = 0; call < ASKINGS; call++)
+        test_no_overlaps_of_an_ask(shelf, ASKING[call]);
+    struct rrcache_negative denial = negative_at(1, memory + BUFFER, sizeof NAME);
+    memcpy(memory + BUFFER, NAME, sizeof NAME);
+    denial.name = memory + BUFFER;
+    EXPECT(offer_negative(shelf, denial) == RRCACHE_KEPT && rrcache_free(shelf) == RRCACHE_DONE);
+    free(memory);
 }
 
 #ifdef REFUSE
@@ -2291,7 +3437,7 @@ void __real_free(void *old);
    memory was asked for. */
 static long granted = -1, blocks, wanted;
 
-static bool is_refused(void)
+static bool is_denied(void)
 {
     wanted++;
     return granted >= 0 && granted-- == 0;
@@ -2299,21 +3445,21 @@ static bool is_refused(void)
 
 void *__wrap_malloc(size_t size)
 {
-    void *made = is_refused() ? NULL : __real_malloc(size);
+    void *made = is_denied() ? NULL : __real_malloc(size);
     blocks += made != NULL;
     return made;
 }
 
 void *__wrap_calloc(size_t count, size_t size)
 {
-    void *made = is_refused() ? NULL : __real_calloc(count, size);
+    void *made = is_denied() ? NULL : __real_calloc(count, size);
     blocks += made != NULL;
     return made;
 }
 
 void *__wrap_realloc(void *old, size_t size)
 {
-    void *made = is_refused() ? NULL : __real_realloc(old, size);
+    void *made = is_denied() ? NULL : __real_realloc(old, size);
     blocks += made != NULL && old == NULL;
     return made;
 }
@@ -2324,110 +3470,222 @@ void __wrap_free(void *old)
     __real_free(old);
 }
 
-/* What a shelf answers, and how many keys and events it has. */
+/* What a shelf answers, and how many keys and events it has. A chapter that was full may be closed
+   by a call that is refused, so events are counted over all chapters of four. */
 struct state {
     uint64_t keys, events, octets;
-    uint32_t status;
-    struct rrcache_told told;
-    uint8_t buffer[64];
+    struct reply reply;
 };
 
 static struct state state_of(struct rrcache_shelf *shelf)
 {
-    struct state state;
     long before = granted;
     granted = -1;
-    memset(&state, 0, sizeof state);
-    uint64_t open = 0, chapters = 0;
-    rrcache_sizes(shelf, &state.keys, &open, &chapters, &state.octets);
-    /* A chapter that was full may be closed by a call that is refused, so events are counted over
-     * all chapters of four. */
-    state.events = open + 4 * chapters;
-    state.status = peek(shelf, FIRST, &state.told, state.buffer, sizeof state.buffer);
+    struct rrcache_usage sizes = sizes_of(shelf);
+    struct state state = {
+        .keys = sizes.keys, .events = sizes.events + 4 * sizes.chapters, .octets = sizes.octets};
+    state.reply = peeked(shelf, OF(NAME), question(A, FIRST));
     granted = before;
     return state;
 }
 
-enum { CALLS = 18 };
+static bool are_same_states(const struct state *one, const struct state *other)
+{
+    return one->keys == other->keys && one->events == other->events && one->octets == other->octets
+           && are_same(&one->reply, &other->reply);
+}
 
 static const uint8_t LONG[] = "\46a-label-that-is-longer-than-most-names\7example";
 /* The part of OTHER. */
 static uint64_t target;
-/* Which of the calls have met a refusal of memory, and behind them whether the making of the shelf
-   has, and the beginning of its record. */
-static bool met_refusal[CALLS + 2];
 /* What one call reads, the next one offers and the one after that frees. */
 static struct rrcache_offers offers;
 /* The same of the chapters that calls take. */
 static struct rrcache_chapters chapters;
 
-static uint32_t call(int number, struct rrcache_shelf *shelf)
+/* How one of the calls that tell a reply answers a question about a name. */
+static uint32_t call_asking(asking call, struct rrcache_shelf *shelf, const uint8_t *octets,
+                            size_t size)
+{
+    struct rrcache_name name = name_of(octets, size);
+    struct rrcache_question asked = question(A, FIRST);
+    struct rrcache_told told;
+    uint8_t buffer[64];
+    return call(shelf, &name, &asked, &told, OF(buffer));
+}
+
+static uint32_t call_answer(struct rrcache_shelf *shelf)
 {
     struct rrcache_counts counts;
-    struct rrcache_told told;
-    struct rrcache_line line;
-    uint32_t outcome;
-    uint64_t removed;
-    uint8_t buffer[64];
-    switch (number) {
-    case 0:
-        return offer_answer(shelf, FIRST, &counts);
-    case 1:
-        return rrcache_ask(shelf, QUERY(UPPER, sizeof UPPER, A, RRCACHE_IN, FIRST, 1, 0), 2, &told,
-                           buffer, sizeof buffer);
-    case 2:
-        return rrcache_offer_set(
-            shelf, SET(OTHER, sizeof OTHER, A, RRCACHE_IN, 4, 60, ADDRESS, sizeof ADDRESS, FIRST),
-            3, &outcome);
-    case 3:
-        return rrcache_offer_negative(shelf,
-                                      NEGATIVE(OTHER, sizeof OTHER, TXT, RRCACHE_IN, 0, 3, 60, ZONE,
-                                               sizeof ZONE, SOA_DATA, sizeof SOA_DATA, FIRST),
-                                      4, &outcome);
-    case 4:
-        return rrcache_offer_failure(shelf, FAILURE(NAME, sizeof NAME, TXT, RRCACHE_IN, 30, FIRST),
-                                     5, &outcome);
-    case 5:
-        return rrcache_sweep(shelf, FIRST + 10000, 6, &removed);
-    case 6:
-        return rrcache_fault(ANSWER, sizeof ANSWER, &outcome);
-    case 7:
-        return rrcache_peek(shelf, QUERY(LONG, sizeof LONG, A, RRCACHE_IN, FIRST, 1, 0), &told,
-                            buffer, sizeof buffer);
-    case 8:
-        return offer_alias(shelf, PARTS, target, FIRST, &counts);
-    case 9:
-        return read_alias(&offers, PARTS, &removed);
-    case 10:
-        return rrcache_offer_read(shelf, &offers, target, 7, &counts);
-    case 11:
-        return rrcache_free_offers(&offers);
-    case 12:
-        return rrcache_take_chapters(shelf, &chapters, &removed);
-    case 13:
-        /* While nothing is recorded there is no line. */
-        outcome = rrcache_chapter_line(&chapters, 0, 1, 0, buffer, sizeof buffer, &line);
-        return outcome == RRCACHE_NO_LINE ? RRCACHE_DONE : outcome;
-    case 14:
-    case 16:
-        return rrcache_free_chapters(&chapters);
-    case 15:
-        return rrcache_stop_recording(shelf, &chapters, &removed);
-    default:
-        return rrcache_part_of(LONG, sizeof LONG, PARTED(PARTS), &removed);
-    }
+    return offer_answer(shelf, FIRST, &counts);
 }
+
+static uint32_t call_ask(struct rrcache_shelf *shelf)
+{
+    return call_asking(to_ask, shelf, OF(UPPER));
+}
+
+static uint32_t call_ask_alias(struct rrcache_shelf *shelf)
+{
+    return call_asking(to_ask_alias, shelf, OF(UPPER));
+}
+
+static uint32_t call_set(struct rrcache_shelf *shelf)
+{
+    return set_status(shelf, set_of(OF(OTHER), A, OF(ADDRESS)));
+}
+
+static uint32_t call_negative(struct rrcache_shelf *shelf)
+{
+    return negative_status(shelf, negative_of(OF(OTHER), TXT, RRCACHE_NODATA));
+}
+
+static uint32_t call_failure(struct rrcache_shelf *shelf)
+{
+    return failure_status(shelf, failure_of(OF(NAME), TXT));
+}
+
+/* One step, that removes the failure. */
+static uint32_t call_sweep_some(struct rrcache_shelf *shelf)
+{
+    struct rrcache_swept swept;
+    return rrcache_sweep_some(shelf, SWEEP(FIRST + 30, 1), &swept);
+}
+
+static uint32_t call_sweep(struct rrcache_shelf *shelf)
+{
+    uint64_t removed;
+    return rrcache_sweep(shelf, SWEEP(FIRST + 10000, 0), &removed);
+}
+
+static uint32_t call_fault(struct rrcache_shelf *shelf)
+{
+    uint32_t fault;
+    (void)shelf;
+    return rrcache_fault(OF(ANSWER), &fault);
+}
+
+static uint32_t call_peek(struct rrcache_shelf *shelf)
+{
+    return call_asking(to_peek, shelf, OF(LONG));
+}
+
+static uint32_t call_peek_alias(struct rrcache_shelf *shelf)
+{
+    return call_asking(to_peek_alias, shelf, OF(LONG));
+}
+
+static uint32_t call_stored(struct rrcache_shelf *shelf)
+{
+    struct rrcache_name name = name_of(OF(LONG));
+    struct rrcache_question asked = question(A, FIRST);
+    struct rrcache_stored stored;
+    return rrcache_tell_stored(shelf, &name, &asked, &stored);
+}
+
+static uint32_t call_part(struct rrcache_shelf *shelf)
+{
+    struct rrcache_counts counts;
+    return offer_alias(shelf, PARTS, target, FIRST, &counts);
+}
+
+static uint32_t call_read(struct rrcache_shelf *shelf)
+{
+    uint64_t concerned;
+    (void)shelf;
+    return read_alias(&offers, PARTS, &concerned);
+}
+
+static uint32_t call_read_response(struct rrcache_shelf *shelf)
+{
+    uint64_t concerned;
+    (void)shelf;
+    return read_response(&offers, response_of(OF(ALIAS)), query_of(OF(NAME)), &concerned);
+}
+
+static uint32_t call_offer_read(struct rrcache_shelf *shelf)
+{
+    struct rrcache_counts counts;
+    return rrcache_offer_read(shelf, &offers, SHARE(target), &counts);
+}
+
+static uint32_t call_free_offers(struct rrcache_shelf *shelf)
+{
+    (void)shelf;
+    return rrcache_free_offers(&offers);
+}
+
+static uint32_t call_take(struct rrcache_shelf *shelf)
+{
+    uint64_t count;
+    return rrcache_take_chapters(shelf, &chapters, &count);
+}
+
+/* While nothing is recorded there is no line. */
+static uint32_t call_line(struct rrcache_shelf *shelf)
+{
+    struct rrcache_line line;
+    uint8_t buffer[64];
+    uint32_t status = rrcache_chapter_line(&chapters, PLACE(0, 1, 0), OF(buffer), &line);
+    (void)shelf;
+    return status == RRCACHE_NO_LINE ? RRCACHE_DONE : status;
+}
+
+static uint32_t call_free_chapters(struct rrcache_shelf *shelf)
+{
+    (void)shelf;
+    return rrcache_free_chapters(&chapters);
+}
+
+static uint32_t call_stop(struct rrcache_shelf *shelf)
+{
+    uint64_t count;
+    return rrcache_stop_recording(shelf, &chapters, &count);
+}
+
+static uint32_t call_make_name(struct rrcache_shelf *shelf)
+{
+    struct rrcache_name name;
+    (void)shelf;
+    return rrcache_make_name(&name, OF(LONG), PARTED(PARTS));
+}
+
+/* The calls in their order, and whether one takes memory where the history is recorded: to look
+   takes none, and neither does to free. */
+static const struct {
+    uint32_t (*make)(struct rrcache_shelf *shelf);
+    bool takes_memory;
+} CALLED[] = {
+    {call_answer, true},         {call_ask, true},
+    {call_ask_alias, true},      {call_set, true},
+    {call_negative, true},       {call_failure, true},
+    {call_sweep_some, true},     {call_sweep, true},
+    {call_fault, true},          {call_peek, false},
+    {call_peek_alias, false},    {call_stored, false},
+    {call_part, true},           {call_read, true},
+    {call_offer_read, true},     {call_free_offers, false},
+    {call_read_response, true},  {call_free_offers, false},
+    {call_take, true},           {call_line, true},
+    {call_free_chapters, false}, {call_stop, true},
+    {call_free_chapters, false}, {call_make_name, false},
+};
+
+enum { CALLS = sizeof CALLED / sizeof *CALLED };
+
+/* Which of the calls have met a refusal of memory, and whether the making of the shelf has, and the
+   beginning of its record. */
+static bool met_refusal[CALLS], making_met, record_met;
 
 /* Makes an empty shelf, where one allocation may be refused, and answers whether what is told and
    left of that is right. */
 static bool make_refused(struct rrcache_shelf *shelf)
 {
     bool right = true;
-    uint32_t made = rrcache_make(shelf, 100, 4, 3600, SEED);
+    uint32_t made = rrcache_make(shelf, RULES(100, 4, MAX_STALE));
     if (made == RRCACHE_MEMORY) {
-        met_refusal[CALLS] = true;
+        making_met = true;
         right = shelf->at == NULL && !shelf->is_live && blocks == 0;
-        made = rrcache_make(shelf, 100, 4, 3600, SEED);
+        made = rrcache_make(shelf, RULES(100, 4, MAX_STALE));
     }
     return right && made == RRCACHE_DONE;
 }
@@ -2440,9 +3698,25 @@ static bool record_refused(struct rrcache_shelf *shelf)
     uint32_t status = rrcache_record(shelf);
     struct state after = state_of(shelf);
     if (status == RRCACHE_MEMORY) {
-        met_refusal[CALLS + 1] = true;
-        right = memcmp(&before, &after, sizeof before) == 0;
+        record_met = true;
+        right = are_same_states(&before, &after);
         status = rrcache_record(shelf);
+    }
+    return right && status == RRCACHE_DONE;
+}
+
+/* Makes one of the calls, again where it is refused, and answers whether that left the shelf as it
+   was. */
+static bool call_refused(int number, struct rrcache_shelf *shelf)
+{
+    struct state before = state_of(shelf);
+    bool right = true;
+    uint32_t status = CALLED[number].make(shelf);
+    struct state after = state_of(shelf);
+    if (status == RRCACHE_MEMORY) {
+        met_refusal[number] = true;
+        right = are_same_states(&before, &after);
+        status = CALLED[number].make(shelf);
     }
     return right && status == RRCACHE_DONE;
 }
@@ -2453,47 +3727,34 @@ static bool record_refused(struct rrcache_shelf *shelf)
 static bool run_refused(long refused, bool records)
 {
     struct rrcache_shelf shelf = {0};
-    bool right = true;
     granted = refused;
-    right = make_refused(&shelf) && (!records || record_refused(&shelf));
-    for (int number = 0; number < CALLS; number++) {
-        struct state before = state_of(&shelf);
-        uint32_t status = call(number, &shelf);
-        struct state after = state_of(&shelf);
-        if (status == RRCACHE_MEMORY) {
-            met_refusal[number] = true;
-            right = right && memcmp(&before, &after, sizeof before) == 0;
-            status = call(number, &shelf);
-        }
-        right = right && status == RRCACHE_DONE;
-    }
+    bool right = make_refused(&shelf) && (!records || record_refused(&shelf));
+    for (int number = 0; number < CALLS; number++)
+        right = call_refused(number, &shelf) && right;
     bool is_whole = granted >= 0;
     granted = -1;
-    right = right && rrcache_release(&shelf) == RRCACHE_DONE && rrcache_free(&shelf) == RRCACHE_DONE
-            && blocks == 0;
+    right = right && rrcache_stop_and_drop(&shelf) == RRCACHE_DONE
+            && rrcache_free(&shelf) == RRCACHE_DONE && blocks == 0;
     EXPECT(right);
     return is_whole;
 }
 
 static void test_refused_memory(void)
 {
-    long refused = 0;
     long out = blocks;
-    target = part_of(OTHER, sizeof OTHER);
+    target = part_of(OF(OTHER));
     blocks = 0;
-    while (refused < 1000 && !run_refused(refused, false))
-        refused++;
-    EXPECT(refused > 20 && refused < 1000);
-    printf("refused each of %ld allocations in turn while nothing is recorded\n", refused);
-    refused = 0;
-    while (refused < 1000 && !run_refused(refused, true))
-        refused++;
-    EXPECT(refused > 20 && refused < 1000);
-    for (int number = 0; number <= CALLS + 1; number++)
-        /* To look takes no memory, and neither does to free. */
-        EXPECT(met_refusal[number]
-               == (number != 7 && number != 11 && number != 14 && number != 16 && number != 17));
-    printf("refused each of %ld allocations in turn\n", refused);
+    for (int records = 0; records < 2; records++) {
+        long refused = 0;
+        while (refused < 1000 && !run_refused(refused, records))
+            refused++;
+        EXPECT(refused > 20 && refused < 1000);
+        printf("refused each of %ld allocations in turn%s\n", refused,
+               records ? "" : " while nothing is recorded");
+    }
+    for (int number = 0; number < CALLS; number++)
+        EXPECT(met_refusal[number] == CALLED[number].takes_memory);
+    EXPECT(making_met && record_met);
     blocks = out;
 }
 
@@ -2513,24 +3774,23 @@ static void fill_name(uint8_t *name, size_t size, char letter)
 }
 
 /* Asks of a name that is kept and of one that is not, peeks at both, and tells of the first what is
-   stored and which part it lies in; answers whether all that is told is right. */
+   stored; the names are made first. Answers whether all that is told is right. */
 static bool look(struct rrcache_shelf *shelf, const uint8_t *kept, const uint8_t *other,
                  size_t size)
 {
-    struct rrcache_told told;
+    struct rrcache_name name = name_of(kept, size), none = name_of(other, size);
+    struct rrcache_question asked = question(A, FIRST);
     struct rrcache_stored stored;
-    uint64_t part = PARTS;
+    struct rrcache_told told;
     uint8_t buffer[LONGEST + sizeof ADDRESS];
-#define TOLD(call) ((call) == RRCACHE_DONE ? (int)told.kind : -1)
-#define OF(name)   QUERY(name, size, A, RRCACHE_IN, FIRST, RRCACHE_QUESTION, RRCACHE_NO_STALE)
-    return TOLD(rrcache_ask(shelf, OF(kept), 1, &told, buffer, sizeof buffer)) == RRCACHE_FRESH
-           && TOLD(rrcache_ask(shelf, OF(other), 1, &told, buffer, sizeof buffer)) == RRCACHE_MISS
-           && TOLD(rrcache_peek(shelf, OF(kept), &told, buffer, sizeof buffer)) == RRCACHE_FRESH
-           && TOLD(rrcache_peek(shelf, OF(other), &told, buffer, sizeof buffer)) == RRCACHE_MISS
-           && rrcache_tell_stored(shelf, OF(kept), &stored) == RRCACHE_DONE && stored.ttl == 60
-           && rrcache_part_of(kept, size, PARTED(PARTS), &part) == RRCACHE_DONE && part < PARTS;
-#undef OF
-#undef TOLD
+    bool right = true;
+    for (int call = 0; call < ASKINGS; call++)
+        right = right && ASKING[call](shelf, &name, &asked, &told, OF(buffer)) == RRCACHE_DONE
+                && told.kind == RRCACHE_FRESH
+                && ASKING[call](shelf, &none, &asked, &told, OF(buffer)) == RRCACHE_DONE
+                && told.kind == RRCACHE_MISS;
+    return right && rrcache_tell_stored(shelf, &name, &asked, &stored) == RRCACHE_DONE
+           && stored.set.ttl == 60;
 }
 
 /* What only looks takes no memory, however long the name is and whatever its case; an ask takes
@@ -2544,7 +3804,7 @@ static void test_looks_take_no_memory(void)
         bool right = true;
         fill_name(kept, SIZES[i], 'K');
         fill_name(other, SIZES[i], 'O');
-        EXPECT(rrcache_make(&shelf, 100, 4, 3600, SEED) == RRCACHE_DONE);
+        EXPECT(rrcache_make(&shelf, RULES(100, 4, MAX_STALE)) == RRCACHE_DONE);
         EXPECT(offer_address(&shelf, kept, SIZES[i], RRCACHE_AUTHORITATIVE_ANSWER, 60)
                == RRCACHE_KEPT);
         wanted = 0;
@@ -2559,52 +3819,85 @@ static void test_looks_take_no_memory(void)
 }
 #endif
 
+static void (*const TESTS[])(void) = {
+    test_layout,
+    test_status_texts,
+    test_answers,
+    test_small_buffers,
+    test_peek,
+    test_offers,
+    test_failures,
+    test_classes,
+    test_message_of_another_class,
+    test_refused_classes,
+    test_stale,
+    test_names,
+    test_copied_names,
+    test_two_seeds,
+    test_names_refused,
+    test_wire_forms,
+    test_seeds,
+    test_entries,
+    test_purposes,
+    test_stored,
+    test_stored_refused,
+    test_ages,
+    test_chapters,
+    test_full_chapter,
+    test_records,
+    test_taken_chapters,
+    test_stopped_record,
+    test_numbers,
+    test_numbers_before_a_record,
+    test_pieces,
+    test_lines_from_a_place,
+    test_long_line,
+    test_refused_handles,
+    test_refused_chapters,
+    test_renewed,
+    test_failed_names,
+    test_keys,
+    test_octets_of_keys,
+    test_sweep_some,
+    test_sweep_some_by_steps,
+    test_sweep_some_to_the_end,
+    test_parts,
+    test_whole_message,
+    test_relevant,
+    test_refused_responses,
+    test_other_queries,
+    test_forgotten_responses,
+    test_one_reading,
+    test_refused_readings,
+    test_refused_shares,
+    test_shares_of_another_seed,
+    test_faults,
+    test_aliases,
+    test_types_of_aliases,
+    test_alias_behind_a_denial,
+    test_alias,
+    test_no_shelf,
+    test_making_refused,
+    test_has_shelf,
+    test_refused_messages,
+    test_refused_parts,
+    test_refused_limits,
+    test_denied_names,
+    test_refused_questions,
+    test_order_of_refusals,
+    test_refusals,
+    test_null,
+    test_overlaps,
+#ifdef REFUSE
+    test_refused_memory,
+    test_looks_take_no_memory,
+#endif
+};
+
 int main(void)
 {
-    test_layout();
-    test_answers();
-    test_small_buffers();
-    test_peek();
-    test_offers();
-    test_classes();
-    test_message_of_another_class();
-    test_refused_classes();
-    test_stale();
-    test_chapters();
-    test_full_chapter();
-    test_records();
-    test_taken_chapters();
-    test_stopped_record();
-    test_pieces();
-    test_long_line();
-    test_refused_chapters();
-    test_null_chapters();
-    test_renewed();
-    test_failed_names();
-    test_keys();
-    test_octets_of_keys();
-    test_parts();
-    test_one_reading();
-    test_refused_readings();
-    test_relevant();
-    test_sweep_some();
-    test_stored();
-    test_alias();
-    test_octets();
-    test_seeds();
-    test_wire_forms();
-    test_no_shelf();
-    test_making_refused();
-    test_has_shelf();
-    test_refusals();
-    test_refused_counts();
-    test_denied_names();
-    test_null();
-    test_overlaps();
-#ifdef REFUSE
-    test_refused_memory();
-    test_looks_take_no_memory();
-#endif
+    for (size_t n = 0; n < sizeof TESTS / sizeof *TESTS; n++)
+        TESTS[n]();
     printf("%u passed, %u failed\n", passed, failed);
     return failed != 0;
 }

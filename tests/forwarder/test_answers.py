@@ -123,15 +123,19 @@ def test_aliases(forwarder):
     assert data(it.ask("gone.example", "CNAME"), "CNAME") == ["lost.example."]
 
 
-def test_an_alias_newer_than_that_its_name_does_not_exist(forwarder):
-    """Both are as trusted as each other, so the later one counts (RFC 2181 section 5.4.1)."""
+@pytest.mark.parametrize("rcode, lines", [
+    (NXDOMAIN, []), (NOERROR, [f"w.example 60 A {address(1)}"])])
+def test_an_alias_newer_than_what_its_name_had(forwarder, rcode, lines):
+    """That the name does not exist, or its address, is as trusted as the alias, so the later one
+    counts (RFC 2181 section 5.4.1), also while the time of both is not over."""
     def answer(server, asked, name):
         if name == "w.example":
-            return [response(asked, authority=[SOA], rcode=NXDOMAIN)]
+            return [response(asked, *lines, authority=[SOA], rcode=rcode)]
         return [response(asked, *aliases(["v.example", "w.example", "t.example"]),
                          f"t.example 60 A {address(9)}")]
     it = forwarder(server := Server(answer))
-    assert it.ask("w.example").rcode() == NXDOMAIN
+    reply = it.ask("w.example")
+    assert (reply.rcode(), data(reply)) == (rcode, [address(1)] * len(lines))
     for name in ("v.example", "v.example", "w.example"):
         reply = it.ask(name)
         assert (reply.rcode(), data(reply)) == (NOERROR, [address(9)])

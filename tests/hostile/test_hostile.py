@@ -29,6 +29,7 @@ STAYS, EVENT_STAYS, PROGRAM_HOLDS, BESIDE = 100, 40, 20, 3_000
 # What a key has at most of the octets that are told, of what is relevant of a response.
 OF_A_KEY, URI = 302_830, 256
 CLASHES = 10_000
+PARTS = rrcache.Parts(1, bytes(range(16)))
 # How long a run may take that has to end.
 SECONDS = 60
 # The octets of messages that the model reads, which is slow.
@@ -56,7 +57,7 @@ def read(message):
 def offered(message):
     """The milliseconds of an offer of a message to an empty shelf."""
     with rrcache.Shelf(MOST_KEYS, MOST_KEYS) as shelf:
-        return timed(shelf.offer_message, message, ROOT, 0)[0]
+        return timed(shelf.offer_message_unchecked, message, ROOT, 0)[0]
 
 
 def names_of(keys, end, step=1):
@@ -145,7 +146,7 @@ def test_octets_that_stay_of_a_message(make):
     message = make(MOST_OCTETS)
     with rrcache.Shelf(MOST_KEYS, MOST_KEYS) as shelf:
         before = memory()
-        shelf.offer_message(message, ROOT, 0)
+        shelf.offer_message_unchecked(message, ROOT, 0)
         assert (memory() - before) / len(message) <= STAYS
 
 
@@ -153,8 +154,8 @@ def octets_of_relevant(message):
     """What a shelf tells that was offered what is relevant of a response to its question."""
     name, at = name_at(message, 12)
     query = rrcache.Query(name + ".", int.from_bytes(message[at:at + 2], "big"), 0x1234)
-    with (rrcache.Shelf(MOST_KEYS, MOST_KEYS) as shelf,
-          rrcache.Offers(message, ROOT, 1, bytes(16), 0, query=query) as offers):
+    with (rrcache.Shelf(MOST_KEYS, MOST_KEYS, seed=PARTS.seed) as shelf,
+          rrcache.read_response(message, ROOT, query, PARTS, 0) as offers):
         shelf.offer_read(offers, 0)
         return shelf.sizes()
 
@@ -184,7 +185,8 @@ def test_octets_that_stay_beside_those_told():
         before = memory()
         for number in range(9 * keys):
             owner = (label(number, 4) + ENDS["names of 255 octets"]).upper()
-            shelf.offer_message(response(question(owner, A), repeated), ROOT, number // 1000)
+            message = response(question(owner, A), repeated)
+            shelf.offer_message_unchecked(message, ROOT, number // 1000)
             if number % (keys // 4) == 0:
                 shelf.drop_chapters()
                 told = shelf.sizes()
@@ -199,9 +201,10 @@ def test_octets_that_stay_of_what_is_not_kept(is_recording):
     with theirs. Where nothing is recorded nothing of them stays."""
     message = one_key(MOST_OCTETS, 0)
     with rrcache.Shelf(16, 20, record=is_recording) as shelf:
+        shelf.peek("a.", A, 1)  # the package keeps a buffer for replies, and the name
         before = memory()
         for _ in range(20):
-            shelf.offer_message(message, ROOT, 0)
+            shelf.offer_message_unchecked(message, ROOT, 0)
         if is_recording:
             assert (memory() - before) / (20 * len(message)) <= EVENT_STAYS
             shelf.ask("a.", A, 1)

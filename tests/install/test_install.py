@@ -2,8 +2,8 @@
 """The library for C as bin/install-c installs it to a fresh folder.
 
 The example of rrcache(3) is compiled by what pkg-config tells alone, in C and in C++, with the
-shared library and with the archive, and run; the forwarder is compiled so too. Versions, soname,
-exports and man pages have to fit.
+shared library and with the archive, and run; the forwarder is compiled so too, and README.md's
+example. Versions, soname, exports and man pages have to fit.
 """
 import os
 import re
@@ -24,6 +24,22 @@ LANGUAGES = {
     "C++": ["c++", "-std=c++11", "-Wno-missing-field-initializers", "-xc++"],
 }
 WARNINGS = ["-Wall", "-Wextra", "-Werror"]
+# What README.md's example has around it.
+AROUND = """\
+#include <rrcache.h>
+#include <stdio.h>
+#include <string.h>
+
+void resolve(const uint8_t *message, size_t size, uint16_t id, uint64_t now, const uint8_t *seed)
+{{
+    static const uint8_t octets[] = "\\3www\\7example", zone[] = "\\7example";
+    struct rrcache_name name = {{0}};
+    struct rrcache_counts counts;
+    struct rrcache_told told;
+    uint64_t concerned;
+    uint8_t buffer[512];
+{0}}}
+"""
 # What the example prints: the set has a TTL of 60 and is asked for 10 seconds later.
 WANTED = "TTL 50\n"
 pytestmark = pytest.mark.skipif(shutil.which("pkg-config") is None,
@@ -80,6 +96,12 @@ def test_forwarder(it, tmp_path):
          tmp_path / "forwarder")
 
 
+def test_readme(it):
+    example = re.search(r"^```c\n(.*?)^```", (TOP / "README.md").read_text(), re.M | re.S)[1]
+    said("cc", "-std=c99", *WARNINGS, *it.told("--cflags").split(), "-fsyntax-only", "-xc", "-",
+         source=AROUND.format(example))
+
+
 def test_versions(it, tmp_path):
     assert it.told("--modversion").strip() == VERSION
     parts = [re.search(rf"RRCACHE_VERSION_{name} (\d+)", it.header())[1]
@@ -104,7 +126,8 @@ def test_manual(it):
     named = calls()
     assert set(pages()) == {"rrcache.3", *(f"{name}.3" for name in named)}
     assert set(named) == set(re.findall(
-        r"^static inline (?:uint32_t|enum rrcache_status)\s+(rrcache_\w+)\(", it.header(), re.M))
+        r"^static inline (?:uint32_t|enum rrcache_status|const char \*)\s*(rrcache_(?!can_)\w+)\(",
+        it.header(), re.M))
     man = it.prefix / "share" / "man" / "man3"
     for page in man.glob("*.3"):
         told = subprocess.run(["man", "--warnings", "-E", "UTF-8", "-l", "-Tutf8", "-Z", page.name],

@@ -2,7 +2,7 @@
 """Archives: how the package reads them, and the chapters that leave a shelf."""
 
 import pytest
-from dns.rdatatype import A, TXT
+from dns.rdatatype import A, AAAA, TXT
 
 import rrcache
 from tests.forwarder.harness import wire_name
@@ -12,14 +12,14 @@ from tests.tools.shared import SOA as SOA_DATA
 ADDRESSES = (b"\xc0\0\2\1", b"\xc0\0\2\2")
 A_KEY = rrcache.Key("a.example.", rrcache.Slot.SET, 1)
 B_KEY = rrcache.Key("b.", rrcache.Slot.FAILED, 28)
-BODY = rrcache.RRset(rrcache.Rank.AUTHORITATIVE_ANSWER, 60, "a.Example.", ADDRESSES)
+BODY = rrcache.RRset(rrcache.Trust.AUTHORITATIVE_ANSWER, 60, "a.Example.", ADDRESSES)
 
 
 def test_chapters_are_read():
     """Those of the archive by hand that the tests of the model have."""
     chapters = rrcache.read_archive(ARCHIVE)
     assert "".join(it.text for it in chapters) == ARCHIVE
-    assert [(it.number, it.first, it.capacity, it.chapter, it.stale) for it in chapters] == [
+    assert [(it.number, it.first, it.capacity, it.chapter, it.max_stale) for it in chapters] == [
         (1, 0, 2, 4, 100), (2, 4, 2, 4, 100), (3, 8, 2, 4, 100), (4, 12, 2, 4, 100)]
     assert rrcache.read_archive("") == []
 
@@ -27,7 +27,7 @@ def test_chapters_are_read():
 def test_events_are_read():
     """Each in the order of its fields: offers, asks, an entry, a sweep, a negative answer."""
     first, second, third, _ = rrcache.read_archive(ARCHIVE)
-    fresh = rrcache.Reply(rrcache.Kind.FRESH, 10, wire_name("a.Example"), ADDRESSES)
+    fresh = rrcache.Reply(rrcache.Kind.FRESH, 10, wire_name("a.Example"), ADDRESSES, rtype=A)
     assert first.events[:2] == (
         rrcache.Offer(0, 0, 100, A_KEY, BODY, rrcache.Outcome.KEPT),
         rrcache.Ask(1, 0, 150, "a.example.", 1, 1, rrcache.Purpose.QUESTION, rrcache.Mode.NO_STALE,
@@ -38,17 +38,17 @@ def test_events_are_read():
     assert second.entries == (rrcache.Entry(0, 100, A_KEY, BODY),)
     assert second.events[0] == rrcache.Offer(4, 0, 160, B_KEY, rrcache.Failure(30),
                                              rrcache.Outcome.KEPT)
-    assert second.events[1].reply == rrcache.Reply(rrcache.Kind.SERVFAIL, retry_from=190)
+    assert second.events[1].reply == rrcache.Reply(rrcache.Kind.FAILED, retry_from=190, rtype=AAAA)
     assert second.events[2].evicted == A_KEY
     assert second.events[3].reply == rrcache.Reply(rrcache.Kind.STALE, 30, wire_name("c"),
-                                                   (b"\0", b""))
+                                                   (b"\0", b""), rtype=TXT)
     c_key = rrcache.Key("c.", rrcache.Slot.SET, 16, rrcache.Class.HS)
     assert third.events[0] == rrcache.Sweep(8, 0, 300, (B_KEY, c_key))
     data = bytes.fromhex(SOA_DATA)
     assert third.events[2].key == rrcache.Key("a.example.", rrcache.Slot.NX)
     assert third.events[2].body == rrcache.Negative(4, 300, "example.", data)
     assert third.events[3].reply == rrcache.Reply(rrcache.Kind.NXDOMAIN, 200, wire_name("example"),
-                                                  (data,))
+                                                  (data,), rtype=A)
 
 
 HEAD = "chapter 1 0 1024 4096 86400\n"
@@ -87,7 +87,7 @@ def test_chapters_leave_a_shelf():
     """By hand: two chapters of two events are closed, and the last one is open. The chapter before
     them is the one that was not recorded."""
     long = bytes(range(256)) * 16
-    with rrcache.Shelf(capacity=1, chapter=2, stale=0, record=True) as shelf:
+    with rrcache.Shelf(capacity=1, chapter=2, max_stale=0, record=True) as shelf:
         shelf.offer_set("WWW.example.", TXT, 4, 60, [long], 100, line=7)
         shelf.ask("www.Example.", TXT, 110, line=8)
         shelf.offer_failure("a.", A, 30, 120, line=9)

@@ -22,7 +22,7 @@ def test_docstrings():
     modules = [importlib.import_module(f"rrcache.{it.name}")
                for it in pkgutil.iter_modules(rrcache.__path__)]
     results = [doctest.testmod(it) for it in modules]
-    assert [sum(it) for it in zip(*results)] == [0, 29]
+    assert [sum(it) for it in zip(*results)] == [0, 36]
 
 
 @pytest.mark.skipif(not all(map(importlib.util.find_spec, ("pip", "setuptools", "wheel"))),

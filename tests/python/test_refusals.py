@@ -1,10 +1,11 @@
 # SPDX-License-Identifier: MIT
 """What the package refuses: texts that are no names, and arguments that are out of their ranges."""
 import pytest
-from dns.rdatatype import A, CNAME, OPT
+from dns.rdatatype import A, CNAME, OPT, TXT
 
 import rrcache
-from tests.forwarder.harness import answered
+from rrcache import library
+from tests.forwarder.harness import ID, answered
 
 SEED = bytes(range(16))
 
@@ -23,27 +24,74 @@ def test_texts_that_are_no_names(text):
         rrcache.to_wire(text)
 
 
+def parts(count, seed=SEED):
+    return rrcache.Parts(count, seed)
+
+
+def offer_part(shelf, message, division, part):
+    return shelf.offer_part_unchecked(message, b"\0", division, part, 1)
+
+
+def read(message, division, zone=".", limits=rrcache.Limits()):
+    return rrcache.read_message_unchecked(message, zone, division, 100, limits)
+
+
+def negative(shelf, kind, trust=4):
+    return shelf.offer_negative(".", A, kind, trust, 60, ".", bytes(22), 1)
+
+
+RESPONSE = answered("a.example", A)
+QUERY = rrcache.Query("a.example", A, ID)
+
+
 @pytest.mark.parametrize("status, call", [
     (5, lambda it: it.sweep(2 ** 40 + 1)),
+    (5, lambda it: it.sweep_some(2 ** 40 + 1, 1)),
+    (5, lambda it: it.ask(".", A, 2 ** 40 + 1)),
+    (6, lambda it: it.sweep_some(1, 0)),
     (9, lambda it: it.ask(b"\1", A, 1)),
-    (10, lambda it: it.offer_message(b"x", b"\0", 1)),
-    (11, lambda it: it.ask(b"\0", A, 1, 2)),
+    (9, lambda it: it.stored(b"\1", A)),
+    (10, lambda it: it.offer_message_unchecked(b"x", b"\0", 1)),
+    (11, lambda it: it.ask(b"\0", A, 1, 0)),
+    (11, lambda it: it.ask(b"\0", A, 1, 3)),
+    (11, lambda it: it.peek(b"\0", A, 1, mode=0)),
+    (11, lambda it: it.ask_alias(b"\0", A, 1, mode=4)),
+    (11, lambda it: negative(it, 0)),
+    (11, lambda it: negative(it, rrcache.Kind.FRESH)),
+    (11, lambda it: negative(it, rrcache.Kind.NODATA, 0)),
+    (11, lambda it: it.offer_set(b"\0", A, 5, 1, [b"1234"], 1)),
+    (12, lambda it: it.ask(b"\0", 0, 1)),
+    (12, lambda it: it.ask(b"\0", A, 1, rclass=2)),
     (12, lambda it: it.offer_set(b"\0", OPT, 4, 1, [b""], 1)),
     (13, lambda it: it.offer_set(b"\0", CNAME, 4, 1, [b"\1"], 1)),
     (14, lambda it: it.offer_set(b"\0", A, 4, 1, [], 1)),
-    (8, lambda it: it.offer_message(b"x", b"\0", 1, rrcache.Limits(recheck=0))),
+    (14, lambda it: it.offer_set(b"\0", A, 4, 2 ** 31, [b"1234"], 1)),
+    (8, lambda it: it.offer_message_unchecked(b"x", b"\0", 1, rrcache.Limits(recheck=0))),
     (6, lambda it: rrcache.Shelf(capacity=0)),
+    (6, lambda it: rrcache.Shelf(max_stale=604_801)),
     (7, lambda it: rrcache.Shelf(seed=b"x")),
+    (7, lambda it: rrcache.Shelf(seed=bytes(16))),
+    (6, lambda it: rrcache.Cache(0)),
+    (6, lambda it: rrcache.Cache(65, seed=SEED)),
     (7, lambda it: rrcache.Cache(seed=SEED[:15])),
-    (6, lambda it: rrcache.part_of(".", 65, SEED)),
-    (7, lambda it: rrcache.part_of(".", 64, SEED[:15])),
-    (6, lambda it: it.offer_part(b"x", b"\0", 4, SEED, 4, 1)),
-    (7, lambda it: it.offer_part(b"x", b"\0", 4, b"", 3, 1)),
-    (10, lambda it: it.offer_part(b"x", b"\0", 4, SEED, 3, 1)),
-    (6, lambda it: rrcache.Offers(answered("a.example", A), ".", 65, SEED, 100)),
-    (7, lambda it: rrcache.Offers(answered("a.example", A), ".", 64, SEED + b"x", 100)),
-    (10, lambda it: rrcache.Offers(b"x", ".", 4, SEED, 100)),
-    (9, lambda it: rrcache.Offers(answered("a.example", A), b"\1", 4, SEED, 100))])
+    (7, lambda it: rrcache.Cache(seed=bytes(16))),
+    (6, lambda it: rrcache.make_name(".", parts(65))),
+    (6, lambda it: rrcache.make_name(".", parts(0))),
+    (7, lambda it: rrcache.make_name(".", parts(64, SEED[:15]))),
+    (7, lambda it: rrcache.make_name(".", parts(64, bytes(16)))),
+    (9, lambda it: rrcache.make_name(b"", parts(64))),
+    (26, lambda it: it.ask(rrcache.make_name(".", parts(1)), A, 1)),
+    (6, lambda it: offer_part(it, b"x", parts(4), 4)),
+    (7, lambda it: offer_part(it, b"x", parts(4, b""), 3)),
+    (7, lambda it: offer_part(it, b"x", parts(4, bytes(16)), 3)),
+    (10, lambda it: offer_part(it, b"x", parts(4), 3)),
+    (6, lambda it: read(RESPONSE, parts(65))),
+    (7, lambda it: read(RESPONSE, parts(64, SEED + b"x"))),
+    (7, lambda it: read(RESPONSE, parts(64, bytes(16)))),
+    (10, lambda it: read(b"x", parts(4))),
+    (9, lambda it: read(RESPONSE, parts(4), b"\1")),
+    (20, lambda it: rrcache.read_response(RESPONSE, ".", QUERY._replace(rtype=CNAME), parts(4), 1)),
+    (20, lambda it: rrcache.read_response(RESPONSE, ".", QUERY._replace(id=ID + 1), parts(4), 1))])
 def test_refusals(status, call):
     with rrcache.Shelf(record=True) as shelf:
         with pytest.raises(rrcache.Refused) as refused:
@@ -53,8 +101,28 @@ def test_refusals(status, call):
 
 
 @pytest.mark.parametrize("call", [
-    rrcache.Shelf.sizes, rrcache.Shelf.record, rrcache.Shelf.release, rrcache.Shelf.take_chapters,
-    rrcache.Shelf.stop_recording])
+    lambda it: it.ask(".", 65_536, 1), lambda it: it.ask(".", -1, 1),
+    lambda it: it.peek(".", A, 2 ** 64), lambda it: it.ask(".", A, -1),
+    lambda it: it.ask(".", A, 1.5), lambda it: it.ask(".", A, 1, rclass=65_537),
+    lambda it: it.stored(".", 65_537), lambda it: it.sweep(2 ** 64),
+    lambda it: it.offer_set(".", A, 4, 2 ** 32 + 1, [b"1234"], 1),
+    lambda it: it.offer_set(".", TXT, 4, 1, [bytes(65_536)], 1),
+    lambda it: it.offer_failure(".", A, 1, 1, line=2 ** 64),
+    lambda it: it.offer_message_unchecked(b"x", ".", 1, rrcache.Limits(recheck=2 ** 32 + 1)),
+    lambda it: rrcache.Shelf(capacity=2 ** 64 + 1)])
+def test_numbers_that_their_fields_have_no_room_for(call):
+    """None is cut to what there is room for."""
+    with rrcache.Shelf(record=True) as shelf:
+        with pytest.raises(ValueError):
+            call(shelf)
+        assert shelf.sizes() == (0, 0, 0, 0)
+
+
+@pytest.mark.parametrize("call", [
+    rrcache.Shelf.sizes, rrcache.Shelf.record, rrcache.Shelf.stop_and_drop,
+    rrcache.Shelf.take_chapters, rrcache.Shelf.stop_recording, rrcache.Shelf.next_expiry,
+    lambda it: it.ask(".", A, 1), lambda it: it.peek_alias(".", A, 1),
+    lambda it: it.stored(".", A), lambda it: it.sweep_some(1, 1)])
 def test_a_shelf_that_was_closed(call):
     with rrcache.Shelf() as shelf:
         pass
@@ -64,21 +132,40 @@ def test_a_shelf_that_was_closed(call):
 
 
 def test_offers_that_were_closed():
-    with rrcache.Offers(answered("a.example", A), ".", 4, SEED, 100) as offers:
+    with read(RESPONSE, parts(4)) as offers:
         pass
     with rrcache.Shelf() as shelf, pytest.raises(rrcache.Refused) as refused:
         shelf.offer_read(offers, 0)
     assert refused.value.status == 18
 
 
+def test_parts_that_offers_were_not_read_for():
+    with read(RESPONSE, parts(4)) as offers, rrcache.Shelf() as shelf:
+        with pytest.raises(rrcache.BadRules):
+            shelf.offer_read(offers, 4)
+
+
+@pytest.mark.parametrize("name, number", [("MAJOR", 1), ("MAJOR", 3), ("MINOR", 255)])
+def test_libraries_that_the_package_is_not_for(name, number, monkeypatch):
+    """Those of another major version, and of an older minor one."""
+    major, minor, _ = rrcache.library_version()
+    monkeypatch.setattr(f"rrcache.library.{name}", number)
+    with pytest.raises(ImportError, match=f"has version {major}.{minor}, and this package is for"):
+        library.loaded_from(library.path())
+
+
+def test_a_library_that_is_not_there(tmp_path):
+    with pytest.raises(ImportError, match="cannot be loaded"):
+        library.loaded_from(str(tmp_path / "none.so"))
+
+
 @pytest.mark.parametrize("numbers", [(1, 1, 1), (604_800, 604_800, 300)])
 def test_limits_of_offers(numbers):
-    limits = rrcache.Limits(*numbers)
-    rrcache.Offers(answered("a.example", A), ".", 1, SEED, 100, limits).close()
+    read(RESPONSE, parts(1), limits=rrcache.Limits(*numbers)).close()
 
 
 @pytest.mark.parametrize("numbers", [(0, 1, 1), (604_801, 1, 1), (1, 0, 1), (1, 604_801, 1),
                                      (1, 1, 0), (1, 1, 301)])
 def test_limits_of_offers_out_of_their_ranges(numbers):
     with pytest.raises(rrcache.BadLimits):
-        rrcache.Offers(answered("a.example", A), ".", 1, SEED, 100, rrcache.Limits(*numbers))
+        read(RESPONSE, parts(1), limits=rrcache.Limits(*numbers))

@@ -11,8 +11,9 @@ from tests.forwarder.harness import (ID, SOA as SOA_RECORD, aliases, answered, h
 from tools.messages import BAD_DATA, LAYOUTS, SHORT
 
 NAME, SEED = "a.example.", bytes(range(16))
+PARTS = rrcache.Parts(1, SEED)
 POINTER = b"\xc0\x0e"  # to the last label but one of the question's name
-FRESH, NO_NAME, FAILED = rrcache.Kind.FRESH, rrcache.Kind.NXDOMAIN, rrcache.Kind.SERVFAIL
+FRESH, NO_NAME, FAILED = rrcache.Kind.FRESH, rrcache.Kind.NXDOMAIN, rrcache.Kind.FAILED
 
 
 def with_data(rtype, *data):
@@ -30,8 +31,8 @@ def data_of(rtype, name):
 def test_names_in_data_are_read(rtype):
     """Of each type whose data have names these are expanded."""
     octets = with_data(rtype, data_of(rtype, b"\1b" + POINTER))
-    with rrcache.Shelf() as shelf:
-        shelf.offer_message(octets, ".", 100)
+    with rrcache.Shelf(seed=SEED) as shelf:
+        shelf.offer_message_unchecked(octets, ".", 100)
         assert shelf.peek(NAME, rtype, 100).data == (data_of(rtype, wire_name("b.example")),)
 
 
@@ -50,12 +51,12 @@ def test_what_is_relevant_is_kept():
     octets = answered("www.example", A, *hosts("www.example", "bank.example"))
     query = rrcache.Query("WWW.example", A, ID)
     with rrcache.Cache(4) as cache:
-        assert cache.offer_message(octets, ".", 100, query=query) == (1, 0, 0)
+        assert cache.offer_response(octets, ".", query, 100) == (1, 0, 0)
         assert cache.ask("bank.example", A, 100).kind == rrcache.Kind.MISS
-        assert cache.offer_message(octets, ".", 100) == (2, 0, 0)
+        assert cache.offer_message_unchecked(octets, ".", 100) == (2, 0, 0)
         for other in (query._replace(id=ID + 1), query._replace(name="bank.example")):
             with pytest.raises(rrcache.OtherQuery):
-                cache.offer_message(octets, ".", 100, query=other)
+                cache.offer_response(octets, ".", other, 100)
 
 
 def to_a(*answer, **others):
@@ -91,7 +92,7 @@ RELEVANT = {
 
 def offered_as_relevant(shelf, octets, query):
     """How many offers of a response are relevant to a query, all of which the shelf keeps."""
-    with rrcache.Offers(octets, "example", 1, SEED, 100, query=query) as offers:
+    with rrcache.read_response(octets, "example", query, PARTS, 100) as offers:
         counts = shelf.offer_read(offers, 0)
     assert counts[1:] == (0, 0)
     return counts.kept
@@ -99,7 +100,7 @@ def offered_as_relevant(shelf, octets, query):
 
 @pytest.mark.parametrize("octets, relevant", RELEVANT.values(), ids=RELEVANT)
 def test_what_is_relevant_in_responses(octets, relevant):
-    with rrcache.Shelf() as shelf:
+    with rrcache.Shelf(seed=SEED) as shelf:
         kept = offered_as_relevant(shelf, octets, rrcache.Query("A.example", A, ID))
         assert kept == len(relevant)
         for owner, rtype, kind in relevant:
@@ -127,5 +128,5 @@ def text_of(size):
 def test_how_much_is_relevant(octets_of, number, rtype, kept):
     """At most 11 aliases behind the question's name, 20 hosts, and 16,384 octets of an RRset."""
     query = rrcache.Query("x0.example", rtype, ID)
-    with rrcache.Shelf() as shelf:
+    with rrcache.Shelf(seed=SEED) as shelf:
         assert offered_as_relevant(shelf, octets_of(number), query) == kept

@@ -13,9 +13,11 @@ from tools.rows import content, rows
 from tools.traces import read_trace
 
 CALLS = {b"put", b"ask", b"fail", b"response", b"sweep", b"checkpoint"}
-MODES = {"none": 0, "failed": 1, "now": 2}
+PURPOSES, MODES = {"any": 1, "answer": 2}, {"none": 1, "failed": 2, "now": 3}
 OUTCOMES = {1: "kept", 2: "cleared", 3: "less"}
 KINDS = {1: "fresh", 2: "stale", 3: "nodata", 4: "nxdomain"}
+# The rules of a shelf, by the program's options.
+RULES = {"--capacity": "capacity", "--chapter": "chapter", "--stale": "max_stale"}
 
 
 def words_of(row):
@@ -26,7 +28,7 @@ def words_of(row):
 def is_told(row):
     words = set(re.findall(rb"^[^ \n]+", content(row, "trace"), re.M))
     return (content(row, "status", b"0").strip() == b"0" and not (row / "each").exists()
-            and set(words_of(row)[::2]) <= {"--capacity", "--chapter", "--stale"}
+            and set(words_of(row)[::2]) <= set(RULES)
             and words and words <= CALLS)
 
 
@@ -42,13 +44,12 @@ def answer_of_response(shelf, line, number):
     zone, octets = line.rest
     if fault := rrcache.fault(octets):
         return f"refused {fault}"
-    counts = shelf.offer_message(octets, zone, line.at, line=number)
-    return counted(counts.kept, counts.cleared, counts.refused)
+    return counted(*shelf.offer_message_unchecked(octets, zone, line.at, line=number))
 
 
 def answer_of_ask(shelf, line, number):
     purpose, mode = line.rest
-    asked = line.name, line.rtype, line.at, int(purpose == "answer"), MODES[mode]
+    asked = line.name, line.rtype, line.at, PURPOSES[purpose], MODES[mode]
     reply = shelf.peek(*asked, rclass=line.rclass)
     assert shelf.ask(*asked, number, line.rclass) == reply
     if reply.is_miss:
@@ -85,7 +86,8 @@ def told_of(line):
 def history_of(lines, rules):
     """The texts of the chapters that the model makes of a trace."""
     # The first chapter of a shelf is what came before its record, and holds nothing here.
-    archive = archive_of(lines, Rules(**rules), number=2)
+    numbers = {"stale" if it == "max_stale" else it: number for it, number in rules.items()}
+    archive = archive_of(lines, Rules(**numbers), number=2)
     return [it.text for it in rrcache.read_archive(archive)]
 
 
@@ -103,7 +105,7 @@ def texts_of(lines, report, **rules):
 @pytest.mark.parametrize("row", TOLD, ids=lambda it: it.name)
 def test_row(row):
     words, report = words_of(row), content(row, "report").decode("latin-1").splitlines()
-    rules = {word[2:]: int(value) for word, value in zip(words[::2], words[1::2])}
+    rules = {RULES[word]: int(value) for word, value in zip(words[::2], words[1::2])}
     lines = read_trace(io.BytesIO(content(row, "trace") * int(content(row, "repeat", b"1"))))
     assert len(lines) == len(report)
     assert texts_of(lines, report, record=False, **rules) == []

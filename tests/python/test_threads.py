@@ -9,7 +9,7 @@ from concurrent.futures import ThreadPoolExecutor
 
 import pytest
 from dns.rcode import SERVFAIL
-from dns.rdatatype import A, ANY, CNAME
+from dns.rdatatype import A, ANY, CNAME, TXT
 
 import rrcache
 from tests.forwarder.harness import aliases, answered, hosts, wire_name
@@ -17,8 +17,9 @@ from tools.model import part_of
 
 FRESH, STALE, MISS = rrcache.Kind.FRESH, rrcache.Kind.STALE, rrcache.Kind.MISS
 SEED = bytes(range(16))
+IN_FOUR = rrcache.Parts(4, SEED)
 NAMES = [f"x{n}.example" for n in range(8)]
-PARTS = [rrcache.part_of(it, 4, SEED) for it in NAMES]
+PARTS = [rrcache.make_name(it, IN_FOUR).part for it in NAMES]
 # Twice the name, a record, and its datum's octets.
 HELD = 2 * 12 + rrcache.RECORD_OCTETS
 
@@ -29,11 +30,28 @@ def test_a_cache_of_many_threads():
     with rrcache.Cache(parts=4, capacity=64) as cache, ThreadPoolExecutor(4) as pool:
         def work(place):
             for name, octets in zip(names[place::4], messages[place::4]):
-                cache.offer_message(octets, "example.", 100)
+                cache.offer_message_unchecked(octets, "example.", 100)
                 yield cache.ask(name.upper(), A, 110).left
         found = pool.map(lambda place: list(work(place)), range(4))
         assert sum(found, []) == [50] * 40
         assert cache.sweep(2 ** 40) == 40
+
+
+def test_threads_that_look_at_one_shelf():
+    """Each is told what it asks for, of sets that take more and less room than a reply mostly."""
+    data = {f"x{it}.example": it.to_bytes(2, "big") * (3 + 4000 * (it % 8)) for it in range(40)}
+    with rrcache.Shelf(capacity=64) as shelf, ThreadPoolExecutor(4) as pool:
+        for name, octets in data.items():
+            shelf.offer_set(name, TXT, 4, 60 + octets[1], [octets], 100)
+
+        def looked_at(name):
+            replies = [shelf.peek(it, TXT, 110) for it in (name, name.upper()) for _ in range(8)]
+            stored = [shelf.stored(name, TXT).set for _ in range(8)]
+            assert {it.data for it in replies} == {(data[name],)}
+            return {it.entry for it in replies} | set(stored)
+        found = [*pool.map(looked_at, list(data) * 4)]
+        assert [len(it) for it in found] == [1] * 160
+        assert [entry.ttl for it in found for entry in it] == [*range(60, 100)] * 4
 
 
 def test_aliases_are_followed():
@@ -43,7 +61,7 @@ def test_aliases_are_followed():
     with rrcache.Cache(parts=8) as cache:
         def kinds(name, rtype, moment, **others):
             return [it.kind for it in cache.follow(name, rtype, moment, **others)]
-        cache.offer_message(octets, "example.", 100)
+        cache.offer_message_unchecked(octets, "example.", 100)
         replies = cache.follow("X0.example.", A, 110)
         assert [it.owner_text for it in replies] == [f"{it}." for it in names]
         assert replies[-1].data == (b"\xc0\0\2\x09",)
@@ -54,10 +72,11 @@ def test_aliases_are_followed():
         # RFC 8767 section 5: after a failure of the question all of its chain may be stale.
         failed = {"mode": rrcache.Mode.STALE_IF_FAILED}
         assert kinds("x0.example", A, 170, **failed) == [MISS]
-        cache.offer_message(answered("x0.example", A, flags=0, rcode=SERVFAIL), "example.", 170)
+        failed_response = answered("x0.example", A, flags=0, rcode=SERVFAIL)
+        cache.offer_message_unchecked(failed_response, "example.", 170)
         assert kinds("x0.example", A, 171, **failed) == [STALE] * 4
         for one, alias in zip(names, aliases(names)):
-            cache.offer_message(answered(one, CNAME, alias), "example.", 172)
+            cache.offer_message_unchecked(answered(one, CNAME, alias), "example.", 172)
         assert kinds("x0.example", A, 173, **failed) == [FRESH] * 3 + [STALE]
         # A question that did not fail.
         assert kinds("x1.example", A, 173, **failed) == [FRESH] * 2 + [MISS]
@@ -69,21 +88,22 @@ def test_a_cache_has_a_seed_of_its_own():
 
     def parts_of(cache):
         for name, octets in zip(names, messages):
-            cache.offer_message(octets, ".", 100)
+            cache.offer_message_unchecked(octets, ".", 100)
             assert cache.ask(name.upper(), A, 110).kind == FRESH
         return [shelf.sizes().keys for _, shelf in cache._shelves]
     with rrcache.Cache(64) as one, rrcache.Cache(64) as other:
         assert parts_of(one) != parts_of(other)
     with rrcache.Cache(64, seed=SEED) as cache:
-        parts = [rrcache.part_of(it, 64, SEED) for it in names]
+        parts = [rrcache.make_name(it, rrcache.Parts(64, SEED)).part for it in names]
         assert parts_of(cache) == [parts.count(it) for it in range(64)]
 
 
 @pytest.mark.parametrize("part", range(4))
 def test_the_share_of_each_part(part):
     octets = answered(NAMES[0], A, *aliases(NAMES), *hosts(NAMES[-1]), flags=0)
-    with rrcache.Shelf(record=True) as shelf:
-        assert shelf.offer_part(octets, "example", 4, SEED, part, 100) == (PARTS.count(part), 0, 0)
+    with rrcache.Shelf(seed=SEED, record=True) as shelf:
+        counts = shelf.offer_part_unchecked(octets, "example", IN_FOUR, part, 100)
+        assert counts == (PARTS.count(part), 0, 0)
         held = [HELD + size for size, home in zip([12] * 7 + [4], PARTS) if home == part]
         assert shelf.sizes() == (len(held), len(held), 0, sum(held))
         for name, rtype, home in zip(NAMES, [CNAME] * 7 + [A], PARTS):
@@ -93,21 +113,33 @@ def test_the_share_of_each_part(part):
 
 def test_one_reading():
     octets = answered(NAMES[0], A, *hosts(*NAMES))
-    with rrcache.Offers(octets, "example.", 4, SEED, 100) as offers:
+    with rrcache.read_message_unchecked(octets, "example.", IN_FOUR, 100) as offers:
         assert offers.concerned == sorted(set(PARTS)) and len(offers.concerned) > 1
         for part in range(4):
             share = PARTS.count(part)
-            with rrcache.Shelf(record=True) as shelf:
+            with rrcache.Shelf(seed=SEED, record=True) as shelf:
                 assert shelf.offer_read(offers, part) == (share, 0, 0)
-                assert shelf.offer_part(octets, "example.", 4, SEED, part, 100) == (share, 0, 0)
+                counts = shelf.offer_part_unchecked(octets, "example.", IN_FOUR, part, 100)
+                assert counts == (share, 0, 0)
                 assert shelf.sizes() == (share, 2 * share, 0, (HELD + 4) * share)
+
+
+def test_a_reading_of_another_seed():
+    octets = answered(NAMES[0], A, *hosts(*NAMES))
+    with rrcache.read_message_unchecked(octets, "example.", IN_FOUR, 100) as offers, \
+            rrcache.Shelf(seed=SEED[::-1], record=True) as shelf:
+        for call in (lambda: shelf.offer_read(offers, 0),
+                     lambda: shelf.offer_part_unchecked(octets, "example.", IN_FOUR, 0, 100)):
+            with pytest.raises(rrcache.OtherSeed) as refused:
+                call()
+            assert refused.value.counts == (0, 0, 0) and shelf.sizes().events == 0
 
 
 # ---- The hash.
 
 def siphash13(key, octets):
-    """SipHash-1-3 (Aumasson and Bernstein, "SipHash: a fast short-input PRF", 2012), a number of 64
-    bits, by OpenSSL, so that parts are compared with a hash that is not of this repository."""
+    """SipHash-1-3, a number of 64 bits, by OpenSSL, so that parts are compared with a hash that is
+    not of this repository."""
     options = (f"hexkey:{key.hex()}", "size:8", "c-rounds:1", "d-rounds:3")
     words = [word for it in options for word in ("-macopt", it)]
     told = subprocess.run(["openssl", "mac", *words, "SIPHASH"], input=octets, capture_output=True,
@@ -116,14 +148,15 @@ def siphash13(key, octets):
 
 
 @pytest.mark.skipif(shutil.which("openssl") is None, reason="there is no openssl here")
-@pytest.mark.parametrize("seed", [SEED, bytes(16), b"\xff" * 16, SEED[::-1]])
+@pytest.mark.parametrize("seed", [SEED, bytes(15) + b"\1", b"\xff" * 16, SEED[::-1]])
 def test_parts_go_by_siphash(seed):
     """By the upper 32 bits of the hash, in whatever case a name is written."""
     for name in ("www.example", "other.example", "third.example", "a", ".".join(["Ab" * 31] * 4),
                  *(f"n{it}.example" for it in range(50))):
         hashed = siphash13(seed, wire_name(name.lower())) >> 32
         for parts in (1, 2, 3, 16, 63, 64):
-            assert rrcache.part_of(wire_name(name.upper()), parts, seed) == hashed % parts, name
+            made = rrcache.make_name(wire_name(name.upper()), rrcache.Parts(parts, seed))
+            assert (made.part, made.octets) == (hashed % parts, wire_name(name.lower())), name
 
 
 def test_names_of_one_part_want_the_seed():
@@ -131,6 +164,6 @@ def test_names_of_one_part_want_the_seed():
     places = (b"\6%06x\7example\0" % it for it in range(2 ** 24))
     picked = list(itertools.islice((it for it in places if part_of(it, 16) == 0), 4096))
     for seed in (SEED, os.urandom(16)):
-        parts = [rrcache.part_of(it, 16, seed) for it in picked]
+        parts = [rrcache.make_name(it, rrcache.Parts(16, seed)).part for it in picked]
         # 256 each, with a deviation of some 15.5.
         assert all(150 <= parts.count(it) <= 360 for it in range(16))

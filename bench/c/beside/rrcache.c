@@ -1,13 +1,20 @@
 /* SPDX-License-Identifier: MIT */
 /* rrcache under work.c: 64 shelves, each with a lock, that record no history. A lock is a mutex
-   that spins a while before it sleeps; with SPINS defined it is a spin lock, as unbound's are. */
+   that spins a while before it sleeps; with SPINS defined it is a spin lock, as unbound's are. With
+   PEEKS defined it is a lock for readers, under which an ask is a peek. */
 #define _GNU_SOURCE
 #include <pthread.h>
 
 #include "rrcache.h"
 #include "work.h"
 
-#ifdef SPINS
+#if defined PEEKS
+typedef pthread_rwlock_t lock;
+#define TAKE        pthread_rwlock_wrlock
+#define GIVE        pthread_rwlock_unlock
+#define TAKE_TO_ASK pthread_rwlock_rdlock
+#define ASK         rrcache_peek
+#elif defined SPINS
 typedef pthread_spinlock_t lock;
 #define TAKE pthread_spin_lock
 #define GIVE pthread_spin_unlock
@@ -16,6 +23,15 @@ typedef pthread_mutex_t lock;
 #define TAKE pthread_mutex_lock
 #define GIVE pthread_mutex_unlock
 #endif
+#ifndef PEEKS
+#define TAKE_TO_ASK TAKE
+#define ASK         rrcache_ask
+#endif
+
+#define SEED                                                                                       \
+    {                                                                                              \
+        7                                                                                          \
+    }
 
 struct shelf {
     lock lock;
@@ -27,7 +43,9 @@ static struct shelf shelves[SHARDS];
 
 static bool make_lock(lock *made)
 {
-#ifdef SPINS
+#if defined PEEKS
+    return pthread_rwlock_init(made, NULL) == 0;
+#elif defined SPINS
     return pthread_spin_init(made, PTHREAD_PROCESS_PRIVATE) == 0;
 #else
     pthread_mutexattr_t spins;
@@ -39,10 +57,9 @@ static bool make_lock(lock *made)
 
 void make_cache(size_t sets)
 {
-    static const uint8_t seed[16] = {7};
+    const struct rrcache_rules rules = {sets / SHARDS, 4096, 0, SEED};
     for (struct shelf *shelf = shelves; shelf < shelves + SHARDS; shelf++)
-        if (!make_lock(&shelf->lock)
-            || rrcache_make(&shelf->cache, sets / SHARDS, 4096, 0, seed) != RRCACHE_DONE)
+        if (!make_lock(&shelf->lock) || rrcache_make(&shelf->cache, &rules) != RRCACHE_DONE)
             fail("no shelf");
 }
 
@@ -52,13 +69,13 @@ void *begin_thread(unsigned number)
     return NULL;
 }
 
-static struct shelf *shelf_of(const struct name *name)
+static struct rrcache_name made_name(const struct name *name)
 {
-    static const struct rrcache_parts parts = {SHARDS, {8}};
-    uint64_t part;
-    if (rrcache_part_of(name->octets, name->size, &parts, &part) != RRCACHE_DONE)
-        fail("no part");
-    return &shelves[part];
+    static const struct rrcache_parts parts = {SHARDS, SEED};
+    struct rrcache_name made;
+    if (rrcache_make_name(&made, name->octets, name->size, &parts) != RRCACHE_DONE)
+        fail("no name");
+    return made;
 }
 
 void put(void *thread, const struct name *name, unsigned turn)
@@ -76,30 +93,30 @@ void put(void *thread, const struct name *name, unsigned turn)
         .moment = MOMENT,
     };
     uint32_t outcome;
-    struct shelf *shelf = shelf_of(name);
+    struct shelf *shelf = &shelves[made_name(name).part];
     (void)thread;
     TAKE(&shelf->lock);
-    if (rrcache_offer_set(&shelf->cache, &set, 0, &outcome) != RRCACHE_DONE)
+    if (rrcache_offer_set(&shelf->cache, &set, &outcome) != RRCACHE_DONE)
         fail("a put was refused");
     GIVE(&shelf->lock);
 }
 
 bool ask(void *thread, const struct name *name)
 {
-    const struct rrcache_query query = {
-        .name = name->octets,
-        .name_size = name->size,
+    const struct rrcache_question question = {
+        .moment = MOMENT,
         .rtype = 1,
         .rclass = RRCACHE_IN,
-        .moment = MOMENT,
         .purpose = RRCACHE_QUESTION,
+        .mode = RRCACHE_NO_STALE,
     };
     struct rrcache_told told;
     uint8_t buffer[512];
-    struct shelf *shelf = shelf_of(name);
+    const struct rrcache_name made = made_name(name);
+    struct shelf *shelf = &shelves[made.part];
     (void)thread;
-    TAKE(&shelf->lock);
-    if (rrcache_ask(&shelf->cache, &query, 0, &told, buffer, sizeof buffer) != RRCACHE_DONE)
+    TAKE_TO_ASK(&shelf->lock);
+    if (ASK(&shelf->cache, &made, &question, &told, buffer, sizeof buffer) != RRCACHE_DONE)
         fail("an ask was refused");
     GIVE(&shelf->lock);
     return told.kind == RRCACHE_FRESH;

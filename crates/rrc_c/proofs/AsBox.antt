@@ -1,32 +1,34 @@
 -- SPDX-License-Identifier: MIT
--- What a seal holds, and its parts, own what a box at the same types owns.
-use Rattle.std.specs.Prelude.{◌≡◌, None, Some, IsSome, refl}
-use Rattle.rrc_c.specs.Sealed.{Held}
-use mir.Syntax.{impl, tnil, dnil}
-use mathlib.Core.List.{[]}
-use denote.Signature.{Slot, plain}
-use Rattle.std_alloc.proofs.BoxSteps.Form.{Bx}
+-- What a `Content` owns, where it holds a value, is what a box owns.
+use Rattle.std.specs.Prelude.{◌≡◌, Option, None, Some, IsSome, refl}
+use mir.Syntax.{Args, a_type, impl, tcons, tnil, dnil}
+use mathlib.Core.List.{[], ◌∷◌}
+use mir.Raw.{raw}
+use denote.Exit.{no}
+use denote.Param.{arg, layout, layouts}
+use denote.Param.Laws.{Laws, arg_laws}
+use denote.RattleType.{RattleType}
+use Rattle.std_alloc.proofs.BoxSteps.Form.{Bx, R}
 use Rattle.std_heap.specs.contracts.Global as Heap
 use Rattle.std_heap.specs.contracts.GlobalAllocator.TheImpl.{ghosts, dict}
 use Rattle.std_heap.proofs.Global.TheLaws as heap
-use Rattle.rrc_share.specs.contracts.cache_shelf.CacheShelf as Shelf
-use Rattle.rrc_share.proofs.cache_shelf.CacheShelf.TheLaws as shelf
-use Rattle.rrc_c.specs.contracts.seal.parts.Parts as Parts
-use Rattle.rrc_c.specs.contracts.seal.Seal as Seal
+use Rattle.rrc_c.specs.contracts.boxed.Content as Content
 
-abbrev pub E : Bx
-E = record { row = Shelf.the_row; laws = shelf.the_row_laws; al = record { row = Heap.the_row; laws = heap.the_row_laws; g = ghosts; d = dict; drops = impl [] tnil dnil } }
+-- the allocator, as a function with a type parameter for one is passed it
+abbrev pub A : RattleType
+A = arg (raw (layout Heap.the_row)) no Heap.the_row
 
-abbrev pub FromParts : Slot 0
-FromParts = plain (λ _. Parts.the_row Shelf.the_row Heap.the_row ghosts)
+module _ (X : RattleType) (L : Laws X) where
+  abbrev pub E : Bx
+  E = record { row = X; laws = L; al = record { row = A; laws = arg_laws (raw (layout Heap.the_row)) no Heap.the_row heap.the_row_laws refl; g = ghosts; d = dict; drops = impl ("rrc_c::Destruct++none::drop" ∷ []) (tcons (layout A) tnil) dnil } }
 
-abbrev pub FromSeal : Slot 0
-FromSeal = plain (λ _. Seal.the_row)
+  abbrev pub S : RattleType
+  S = Content.the_row (R E)
 
--- where a seal holds a shelf, which one
-pub by_held : {G : Type 1} (held : Held) → IsSome held → ((shelf : Shelf.the_row.Denot) → held ≡ Some shelf → G) → G
+abbrev pub args : RattleType → Args
+args X = layouts (a_type ∷ []) (X, tt)
+
+-- where a value is held, which one
+pub by_held : {V : Type 0} {G : Type 1} (held : Option V) → IsSome held → ((value : V) → held ≡ Some value → G) → G
 by_held None some step = let no : ⊥ = cc in absurd no
-by_held (Some shelf) some step = step shelf refl
-
-abbrev pub FromGlobal : Slot 0
-FromGlobal = plain (λ _. Heap.the_row)
+by_held (Some value) some step = step value refl

@@ -20,18 +20,20 @@ use Rattle.rrc_share.specs.Shelf.{ShelfOf, Appends, HasMadeRoom, ShelvesChapter}
 use Rattle.rrc_share.specs.Switches.{Starts, Stops}
 use Rattle.rrc_sets.specs.Octets.{most_octets, MakesAtMost}
 use Rattle.rrc_sets.specs.lemmas.RelevantSizes.{are_few}
-use Rattle.rrc_sets.specs.declared.query.Query.{Query}
 use Rattle.rrc_c.specs.Fed.{OffersResponse, Goes, offers_response, offers_failure, asks, sweeps, starts_record, drops_record, drops_chapters, stops_record, takes_chapters, is_refused, IsFed, made, goes_on, RDATA_LIMIT, FedAreBounded, AreBoundedAtAnySize}
 use Rattle.rrc_c.specs.Intake.{failure_offer, Takes, TakesAll, TakesFirst}
 use Rattle.rrc_c.specs.Parts.{keyed_part_of}
 use Rattle.rrc_c.specs.Readings.{placed_in, share_of, TakesShare, TakesSomeOfShare}
-use Rattle.rrc_c.specs.Responses.{IsResponseReading}
+use Rattle.rrc_c.specs.Responses.{query_of, IsResponseReading}
 use Rattle.rrc_c.specs.Chapters.{StopsRecord}
 use Rattle.rrc_c.specs.Shelves.{IsLeftAs, MakesAsk, MakesOffer, MakesSweep, StartsRecord}
-use Rattle.rrc_c.specs.declared.counts.Bounds.{Bounds}
 use Rattle.rrc_c.specs.declared.counts.Counts.{Counts}
 use Rattle.rrc_c.specs.declared.reading.Placed.{Placed}
 use Rattle.rrc_c.specs.declared.reading.Reading.{Reading}
+use Rattle.rrc_c.specs.declared.terms.Division.{Division}
+use Rattle.rrc_c.specs.declared.terms.FailureTerms.{FailureTerms}
+use Rattle.rrc_c.specs.declared.terms.ResponseTerms.{ResponseTerms}
+use Rattle.rrc_c.specs.declared.terms.Share.{Share}
 use Rattle.rrc_c.proofs.Bounding.{are_bounded}
 use Rattle.rrc_c.proofs.Holding.{all_reverse, OffersAtMost, IsFew, few_adds, few_closes, few_contents, few_ends}
 
@@ -167,35 +169,34 @@ all_weaker few many (offer ∷ offers) le all =
     (omega (arith, le, all.0), all_weaker few many offers le all.1)
 
 -- what holds of all offers holds of those of a part
-all_placed : (P : OfferOf → Type 0) (parts : ℕ) (seed : List ℕ) (part : ℕ) (offers : List OfferOf)
-    → AllByRecursion P offers → AllByRecursion P (share_of part (map (placed_in parts seed) offers))
-all_placed P parts seed part [] all = tt
-all_placed P parts seed part (offer ∷ offers) all =
-    by (keyed_part_of seed offer.key.name parts == part) (all_placed P parts seed part offers all.1)
+all_placed : (P : OfferOf → Type 0) (division : Division) (part : ℕ) (offers : List OfferOf)
+    → AllByRecursion P offers → AllByRecursion P (share_of part (map (placed_in division) offers))
+all_placed P division part [] all = tt
+all_placed P division part (offer ∷ offers) all =
+    by (keyed_part_of division.seed offer.key.name division.count == part) (all_placed P division part offers all.1)
   where
-    by : (lies : Bool) → AllByRecursion P (share_of part (map (placed_in parts seed) offers))
+    by : (lies : Bool) → AllByRecursion P (share_of part (map (placed_in division) offers))
         → AllByRecursion P (map (λ (one : Placed). one.offer)
-        (cond lies (placed_in parts seed offer ∷ filter (λ (one : Placed). one.part == part)
-        (map (placed_in parts seed) offers))
-        (filter (λ (one : Placed). one.part == part) (map (placed_in parts seed) offers))))
+        (cond lies (placed_in division offer ∷ filter (λ (one : Placed). one.part == part)
+        (map (placed_in division) offers))
+        (filter (λ (one : Placed). one.part == part) (map (placed_in division) offers))))
     by true rest = (all.0, rest)
     by false rest = rest
 
-module _ (octets zone : List ℕ) (query : Query) (parts : ℕ) (seed : List ℕ) (at : ℕ)
-    (bounds : Bounds) (reading : Reading) (is : IsResponseReading octets zone query parts seed at
-    bounds reading) (part : ℕ) where
+module _ (octets zone name : List ℕ) (terms : ResponseTerms) (reading : Reading)
+    (is : IsResponseReading octets zone name terms reading) (share : Share) where
   share_is : (P : OfferOf → Type 0) → AllByRecursion P is.offers
-      → AllByRecursion P (share_of part reading.placed.items)
+      → AllByRecursion P (share_of share.part reading.placed.items)
   share_is P all =
-      subst (λ placed. AllByRecursion P (share_of part placed)) (sym is.placed)
-      (all_placed P parts seed part is.offers all)
+      subst (λ placed. AllByRecursion P (share_of share.part placed)) (sym is.holds.placed)
+      (all_placed P terms.parts share.part is.offers all)
 
   offers_few : (size : ℕ) → length octets ≤ size
       → AllByRecursion (MakesAtMost (most_octets RDATA_LIMIT size)) is.offers
   offers_few size within =
       let relevant = is.offered.relevant in
       let limit = relevant.relevance.octets in
-      let all = are_few query is.offered.limits relevant.relevance octets zone at is.offers
+      let all = are_few (query_of name terms) is.offered.limits relevant.relevance octets zone terms.moment is.offers
       relevant.brought in
       all_weaker (most_octets limit (length octets)) (most_octets RDATA_LIMIT size) is.offers
       (subst (λ n. most_octets n (length octets) ≤ most_octets RDATA_LIMIT size)
@@ -204,26 +205,26 @@ module _ (octets zone : List ℕ) (query : Query) (parts : ℕ) (seed : List ℕ
 
   share_few : (size : ℕ) → length octets ≤ size
       → AllByRecursion (MakesAtMost (most_octets RDATA_LIMIT size))
-      (share_of part reading.placed.items)
+      (share_of share.part reading.placed.items)
   share_few size within =
       share_is (MakesAtMost (most_octets RDATA_LIMIT size)) (offers_few size within)
 
-  few_share : (size number line : ℕ) (counts : Counts) (old new : CacheShelfOf)
-      → length octets ≤ size → TakesSomeOfShare number line part counts reading old new
+  few_share : (size number : ℕ) (seed : List ℕ) (counts : Counts) (old new : CacheShelfOf)
+      → length octets ≤ size → TakesSomeOfShare number share seed counts reading old new
       → IsFew (most_octets RDATA_LIMIT size) old.shelf.part
       → IsFew (most_octets RDATA_LIMIT size) new.shelf.part
-  few_share size number line counts old new within (inl (none, refusal)) few =
+  few_share size number seed counts old new within (inl (none, refusal)) few =
       subst (λ (shelf : CacheShelfOf). IsFew (most_octets RDATA_LIMIT size) shelf.shelf.part)
       (sym none.kept) few
-  few_share size number line counts old new within (inr beginning) few =
-      few_first (most_octets RDATA_LIMIT size) number line reading.moment
-      (share_of part reading.placed.items) counts old new beginning.takes (share_few size within) few
+  few_share size number seed counts old new within (inr beginning) few =
+      few_first (most_octets RDATA_LIMIT size) number share.line reading.moment
+      (share_of share.part reading.placed.items) counts old new beginning.takes (share_few size within) few
 
 -- ---- a shelf
 
-failure_few : (size : ℕ) (name : List ℕ) (rtype class ttl at : ℕ) → length name ≤ 255
-    → MakesAtMost (most_octets RDATA_LIMIT size) (failure_offer name rtype class ttl at)
-failure_few size name rtype class ttl at short =
+failure_few : (size : ℕ) (name : List ℕ) (failure : FailureTerms) → length name ≤ 255
+    → MakesAtMost (most_octets RDATA_LIMIT size) (failure_offer name failure)
+failure_few size name failure short =
     omega (arith, short, length-map name to_ascii_lowercase)
 
 few_response : (size : ℕ) (old new : CacheShelfOf) → OffersResponse size old new
@@ -231,17 +232,15 @@ few_response : (size : ℕ) (old new : CacheShelfOf) → OffersResponse size old
     → IsFew (most_octets RDATA_LIMIT size) new.shelf.part
 few_response size old new is few = by is.takes
   where
-    by : TakesShare is.line is.part is.counts is.reading old new ⊎
-        ((number : ℕ) × TakesSomeOfShare number is.line is.part is.counts is.reading old new)
+    by : TakesShare is.share is.counts is.reading old new ⊎
+        ((number : ℕ) × TakesSomeOfShare number is.share is.shelf_seed is.counts is.reading old new)
         → IsFew (most_octets RDATA_LIMIT size) new.shelf.part
     by (inl takes) =
-        few_all (most_octets RDATA_LIMIT size) is.line (share_of is.part is.reading.placed.items)
+        few_all (most_octets RDATA_LIMIT size) is.share.line (share_of is.share.part is.reading.placed.items)
         is.counts old new takes
-        (share_few is.octets is.zone is.query is.parts is.seed is.at is.bounds is.reading is.reads
-        is.part size is.within) few
+        (share_few is.octets is.zone is.name is.terms is.reading is.reads is.share size is.within) few
     by (inr (number, takes)) =
-        few_share is.octets is.zone is.query is.parts is.seed is.at is.bounds is.reading is.reads
-        is.part size number is.line is.counts old new is.within takes few
+        few_share is.octets is.zone is.name is.terms is.reading is.reads is.share size number is.shelf_seed is.counts old new is.within takes few
 
 few_goes : (size : ℕ) (old new : CacheShelfOf) → Goes size old new
     → IsFew (most_octets RDATA_LIMIT size) old.shelf.part
@@ -249,8 +248,8 @@ few_goes : (size : ℕ) (old new : CacheShelfOf) → Goes size old new
 few_goes size old new (offers_response is) few = few_response size old new is few
 few_goes size old new (offers_failure is) few =
     few_offer (most_octets RDATA_LIMIT size) old new _
-    (failure_offer is.name is.rtype is.class is.ttl is.at) is.takes.outcome is.takes.made
-    (failure_few size is.name is.rtype is.class is.ttl is.at is.is_failure.name.short) few
+    (failure_offer is.name is.failure) is.takes.outcome is.takes.made
+    (failure_few size is.name is.failure is.is_failure.name.short) few
 few_goes size old new (asks tag ask reply makes) few =
     few_ask (most_octets RDATA_LIMIT size) old new tag ask reply makes few
 few_goes size old new (sweeps tag moment removed makes) few =
@@ -273,7 +272,7 @@ few_goes size old new (is_refused left) few =
 
 few_fed : (size : ℕ) (shelf : CacheShelfOf) → IsFed size shelf
     → IsFew (most_octets RDATA_LIMIT size) shelf.shelf.part
-few_fed size shelf (made capacity chapter stale is) =
+few_fed size shelf (made rules is) =
     subst (λ (shelf : CacheShelfOf). IsFew (most_octets RDATA_LIMIT size) shelf.shelf.part)
     (sym is.2) (record { snapshot = tt; events = tt })
 few_fed size shelf (goes_on old fed goes) = few_goes size old shelf goes (few_fed size old fed)
@@ -291,15 +290,12 @@ response_sized size old new is = record {
   octets = is.octets;
   within = is.reads.offered.relevant.brought.begins.short;
   zone = is.zone;
-  query = is.query;
-  parts = is.parts;
-  seed = is.seed;
-  at = is.at;
-  bounds = is.bounds;
+  name = is.name;
+  terms = is.terms;
   reading = is.reading;
   reads = is.reads;
-  line = is.line;
-  part = is.part;
+  share = is.share;
+  shelf_seed = is.shelf_seed;
   counts = is.counts;
   takes = is.takes;
 }
@@ -317,7 +313,7 @@ goes_sized size old new (takes_chapters chapters takes) = takes_chapters chapter
 goes_sized size old new (is_refused left) = is_refused left
 
 fed_sized : (size : ℕ) (shelf : CacheShelfOf) → IsFed size shelf → IsFed 65535 shelf
-fed_sized size shelf (made capacity chapter stale is) = made capacity chapter stale is
+fed_sized size shelf (made rules is) = made rules is
 fed_sized size shelf (goes_on old fed goes) =
     goes_on old (fed_sized size old fed) (goes_sized size old shelf goes)
 

@@ -1,7 +1,7 @@
 -- SPDX-License-Identifier: MIT
 pub mod AsBox
-pub mod ReadingAsBox
-pub mod ChaptersAsBox
+pub mod Crossing
+pub mod SameMemory
 pub mod Filling
 pub mod Answering
 pub mod Taking
@@ -14,3 +14,5 @@ pub mod Feeding
 pub mod Loan
 pub mod Looking
 pub mod Lending
+pub mod Telling
+pub mod Sweeping

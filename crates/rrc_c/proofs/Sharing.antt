@@ -6,21 +6,23 @@ use Rattle.std.proofs.Math.Pow.{pow_mono}
 use Rattle.std.proofs.lemmas.List.Elements.{All-filter, All-map}
 use Rattle.std.specs.List.{All}
 use Rattle.rrc_history.specs.Fits.{OfferOf}
-use Rattle.rrc_c.specs.Intake.{AreAt, TakesAll, TakesFirst}
+use Rattle.rrc_c.specs.Intake.{AreAt, AreOffered, TakesAll, TakesFirst}
 use Rattle.rrc_c.specs.PartIntake.{lying_in, IsPart}
 use Rattle.rrc_c.specs.Parts.{keyed_part_of}
-use Rattle.rrc_c.specs.Readings.{bit_of, has_part, parts_below, placed_in, share_of, IsReading, RefusedShareIsPart, ShareIsPart}
-use Rattle.rrc_c.specs.declared.counts.Bounds.{Bounds}
+use Rattle.rrc_c.specs.Readings.{bit_of, has_part, parts_below, placed_in, share_of, terms_of_share, HoldsOffers, IsReading, RefusedShareIsPart, ShareIsPart}
 use Rattle.rrc_c.specs.declared.reading.Placed.{Placed}
 use Rattle.rrc_c.specs.declared.reading.Reading.{Reading}
+use Rattle.rrc_c.specs.declared.terms.Division.{Division}
+use Rattle.rrc_c.specs.declared.terms.ResponseTerms.{ResponseTerms}
+use Rattle.rrc_c.specs.declared.terms.Share.{Share}
 
 -- ---- moments
 
 -- offers that were placed in their parts are of the moment that they were of
-pub placed_at : (parts : ℕ) (seed : List ℕ) (at : ℕ) (offers : List OfferOf) (placed : List Placed) → placed ≡ map (placed_in parts seed) offers → AreAt at offers
+pub placed_at : (division : Division) (at : ℕ) (offers : List OfferOf) (placed : List Placed) → placed ≡ map (placed_in division) offers → AreAt at offers
     → All (λ (one : Placed). one.offer.moment ≡ at) placed
-placed_at parts seed at offers placed is are =
-    subst (All (λ (one : Placed). one.offer.moment ≡ at)) (sym is) (All-map (λ (one : Placed). one.offer.moment ≡ at) (placed_in parts seed) offers are)
+placed_at division at offers placed is are =
+    subst (All (λ (one : Placed). one.offer.moment ≡ at)) (sym is) (All-map (λ (one : Placed). one.offer.moment ≡ at) (placed_in division) offers are)
 
 -- those of a part are of the moment of their reading
 pub share_at : (part : ℕ) (reading : Reading) → AreAt reading.moment (share_of part reading.placed.items)
@@ -36,43 +38,66 @@ pick true one behind offers same = ap (λ them. one.offer ∷ them) same
 pick false one behind offers same = same
 
 -- offers that were placed in their parts give by a part those that lie in it
-share_placed : (parts : ℕ) (seed : List ℕ) (part : ℕ) (offers : List OfferOf) → share_of part (map (placed_in parts seed) offers) ≡ lying_in parts seed part offers
-share_placed parts seed part [] = refl
-share_placed parts seed part (offer ∷ behind) =
-    pick (keyed_part_of seed offer.key.name parts == part) (placed_in parts seed offer) (filter (λ (one : Placed). one.part == part) (map (placed_in parts seed) behind)) (lying_in parts seed part behind)
-    (share_placed parts seed part behind)
+share_placed : (division : Division) (part : ℕ) (offers : List OfferOf) → share_of part (map (placed_in division) offers) ≡ lying_in division.count division.seed part offers
+share_placed division part [] = refl
+share_placed division part (offer ∷ behind) =
+    pick (keyed_part_of division.seed offer.key.name division.count == part) (placed_in division offer) (filter (λ (one : Placed). one.part == part) (map (placed_in division) behind))
+    (lying_in division.count division.seed part behind) (share_placed division part behind)
 
-share_same : (octets zone : List ℕ) (parts : ℕ) (seed : List ℕ) (part at : ℕ) (bounds : Bounds) (reading : Reading) (is : IsReading octets zone parts seed at bounds reading)
-    → share_of part reading.placed.items ≡ lying_in parts seed part is.offers
-share_same octets zone parts seed part at bounds reading is = ap (share_of part) is.placed ∙ share_placed parts seed part is.offers
+share_same : (octets zone : List ℕ) (terms : ResponseTerms) (part : ℕ) (reading : Reading) (is : IsReading octets zone terms reading)
+    → share_of part reading.placed.items ≡ lying_in terms.parts.count terms.parts.seed part is.offers
+share_same octets zone terms part reading is = ap (share_of part) is.holds.placed ∙ share_placed terms.parts part is.offers
+
+-- the same is offered by the terms of a share
+offered_again : (octets zone : List ℕ) (terms : ResponseTerms) (share : Share) (offers : List OfferOf) → AreOffered octets zone terms offers
+    → AreOffered octets zone (terms_of_share terms share) offers
+offered_again octets zone terms share offers are = record { zone_is = are.zone_is; limits = are.limits; are_limits = are.are_limits; brought = are.brought }
 
 pub share_is_part : ShareIsPart
-share_is_part octets zone parts seed part at line bounds reading counts old new is takes =
+share_is_part octets zone terms share reading counts old new is takes =
     record {
       offers = is.offers;
-      offered = is.offered;
-      takes = subst (λ offers. TakesAll line offers counts old new) (share_same octets zone parts seed part at bounds reading is) takes;
+      offered = offered_again octets zone terms share is.offers is.offered;
+      takes = subst (λ offers. TakesAll share.line offers counts old new) (share_same octets zone terms share.part reading is) takes;
     }
 
-is_part : (octets zone : List ℕ) (parts : ℕ) (seed : List ℕ) (part at : ℕ) (bounds : Bounds) (reading : Reading) → IsReading octets zone parts seed at bounds reading → part < reading.parts → IsPart parts part
-is_part octets zone parts seed part at bounds reading is below = record { some = is.division.are_parts.some; few = is.division.are_parts.few; below = subst (λ n. part < n) is.parts_are below }
+is_part : (terms : ResponseTerms) (part : ℕ) (offers : List OfferOf) (reading : Reading) → HoldsOffers terms offers reading → part < reading.parts → IsPart terms.parts.count part
+is_part terms part offers reading is below =
+    record { some = is.division.are_parts.some; few = is.division.are_parts.few; below = subst (λ n. part < n) is.parts_are below }
 
 is_no_part : (parts part all : ℕ) → all ≡ parts → all ≤ part → IsPart parts part → ⊥
 is_no_part parts part all same above fit = let below = fit.below in omega (arith, same, above, below)
 
+-- the seed of the reading is that of its terms
+other_seed : (one same seed : List ℕ) → one ≡ same → (one ≡ seed → ⊥) → same ≡ seed → ⊥
+other_seed one same seed is other at = other (is ∙ at)
+
 pub refused_share_is_part : RefusedShareIsPart
-refused_share_is_part octets zone number parts seed part at line bounds reading counts old new is (inl (none, inl (told, above))) = inl (none, inl (told, is_no_part parts part reading.parts is.parts_are above))
-refused_share_is_part octets zone number parts seed part at line bounds reading counts old new is (inl (none, inr (below, memory))) =
-    inl (none, inr (is_part octets zone parts seed part at bounds reading is below, inr (is.division.is_seed, inr (is.are_limits, inl (inl memory)))))
-refused_share_is_part octets zone number parts seed part at line bounds reading counts old new is (inr beginning) =
-    let same = share_same octets zone parts seed part at bounds reading is in
-    let first = subst (λ moment. TakesFirst number line moment (share_of part reading.placed.items) counts old new) is.moment_is beginning.takes in
+refused_share_is_part octets zone number terms share seed reading counts old new is (inl (none, inl (told, above))) =
+    inl (none, inl (told, is_no_part terms.parts.count share.part reading.parts is.holds.parts_are above))
+refused_share_is_part octets zone number terms share seed reading counts old new is (inl (none, inr (below, inl (told, other)))) =
+    inl (
+      none,
+      inr (
+        is_part terms share.part is.offers reading is.holds below,
+        inr (
+          is.holds.division.has_seed,
+          inr ((is.offers, offered_again octets zone terms share is.offers is.offered), (told, other_seed reading.seed terms.parts.seed seed is.holds.seed_is other)),
+        ),
+      ),
+    )
+refused_share_is_part octets zone number terms share seed reading counts old new is (inl (none, inr (below, inr (same, memory)))) =
+    inl (none, inr (is_part terms share.part is.offers reading is.holds below, inr (is.holds.division.has_seed, inl (inr (is.holds.are_limits, inl (inl memory))))))
+refused_share_is_part octets zone number terms share seed reading counts old new is (inr beginning) =
+    let same = share_same octets zone terms share.part reading is in
+    let first = subst (λ moment. TakesFirst number share.line moment (share_of share.part reading.placed.items) counts old new) is.holds.moment_is beginning.takes in
     inr (record {
-      is_part = is_part octets zone parts seed part at bounds reading is beginning.below;
-      is_seed = is.division.is_seed;
+      is_part = is_part terms share.part is.offers reading is.holds beginning.below;
+      has_seed = is.holds.division.has_seed;
+      seeded = sym is.holds.seed_is ∙ beginning.seeded;
       offers = is.offers;
-      offered = is.offered;
-      takes = subst (λ offers. TakesFirst number line at offers counts old new) same first;
+      offered = offered_again octets zone terms share is.offers is.offered;
+      takes = subst (λ offers. TakesFirst number share.line terms.moment offers counts old new) same first;
     })
 
 -- ---- bits

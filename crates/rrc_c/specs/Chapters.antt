@@ -9,6 +9,7 @@ use Rattle.rrc_archive.specs.Archive.{lines_of, written_of}
 use Rattle.rrc_c.specs.Refusals.{IsDoneOrMemory, OutOfMemory, RecordDueBy}
 use Rattle.rrc_c.specs.ReplyRecord.{IsFilled}
 use Rattle.rrc_c.specs.declared.chapter_lines.Line.{Line}
+use Rattle.rrc_c.specs.declared.terms.LinePlace.{LinePlace}
 
 -- ---- leaving a shelf
 
@@ -65,8 +66,8 @@ line_in None line = None
 line_in (Some chapter) line = slice_get (lines_of (written_of chapter)) line
 
 -- the same of chapters; both are counted from 0
-abbrev pub line_at : List ChapterOf → ℕ → ℕ → Option (List ℕ)
-line_at chapters chapter line = line_in (slice_get chapters chapter) line
+abbrev pub line_at : List ChapterOf → LinePlace → Option (List ℕ)
+line_at chapters place = line_in (slice_get chapters place.chapter) place.line
 
 -- the octets from a place on, as many as there is room for
 abbrev pub piece_of : List ℕ → ℕ → ℕ → List ℕ
@@ -80,15 +81,15 @@ pub record TellsPiece (text : List ℕ) (from : ℕ) (told : Line) (before after
   pub buffer : IsFilled before (piece_of text from (length before)) after
 
 -- a line of a chapter is told so, with the LF at its end
-pub record TellsLine (chapters : List ChapterOf) (chapter line from : ℕ) (told : Line) (before after : List ℕ) : Type 0 where
+pub record TellsLine (chapters : List ChapterOf) (place : LinePlace) (told : Line) (before after : List ℕ) : Type 0 where
   pub text : List ℕ
-  pub is_line : line_at chapters chapter line ≡ Some text
-  pub tells : TellsPiece (text ++ 10 ∷ []) from told before after
+  pub is_line : line_at chapters place ≡ Some text
+  pub tells : TellsPiece (text ++ 10 ∷ []) place.from told before after
 
 -- when a line is told: 23 is answered exactly where there is none, and memory alone refuses one
 abbrev pub LineDueBy : Option (List ℕ) → ℕ → Type 0
 LineDueBy None number = number ≡ 23
 LineDueBy (Some text) number = IsDoneOrMemory number
 
-abbrev pub LineDue : List ChapterOf → ℕ → ℕ → ℕ → Type 0
-LineDue chapters chapter line = LineDueBy (line_at chapters chapter line)
+abbrev pub LineDue : List ChapterOf → LinePlace → ℕ → Type 0
+LineDue chapters place = LineDueBy (line_at chapters place)

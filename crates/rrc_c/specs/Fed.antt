@@ -8,7 +8,6 @@ use Rattle.rrc_history.specs.declared.event.Tag.{Tag}
 use Rattle.rrc_cache.specs.Sizes.{HoldsKeys, HoldsOctets}
 use Rattle.rrc_share.specs.CacheShelf.{CacheShelfOf}
 use Rattle.rrc_sets.specs.Octets.{most_octets}
-use Rattle.rrc_sets.specs.declared.query.Query.{Query}
 use Rattle.rrc_c.specs.Chapters.{StopsRecord, TakesClosed}
 use Rattle.rrc_c.specs.Upkeep.{DropsChapters}
 use Rattle.rrc_c.specs.NewShelf.{IsNew}
@@ -17,9 +16,12 @@ use Rattle.rrc_c.specs.Readings.{TakesShare, TakesSomeOfShare}
 use Rattle.rrc_c.specs.Refusals.{IsFailure}
 use Rattle.rrc_c.specs.Responses.{IsResponseReading}
 use Rattle.rrc_c.specs.Shelves.{DropsRecord, IsLeftAs, MakesAsk, MakesSweep, StartsRecord}
-use Rattle.rrc_c.specs.declared.counts.Bounds.{Bounds}
 use Rattle.rrc_c.specs.declared.counts.Counts.{Counts}
 use Rattle.rrc_c.specs.declared.reading.Reading.{Reading}
+use Rattle.rrc_c.specs.declared.terms.FailureTerms.{FailureTerms}
+use Rattle.rrc_c.specs.declared.terms.ResponseTerms.{ResponseTerms}
+use Rattle.rrc_c.specs.declared.terms.ShelfRules.{ShelfRules}
+use Rattle.rrc_c.specs.declared.terms.Share.{Share}
 
 -- what is relevant of a response of at most so many octets was read (rrc_read_response), and what of
 -- it lies in a part was offered (rrc_offer_read), all of it, or the first until one was refused
@@ -27,30 +29,23 @@ pub record OffersResponse (size : ℕ) (old new : CacheShelfOf) : Type 0 where
   pub octets : List ℕ
   pub within : length octets ≤ size
   pub zone : List ℕ
-  pub query : Query
-  pub parts : ℕ
-  pub seed : List ℕ
-  pub at : ℕ
-  pub bounds : Bounds
+  pub name : List ℕ
+  pub terms : ResponseTerms
   pub reading : Reading
-  pub reads : IsResponseReading octets zone query parts seed at bounds reading
-  pub line : ℕ
-  pub part : ℕ
+  pub reads : IsResponseReading octets zone name terms reading
+  pub share : Share
+  pub shelf_seed : List ℕ
   pub counts : Counts
-  pub takes : TakesShare line part counts reading old new
-      ⊎ ((number : ℕ) × TakesSomeOfShare number line part counts reading old new)
+  pub takes : TakesShare share counts reading old new
+      ⊎ ((number : ℕ) × TakesSomeOfShare number share shelf_seed counts reading old new)
 
 -- a failure was offered (rrc_offer_failure)
 pub record OffersFailure (old new : CacheShelfOf) : Type 0 where
   pub name : List ℕ
-  pub rtype : ℕ
-  pub class : ℕ
-  pub ttl : ℕ
-  pub at : ℕ
-  pub is_failure : IsFailure name rtype class ttl
-  pub line : ℕ
+  pub failure : FailureTerms
+  pub is_failure : IsFailure name failure
   pub outcome : ℕ
-  pub takes : TakesOne line (failure_offer name rtype class ttl at) outcome old new
+  pub takes : TakesOne failure.line (failure_offer name failure) outcome old new
 
 -- a call on a shelf that offers nothing else
 pub data Goes (size : ℕ) (old new : CacheShelfOf) : Type 0 where
@@ -69,8 +64,7 @@ pub data Goes (size : ℕ) (old new : CacheShelfOf) : Type 0 where
 
 -- a shelf was made (rrc_make), and then there were such calls, and no others
 pub data IsFed (size : ℕ) : CacheShelfOf → Type 0 where
-  made : {shelf : CacheShelfOf} (capacity chapter stale : ℕ) → IsNew capacity chapter stale shelf
-      → IsFed size shelf
+  made : {shelf : CacheShelfOf} (rules : ShelfRules) → IsNew rules shelf → IsFed size shelf
   goes_on : {new : CacheShelfOf} (old : CacheShelfOf) → IsFed size old → Goes size old new
       → IsFed size new
 

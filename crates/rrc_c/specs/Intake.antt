@@ -19,7 +19,10 @@ use Rattle.rrc_c.specs.Shelves.{IsLeftAs, MakesOffer}
 use Rattle.rrc_c.specs.ReplyRecord.{data_text}
 use Rattle.rrc_c.specs.Refusals.{OffersRefused, WriteDue}
 use Rattle.rrc_c.specs.declared.counts.Counts.{Counts}
-use Rattle.rrc_c.specs.declared.counts.Bounds.{Bounds}
+use Rattle.rrc_c.specs.declared.terms.FailureTerms.{FailureTerms}
+use Rattle.rrc_c.specs.declared.terms.NegativeTerms.{NegativeTerms}
+use Rattle.rrc_c.specs.declared.terms.ResponseTerms.{ResponseTerms}
+use Rattle.rrc_c.specs.declared.terms.SetTerms.{SetTerms}
 
 -- ---- one offer
 
@@ -27,9 +30,9 @@ use Rattle.rrc_c.specs.declared.counts.Bounds.{Bounds}
 abbrev pub trust_of : ℕ → Trust
 trust_of number = if number == 1 then Additional else (if number == 2 then NonAuthoritativeAnswer else (if number == 3 then Authority else AuthoritativeAnswer))
 
--- what a denial is of: of data of a type, by 0, or of the name, by 1
-abbrev pub denied : ℕ → ℕ → Slot
-denied denial rtype = if denial == 0 then Set rtype else Nx
+-- what a negative answer denies: data of its type, by 3, or the name, by 4
+abbrev pub denied : NegativeTerms → Slot
+denied negative = if negative.denial == 3 then Set negative.rtype else Nx
 
 -- the number of what became of an offer
 abbrev pub outcome_number : Outcome → ℕ
@@ -38,19 +41,27 @@ outcome_number Cleared = 2
 outcome_number LessTrusted = 3
 
 -- a set is offered, whose data stand in some octets each behind its length
-pub record IsSetOffer (owner : List ℕ) (rtype class trust ttl : ℕ) (octets : List ℕ) (at : ℕ) (offer : OfferOf) : Type 0 where
+pub record IsSetOffer (owner : List ℕ) (set : SetTerms) (octets : List ℕ) (offer : OfferOf) : Type 0 where
   pub items : List (List ℕ)
   pub stand : data_text items ≡ octets
-  pub is : offer ≡ record { key = record { name = folded owner; class = class; slot = Set rtype }; body = Positive (trust_of trust) ttl owner items; moment = at }
+  pub is : offer ≡ record {
+    key = record { name = folded owner; class = set.rclass; slot = Set set.rtype };
+    body = Positive (trust_of set.trust) set.ttl owner items;
+    moment = set.moment;
+  }
 
 -- that a name has no data of a type, or does not exist, with the SOA record that says so
-abbrev pub denial_offer : List ℕ → ℕ → ℕ → ℕ → ℕ → ℕ → List ℕ → List ℕ → ℕ → OfferOf
-denial_offer name rtype class denial trust ttl soa_owner soa at =
-    record { key = record { name = folded name; class = class; slot = denied denial rtype }; body = Negative (trust_of trust) ttl soa_owner soa; moment = at }
+abbrev pub denial_offer : List ℕ → NegativeTerms → List ℕ → List ℕ → OfferOf
+denial_offer name negative soa_owner soa = record {
+  key = record { name = folded name; class = negative.rclass; slot = denied negative };
+  body = Negative (trust_of negative.trust) negative.ttl soa_owner soa;
+  moment = negative.moment;
+}
 
 -- that asking for data of a type failed
-abbrev pub failure_offer : List ℕ → ℕ → ℕ → ℕ → ℕ → OfferOf
-failure_offer name rtype class ttl at = record { key = record { name = folded name; class = class; slot = Failed rtype }; body = Failure ttl; moment = at }
+abbrev pub failure_offer : List ℕ → FailureTerms → OfferOf
+failure_offer name failure =
+    record { key = record { name = folded name; class = failure.rclass; slot = Failed failure.rtype }; body = Failure failure.ttl; moment = failure.moment }
 
 -- an offer is written, which is one event, and what became of it is told by its number
 pub record TakesOne (line : ℕ) (offer : OfferOf) (number : ℕ) (old new : CacheShelfOf) : Type 0 where
@@ -59,22 +70,22 @@ pub record TakesOne (line : ℕ) (offer : OfferOf) (number : ℕ) (old new : Cac
   pub told : number ≡ outcome_number outcome
 
 -- the same of an offer of a set
-pub record TakesSet (line : ℕ) (owner : List ℕ) (rtype class trust ttl : ℕ) (octets : List ℕ) (at number : ℕ) (old new : CacheShelfOf) : Type 0 where
+pub record TakesSet (owner : List ℕ) (set : SetTerms) (octets : List ℕ) (number : ℕ) (old new : CacheShelfOf) : Type 0 where
   pub offer : OfferOf
-  pub is_offer : IsSetOffer owner rtype class trust ttl octets at offer
-  pub takes : TakesOne line offer number old new
+  pub is_offer : IsSetOffer owner set octets offer
+  pub takes : TakesOne set.line offer number old new
 
 -- ---- a whole message
 
 -- one more outcome counted
 abbrev pub count_more : Outcome → Counts → Counts
-count_more Kept counts = record { kept = counts.kept + 1; cleared = counts.cleared; refused = counts.refused }
-count_more Cleared counts = record { kept = counts.kept; cleared = counts.cleared + 1; refused = counts.refused }
-count_more LessTrusted counts = record { kept = counts.kept; cleared = counts.cleared; refused = counts.refused + 1 }
+count_more Kept counts = record { kept = counts.kept + 1; cleared = counts.cleared; outranked = counts.outranked }
+count_more Cleared counts = record { kept = counts.kept; cleared = counts.cleared + 1; outranked = counts.outranked }
+count_more LessTrusted counts = record { kept = counts.kept; cleared = counts.cleared; outranked = counts.outranked + 1 }
 
--- how many offers were kept, cleared and refused for want of trust
+-- how many offers were kept, cleared and outranked
 abbrev pub counts_of : List Outcome → Counts
-counts_of [] = record { kept = 0; cleared = 0; refused = 0 }
+counts_of [] = record { kept = 0; cleared = 0; outranked = 0 }
 counts_of (outcome ∷ before) = count_more outcome (counts_of before)
 
 -- offers were written, each as one event with its place among them; the last offer comes first
@@ -107,23 +118,23 @@ pub record TakesFirst (number line at : ℕ) (offers : List OfferOf) (counts : C
   pub left : IsLeftAs middle new
 
 -- what the message offers that some octets are
-pub record AreOffered (octets zone : List ℕ) (at : ℕ) (bounds : Bounds) (offers : List OfferOf) : Type 0 where
+pub record AreOffered (octets zone : List ℕ) (terms : ResponseTerms) (offers : List OfferOf) : Type 0 where
   pub zone_is : IsWireForm zone
   pub limits : Limits
-  pub are_limits : LimitsAre limits bounds.cap bounds.negative_cap bounds.recheck
-  pub brought : Brings limits octets zone at offers
+  pub are_limits : LimitsAre limits terms.limits.cap terms.limits.negative_cap terms.limits.recheck
+  pub brought : Brings limits octets zone terms.moment offers
 
 -- all that a message offers was written
-pub record TakesMessage (line : ℕ) (octets zone : List ℕ) (at : ℕ) (bounds : Bounds) (counts : Counts) (old new : CacheShelfOf) : Type 0 where
+pub record TakesMessage (octets zone : List ℕ) (terms : ResponseTerms) (counts : Counts) (old new : CacheShelfOf) : Type 0 where
   pub offers : List OfferOf
-  pub offered : AreOffered octets zone at bounds offers
-  pub takes : TakesAll line offers counts old new
+  pub offered : AreOffered octets zone terms offers
+  pub takes : TakesAll terms.line offers counts old new
 
 -- the first of what a message offers was written, and then it was refused by this number
-pub record TakesBeginning (number line : ℕ) (octets zone : List ℕ) (at : ℕ) (bounds : Bounds) (counts : Counts) (old new : CacheShelfOf) : Type 0 where
+pub record TakesBeginning (number : ℕ) (octets zone : List ℕ) (terms : ResponseTerms) (counts : Counts) (old new : CacheShelfOf) : Type 0 where
   pub offers : List OfferOf
-  pub offered : AreOffered octets zone at bounds offers
-  pub takes : TakesFirst number line at offers counts old new
+  pub offered : AreOffered octets zone terms offers
+  pub takes : TakesFirst number terms.line terms.moment offers counts old new
 
 -- nothing was written and nothing counted
 pub record TakesNone (counts : Counts) (old new : CacheShelfOf) : Type 0 where
@@ -131,10 +142,10 @@ pub record TakesNone (counts : Counts) (old new : CacheShelfOf) : Type 0 where
   pub kept : new ≡ old
 
 -- what a refusal by this number leaves: nothing was written, as what was handed in is refused, or the first of what the message offers
-abbrev pub TakesSome : ℕ → ℕ → List ℕ → List ℕ → ℕ → Bounds → Counts → CacheShelfOf → CacheShelfOf → Type 0
-TakesSome number line octets zone at bounds counts old new =
-    (TakesNone counts old new × OffersRefused octets zone bounds number) ⊎ TakesBeginning number line octets zone at bounds counts old new
+abbrev pub TakesSome : ℕ → List ℕ → List ℕ → ResponseTerms → Counts → CacheShelfOf → CacheShelfOf → Type 0
+TakesSome number octets zone terms counts old new =
+    (TakesNone counts old new × OffersRefused octets zone terms.limits number) ⊎ TakesBeginning number octets zone terms counts old new
 
 -- how many offers were counted
 abbrev pub total : Counts → ℕ
-total counts = counts.kept + counts.cleared + counts.refused
+total counts = counts.kept + counts.cleared + counts.outranked

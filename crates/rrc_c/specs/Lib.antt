@@ -1,6 +1,6 @@
 -- SPDX-License-Identifier: MIT
 pub mod Sealed
-pub mod SealedReading
+pub mod Boxed
 pub mod Statuses
 pub mod Shelves
 pub mod Handles
@@ -16,7 +16,10 @@ pub mod Upkeep
 pub mod Stored
 pub mod Responses
 pub mod Bounds
-pub mod SealedChapters
 pub mod Chapters
 pub mod Fed
 pub mod Looked
+pub mod Names
+pub mod Folding
+pub mod Aliases
+pub mod SweepSteps

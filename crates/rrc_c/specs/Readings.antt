@@ -9,37 +9,44 @@ use Rattle.rrc_c.specs.Intake.{AreAt, AreOffered, TakesAll, TakesFirst, TakesNon
 use Rattle.rrc_c.specs.PartIntake.{TakesPart, TakesSomeOfPart}
 use Rattle.rrc_c.specs.Parts.{keyed_part_of}
 use Rattle.rrc_c.specs.Refusals.{AreLimits, Because, DivisionRefused, IsDivision, OffersRefused, OutOfMemory, Then}
-use Rattle.rrc_c.specs.declared.counts.Bounds.{Bounds}
 use Rattle.rrc_c.specs.declared.counts.Counts.{Counts}
 use Rattle.rrc_c.specs.declared.reading.Placed.{Placed}
 use Rattle.rrc_c.specs.declared.reading.Reading.{Reading}
-use Rattle.rrc_c.specs.declared.status.Status.TheVariants.{BadRules}
+use Rattle.rrc_c.specs.declared.status.Status.TheVariants.{BadRules, OtherSeed}
+use Rattle.rrc_c.specs.declared.terms.Division.{Division}
+use Rattle.rrc_c.specs.declared.terms.ResponseTerms.{ResponseTerms}
+use Rattle.rrc_c.specs.declared.terms.Share.{Share}
 
 -- ---- reading
 
--- an offer, and the part, of so many parts, that its name lies in by a seed
-abbrev pub placed_in : ℕ → List ℕ → OfferOf → Placed
-placed_in parts seed offer = record { part = keyed_part_of seed offer.key.name parts; offer = offer }
+-- an offer, and the part that its name lies in
+abbrev pub placed_in : Division → OfferOf → Placed
+placed_in division offer = record { part = keyed_part_of division.seed offer.key.name division.count; offer = offer }
 
--- a reading of a message: all that it offers, in order, at the moment of its reading, each beside its part
-pub record IsReading (octets zone : List ℕ) (parts : ℕ) (seed : List ℕ) (at : ℕ) (bounds : Bounds) (reading : Reading) : Type 0 where
-  pub division : IsDivision parts seed
-  pub parts_are : reading.parts ≡ parts
-  pub moment_is : reading.moment ≡ at
-  pub are_limits : AreLimits bounds
+-- a reading of offers: all of them, in order, at the moment of its reading, each beside its part
+pub record HoldsOffers (terms : ResponseTerms) (offers : List OfferOf) (reading : Reading) : Type 0 where
+  pub division : IsDivision terms.parts
+  pub parts_are : reading.parts ≡ terms.parts.count
+  pub moment_is : reading.moment ≡ terms.moment
+  pub seed_is : reading.seed ≡ terms.parts.seed
+  pub are_limits : AreLimits terms.limits
+  pub moment : AreAt terms.moment offers
+  pub placed : reading.placed.items ≡ map (placed_in terms.parts) offers
+
+-- a reading of a message: all that it offers
+pub record IsReading (octets zone : List ℕ) (terms : ResponseTerms) (reading : Reading) : Type 0 where
   pub offers : List OfferOf
-  pub offered : AreOffered octets zone at bounds offers
-  pub moment : AreAt at offers
-  pub placed : reading.placed.items ≡ map (placed_in parts seed) offers
+  pub offered : AreOffered octets zone terms offers
+  pub holds : HoldsOffers terms offers reading
 
 -- a message is not read into offers for so many parts
-abbrev pub ReadingRefused : List ℕ → List ℕ → ℕ → List ℕ → Bounds → ℕ → Type 0
-ReadingRefused octets zone parts seed bounds = Then (DivisionRefused parts seed) (IsDivision parts seed) (OffersRefused octets zone bounds)
+abbrev pub ReadingRefused : List ℕ → List ℕ → ResponseTerms → ℕ → Type 0
+ReadingRefused octets zone terms = Then (DivisionRefused terms.parts) (IsDivision terms.parts) (OffersRefused octets zone terms.limits)
 
 -- when a message is read into a handle, and when that is refused with what: 19 is answered exactly where the handle holds offers
-abbrev pub ReadingDue : List ℕ → List ℕ → ℕ → List ℕ → Bounds → Option Reading → ℕ → Type 0
-ReadingDue octets zone parts seed bounds (Some reading) number = number ≡ 19
-ReadingDue octets zone parts seed bounds None number = (number ≡ 0) ⊎ ReadingRefused octets zone parts seed bounds number
+abbrev pub ReadingDue : List ℕ → List ℕ → ResponseTerms → Option Reading → ℕ → Type 0
+ReadingDue octets zone terms (Some reading) number = number ≡ 19
+ReadingDue octets zone terms None number = (number ≡ 0) ⊎ ReadingRefused octets zone terms number
 
 -- ---- the parts concerned
 
@@ -63,22 +70,25 @@ abbrev pub share_of : ℕ → List Placed → List OfferOf
 share_of part placed = map (λ (one : Placed). one.offer) (filter (λ (one : Placed). one.part == part) placed)
 
 -- all offers of a reading that lie in a part were written, and nothing else
-abbrev pub TakesShare : ℕ → ℕ → Counts → Reading → CacheShelfOf → CacheShelfOf → Type 0
-TakesShare line part counts reading old new = TakesAll line (share_of part reading.placed.items) counts old new
+abbrev pub TakesShare : Share → Counts → Reading → CacheShelfOf → CacheShelfOf → Type 0
+TakesShare share counts reading old new = TakesAll share.line (share_of share.part reading.placed.items) counts old new
 
--- nothing is offered, since there is no such part, or for want of memory
-abbrev pub ShareRefused : ℕ → Reading → ℕ → Type 0
-ShareRefused part reading = Then (Because BadRules (reading.parts ≤ part)) (part < reading.parts) OutOfMemory
+-- nothing is offered to a shelf of this seed, since there is no such part, or it was read by another seed, or for want of memory
+abbrev pub ShareRefused : ℕ → Reading → List ℕ → ℕ → Type 0
+ShareRefused part reading seed =
+    Then (Because BadRules (reading.parts ≤ part)) (part < reading.parts)
+    (Then (Because OtherSeed (reading.seed ≡ seed → ⊥)) (reading.seed ≡ seed) OutOfMemory)
 
 -- the first of these offers were written, and nothing else, and then it was refused by this number at the moment of the reading
-pub record TakesBeginningOfShare (number line part : ℕ) (counts : Counts) (reading : Reading) (old new : CacheShelfOf) : Type 0 where
-  pub below : part < reading.parts
-  pub takes : TakesFirst number line reading.moment (share_of part reading.placed.items) counts old new
+pub record TakesBeginningOfShare (number : ℕ) (share : Share) (seed : List ℕ) (counts : Counts) (reading : Reading) (old new : CacheShelfOf) : Type 0 where
+  pub below : share.part < reading.parts
+  pub seeded : reading.seed ≡ seed
+  pub takes : TakesFirst number share.line reading.moment (share_of share.part reading.placed.items) counts old new
 
--- what a refusal by this number leaves: nothing was written, or the first of the offers that lie in the part
-abbrev pub TakesSomeOfShare : ℕ → ℕ → ℕ → Counts → Reading → CacheShelfOf → CacheShelfOf → Type 0
-TakesSomeOfShare number line part counts reading old new =
-    (TakesNone counts old new × ShareRefused part reading number) ⊎ TakesBeginningOfShare number line part counts reading old new
+-- what a refusal by this number leaves of a shelf of this seed: nothing was written, or the first of the offers that lie in the part
+abbrev pub TakesSomeOfShare : ℕ → Share → List ℕ → Counts → Reading → CacheShelfOf → CacheShelfOf → Type 0
+TakesSomeOfShare number share seed counts reading old new =
+    (TakesNone counts old new × ShareRefused share.part reading seed number) ⊎ TakesBeginningOfShare number share seed counts reading old new
 
 -- ---- handles
 
@@ -109,14 +119,28 @@ TellsNoOffers (Some reading) status = status ≡ 18 → ⊥
 
 -- ---- one reading for many parts
 
+-- the terms of an offer of a part, of a message that was read by these
+abbrev pub terms_of_share : ResponseTerms → Share → ResponseTerms
+terms_of_share terms share = record {
+  moment = terms.moment;
+  line = share.line;
+  parts = terms.parts;
+  part = share.part;
+  limits = terms.limits;
+  id = terms.id;
+  rtype = terms.rtype;
+  rclass = terms.rclass;
+}
+
 -- what a reading of a message offers by a part is what the message offers under names of that part
 abbrev pub ShareIsPart : Type 0
 ShareIsPart =
-    (octets zone : List ℕ) (parts : ℕ) (seed : List ℕ) (part at line : ℕ) (bounds : Bounds) (reading : Reading) (counts : Counts) (old new : CacheShelfOf) → IsReading octets zone parts seed at bounds reading
-    → TakesShare line part counts reading old new → TakesPart line octets zone parts seed part at bounds counts old new
+    (octets zone : List ℕ) (terms : ResponseTerms) (share : Share) (reading : Reading) (counts : Counts) (old new : CacheShelfOf) → IsReading octets zone terms reading
+    → TakesShare share counts reading old new → TakesPart octets zone (terms_of_share terms share) counts old new
 
 -- and a refusal leaves what a refusal of the message's part leaves
 abbrev pub RefusedShareIsPart : Type 0
 RefusedShareIsPart =
-    (octets zone : List ℕ) (number parts : ℕ) (seed : List ℕ) (part at line : ℕ) (bounds : Bounds) (reading : Reading) (counts : Counts) (old new : CacheShelfOf) → IsReading octets zone parts seed at bounds reading
-    → TakesSomeOfShare number line part counts reading old new → TakesSomeOfPart number line octets zone parts seed part at bounds counts old new
+    (octets zone : List ℕ) (number : ℕ) (terms : ResponseTerms) (share : Share) (seed : List ℕ) (reading : Reading) (counts : Counts) (old new : CacheShelfOf)
+    → IsReading octets zone terms reading → TakesSomeOfShare number share seed counts reading old new
+    → TakesSomeOfPart number octets zone (terms_of_share terms share) seed counts old new

@@ -1,7 +1,7 @@
 -- SPDX-License-Identifier: MIT
 -- Why calls are refused. A number is that of a status, and what is said of a refusal is a fact of the number.
-use Rattle.std.specs.Prelude.{◌≡◌, ℕ, ◌+◌, ◌*◌, ◌^◌, ◌<◌, ◌≤◌, ◌⊎◌, List, [], ◌++◌, length, slice_index, true, false, Option, None, Some, Bool, if◌then◌else◌, ◌==◌}
-use Rattle.std.specs.List.{AllByRecursion}
+use Rattle.std.specs.Prelude.{◌≡◌, ℕ, ◌+◌, ◌*◌, ◌^◌, ◌<◌, ◌≤◌, ◌⊎◌, List, [], ◌++◌, length, slice_index, true, false, not, ◌&&◌, Option, None, Some, Bool, if◌then◌else◌, ◌==◌}
+use Rattle.std.specs.List.{AllByRecursion, list_any}
 use Rattle.rrc_name.specs.Wire.{IsWireForm}
 use Rattle.rrc_name.specs.WireFault.{IsFirstFaultOfWire}
 use Rattle.rrc_name.specs.declared.fault.WireNameFault.{WireNameFault}
@@ -9,6 +9,7 @@ use Rattle.rrc_wire.specs.Layout.{is_kept_class, is_kept}
 use Rattle.rrc_wire.specs.Plain.{IsPlain}
 use Rattle.rrc_wire.specs.FirstFault.{FirstFault}
 use Rattle.rrc_wire.specs.declared.fault.WireFault.{WireFault}
+use Rattle.rrc_history.specs.Asked.{AskOf}
 use Rattle.rrc_history.specs.Lives.{LAST_MOMENT}
 use Rattle.rrc_history.specs.Limits.{MayBeRules}
 use Rattle.rrc_history.specs.Fits.{is_lifetime}
@@ -16,13 +17,21 @@ use Rattle.rrc_history.specs.declared.event.Reply.{Reply}
 use Rattle.rrc_sets.specs.Limits.{MayBeLimits}
 use Rattle.rrc_cache.specs.Part.{PartOf}
 use Rattle.rrc_share.specs.CacheShelf.{CacheShelfOf}
+use Rattle.rrc_c.specs.Aliases.{ask_or_alias}
 use Rattle.rrc_c.specs.Asks.{asked, reply_of, AreChoices}
 use Rattle.rrc_c.specs.Shelves.{CanWriteBy, IsSpentBy}
 use Rattle.rrc_c.specs.Statuses.{number_of}
 use Rattle.rrc_c.specs.ReplyRecord.{data_of, data_text, datum, text_of, AreTellable}
 use Rattle.rrc_c.specs.declared.counts.Bounds.{Bounds}
+use Rattle.rrc_c.specs.declared.folded_name.FoldedName.{FoldedName}
 use Rattle.rrc_c.specs.declared.status.Status.{Status}
-use Rattle.rrc_c.specs.declared.status.Status.TheVariants.{Memory, HistoryFull, MomentTooLarge, BadRules, BadSeed, BadLimits, BadName, BadMessage, BadChoice, BadType, BadData, WrongBody, WideAnswer}
+use Rattle.rrc_c.specs.declared.status.Status.TheVariants.{Memory, HistoryFull, MomentTooLarge, BadRules, BadSeed, BadLimits, BadName, BadMessage, BadChoice, BadType, BadData, WrongBody, WideAnswer, OtherSeed}
+use Rattle.rrc_c.specs.declared.terms.Division.{Division}
+use Rattle.rrc_c.specs.declared.terms.FailureTerms.{FailureTerms}
+use Rattle.rrc_c.specs.declared.terms.NegativeTerms.{NegativeTerms}
+use Rattle.rrc_c.specs.declared.terms.Question.{Question}
+use Rattle.rrc_c.specs.declared.terms.SetTerms.{SetTerms}
+use Rattle.rrc_c.specs.declared.terms.ShelfRules.{ShelfRules}
 
 -- ---- one refusal, and one behind another
 
@@ -98,24 +107,28 @@ DatumRefused rtype octets number = OutOfMemory number ⊎ Because BadData (IsPla
 
 -- ---- making
 
--- the seed has its octets
-abbrev pub IsSeed : List ℕ → Type 0
-IsSeed seed = length seed ≡ 16
+-- one octet of the seed is not 0
+unfoldable pub is_seed : List ℕ → Bool
+is_seed seed = list_any (λ octet. not (octet == 0)) seed
 
--- it is refused, since the seed has not 16 octets
+-- it is refused, since all octets of the seed are 0
 abbrev pub SeedRefused : List ℕ → ℕ → Type 0
-SeedRefused seed = Because BadSeed (IsSeed seed → ⊥)
+SeedRefused seed = Because BadSeed (is_seed seed ≡ false)
+
+-- the rules are in their ranges
+abbrev pub AreRules : ShelfRules → Type 0
+AreRules rules = MayBeRules rules.capacity rules.chapter rules.max_stale
 
 -- when an empty shelf is made, and when that is refused with what
-abbrev pub NewDue : ℕ → ℕ → ℕ → List ℕ → ℕ → Type 0
-NewDue capacity chapter stale seed =
-    Then (Because BadRules (MayBeRules capacity chapter stale → ⊥)) (MayBeRules capacity chapter stale)
-    (Then (SeedRefused seed) (IsSeed seed) IsDoneOrMemory)
+abbrev pub NewDue : ShelfRules → ℕ → Type 0
+NewDue rules =
+    Then (Because BadRules (AreRules rules → ⊥)) (AreRules rules)
+    (Then (SeedRefused rules.seed) (is_seed rules.seed ≡ true) IsDoneOrMemory)
 
 -- the same for a handle: 2 is answered exactly where it holds a shelf
-abbrev pub MakingDue : ℕ → ℕ → ℕ → List ℕ → Option CacheShelfOf → ℕ → Type 0
-MakingDue capacity chapter stale seed (Some shelf) number = number ≡ 2
-MakingDue capacity chapter stale seed None number = NewDue capacity chapter stale seed number
+abbrev pub MakingDue : ShelfRules → Option CacheShelfOf → ℕ → Type 0
+MakingDue rules (Some shelf) number = number ≡ 2
+MakingDue rules None number = NewDue rules number
 
 -- ---- events
 
@@ -149,15 +162,29 @@ RecordDue shelf = RecordDueBy shelf.records shelf.shelf.part
 
 -- no purpose or no mode has the number
 abbrev pub AreNoChoices : ℕ → ℕ → Type 0
-AreNoChoices purpose mode = (1 < purpose) ⊎ (2 < mode)
+AreNoChoices purpose mode = ((purpose < 1) ⊎ (2 < purpose)) ⊎ ((mode < 1) ⊎ (3 < mode))
 
--- the question may be asked
-pub record IsQuestion (octets : List ℕ) (purpose mode : ℕ) : Type 0 where
-  pub choices : AreChoices purpose mode
-  pub name : IsWireForm octets
+-- something may be known of such a question: its class is kept, and no type has the number 0 (RFC 6895 3.1). Of a type that is not kept it
+-- may be known that the name does not exist
+unfoldable pub may_be_known : ℕ → ℕ → Bool
+may_be_known rtype class = is_kept_class class && not (rtype == 0)
 
-abbrev pub QuestionRefused : List ℕ → ℕ → ℕ → ℕ → Type 0
-QuestionRefused name purpose mode = Then (Because BadChoice (AreNoChoices purpose mode)) (AreChoices purpose mode) (WireRefused name)
+-- the question may be asked of a shelf whose names are hashed under a seed
+pub record IsQuestion (name : FoldedName) (question : Question) (seed : List ℕ) : Type 0 where
+  pub choices : AreChoices question.purpose question.mode
+  pub known : may_be_known question.rtype question.rclass ≡ true
+  pub named : 1 ≤ name.size
+  pub seeded : name.seed ≡ seed
+
+-- what is asked of a name is refused, since no name was made, or under another seed
+abbrev pub FoldedRefused : FoldedName → List ℕ → ℕ → Type 0
+FoldedRefused name seed = Then (Because BadName (name.size ≡ 0)) (1 ≤ name.size) (Because OtherSeed (name.seed ≡ seed → ⊥))
+
+abbrev pub QuestionRefused : FoldedName → Question → List ℕ → ℕ → Type 0
+QuestionRefused name question seed =
+    Then (Because BadChoice (AreNoChoices question.purpose question.mode)) (AreChoices question.purpose question.mode)
+    (Then (Because BadType (may_be_known question.rtype question.rclass ≡ false)) (may_be_known question.rtype question.rclass ≡ true)
+    (FoldedRefused name seed))
 
 -- a reply that no record can tell
 abbrev pub ReplyRefused : Reply → ℕ → Type 0
@@ -180,17 +207,29 @@ abbrev pub AnswerDue : Bool → CacheShelfOf → Reply → ℕ → ℕ → ℕ �
 AnswerDue true shelf reply room at number = OutOfMemory number ⊎ TellingThen reply room (WriteDue shelf at) number
 AnswerDue false shelf reply room at number = TellingThen reply room (NoteDue shelf at) number
 
--- when a question is answered, and when that is refused with what
-abbrev pub AskDue : List ℕ → ℕ → ℕ → ℕ → ℕ → ℕ → ℕ → CacheShelfOf → ℕ → Type 0
-AskDue name rtype class at purpose mode room shelf =
-    Then (QuestionRefused name purpose mode) (IsQuestion name purpose mode)
-    (AnswerDue shelf.records shelf (reply_of shelf (asked name rtype class at purpose mode)) room at)
+-- when a question is answered by this ask of a shelf, and when that is refused with what
+abbrev pub AnsweringDue : FoldedName → Question → List ℕ → AskOf → ℕ → CacheShelfOf → ℕ → Type 0
+AnsweringDue name question seed ask room shelf =
+    Then (QuestionRefused name question seed) (IsQuestion name question seed) (AnswerDue shelf.records shelf (reply_of shelf ask) room question.moment)
 
--- when the reply to a question is told, and when that is refused with what: never for want of memory
-abbrev pub PeekDue : List ℕ → ℕ → ℕ → ℕ → ℕ → ℕ → ℕ → CacheShelfOf → ℕ → Type 0
-PeekDue name rtype class at purpose mode room shelf =
-    Then (QuestionRefused name purpose mode) (IsQuestion name purpose mode)
-    (TellingThen (reply_of shelf (asked name rtype class at purpose mode)) room (λ number. number ≡ 0))
+-- when a question is answered, and when that is refused with what
+abbrev pub AskDue : FoldedName → Question → List ℕ → ℕ → CacheShelfOf → ℕ → Type 0
+AskDue name question seed room shelf = AnsweringDue name question seed (asked name question) room shelf
+
+-- the same where the name's CNAME record may be told in its place
+abbrev pub AskAliasDue : FoldedName → Question → List ℕ → ℕ → CacheShelfOf → ℕ → Type 0
+AskAliasDue name question seed room shelf = AnsweringDue name question seed (ask_or_alias shelf (asked name question)) room shelf
+
+-- when the reply to a question is told by this ask, and when that is refused with what: never for want of memory
+abbrev pub ShowingDue : FoldedName → Question → List ℕ → AskOf → ℕ → CacheShelfOf → ℕ → Type 0
+ShowingDue name question seed ask room shelf =
+    Then (QuestionRefused name question seed) (IsQuestion name question seed) (TellingThen (reply_of shelf ask) room (λ number. number ≡ 0))
+
+abbrev pub PeekDue : FoldedName → Question → List ℕ → ℕ → CacheShelfOf → ℕ → Type 0
+PeekDue name question seed room shelf = ShowingDue name question seed (asked name question) room shelf
+
+abbrev pub PeekAliasDue : FoldedName → Question → List ℕ → ℕ → CacheShelfOf → ℕ → Type 0
+PeekAliasDue name question seed room shelf = ShowingDue name question seed (ask_or_alias shelf (asked name question)) room shelf
 
 -- ---- offering
 
@@ -204,73 +243,81 @@ abbrev pub IsNoTrust : ℕ → Type 0
 IsNoTrust number = (number < 1) ⊎ (4 < number)
 
 -- the set may be offered
-pub record IsSet (octets : List ℕ) (rtype class trust ttl : ℕ) (text : List ℕ) : Type 0 where
-  pub trusted : IsTrust trust
-  pub type_kept : is_kept rtype class ≡ true
+pub record IsSet (octets : List ℕ) (set : SetTerms) (text : List ℕ) : Type 0 where
+  pub trusted : IsTrust set.trust
+  pub type_kept : is_kept set.rtype set.rclass ≡ true
   pub owner : IsWireForm octets
-  pub data_are : AreData rtype text
+  pub data_are : AreData set.rtype text
   pub some : text ≡ [] → ⊥
-  pub lifetime : is_lifetime ttl ≡ true
+  pub lifetime : is_lifetime set.ttl ≡ true
 
-abbrev pub SetRefused : List ℕ → ℕ → ℕ → ℕ → ℕ → List ℕ → ℕ → Type 0
-SetRefused owner rtype class trust ttl octets =
-    Then (Because BadChoice (IsNoTrust trust)) (IsTrust trust)
-    (Then (Because BadType (is_kept rtype class ≡ false)) (is_kept rtype class ≡ true)
+abbrev pub SetRefused : List ℕ → SetTerms → List ℕ → ℕ → Type 0
+SetRefused owner set octets =
+    Then (Because BadChoice (IsNoTrust set.trust)) (IsTrust set.trust)
+    (Then (Because BadType (is_kept set.rtype set.rclass ≡ false)) (is_kept set.rtype set.rclass ≡ true)
     (Then (NameRefused owner) (IsWireForm owner)
-    (Then (DataRefused rtype octets) (AreData rtype octets)
-    (Because WrongBody ((octets ≡ []) ⊎ (is_lifetime ttl ≡ false))))))
+    (Then (DataRefused set.rtype octets) (AreData set.rtype octets)
+    (Because WrongBody ((octets ≡ []) ⊎ (is_lifetime set.ttl ≡ false))))))
 
 -- when a set is offered, and when that is refused with what
-abbrev pub SetDue : List ℕ → ℕ → ℕ → ℕ → ℕ → List ℕ → ℕ → CacheShelfOf → ℕ → Type 0
-SetDue owner rtype class trust ttl octets at shelf =
-    Then (SetRefused owner rtype class trust ttl octets) (IsSet owner rtype class trust ttl octets) (WriteDue shelf at)
+abbrev pub SetDue : List ℕ → SetTerms → List ℕ → CacheShelfOf → ℕ → Type 0
+SetDue owner set octets shelf = Then (SetRefused owner set octets) (IsSet owner set octets) (WriteDue shelf set.moment)
 
 -- the type of SOA records (RFC 1035 3.2.2)
 abbrev pub SOA : ℕ
 SOA = 6
 
+-- what is denied: that there are data of the type, by 3, or that the name exists, by 4
+pub record IsDenialKind (number : ℕ) : Type 0 where
+  pub least : 3 ≤ number
+  pub most : number ≤ 4
+
+abbrev pub IsNoDenialKind : ℕ → Type 0
+IsNoDenialKind number = (number < 3) ⊎ (4 < number)
+
 -- whether what a denial is of is kept: data of a type in a class, or names of a class
-unfoldable pub denies_kept : ℕ → ℕ → ℕ → Bool
-denies_kept rtype class denial = if denial == 0 then is_kept rtype class else is_kept_class class
+unfoldable pub denies_kept : NegativeTerms → Bool
+denies_kept negative = if negative.denial == 3 then is_kept negative.rtype negative.rclass else is_kept_class negative.rclass
 
 -- the negative answer may be offered
-pub record IsDenial (octets : List ℕ) (rtype class denial trust ttl : ℕ) (soa_owner soa : List ℕ) : Type 0 where
-  pub trusted : IsTrust trust
-  pub denies : denies_kept rtype class denial ≡ true
+pub record IsDenial (octets : List ℕ) (negative : NegativeTerms) (soa_owner soa : List ℕ) : Type 0 where
+  pub trusted : IsTrust negative.trust
+  pub kind : IsDenialKind negative.denial
+  pub denies : denies_kept negative ≡ true
   pub name : IsWireForm octets
   pub zone : IsWireForm soa_owner
   pub plain : IsPlain SOA soa
-  pub lifetime : is_lifetime ttl ≡ true
+  pub lifetime : is_lifetime negative.ttl ≡ true
 
-abbrev pub DenialRefused : List ℕ → ℕ → ℕ → ℕ → ℕ → ℕ → List ℕ → List ℕ → ℕ → Type 0
-DenialRefused name rtype class denial trust ttl soa_owner soa =
-    Then (Because BadChoice (IsNoTrust trust ⊎ (1 < denial))) (IsTrust trust × (denial ≤ 1))
-    (Then (Because BadType (denies_kept rtype class denial ≡ false)) (denies_kept rtype class denial ≡ true)
+abbrev pub DenialRefused : List ℕ → NegativeTerms → List ℕ → List ℕ → ℕ → Type 0
+DenialRefused name negative soa_owner soa =
+    Then (Because BadChoice (IsNoTrust negative.trust ⊎ IsNoDenialKind negative.denial)) (IsTrust negative.trust × IsDenialKind negative.denial)
+    (Then (Because BadType (denies_kept negative ≡ false)) (denies_kept negative ≡ true)
     (Then (NameRefused name) (IsWireForm name)
     (Then (NameRefused soa_owner) (IsWireForm soa_owner)
     (Then (DatumRefused SOA soa) (IsPlain SOA soa)
-    (Because WrongBody (is_lifetime ttl ≡ false))))))
+    (Because WrongBody (is_lifetime negative.ttl ≡ false))))))
 
 -- when a negative answer is offered, and when that is refused with what
-abbrev pub DenialDue : List ℕ → ℕ → ℕ → ℕ → ℕ → ℕ → List ℕ → List ℕ → ℕ → CacheShelfOf → ℕ → Type 0
-DenialDue name rtype class denial trust ttl soa_owner soa at shelf =
-    Then (DenialRefused name rtype class denial trust ttl soa_owner soa) (IsDenial name rtype class denial trust ttl soa_owner soa) (WriteDue shelf at)
+abbrev pub DenialDue : List ℕ → NegativeTerms → List ℕ → List ℕ → CacheShelfOf → ℕ → Type 0
+DenialDue name negative soa_owner soa shelf =
+    Then (DenialRefused name negative soa_owner soa) (IsDenial name negative soa_owner soa) (WriteDue shelf negative.moment)
 
 -- the failure may be offered
-pub record IsFailure (octets : List ℕ) (rtype class ttl : ℕ) : Type 0 where
-  pub type_kept : is_kept rtype class ≡ true
+pub record IsFailure (octets : List ℕ) (failure : FailureTerms) : Type 0 where
+  pub type_kept : is_kept failure.rtype failure.rclass ≡ true
   pub name : IsWireForm octets
-  pub lifetime : is_lifetime ttl ≡ true
+  pub lifetime : is_lifetime failure.ttl ≡ true
 
-abbrev pub FailureRefused : List ℕ → ℕ → ℕ → ℕ → ℕ → Type 0
-FailureRefused name rtype class ttl =
-    Then (Because BadType (is_kept rtype class ≡ false)) (is_kept rtype class ≡ true)
+abbrev pub FailureRefused : List ℕ → FailureTerms → ℕ → Type 0
+FailureRefused name failure =
+    Then (Because BadType (is_kept failure.rtype failure.rclass ≡ false)) (is_kept failure.rtype failure.rclass ≡ true)
     (Then (NameRefused name) (IsWireForm name)
-    (Because WrongBody (is_lifetime ttl ≡ false)))
+    (Because WrongBody (is_lifetime failure.ttl ≡ false)))
 
 -- when a failure is offered, and when that is refused with what
-abbrev pub FailureDue : List ℕ → ℕ → ℕ → ℕ → ℕ → CacheShelfOf → ℕ → Type 0
-FailureDue name rtype class ttl at shelf = Then (FailureRefused name rtype class ttl) (IsFailure name rtype class ttl) (WriteDue shelf at)
+abbrev pub FailureDue : List ℕ → FailureTerms → CacheShelfOf → ℕ → Type 0
+FailureDue name failure shelf = Then (FailureRefused name failure) (IsFailure name failure) (WriteDue shelf failure.moment)
 
 -- ---- messages and parts
 
@@ -288,20 +335,17 @@ pub record IsPartCount (parts : ℕ) : Type 0 where
   pub some : 1 ≤ parts
   pub few : parts ≤ 64
 
--- names are divided among so many parts by a seed
-pub record IsDivision (parts : ℕ) (seed : List ℕ) : Type 0 where
-  pub are_parts : IsPartCount parts
-  pub is_seed : IsSeed seed
+-- names are divided so: among 1 to 64 parts, by a seed
+pub record IsDivision (division : Division) : Type 0 where
+  pub are_parts : IsPartCount division.count
+  pub has_seed : is_seed division.seed ≡ true
 
 -- it is refused to divide names so: by the number of parts, and then by the seed
-abbrev pub DivisionRefused : ℕ → List ℕ → ℕ → Type 0
-DivisionRefused parts seed = Then (Because BadRules (IsPartCount parts → ⊥)) (IsPartCount parts) (SeedRefused seed)
+abbrev pub DivisionRefused : Division → ℕ → Type 0
+DivisionRefused division = Then (Because BadRules (IsPartCount division.count → ⊥)) (IsPartCount division.count) (SeedRefused division.seed)
 
--- when it is told what a key holds, and when that is refused with what: never for want of memory
-abbrev pub StoredDue : List ℕ → ℕ → Type 0
-StoredDue name = Then (WireRefused name) (IsWireForm name) (λ number. number ≡ 0)
-
--- when the part of a name is told, and when that is refused with what: never for want of memory
-abbrev pub PartDue : List ℕ → ℕ → List ℕ → ℕ → Type 0
-PartDue name parts seed =
-    Then (DivisionRefused parts seed) (IsDivision parts seed) (Then (WireRefused name) (IsWireForm name) (λ number. number ≡ 0))
+-- when it is told what the keys of a question hold, and when that is refused with what: never for want of memory
+abbrev pub StoredDue : FoldedName → Question → List ℕ → ℕ → Type 0
+StoredDue name question seed =
+    Then (Because BadType (may_be_known question.rtype question.rclass ≡ false)) (may_be_known question.rtype question.rclass ≡ true)
+    (Then (FoldedRefused name seed) ((1 ≤ name.size) × (name.seed ≡ seed)) (λ number. number ≡ 0))

@@ -1,8 +1,15 @@
 -- SPDX-License-Identifier: MIT
 -- A reply as C is told it: a record of numbers, and the octets of a buffer.
-use Rattle.std.specs.Prelude.{◌≡◌, ℕ, ◌/◌, ◌%◌, ◌^◌, ◌<◌, ◌≤◌, List, [], ◌∷◌, ◌++◌, length, drop, None, Some}
+use Rattle.std.specs.Prelude.{◌≡◌, ℕ, ◌/◌, ◌%◌, ◌^◌, ◌<◌, ◌≤◌, List, [], ◌∷◌, ◌++◌, length, drop, Option, None, Some}
+use Rattle.rrc_name.specs.declared.slot.Slot.{Slot}
+use Rattle.rrc_name.specs.declared.slot.Slot.TheVariants.{Set, Nx, Failed}
+use Rattle.rrc_history.specs.Lives.{rank_of, ttl_of}
+use Rattle.rrc_history.specs.declared.body.Body.{Body}
+use Rattle.rrc_history.specs.declared.body.Body.TheVariants.{Positive, Negative, Failure}
 use Rattle.rrc_history.specs.declared.event.Reply.{Reply}
 use Rattle.rrc_history.specs.declared.event.Reply.TheVariants.{Fresh, Stale, NoData, NxDomain, Miss}
+use Rattle.rrc_history.specs.declared.snapshot.Entry.{Entry}
+use Rattle.rrc_c.specs.declared.entry_record.EntryRecord.{EntryRecord}
 use Rattle.rrc_c.specs.declared.reply_record.ReplyRecord.{ReplyRecord}
 
 -- a datum behind its length, of 16 bits, the high octet first
@@ -60,9 +67,38 @@ retry_of (Miss (Some moment)) = moment
 abbrev pub text_of : Reply → List ℕ
 text_of reply = owner_of reply ++ data_text (data_of reply)
 
--- the record of a reply
-abbrev pub told_of : Reply → ReplyRecord
-told_of reply = record { kind = kind_of reply; left = left_of reply; retry_from = retry_of reply; owner_size = length (owner_of reply); data_size = length (data_text (data_of reply)) }
+-- what is kept, by its number: 1 data, 3 that there are none of the type, 4 that the name does not
+-- exist, 6 that asking failed
+abbrev pub kind_of_denial : Slot → ℕ
+kind_of_denial (Set rtype) = 3
+kind_of_denial Nx = 4
+kind_of_denial (Failed rtype) = 3
+
+abbrev pub kind_of_body : Slot → Body → ℕ
+kind_of_body slot (Positive trust ttl owner items) = 1
+kind_of_body slot (Negative trust ttl soa_owner soa) = kind_of_denial slot
+kind_of_body slot (Failure ttl) = 6
+
+abbrev pub kind_of_entry : Entry → ℕ
+kind_of_entry entry = kind_of_body entry.key.slot entry.body
+
+-- the record of an entry of this age; of nothing all is 0
+abbrev pub record_of : Option Entry → ℕ → EntryRecord
+record_of None age = record { kind = 0; trust = 0; ttl = 0; moment = 0; number = 0; age = 0 }
+record_of (Some entry) age =
+    record { kind = kind_of_entry entry; trust = rank_of entry.body; ttl = ttl_of entry.body; moment = entry.moment; number = entry.number; age = age }
+
+-- the record of a reply to a question of a type, from an entry
+abbrev pub told_of : ℕ → Reply → EntryRecord → ReplyRecord
+told_of rtype reply entry = record {
+  kind = kind_of reply;
+  rtype = rtype;
+  left = left_of reply;
+  retry_from = retry_of reply;
+  owner_size = length (owner_of reply);
+  data_size = length (data_text (data_of reply));
+  entry = entry;
+}
 
 -- a buffer begins with these octets, and is behind them as it was
 abbrev pub IsFilled : List ℕ → List ℕ → List ℕ → Type 0

@@ -1,23 +1,12 @@
 -- SPDX-License-Identifier: MIT
--- What a seal owns: nothing, or the same as a box with a shelf in it.
+-- What a seal owns: nothing, or the same as a box.
 use base.Fml.{Fml, ftrue}
-use base.Stored.{Coded}
+use denote.RattleType.{RattleType}
 use denote.RawPtr.{Ptr}
+use mir.Syntax.{Ty}
 use Rattle.std.specs.Prelude.{Option, None, Some}
-use Rattle.std.specs.Coded.{coded_option}
 use Rattle.std.specs.Box.Ownership.{box_owns}
-use Rattle.std.specs.Global.{Global}
-use Rattle.std_heap.specs.contracts.GlobalAllocator.TheImpl.{ghosts}
-use Rattle.rrc_share.specs.contracts.cache_shelf.CacheShelf.{the_row}
 
--- the shelf that a seal holds, if it holds one
-abbrev pub Held : Type 0
-Held = Option the_row.Denot
-
--- a box with that shelf in it
-abbrev pub sealed_owns : Global → Ptr → Held → Fml
-sealed_owns alloc at None = ftrue
-sealed_owns alloc at (Some shelf) = box_owns (ghosts.dealloc_token alloc) the_row at shelf
-
-abbrev pub held_coded : Coded Held
-held_coded = coded_option the_row.coded
+abbrev pub sealed_owns : (Ty → Ptr → Fml) → (R : RattleType) → Ptr → Option R.Denot → Fml
+sealed_owns token R at None = ftrue
+sealed_owns token R at (Some value) = box_owns token R at value

@@ -1,6 +1,6 @@
 -- SPDX-License-Identifier: MIT
 -- What calls leave of a shelf, whether its history is recorded or not: it stays as it is, and only
--- rrc_record, rrc_release and rrc_stop_recording change it.
+-- rrc_record, rrc_stop_and_drop and rrc_stop_recording change it.
 use Rattle.std.specs.Prelude.{◌≡◌, ℕ, ◌^◌, ◌<◌, ◌≤◌, Bool, true, false, length}
 use Rattle.rrc_history.specs.Asked.{AskOf}
 use Rattle.rrc_history.specs.Fits.{OfferOf}

@@ -1,26 +1,30 @@
 -- SPDX-License-Identifier: MIT
--- What C is told of what a key holds.
-use Rattle.std.specs.Prelude.{◌≡◌, ℕ, List, Option, Some, None}
-use Rattle.rrc_name.specs.Wire.{folded}
-use Rattle.rrc_name.specs.declared.slot.Slot.TheVariants.{Set}
+-- What C is told of what the keys of a question hold.
+use Rattle.std.specs.Prelude.{◌≡◌, Option}
+use Rattle.rrc_name.specs.declared.slot.Slot.{Slot}
+use Rattle.rrc_name.specs.declared.slot.Slot.TheVariants.{Set, Nx, Failed}
 use Rattle.rrc_history.specs.declared.snapshot.Entry.{Entry}
-use Rattle.rrc_history.specs.Lives.{rank_of, ttl_of}
 use Rattle.rrc_history.specs.Past.{held}
 use Rattle.rrc_cache.specs.Part.{past_of}
 use Rattle.rrc_share.specs.CacheShelf.{CacheShelfOf}
+use Rattle.rrc_c.specs.Asks.{octets_of, TellsEntry}
+use Rattle.rrc_c.specs.declared.folded_name.FoldedName.{FoldedName}
 use Rattle.rrc_c.specs.declared.stored.Stored.{Stored}
+use Rattle.rrc_c.specs.declared.terms.Question.{Question}
 
--- how far it is trusted, its time to live, and the moment of its offer; of nothing all 0
-abbrev pub stored_of : Option Entry → Stored
-stored_of None = record { trust = 0; ttl = 0; moment = 0 }
-stored_of (Some entry) = record { trust = rank_of entry.body; ttl = ttl_of entry.body; moment = entry.moment }
+-- what a shelf holds of a name, the question's class and a slot
+abbrev pub held_at : CacheShelfOf → FoldedName → Question → Slot → Option Entry
+held_at shelf name question slot =
+    held shelf.shelf.part.snapshot (past_of shelf.shelf.part) (record { name = octets_of name; class = question.rclass; slot = slot })
 
--- what a shelf holds of a name, a type and a class
-abbrev pub stored_in : CacheShelfOf → List ℕ → ℕ → ℕ → Stored
-stored_in shelf name rtype class =
-    stored_of (held shelf.shelf.part.snapshot (past_of shelf.shelf.part) (record { name = folded name; class = class; slot = Set rtype }))
+-- it is told what the shelf holds: data of the type or that there are none, that the name does not
+-- exist, that asking for the type failed
+pub record TellsHeld (name : FoldedName) (question : Question) (stored : Stored) (shelf : CacheShelfOf) : Type 0 where
+  pub set : TellsEntry shelf (held_at shelf name question (Set question.rtype)) stored.set
+  pub nxdomain : TellsEntry shelf (held_at shelf name question Nx) stored.nxdomain
+  pub failure : TellsEntry shelf (held_at shelf name question (Failed question.rtype)) stored.failure
 
--- it is told what the shelf holds, and the shelf is as it was
-pub record TellsStored (name : List ℕ) (rtype class : ℕ) (stored : Stored) (old new : CacheShelfOf) : Type 0 where
+-- the same, and the shelf is as it was
+pub record TellsStored (name : FoldedName) (question : Question) (stored : Stored) (old new : CacheShelfOf) : Type 0 where
   pub kept : new ≡ old
-  pub told : stored ≡ stored_in old name rtype class
+  pub tells : TellsHeld name question stored old

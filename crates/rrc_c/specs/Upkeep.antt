@@ -11,6 +11,7 @@ use Rattle.rrc_wire.specs.FirstFault.{FirstFault}
 use Rattle.rrc_wire.specs.declared.fault.WireFault.{WireFault}
 use Rattle.rrc_wire.specs.declared.message.Message.{Message}
 use Rattle.rrc_c.specs.Shelves.{recorded_chapters, recorded_events}
+use Rattle.rrc_c.specs.declared.sizes.Sizes.{Sizes}
 
 -- octets are a message
 pub record IsMessage (octets : List ℕ) (number : ℕ) : Type 0 where
@@ -31,12 +32,12 @@ TellsFault octets number = IsMessage octets number ⊎ HasFaultNumber octets num
 -- how many keys the shelf holds, how many events the open chapter has and how many chapters are
 -- closed, of which there are none where nothing is recorded, and how many octets the entries of
 -- these keys have
-pub record TellsSizes (keys events chapters octets : ℕ) (old new : CacheShelfOf) : Type 0 where
+pub record TellsSizes (sizes : Sizes) (old new : CacheShelfOf) : Type 0 where
   pub kept : new ≡ old
-  pub keys_are : HoldsKeys old.shelf.part keys
-  pub events_are : events ≡ recorded_events old.records old.shelf
-  pub chapters_are : chapters ≡ recorded_chapters old.records old.shelf
-  pub octets_are : HoldsOctets old.shelf.part octets
+  pub keys_are : HoldsKeys old.shelf.part sizes.keys
+  pub events_are : sizes.events ≡ recorded_events old.records old.shelf
+  pub chapters_are : sizes.chapters ≡ recorded_chapters old.records old.shelf
+  pub octets_are : HoldsOctets old.shelf.part sizes.octets
 
 -- the greatest number is told, since no key holds anything
 pub record TellsNever (part : PartOf) (moment : ℕ) : Type 0 where

@@ -7,9 +7,10 @@ ghost use Rattle.rrc_c.specs.Statuses.{number_of_call, OnDone, OnRefused};
 
 use crate::chapter_lines::{Line, tell_line};
 use crate::chapters::Chapters;
-use crate::handle::Handle;
+use crate::shelf_handle::ShelfHandle;
 use crate::status::{HAS_CHAPTERS, NO_CHAPTERS, NO_SHELF, Status};
 use crate::taken::{Taken, stop_recording, take_chapters};
+use crate::terms::LinePlace;
 use std::alloc::Global;
 
 /// Puts chapters that were taken into a handle, in the place of none, and tells how many they are.
@@ -25,7 +26,7 @@ fn hold(taken: Result<Box<Taken>, Status>, chapters: &mut Chapters, count: &mut 
         Err(status) => status.number(),
         Ok(taken) => {
             *count = taken.chapters.len() as u64;
-            chapters.put(taken);
+            chapters.boxed().put(taken);
             0
         }
     }
@@ -35,27 +36,26 @@ fn hold(taken: Result<Box<Taken>, Status>, chapters: &mut Chapters, count: &mut 
 #[unsafe(no_mangle)]
 pub extern "C" fn rrc_take_chapters(
     alloc: Global,
-    handle: &mut Handle,
+    handle: &mut ShelfHandle,
     chapters: &mut Chapters,
     count: &mut u64,
 ) -> u32
-    ensures none { TellsNone handle.old.seal.shelf result }
-    ensures due { IfHeld handle.old.seal.shelf (λ shelf. TakingDue chapters.old.seal.chapters result) }
-    ensures done { OnDone result (HoldsChapters chapters.new.seal.chapters (λ held. BothHold handle.old.seal.shelf handle.new.seal.shelf (TakesClosed held))) }
+    ensures none { TellsNone handle.old.held.seal.shelf result }
+    ensures due { IfHeld handle.old.held.seal.shelf (λ shelf. TakingDue chapters.old.seal.chapters result) }
+    ensures done { OnDone result (HoldsChapters chapters.new.seal.chapters (λ held. BothHold handle.old.held.seal.shelf handle.new.held.seal.shelf (TakesClosed held))) }
     ensures count { OnDone result (HoldsChapters chapters.new.seal.chapters (λ held. count.new ≡ length held)) }
-    ensures refused { OnRefused result (handle.new.seal.shelf ≡ handle.old.seal.shelf) }
+    ensures refused { OnRefused result (handle.new.held.seal.shelf ≡ handle.old.held.seal.shelf) }
+    ensures seed { handle.new.seed ≡ handle.old.seed }
     ensures kept { OnRefused result (chapters.new.seal.chapters ≡ chapters.old.seal.chapters) }
     ensures untold { OnRefused result (count.new ≡ count.old) }
 {
-    let Some(mut shelf) = handle.take(alloc) else {
+    let Some(shelf) = handle.held.get_mut() else {
         return NO_SHELF;
     };
     if chapters.is_live() {
-        handle.put(shelf);
         return HAS_CHAPTERS;
     }
-    let taken = take_chapters(alloc, &mut shelf);
-    handle.put(shelf);
+    let taken = take_chapters(alloc, shelf);
     hold(taken, chapters, count)
 }
 
@@ -64,28 +64,27 @@ pub extern "C" fn rrc_take_chapters(
 #[unsafe(no_mangle)]
 pub extern "C" fn rrc_stop_recording(
     alloc: Global,
-    handle: &mut Handle,
+    handle: &mut ShelfHandle,
     chapters: &mut Chapters,
     count: &mut u64,
 ) -> u32
-    ensures none { TellsNone handle.old.seal.shelf result }
-    ensures due { IfHeld handle.old.seal.shelf (λ shelf. StoppingDue chapters.old.seal.chapters shelf result) }
-    ensures done { OnDone result (HoldsChapters chapters.new.seal.chapters (λ held. BothHold handle.old.seal.shelf handle.new.seal.shelf (StopsRecord held))) }
+    ensures none { TellsNone handle.old.held.seal.shelf result }
+    ensures due { IfHeld handle.old.held.seal.shelf (λ shelf. StoppingDue chapters.old.seal.chapters shelf result) }
+    ensures done { OnDone result (HoldsChapters chapters.new.seal.chapters (λ held. BothHold handle.old.held.seal.shelf handle.new.held.seal.shelf (StopsRecord held))) }
     ensures count { OnDone result (HoldsChapters chapters.new.seal.chapters (λ held. count.new ≡ length held)) }
-    ensures refused { OnRefused result (handle.new.seal.shelf ≡ handle.old.seal.shelf) }
+    ensures refused { OnRefused result (handle.new.held.seal.shelf ≡ handle.old.held.seal.shelf) }
+    ensures seed { handle.new.seed ≡ handle.old.seed }
     ensures kept { OnRefused result (chapters.new.seal.chapters ≡ chapters.old.seal.chapters) }
     ensures untold { OnRefused result (count.new ≡ count.old) }
 {
-    let Some(mut shelf) = handle.take(alloc) else {
+    let Some(shelf) = handle.held.get_mut() else {
         return NO_SHELF;
     };
     let holds_chapters = chapters.is_live();
     if holds_chapters {
-        handle.put(shelf);
         return HAS_CHAPTERS;
     }
-    let taken = stop_recording(alloc, &mut shelf);
-    handle.put(shelf);
+    let taken = stop_recording(alloc, shelf);
     hold(taken, chapters, count)
 }
 
@@ -95,33 +94,21 @@ pub extern "C" fn rrc_stop_recording(
 pub extern "C" fn rrc_chapter_line(
     alloc: Global,
     chapters: &mut Chapters,
-    chapter: u64,
-    line: u64,
-    from: u64,
+    place: &LinePlace,
     buffer: &mut [u8],
     told: &mut Line,
 ) -> u32
     ensures none { TellsNoChapters chapters.old.seal.chapters result }
-    ensures due { IfTaken chapters.old.seal.chapters (λ held. LineDue held chapter line result) }
-    ensures done { OnDone result (HoldsChapters chapters.old.seal.chapters (λ held. TellsLine held chapter line from told.new buffer.old buffer.new)) }
+    ensures due { IfTaken chapters.old.seal.chapters (λ held. LineDue held place.now result) }
+    ensures done { OnDone result (HoldsChapters chapters.old.seal.chapters (λ held. TellsLine held place.now told.new buffer.old buffer.new)) }
     ensures told { OnRefused result (told.new ≡ told.old) }
     ensures buffer { OnRefused result (buffer.new ≡ buffer.old) }
     ensures kept { chapters.new.seal.chapters ≡ chapters.old.seal.chapters }
 {
-    let Some(held) = chapters.take(alloc) else {
+    let Some(held) = chapters.get_mut() else {
         return NO_CHAPTERS;
     };
-    let status = tell_line(
-        alloc,
-        held.chapters.as_slice(),
-        chapter,
-        line,
-        from,
-        buffer,
-        told,
-    );
-    chapters.put(held);
-    status
+    tell_line(alloc, held.chapters.as_slice(), place, buffer, told)
 }
 
 /// Frees the chapters of a handle, which then holds none.
@@ -131,7 +118,7 @@ pub extern "C" fn rrc_free_chapters(alloc: Global, chapters: &mut Chapters) -> u
     ensures none { TellsNoChapters chapters.old.seal.chapters result }
     ensures status { OnRefused result (chapters.old.seal.chapters ≡ None) }
 {
-    match chapters.take(alloc) {
+    match chapters.boxed().take(alloc) {
         None => NO_CHAPTERS,
         Some(taken) => {
             drop(taken);

@@ -8,6 +8,7 @@ ghost use Rattle.rrc_c.specs.Statuses.{number_of, OnDone, OnRefused};
 ghost use Rattle.rrc_c.specs.ReplyRecord.{IsFilled};
 
 use crate::status::{NO_LINE, Status};
+use crate::terms::LinePlace;
 use crate::text::put;
 use rrc_archive::{ArchiveLine, archive_line, write_archive_line};
 use rrc_history::Chapter;
@@ -22,11 +23,11 @@ pub struct Line {
 }
 
 /// A line of a chapter, both counted from 0, where there are both.
-fn line_at(chapters: &[Chapter], chapter: u64, line: u64) -> Option<ArchiveLine<'_>>
-    ensures { option_map line_text result ≡ line_at chapters.now chapter line }
+fn line_at<'a>(chapters: &'a [Chapter], place: &LinePlace) -> Option<ArchiveLine<'a>>
+    ensures { option_map line_text result ≡ line_at chapters.now place.now }
 {
-    let chapter = chapters.get(chapter as usize)?;
-    archive_line(chapter, line as usize)
+    let chapter = chapters.get(place.chapter as usize)?;
+    archive_line(chapter, place.line as usize)
 }
 
 /// The text of a line, with its LF.
@@ -62,25 +63,23 @@ fn fill_with(buffer: &mut [u8], octets: &[u8]) -> u64
 pub(crate) fn tell_line(
     alloc: Global,
     chapters: &[Chapter],
-    chapter: u64,
-    line: u64,
-    from: u64,
+    place: &LinePlace,
     buffer: &mut [u8],
     told: &mut Line,
 ) -> u32
-    ensures due { LineDue chapters.now chapter line result }
-    ensures done { OnDone result (TellsLine chapters.now chapter line from told.new buffer.old buffer.new) }
+    ensures due { LineDue chapters.now place.now result }
+    ensures done { OnDone result (TellsLine chapters.now place.now told.new buffer.old buffer.new) }
     ensures told { OnRefused result (told.new ≡ told.old) }
     ensures buffer { OnRefused result (buffer.new ≡ buffer.old) }
 {
-    let Some(line) = line_at(chapters, chapter, line) else {
+    let Some(line) = line_at(chapters, place) else {
         return NO_LINE;
     };
     match text_of(alloc, line) {
         Err(status) => status.number(),
         Ok(text) => {
             let text = text.as_slice();
-            let written = fill_with(buffer, behind(text, from));
+            let written = fill_with(buffer, behind(text, place.from));
             *told = Line {
                 size: text.len() as u64,
                 written,

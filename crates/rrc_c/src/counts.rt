@@ -1,12 +1,12 @@
 // SPDX-License-Identifier: MIT
 /// What became of the offers of a message: how many were kept, how many cleared what their key
-/// held, and how many were refused, since what their key holds is trusted more.
+/// held, and how many were outranked, since what their key holds is trusted more.
 #[repr(C)]
 #[derive(Clone, Copy, Debug)]
 pub struct Counts {
     pub kept: u64,
     pub cleared: u64,
-    pub refused: u64,
+    pub outranked: u64,
 }
 
 /// How long what a response says may be kept, in seconds.

@@ -1,16 +1,15 @@
 // SPDX-License-Identifier: MIT
-ghost use Rattle.std.specs.Prelude.{◌≡◌, ◌≤◌, ◌<◌, ◌/◌, ◌%◌, ◌^◌, IfOk, IfErr, OnOk};
-ghost use Rattle.std.specs.Hash.DefaultHasher as sip;
-ghost use Rattle.rrc_c.specs.Parts.{keyed_hash, keyed_part_of, number_of_seed};
-ghost use Rattle.rrc_c.specs.Refusals.{IsPartCount, Because, DivisionRefused, IsDivision, IsSeed, SeedRefused};
+ghost use Rattle.std.specs.Prelude.{◌≡◌, ◌≤◌, ◌<◌, ◌/◌, ◌%◌, ◌^◌, true, IfErr, OnOk};
+ghost use Rattle.rrc_c.specs.Parts.{keyed_part_of};
+ghost use Rattle.rrc_c.specs.Refusals.{Because, DivisionRefused, IsDivision, IsPartCount, SeedRefused, is_seed};
 ghost use Rattle.rrc_c.specs.Statuses.{number_of};
 ghost use Rattle.rrc_name.specs.Key.{IsFolded};
 ghost use Rattle.rrc_name.specs.NameRef.{name_in};
 
 use crate::status::Status;
-use core::hash::keyed_hasher;
+use crate::terms::Division;
+use rrc_cache::keyed_hash;
 use rrc_name::NameRef;
-use std::hash::{DefaultHasher, Hasher};
 
 /// Whether there may be so many parts.
 fn check_parts(parts: u64) -> Result<(), Status>
@@ -23,55 +22,51 @@ fn check_parts(parts: u64) -> Result<(), Status>
     Ok(())
 }
 
-/// The octets of a seed.
-pub(crate) fn seed_of(octets: &[u8]) -> Result<[u8; 16], Status>
-    ensures seed { IfOk result (λ seed. seed ≡ octets.now) }
-    ensures fit { OnOk result (IsSeed octets.now) }
-    ensures refused { IfErr result (λ status. SeedRefused octets.now (number_of status)) }
+/// Whether an octet of a seed is other than 0.
+#[tactic(auto, unfolding(crate::specs::Refusals::is_seed))]
+fn is_seed(seed: &[u8; 16]) -> bool
+    ensures { result ≡ is_seed seed.now }
 {
-    match <[u8; 16]>::try_from(octets) {
-        Ok(seed) => Ok(seed),
-        Err(_) => Err(Status::BadSeed),
+    seed.iter().any(|octet| *octet != 0)
+}
+
+/// Whether a seed is none that was forgotten.
+pub(crate) fn check_seed(seed: &[u8; 16]) -> Result<(), Status>
+    ensures fit { OnOk result (is_seed seed.now ≡ true) }
+    ensures refused { IfErr result (λ status. SeedRefused seed.now (number_of status)) }
+{
+    if !is_seed(seed) {
+        return Err(Status::BadSeed);
     }
+    Ok(())
 }
 
-/// The octets of the seed by which names are divided among so many parts.
-pub(crate) fn check_division(parts: u64, seed: &[u8]) -> Result<[u8; 16], Status>
-    ensures seed { IfOk result (λ octets. octets ≡ seed.now) }
-    ensures fit { OnOk result (IsDivision parts seed.now) }
-    ensures refused { IfErr result (λ status. DivisionRefused parts seed.now (number_of status)) }
+/// Whether names may be divided so.
+pub(crate) fn check_division(division: &Division) -> Result<(), Status>
+    ensures fit { OnOk result (IsDivision division.now) }
+    ensures refused { IfErr result (λ status. DivisionRefused division.now (number_of status)) }
 {
-    check_parts(parts)?;
-    seed_of(seed)
+    check_parts(division.count)?;
+    check_seed(&division.seed)
 }
 
-/// SipHash-1-3 of nothing yet, under the keys that a seed is.
-fn hasher_of(seed: &[u8; 16]) -> DefaultHasher
-    ensures { result ≡ sip.with_keys (number_of_seed seed.now % 2 ^ 64) (number_of_seed seed.now / 2 ^ 64) }
+/// The part, below `parts`, that all keys of a name lie in whose hash this is.
+pub(crate) fn part_of_hash(hash: u64, parts: u64) -> u64
+    requires { 1 ≤ parts }
+    ensures value { result ≡ hash / 2 ^ 32 % parts }
+    ensures below { result < parts }
 {
-    let keys = u128::from_le_bytes(*seed);
-    keyed_hasher((keys % (1 << 64)) as u64, (keys / (1 << 64)) as u64)
-}
-
-/// The hash of octets under a seed.
-fn keyed_hash(octets: &[u8], seed: &[u8; 16]) -> u64
-    ensures { result ≡ keyed_hash seed.now octets.now }
-{
-    let mut hasher = hasher_of(seed);
-    hasher.write(octets);
-    hasher.finish()
+    hash / (1 << 32) % parts
 }
 
 /// The part, below `parts`, which is 1 to 64, that all keys of a name lie in, by a seed. Who does
 /// not know the seed cannot pick names of one part. It takes no memory, and so wants the name
 /// folded.
-pub(crate) fn keyed_part_of(name: NameRef<'_>, seed: &[u8; 16], parts: usize) -> usize
+pub(crate) fn keyed_part_of(name: NameRef<'_>, division: &Division) -> u64
     requires folded { IsFolded (name_in name) }
-    requires some { 1 ≤ parts }
-    requires few { parts ≤ 64 }
-    ensures value { result ≡ keyed_part_of seed.now (name_in name.entry) parts }
-    ensures below { result < parts }
+    requires some { 1 ≤ division.now.count }
+    ensures value { result ≡ keyed_part_of division.now.seed (name_in name.entry) division.now.count }
+    ensures below { result < division.now.count }
 {
-    let upper = keyed_hash(name.as_slice(), seed) / (1 << 32);
-    upper as usize % parts
+    part_of_hash(keyed_hash(name.as_slice(), &division.seed), division.count)
 }

@@ -1,11 +1,31 @@
 // SPDX-License-Identifier: MIT
-ghost use Rattle.std.specs.Prelude.{◌≡◌, None, Some, is_some};
+ghost use Rattle.std.specs.Prelude.{◌≡◌, Option, is_some};
+ghost use Rattle.std.specs.Borrow.{sem};
+ghost use Rattle.std.specs.Coded.{coded_option};
 ghost use Rattle.std.specs.Option.{option_map};
+ghost use Rattle.std_heap.specs.contracts.GlobalAllocator.TheImpl.{ghosts};
+ghost use Rattle.rrc_c.specs.Sealed.{sealed_owns};
+ghost use Rattle.rrc_share.specs.contracts.cache_shelf.CacheShelf.{the_row};
 
-use crate::seal::Seal;
+use crate::boxed::Boxed;
 use rrc_share::CacheShelf;
 use std::alloc::Global;
-use std::mem;
+use std::marker::Model;
+
+/// A box with a shelf in it, or none, whose type names no type that C does not know.
+#[repr(C)]
+#[derive(Drop)]
+pub struct Seal {
+    at: *mut u8,
+    alloc: Global,
+    pub ghost shelf: { Option the_row.Denot } by { coded_option the_row.coded },
+}
+
+impl Model for Seal {
+    ghost also_owns = { λ s. sealed_owns (ghosts.dealloc_token s.alloc) the_row s.at s.shelf };
+}
+
+unsafe impl Send for Seal {}
 
 /// A shelf, if it was made and not freed. C owns it, and writes nothing into it but zeros, before
 /// it is made.
@@ -18,6 +38,8 @@ pub struct Handle {
 }
 
 impl Handle {
+    ghost use Rattle.rrc_c.specs.Boxed.{boxed_shelf, IsBoxedShelf, LendsShelf};
+
     /// Whether there is a shelf.
     pub(crate) fn is_live(&self) -> bool
         ensures { result ≡ is_some self.now.seal.shelf }
@@ -25,24 +47,19 @@ impl Handle {
         self.is_live
     }
 
-    /// Takes the shelf out, if there is one.
-    pub(crate) fn take(&mut self, alloc: Global) -> Option<Box<CacheShelf>>
-        ensures taken { option_map (λ shelf. shelf.value) result ≡ self.old.seal.shelf }
-        ensures left { self.new.seal.shelf ≡ None }
+    /// The handle as what it lies in memory as, whose type C can't know.
+    pub(crate) fn boxed(&mut self) -> &mut Boxed<CacheShelf>
+        ensures* writes_back { sem 𝓛 (IsBoxedShelf self.entry result) }
+        ensures value { result.now ≡ boxed_shelf self.old }
     {
-        if !self.is_live {
-            return None;
-        }
-        let seal = mem::replace(&mut self.seal, Seal::empty(alloc));
-        self.is_live = false;
-        Some(seal.into_box())
+        unsafe { &mut *(self as *mut Handle as *mut Boxed<CacheShelf>) }
     }
 
-    /// Puts a shelf in, in the place of none.
-    pub(crate) fn put(&mut self, shelf: Box<CacheShelf>)
-        ensures { self.new.seal.shelf ≡ Some shelf.value }
+    /// The shelf, if there is one, to be changed where it lies.
+    pub(crate) fn get_mut(&mut self) -> Option<&mut CacheShelf>
+        ensures* writes_back { sem 𝓛 (LendsShelf self.entry result) }
+        ensures value { option_map (λ it. it.now) result ≡ self.old.seal.shelf }
     {
-        self.seal = Seal::of(shelf);
-        self.is_live = true;
+        self.boxed().get_mut()
     }
 }

@@ -3,8 +3,8 @@ ghost use Rattle.std.specs.Prelude.{◌≡◌, ◌≤◌, ◌<◌, ◌+◌, ◌^
 ghost use Rattle.std.specs.List.{AllByRecursion};
 ghost use Rattle.rrc_c.specs.ReplyRecord.{datum, data_text};
 ghost use Rattle.rrc_c.specs.Intake.{trust_of, denied, denial_offer, failure_offer, outcome_number, count_more, counts_of, AreAt, AreOffered, IsSetOffer, TakesOne, TakesAll, TakesFirst, TakesMessage, TakesSet, TakesSome, total};
-ghost use Rattle.rrc_c.specs.PartIntake.{lying_in, IsPart, TakesPart, TakesSomeOfPart};
-ghost use Rattle.rrc_c.specs.Refusals.{AreLimits, AreData, Because, DataRefused, DatumRefused, DenialDue, DenialRefused, FailureDue, FailureRefused, IsCutOff, IsDenial, IsFailure, IsSeed, IsSet, MessageRefused, OffersRefused, SetDue, SetRefused, WriteDue, denies_kept, IsTrust, IsNoTrust};
+ghost use Rattle.rrc_c.specs.PartIntake.{own_share, IsPart, TakesPart, TakesSomeOfPart};
+ghost use Rattle.rrc_c.specs.Refusals.{AreLimits, AreData, Because, DataRefused, DatumRefused, DenialDue, DenialRefused, FailureDue, FailureRefused, IsCutOff, IsDenial, IsFailure, IsSet, MessageRefused, OffersRefused, SetDue, SetRefused, WriteDue, denies_kept, is_seed, IsTrust, IsNoTrust};
 ghost use Rattle.rrc_c.specs.Shelves.{IsLeftAs};
 ghost use Rattle.rrc_c.specs.Statuses.{number_of, number_of_call};
 ghost use Rattle.rrc_history.specs.Fits.{fits};
@@ -12,10 +12,11 @@ ghost use Rattle.rrc_sets.specs.Limits.{LimitsAre};
 ghost use Rattle.rrc_sets.specs.Message.{Brings};
 ghost use Rattle.rrc_wire.specs.Plain.{IsPlain};
 
-use crate::asks::name_of;
 use crate::counts::{Bounds, Counts};
-use crate::division::{keyed_part_of, seed_of};
+use crate::division::{check_seed, keyed_part_of};
+use crate::names::name_of;
 use crate::status::Status;
+use crate::terms::{FailureTerms, NegativeTerms, ResponseTerms, SetTerms};
 use rrc_history::{Body, Offer, Outcome, Tag, Trust};
 use rrc_name::rtype::SOA;
 use rrc_name::{Key, Name, Octets, RdataList, Sequence, Shared, Slot};
@@ -38,11 +39,11 @@ fn trust_of(number: u32) -> Trust
     }
 }
 
-fn denied(denial: u32, rtype: u16) -> Slot
-    ensures { result ≡ denied denial rtype }
+fn denied(negative: &NegativeTerms) -> Slot
+    ensures { result ≡ denied negative.now }
 {
-    if denial == 0 {
-        Slot::Set(rtype)
+    if negative.denial == 3 {
+        Slot::Set(negative.rtype)
     } else {
         Slot::Nx
     }
@@ -140,44 +141,35 @@ fn check_trust(trust: u32) -> Result<(), Status>
 }
 
 /// The offer of a set.
-fn set_offer(
-    alloc: Global,
-    owner: &[u8],
-    rtype: u16,
-    class: u16,
-    trust: u32,
-    ttl: u32,
-    octets: &[u8],
-    moment: u64,
-) -> Result<Offer, Status>
-    ensures offer { IfOk result (IsSetOffer owner.now rtype class trust ttl octets.now moment) }
-    ensures fit { OnOk result (IsSet owner.now rtype class trust ttl octets.now) }
-    ensures refused { IfErr result (λ status. SetRefused owner.now rtype class trust ttl octets.now (number_of status)) }
+fn set_offer(alloc: Global, owner: &[u8], set: &SetTerms, octets: &[u8]) -> Result<Offer, Status>
+    ensures offer { IfOk result (IsSetOffer owner.now set.now octets.now) }
+    ensures fit { OnOk result (IsSet owner.now set.now octets.now) }
+    ensures refused { IfErr result (λ status. SetRefused owner.now set.now octets.now (number_of status)) }
 {
-    check_trust(trust)?;
-    if !is_kept(rtype, class) {
+    check_trust(set.trust)?;
+    if !is_kept(set.rtype, set.rclass) {
         return Err(Status::BadType);
     }
     let owner = name_of(alloc, owner)?;
-    let key = Key::of(&owner, class, Slot::Set(rtype))?;
+    let key = Key::of(&owner, set.rclass, Slot::Set(set.rtype))?;
     let body = Body::Positive {
         owner,
-        items: Shared::new(alloc, rdata_in(alloc, rtype, octets)?)?,
-        trust: trust_of(trust),
-        ttl,
+        items: Shared::new(alloc, rdata_in(alloc, set.rtype, octets)?)?,
+        trust: trust_of(set.trust),
+        ttl: set.ttl,
     };
-    offer_of(key, body, moment)
+    offer_of(key, body, set.moment)
 }
 
 /// Whether what a denial is of is kept: data of a type in a class, or names of a class.
 #[tactic(auto, unfolding(crate::specs::Refusals::denies_kept))]
-fn denies_kept(rtype: u16, class: u16, denial: u32) -> bool
-    ensures { result ≡ denies_kept rtype class denial }
+fn denies_kept(negative: &NegativeTerms) -> bool
+    ensures { result ≡ denies_kept negative.now }
 {
-    if denial == 0 {
-        is_kept(rtype, class)
+    if negative.denial == 3 {
+        is_kept(negative.rtype, negative.rclass)
     } else {
-        is_kept_class(class)
+        is_kept_class(negative.rclass)
     }
 }
 
@@ -185,53 +177,45 @@ fn denies_kept(rtype: u16, class: u16, denial: u32) -> bool
 fn negative_offer(
     alloc: Global,
     name: &[u8],
-    rtype: u16,
-    class: u16,
-    denial: u32,
-    trust: u32,
-    ttl: u32,
+    negative: &NegativeTerms,
     soa_owner: &[u8],
     soa: &[u8],
-    moment: u64,
 ) -> Result<Offer, Status>
-    ensures offer { IfOk result (λ offer. offer ≡ denial_offer name.now rtype class denial trust ttl soa_owner.now soa.now moment) }
-    ensures fit { OnOk result (IsDenial name.now rtype class denial trust ttl soa_owner.now soa.now) }
-    ensures refused { IfErr result (λ status. DenialRefused name.now rtype class denial trust ttl soa_owner.now soa.now (number_of status)) }
+    ensures offer { IfOk result (λ offer. offer ≡ denial_offer name.now negative.now soa_owner.now soa.now) }
+    ensures fit { OnOk result (IsDenial name.now negative.now soa_owner.now soa.now) }
+    ensures refused { IfErr result (λ status. DenialRefused name.now negative.now soa_owner.now soa.now (number_of status)) }
 {
-    if !(1..=4).contains(&trust) || denial > 1 {
+    if !(1..=4).contains(&negative.trust) || !(3..=4).contains(&negative.denial) {
         return Err(Status::BadChoice);
     }
-    if !denies_kept(rtype, class, denial) {
+    if !denies_kept(negative) {
         return Err(Status::BadType);
     }
-    let key = Key::of(&name_of(alloc, name)?, class, denied(denial, rtype))?;
+    let key = Key::of(&name_of(alloc, name)?, negative.rclass, denied(negative))?;
     let body = Body::Negative {
         soa_owner: name_of(alloc, soa_owner)?,
         soa: Shared::new(alloc, data_in(alloc, SOA, soa)?)?,
-        trust: trust_of(trust),
-        ttl,
+        trust: trust_of(negative.trust),
+        ttl: negative.ttl,
     };
-    offer_of(key, body, moment)
+    offer_of(key, body, negative.moment)
 }
 
 /// The offer of a failure.
-fn failure_offer(
-    alloc: Global,
-    name: &[u8],
-    rtype: u16,
-    class: u16,
-    ttl: u32,
-    moment: u64,
-) -> Result<Offer, Status>
-    ensures offer { IfOk result (λ offer. offer ≡ failure_offer name.now rtype class ttl moment) }
-    ensures fit { OnOk result (IsFailure name.now rtype class ttl) }
-    ensures refused { IfErr result (λ status. FailureRefused name.now rtype class ttl (number_of status)) }
+fn failure_offer(alloc: Global, name: &[u8], failure: &FailureTerms) -> Result<Offer, Status>
+    ensures offer { IfOk result (λ offer. offer ≡ failure_offer name.now failure.now) }
+    ensures fit { OnOk result (IsFailure name.now failure.now) }
+    ensures refused { IfErr result (λ status. FailureRefused name.now failure.now (number_of status)) }
 {
-    if !is_kept(rtype, class) {
+    if !is_kept(failure.rtype, failure.rclass) {
         return Err(Status::BadType);
     }
-    let key = Key::of(&name_of(alloc, name)?, class, Slot::Failed(rtype))?;
-    offer_of(key, Body::Failure { ttl }, moment)
+    let key = Key::of(
+        &name_of(alloc, name)?,
+        failure.rclass,
+        Slot::Failed(failure.rtype),
+    )?;
+    offer_of(key, Body::Failure { ttl: failure.ttl }, failure.moment)
 }
 
 fn outcome_number(outcome: Outcome) -> u32
@@ -262,7 +246,7 @@ fn count(counts: &mut Counts, outcome: Outcome)
     match outcome {
         Outcome::Kept => counts.kept += 1,
         Outcome::Cleared => counts.cleared += 1,
-        Outcome::LessTrusted => counts.refused += 1,
+        Outcome::LessTrusted => counts.outranked += 1,
     }
 }
 
@@ -278,7 +262,7 @@ pub(crate) fn take_each(
     ensures err { IfErr result (λ status. (at : ℕ) → AreAt at offers.items → TakesFirst (number_of status) line at offers.items counts.new shelf.old shelf.new) }
 {
     for offer in offers {
-        let place = counts.kept + counts.cleared + counts.refused;
+        let place = counts.kept + counts.cleared + counts.outranked;
         let outcome = shelf.offer(Tag { line, place }, offer)?;
         count(counts, outcome);
     }
@@ -321,51 +305,50 @@ pub(crate) fn offers_in(
     alloc: Global,
     octets: &[u8],
     zone: &[u8],
-    moment: u64,
-    bounds: &Bounds,
+    terms: &ResponseTerms,
 ) -> Result<Vec<Offer>, Status>
-    ensures offers { IfOk result (λ made. AreOffered octets.now zone.now moment bounds.now made.items) }
-    ensures moments { IfOk result (λ made. AreAt moment made.items) }
-    ensures limits { OnOk result (AreLimits bounds.now) }
-    ensures refused { IfErr result (λ status. OffersRefused octets.now zone.now bounds.now (number_of status)) }
+    ensures offers { IfOk result (λ made. AreOffered octets.now zone.now terms.now made.items) }
+    ensures moments { IfOk result (λ made. AreAt terms.now.moment made.items) }
+    ensures limits { OnOk result (AreLimits terms.now.limits) }
+    ensures refused { IfErr result (λ status. OffersRefused octets.now zone.now terms.now.limits (number_of status)) }
 {
-    let limits = limits_of(bounds)?;
+    let limits = limits_of(&terms.limits)?;
     let zone = name_of(alloc, zone)?;
-    let made = offers_of_message(alloc, octets, &zone, moment, &limits)?;
+    let made = offers_of_message(alloc, octets, &zone, terms.moment, &limits)?;
     Ok(made)
 }
+
+/// No offers.
+pub(crate) const NONE: Counts = Counts {
+    kept: 0,
+    cleared: 0,
+    outranked: 0,
+};
 
 /// Offers a shelf what a message offers.
 pub(crate) fn offer_message(
     alloc: Global,
     shelf: &mut CacheShelf,
-    line: u64,
     octets: &[u8],
     zone: &[u8],
-    moment: u64,
-    bounds: &Bounds,
+    terms: &ResponseTerms,
     counts: &mut Counts,
 ) -> Result<(), Status>
-    ensures ok { OnOk result (TakesMessage line octets.now zone.now moment bounds.now counts.new shelf.old shelf.new) }
-    ensures err { IfErr result (λ status. TakesSome (number_of status) line octets.now zone.now moment bounds.now counts.new shelf.old shelf.new) }
+    ensures ok { OnOk result (TakesMessage octets.now zone.now terms.now counts.new shelf.old shelf.new) }
+    ensures err { IfErr result (λ status. TakesSome (number_of status) octets.now zone.now terms.now counts.new shelf.old shelf.new) }
 {
-    *counts = Counts {
-        kept: 0,
-        cleared: 0,
-        refused: 0,
-    };
-    let offered = offers_in(alloc, octets, zone, moment, bounds)?;
-    take_each(shelf, line, offered, counts)
+    *counts = NONE;
+    let offered = offers_in(alloc, octets, zone, terms)?;
+    take_each(shelf, terms.line, offered, counts)
 }
 
-/// The offers whose names lie in a part, of so many parts, by a seed.
-fn offers_of_part(offers: Vec<Offer>, parts: usize, seed: &[u8; 16], part: usize) -> Vec<Offer>
-    requires some { 1 ≤ parts }
-    requires few { parts ≤ 64 }
-    ensures { result.items ≡ lying_in parts seed.now part offers.items }
+/// The offers whose names lie in the part of the terms.
+fn own_share(offers: Vec<Offer>, terms: &ResponseTerms) -> Vec<Offer>
+    requires { 1 ≤ terms.now.parts.count }
+    ensures { result.items ≡ own_share terms.now offers.items }
 {
     let mut offers = offers;
-    offers.retain(|offer| keyed_part_of(offer.key.name().as_ref(), seed, parts) == part);
+    offers.retain(|offer| { keyed_part_of(offer.key.name().as_ref(), &terms.parts) == terms.part });
     offers
 }
 
@@ -380,36 +363,31 @@ fn check_part(parts: u64, part: u64) -> Result<(), Status>
     Ok(())
 }
 
-/// Offers a shelf what a message offers of the names that lie by a seed in a part, so many being
-/// all.
+/// Offers a shelf, whose names are hashed under the seed, what a message offers of the names that
+/// lie in the part of the terms.
 pub(crate) fn offer_part(
     alloc: Global,
     shelf: &mut CacheShelf,
-    line: u64,
     octets: &[u8],
     zone: &[u8],
-    parts: u64,
-    seed: &[u8],
-    part: u64,
-    moment: u64,
-    bounds: &Bounds,
+    terms: &ResponseTerms,
+    seed: &[u8; 16],
     counts: &mut Counts,
 ) -> Result<(), Status>
-    ensures ok { OnOk result (TakesPart line octets.now zone.now parts seed.now part moment bounds.now counts.new shelf.old shelf.new) }
-    ensures part { OnOk result (IsPart parts part) }
-    ensures seed { OnOk result (IsSeed seed.now) }
-    ensures err { IfErr result (λ status. TakesSomeOfPart (number_of status) line octets.now zone.now parts seed.now part moment bounds.now counts.new shelf.old shelf.new) }
+    ensures ok { OnOk result (TakesPart octets.now zone.now terms.now counts.new shelf.old shelf.new) }
+    ensures part { OnOk result (IsPart terms.now.parts.count terms.now.part) }
+    ensures seed { OnOk result (is_seed terms.now.parts.seed ≡ true) }
+    ensures seeded { OnOk result (terms.now.parts.seed ≡ seed.now) }
+    ensures err { IfErr result (λ status. TakesSomeOfPart (number_of status) octets.now zone.now terms.now seed.now counts.new shelf.old shelf.new) }
 {
-    *counts = Counts {
-        kept: 0,
-        cleared: 0,
-        refused: 0,
-    };
-    check_part(parts, part)?;
-    let seed = seed_of(seed)?;
-    let offered = offers_in(alloc, octets, zone, moment, bounds)?;
-    let offered = offers_of_part(offered, parts as usize, &seed, part as usize);
-    take_each(shelf, line, offered, counts)
+    *counts = NONE;
+    check_part(terms.parts.count, terms.part)?;
+    check_seed(&terms.parts.seed)?;
+    let offered = offers_in(alloc, octets, zone, terms)?;
+    if terms.parts.seed != *seed {
+        return Err(Status::OtherSeed);
+    }
+    take_each(shelf, terms.line, own_share(offered, terms), counts)
 }
 
 /// Offers a shelf a set.
@@ -417,21 +395,16 @@ pub(crate) fn take_set(
     alloc: Global,
     shelf: &mut CacheShelf,
     owner: &[u8],
-    rtype: u16,
-    class: u16,
-    trust: u32,
-    ttl: u32,
+    set: &SetTerms,
     octets: &[u8],
-    moment: u64,
-    line: u64,
 ) -> Result<u32, Status>
-    ensures ok { IfOk result (λ number. TakesSet line owner.now rtype class trust ttl octets.now moment number shelf.old shelf.new) }
+    ensures ok { IfOk result (λ number. TakesSet owner.now set.now octets.now number shelf.old shelf.new) }
     ensures left { OnErr result (IsLeftAs shelf.old shelf.new) }
-    ensures fit { OnOk result (IsSet owner.now rtype class trust ttl octets.now) }
-    ensures due { SetDue owner.now rtype class trust ttl octets.now moment shelf.old (number_of_call result) }
+    ensures fit { OnOk result (IsSet owner.now set.now octets.now) }
+    ensures due { SetDue owner.now set.now octets.now shelf.old (number_of_call result) }
 {
-    let offer = set_offer(alloc, owner, rtype, class, trust, ttl, octets, moment)?;
-    make_offer(shelf, line, offer)
+    let offer = set_offer(alloc, owner, set, octets)?;
+    make_offer(shelf, set.line, offer)
 }
 
 /// Offers a shelf a negative answer.
@@ -439,25 +412,17 @@ pub(crate) fn take_negative(
     alloc: Global,
     shelf: &mut CacheShelf,
     name: &[u8],
-    rtype: u16,
-    class: u16,
-    denial: u32,
-    trust: u32,
-    ttl: u32,
+    negative: &NegativeTerms,
     soa_owner: &[u8],
     soa: &[u8],
-    moment: u64,
-    line: u64,
 ) -> Result<u32, Status>
-    ensures ok { IfOk result (λ number. TakesOne line (denial_offer name.now rtype class denial trust ttl soa_owner.now soa.now moment) number shelf.old shelf.new) }
+    ensures ok { IfOk result (λ number. TakesOne negative.now.line (denial_offer name.now negative.now soa_owner.now soa.now) number shelf.old shelf.new) }
     ensures left { OnErr result (IsLeftAs shelf.old shelf.new) }
-    ensures fit { OnOk result (IsDenial name.now rtype class denial trust ttl soa_owner.now soa.now) }
-    ensures due { DenialDue name.now rtype class denial trust ttl soa_owner.now soa.now moment shelf.old (number_of_call result) }
+    ensures fit { OnOk result (IsDenial name.now negative.now soa_owner.now soa.now) }
+    ensures due { DenialDue name.now negative.now soa_owner.now soa.now shelf.old (number_of_call result) }
 {
-    let offer = negative_offer(
-        alloc, name, rtype, class, denial, trust, ttl, soa_owner, soa, moment,
-    )?;
-    make_offer(shelf, line, offer)
+    let offer = negative_offer(alloc, name, negative, soa_owner, soa)?;
+    make_offer(shelf, negative.line, offer)
 }
 
 /// Offers a shelf that asking failed.
@@ -465,17 +430,13 @@ pub(crate) fn take_failure(
     alloc: Global,
     shelf: &mut CacheShelf,
     name: &[u8],
-    rtype: u16,
-    class: u16,
-    ttl: u32,
-    moment: u64,
-    line: u64,
+    failure: &FailureTerms,
 ) -> Result<u32, Status>
-    ensures ok { IfOk result (λ number. TakesOne line (failure_offer name.now rtype class ttl moment) number shelf.old shelf.new) }
+    ensures ok { IfOk result (λ number. TakesOne failure.now.line (failure_offer name.now failure.now) number shelf.old shelf.new) }
     ensures left { OnErr result (IsLeftAs shelf.old shelf.new) }
-    ensures fit { OnOk result (IsFailure name.now rtype class ttl) }
-    ensures due { FailureDue name.now rtype class ttl moment shelf.old (number_of_call result) }
+    ensures fit { OnOk result (IsFailure name.now failure.now) }
+    ensures due { FailureDue name.now failure.now shelf.old (number_of_call result) }
 {
-    let offer = failure_offer(alloc, name, rtype, class, ttl, moment)?;
-    make_offer(shelf, line, offer)
+    let offer = failure_offer(alloc, name, failure)?;
+    make_offer(shelf, failure.line, offer)
 }

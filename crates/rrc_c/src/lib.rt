@@ -2,32 +2,42 @@
 //! The cache for resolvers that are written in C.
 #![tactic(auto)]
 
+mod aliases;
+mod ask_calls;
+mod asking;
 mod asks;
-mod calls;
+mod boxed;
 mod chapter_calls;
 mod chapter_lines;
-mod chapter_seal;
 mod chapters;
 mod counts;
 mod division;
+mod entry_record;
+mod folded_name;
 mod handle;
 mod intake;
 mod look;
 mod lookup;
 mod message;
+mod names;
+mod numbers;
+mod offer_calls;
 mod offers;
 mod question;
 mod reading;
 mod reading_calls;
-mod reading_seal;
 mod reply_record;
 mod response;
-mod seal;
 mod shares;
 mod shelf_calls;
+mod shelf_handle;
 mod sight;
+mod sizes;
 mod status;
 mod stored;
+mod sweeps;
 mod taken;
+mod terms;
 mod text;
 mod upkeep;
+mod upkeep_calls;

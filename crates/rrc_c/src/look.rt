@@ -39,3 +39,11 @@ impl Look {
         self.is_live = true;
     }
 }
+
+/// The same, and the seed that the shelf's names are hashed under: a copy of a handle.
+#[repr(C)]
+#[derive(Drop)]
+pub struct ShelfLook {
+    pub look: Look,
+    pub seed: [u8; 16],
+}

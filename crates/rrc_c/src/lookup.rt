@@ -1,57 +1,51 @@
 // SPDX-License-Identifier: MIT
 ghost use Rattle.std.specs.Prelude.{◌≡◌, IfOk};
-ghost use Rattle.std.specs.Option.{option_map};
+ghost use Rattle.rrc_c.specs.Asks.{TellsEntry};
 ghost use Rattle.rrc_c.specs.Refusals.{StoredDue};
 ghost use Rattle.rrc_c.specs.Statuses.{number_of_call};
-ghost use Rattle.rrc_c.specs.Stored.{stored_in, stored_of};
-ghost use Rattle.rrc_history.specs.Views.{held_in};
+ghost use Rattle.rrc_c.specs.Stored.{TellsHeld};
+ghost use Rattle.rrc_name.specs.Key.{IsFolded};
+ghost use Rattle.rrc_name.specs.NameRef.{name_in};
+ghost use Rattle.rrc_share.specs.CacheShelf.{held_by};
 
-use crate::question::folded_name_of;
+use crate::entry_record::{EntryRecord, record_of};
+use crate::folded_name::FoldedName;
+use crate::question::{check_kind, name_under};
 use crate::status::Status;
 use crate::stored::Stored;
-use rrc_history::{Body, Held};
-use rrc_name::{KeyRef, NameBuffer, Slot};
+use crate::terms::Question;
+use rrc_name::{KeyRef, NameRef, Slot};
 use rrc_share::CacheShelf;
 
-fn stored_of(held: Option<Held<'_>>) -> Stored
-    ensures { result ≡ stored_of (option_map held_in held.entry) }
+/// What a shelf holds of a name, a class and a slot.
+fn entry_at(shelf: &CacheShelf, name: NameRef<'_>, class: u16, slot: Slot) -> EntryRecord
+    requires { IsFolded (name_in name) }
+    ensures { TellsEntry shelf.now (held_by shelf.now.shelf (record { name = name_in name.entry; class = class; slot = slot })) result }
 {
-    let Some(held) = held else {
-        return Stored {
-            trust: 0,
-            ttl: 0,
-            moment: 0,
-        };
-    };
-    let (trust, ttl) = match held.body {
-        Body::Positive { trust, ttl, .. } | Body::Negative { trust, ttl, .. } => {
-            (u32::from(trust.rank()), *ttl)
-        }
-        Body::Failure { ttl } => (0, *ttl),
-    };
-    Stored {
-        trust,
-        ttl,
-        moment: held.moment,
+    let key = KeyRef { name, class, slot };
+    match shelf.age(key) {
+        Some(age) => record_of(shelf.held(key), age),
+        None => record_of(shelf.held(key), 0),
     }
 }
 
-/// What a shelf holds of a name, a type and a class: a set, or that the name has no data of the
-/// type.
+/// What a shelf, whose names are hashed under the seed, holds of a name and a class for a type. It
+/// takes no memory.
 pub(crate) fn stored_in(
     shelf: &CacheShelf,
-    name: &[u8],
-    rtype: u16,
-    class: u16,
+    seed: &[u8; 16],
+    name: &FoldedName,
+    question: &Question,
 ) -> Result<Stored, Status>
-    ensures value { IfOk result (λ stored. stored ≡ stored_in shelf.now name.now rtype class) }
-    ensures due { StoredDue name.now (number_of_call result) }
+    ensures told { IfOk result (λ stored. TellsHeld name.now question.now stored shelf.now) }
+    ensures due { StoredDue name.now question.now seed.now (number_of_call result) }
 {
-    let mut buffer = NameBuffer::new();
-    let key = KeyRef {
-        name: folded_name_of(&mut buffer, name)?,
-        class,
-        slot: Slot::Set(rtype),
-    };
-    Ok(stored_of(shelf.held(key)))
+    check_kind(question.rtype, question.rclass)?;
+    let (name, _) = name_under(name, seed)?;
+    let class = question.rclass;
+    Ok(Stored {
+        set: entry_at(shelf, name, class, Slot::Set(question.rtype)),
+        nxdomain: entry_at(shelf, name, class, Slot::Nx),
+        failure: entry_at(shelf, name, class, Slot::Failed(question.rtype)),
+    })
 }

@@ -1,11 +1,31 @@
 // SPDX-License-Identifier: MIT
-ghost use Rattle.std.specs.Prelude.{◌≡◌, None, Some, is_some};
+ghost use Rattle.std.specs.Prelude.{◌≡◌, Option, is_some};
+ghost use Rattle.std.specs.Borrow.{sem};
+ghost use Rattle.std.specs.Coded.{coded_option};
 ghost use Rattle.std.specs.Option.{option_map};
+ghost use Rattle.std_heap.specs.contracts.GlobalAllocator.TheImpl.{ghosts};
+ghost use Rattle.rrc_c.specs.Sealed.{sealed_owns};
+ghost use Rattle.rrc_c.specs.contracts.reading.Reading.{the_row};
 
+use crate::boxed::Boxed;
 use crate::reading::Reading;
-use crate::reading_seal::ReadingSeal;
 use std::alloc::Global;
-use std::mem;
+use std::marker::Model;
+
+/// A box with a reading in it, or none, whose type names no type that C does not know.
+#[repr(C)]
+#[derive(Drop)]
+pub struct ReadingSeal {
+    at: *mut u8,
+    alloc: Global,
+    pub ghost reading: { Option the_row.Denot } by { coded_option the_row.coded },
+}
+
+impl Model for ReadingSeal {
+    ghost also_owns = { λ s. sealed_owns (ghosts.dealloc_token s.alloc) the_row s.at s.reading };
+}
+
+unsafe impl Send for ReadingSeal {}
 
 /// The offers of a message, if one was read and they were not freed. C owns it, and writes nothing
 /// into it but zeros, before a message is read.
@@ -18,6 +38,8 @@ pub struct Offers {
 }
 
 impl Offers {
+    ghost use Rattle.rrc_c.specs.Boxed.{boxed_offers, IsBoxedOffers, LendsOffers};
+
     /// Whether there are offers.
     pub(crate) fn is_live(&self) -> bool
         ensures { result ≡ is_some self.now.seal.reading }
@@ -25,24 +47,19 @@ impl Offers {
         self.is_live
     }
 
-    /// Takes the reading out, if there is one.
-    pub(crate) fn take(&mut self, alloc: Global) -> Option<Box<Reading>>
-        ensures taken { option_map (λ reading. reading.value) result ≡ self.old.seal.reading }
-        ensures left { self.new.seal.reading ≡ None }
+    /// The handle as what it lies in memory as, whose type C can't know.
+    pub(crate) fn boxed(&mut self) -> &mut Boxed<Reading>
+        ensures* writes_back { sem 𝓛 (IsBoxedOffers self.entry result) }
+        ensures value { result.now ≡ boxed_offers self.old }
     {
-        if !self.is_live {
-            return None;
-        }
-        let seal = mem::replace(&mut self.seal, ReadingSeal::empty(alloc));
-        self.is_live = false;
-        Some(seal.into_box())
+        unsafe { &mut *(self as *mut Offers as *mut Boxed<Reading>) }
     }
 
-    /// Puts a reading in, in the place of none.
-    pub(crate) fn put(&mut self, reading: Box<Reading>)
-        ensures { self.new.seal.reading ≡ Some reading.value }
+    /// The offers, if there are some, to be changed where they lie.
+    pub(crate) fn get_mut(&mut self) -> Option<&mut Reading>
+        ensures* writes_back { sem 𝓛 (LendsOffers self.entry result) }
+        ensures value { option_map (λ it. it.now) result ≡ self.old.seal.reading }
     {
-        self.seal = ReadingSeal::of(reading);
-        self.is_live = true;
+        self.boxed().get_mut()
     }
 }

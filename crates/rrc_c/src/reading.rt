@@ -12,11 +12,12 @@ pub struct Placed {
 }
 
 /// What a message offers, all at the moment of its reading, each offer beside the part, of 1 to 64
-/// parts, that its name lies in.
+/// parts, that its name lies in by a seed.
 #[derive(Drop)]
 pub struct Reading {
     pub parts: u64,
     pub moment: u64,
+    pub seed: [u8; 16],
     pub placed: Vec<Placed>,
     pub ghost moments: { All (λ one. one.offer.moment ≡ moment) placed.items },
 }

@@ -6,13 +6,13 @@ ghost use Rattle.rrc_c.specs.Responses.{query_of, BringsByDefault, IsOther, IsOt
 ghost use Rattle.rrc_c.specs.Statuses.{number_of};
 ghost use Rattle.rrc_name.specs.Wire.{IsWireForm};
 
-use crate::asks::name_of;
-use crate::counts::Bounds;
 use crate::division::check_division;
 use crate::intake::limits_of;
 use crate::message::reading_of;
+use crate::names::name_of;
 use crate::reading::Reading;
 use crate::status::Status;
+use crate::terms::ResponseTerms;
 use rrc_history::Offer;
 use rrc_name::Name;
 use rrc_sets::{Limits, Query, QueryFault, RelevanceLimits, relevant_offers_in};
@@ -20,18 +20,21 @@ use rrc_wire::Question;
 use std::alloc::Global;
 
 /// The query that was sent.
-fn query_of(alloc: Global, id: u16, name: &[u8], rtype: u16, class: u16) -> Result<Query, Status>
-    ensures query { IfOk result (λ query. query ≡ query_of id name.now rtype class) }
+fn query_of(alloc: Global, name: &[u8], terms: &ResponseTerms) -> Result<Query, Status>
+    ensures query { IfOk result (λ query. query ≡ query_of name.now terms.now) }
     ensures wire_form { OnOk result (IsWireForm name.now) }
     ensures refused { IfErr result (λ status. NameRefused name.now (number_of status)) }
 {
     let name = name_of(alloc, name)?;
     let question = Question {
         name,
-        qtype: rtype,
-        qclass: class,
+        qtype: terms.rtype,
+        qclass: terms.rclass,
     };
-    Ok(Query { id, question })
+    Ok(Query {
+        id: terms.id,
+        question,
+    })
 }
 
 /// What of octets is relevant to a query, or `None` where they are a message that answers another
@@ -58,32 +61,26 @@ fn relevant_in(
     }
 }
 
-/// Reads a response to a query that a zone's server sent into what it offers, each offer beside the
-/// part, of so many parts, that its name lies in by a seed; `None` where it answers another query.
+/// Reads a response to a query that a zone's server sent into what of it is relevant, each offer
+/// beside the part that its name lies in; `None` where it answers another query.
 pub(crate) fn read_response(
     alloc: Global,
     octets: &[u8],
     zone: &[u8],
-    id: u16,
     name: &[u8],
-    rtype: u16,
-    class: u16,
-    parts: u64,
-    seed: &[u8],
-    moment: u64,
-    bounds: &Bounds,
+    terms: &ResponseTerms,
 ) -> Result<Option<Box<Reading>>, Status>
-    ensures some { IfOk result (λ found. IfSome found (λ reading. IsResponseReading octets.now zone.now (query_of id name.now rtype class) parts seed.now moment bounds.now reading.value)) }
-    ensures none { IfOk result (λ found. IfNone found (IsOtherAtLast octets.now zone.now (query_of id name.now rtype class) parts seed.now bounds.now)) }
-    ensures refused { IfErr result (λ status. ResponseRefused octets.now zone.now name.now parts seed.now bounds.now (number_of status)) }
+    ensures some { IfOk result (λ found. IfSome found (λ reading. IsResponseReading octets.now zone.now name.now terms.now reading.value)) }
+    ensures none { IfOk result (λ found. IfNone found (IsOtherAtLast octets.now zone.now name.now terms.now)) }
+    ensures refused { IfErr result (λ status. ResponseRefused octets.now zone.now name.now terms.now (number_of status)) }
 {
-    let seed = check_division(parts, seed)?;
-    let limits = limits_of(bounds)?;
+    check_division(&terms.parts)?;
+    let limits = limits_of(&terms.limits)?;
     let zone = name_of(alloc, zone)?;
-    let query = query_of(alloc, id, name, rtype, class)?;
-    let Some(offers) = relevant_in(alloc, octets, &query, &zone, moment, &limits)? else {
+    let query = query_of(alloc, name, terms)?;
+    let Some(offers) = relevant_in(alloc, octets, &query, &zone, terms.moment, &limits)? else {
         return Ok(None);
     };
-    let reading = reading_of(alloc, offers, parts, &seed, moment)?;
+    let reading = reading_of(alloc, offers, terms)?;
     Ok(Some(reading))
 }

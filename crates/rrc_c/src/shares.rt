@@ -5,9 +5,10 @@ ghost use Rattle.rrc_c.specs.Refusals.{OutOfMemory};
 ghost use Rattle.rrc_c.specs.Statuses.{number_of};
 
 use crate::counts::Counts;
-use crate::intake::take_each;
+use crate::intake::{NONE, take_each};
 use crate::reading::{Placed, Reading};
 use crate::status::Status;
+use crate::terms::Share;
 use rrc_history::Offer;
 use rrc_share::CacheShelf;
 use std::alloc::Global;
@@ -53,48 +54,55 @@ fn share_of(alloc: Global, placed: &[Placed], part: u64) -> Result<Vec<Offer>, S
     Ok(offers)
 }
 
-/// The offers of a reading that lie in a part, where there is such a part.
-fn share_in(alloc: Global, reading: &Reading, part: u64) -> Result<Vec<Offer>, Status>
+/// The offers of a reading by this seed that lie in a part, where there is such a part.
+fn share_in(
+    alloc: Global,
+    reading: &Reading,
+    part: u64,
+    seed: &[u8; 16],
+) -> Result<Vec<Offer>, Status>
     ensures share { IfOk result (λ offers. offers.items ≡ share_of part reading.now.placed.items) }
     ensures below { OnOk result (part < reading.now.parts) }
-    ensures refused { IfErr result (λ status. ShareRefused part reading.now (number_of status)) }
+    ensures seeded { OnOk result (reading.now.seed ≡ seed.now) }
+    ensures refused { IfErr result (λ status. ShareRefused part reading.now seed.now (number_of status)) }
 {
     if part >= reading.parts {
         return Err(Status::BadRules);
     }
+    if reading.seed != *seed {
+        return Err(Status::OtherSeed);
+    }
     share_of(alloc, reading.placed.as_slice(), part)
 }
 
-/// Offers a shelf what a reading has for a part.
+/// Offers a shelf, whose names are hashed under the seed, what a reading has for a part.
 pub(crate) fn offer_share(
     alloc: Global,
     shelf: &mut CacheShelf,
     reading: &Reading,
-    part: u64,
-    line: u64,
+    share: &Share,
+    seed: &[u8; 16],
     counts: &mut Counts,
 ) -> Result<(), Status>
-    ensures ok { OnOk result (TakesShare line part counts.new reading.now shelf.old shelf.new) }
-    ensures below { OnOk result (part < reading.now.parts) }
-    ensures err { IfErr result (λ status. TakesSomeOfShare (number_of status) line part counts.new reading.now shelf.old shelf.new) }
+    ensures ok { OnOk result (TakesShare share.now counts.new reading.now shelf.old shelf.new) }
+    ensures below { OnOk result (share.now.part < reading.now.parts) }
+    ensures seeded { OnOk result (reading.now.seed ≡ seed.now) }
+    ensures err { IfErr result (λ status. TakesSomeOfShare (number_of status) share.now seed.now counts.new reading.now shelf.old shelf.new) }
 {
-    *counts = Counts {
-        kept: 0,
-        cleared: 0,
-        refused: 0,
-    };
-    let offers = share_in(alloc, reading, part)?;
-    take_each(shelf, line, offers, counts)
+    *counts = NONE;
+    let offers = share_in(alloc, reading, share.part, seed)?;
+    take_each(shelf, share.line, offers, counts)
 }
 
-/// What a reading of a message offers by a part is what `rrc_offer_part` offers of the message to
-/// that part, each offer with the same tag. The function does nothing; its contract is the law.
+/// What a reading of a message offers by a part is what `rrc_offer_part_unchecked` offers of the
+/// message to that part, each offer with the same tag. The function does nothing; its contract is
+/// the law.
 pub fn a_share_is_what_a_part_is_offered()
     ensures { ShareIsPart }
 {}
 
-/// A refusal of a share leaves what a refusal of `rrc_offer_part` leaves. The function does
-/// nothing; its contract is the law.
+/// A refusal of a share leaves what a refusal of `rrc_offer_part_unchecked` leaves. The function
+/// does nothing; its contract is the law.
 pub fn a_refused_share_leaves_what_a_part_leaves()
     ensures { RefusedShareIsPart }
 {}

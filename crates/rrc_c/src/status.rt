@@ -5,36 +5,38 @@ ghost use Rattle.rrc_c.specs.Statuses.{number_of};
 use rrc_cache::Refusal;
 use std::alloc::{AllocError, AllocFailed};
 
-/// Why a shelf did not do what was called for. The numbers are those of `include/rrcache.h`, where
-/// 0 is a call that was done.
+/// Why a shelf did not do what was called for.
 #[derive(Clone, Copy, Debug, PartialEq, Eq)]
 pub(crate) enum Status {
     /// Memory was refused.
-    Memory = 3,
+    Memory,
     /// The numbers of events or of chapters are spent.
-    HistoryFull = 4,
+    HistoryFull,
     /// The moment is above 2^40 seconds.
-    MomentTooLarge = 5,
-    /// The capacity, the chapter's size or the stale limit is not in its range.
-    BadRules = 6,
-    /// The seed has not 16 octets.
-    BadSeed = 7,
+    MomentTooLarge,
+    /// The capacity, the chapter's size or the stale limit, the number of parts, the part, or how
+    /// much is swept is not in its range.
+    BadRules,
+    /// All octets of the seed are 0.
+    BadSeed,
     /// A limit of what a response says is not in its range.
-    BadLimits = 8,
+    BadLimits,
     /// The octets are not the wire form of a name.
-    BadName = 9,
+    BadName,
     /// The octets are no response that can be read.
-    BadMessage = 10,
+    BadMessage,
     /// No choice has this number.
-    BadChoice = 11,
-    /// Data of this type are not kept.
-    BadType = 12,
+    BadChoice,
+    /// Data of this type are not kept, or nothing is ever known of it.
+    BadType,
     /// The octets are not data of the type, each behind its length.
-    BadData = 13,
+    BadData,
     /// The body does not fit its key.
-    WrongBody = 14,
+    WrongBody,
     /// A datum of the answer has more octets than its length can tell.
-    WideAnswer = 15,
+    WideAnswer,
+    /// The name was hashed under another seed than the shelf's.
+    OtherSeed,
 }
 
 /// What C is told where the handle holds no shelf.
@@ -62,17 +64,32 @@ pub(crate) const NO_CHAPTERS: u32 = 21;
 /// What C is told where the handle that chapters are to be put into holds some already.
 pub(crate) const HAS_CHAPTERS: u32 = 22;
 
-/// What C is told where there is no such chapter, or it has no such line; 24 is told by the
+/// What C is told where there is no such chapter, or it has no such line; 24 and 25 are told by the
 /// header's inline functions alone.
 pub(crate) const NO_LINE: u32 = 23;
 
 impl Status {
-    /// The number that C is told, from 3 to 15.
+    /// The number that C is told, by `include/rrcache.h`: 3 to 15, or 26.
     pub(crate) fn number(self) -> u32
         ensures value { result ≡ number_of self }
         ensures some { 3 ≤ result }
     {
-        u32::from(self as u8)
+        match self {
+            Status::Memory => 3,
+            Status::HistoryFull => 4,
+            Status::MomentTooLarge => 5,
+            Status::BadRules => 6,
+            Status::BadSeed => 7,
+            Status::BadLimits => 8,
+            Status::BadName => 9,
+            Status::BadMessage => 10,
+            Status::BadChoice => 11,
+            Status::BadType => 12,
+            Status::BadData => 13,
+            Status::WrongBody => 14,
+            Status::WideAnswer => 15,
+            Status::OtherSeed => 26,
+        }
     }
 }
 

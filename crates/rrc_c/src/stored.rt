@@ -1,11 +1,14 @@
 // SPDX-License-Identifier: MIT
-/// Of what is kept under a key: how far it is trusted, its time to live when it was stored, and
-/// that moment, in seconds.
+use crate::entry_record::EntryRecord;
+
+/// What is kept of a name and a class for a type.
 #[repr(C)]
 #[derive(Clone, Copy, Debug)]
 pub struct Stored {
-    /// 1 to 4 as of an offer, or 0 where the key holds nothing.
-    pub trust: u32,
-    pub ttl: u32,
-    pub moment: u64,
+    /// Data of the type, or that there are none.
+    pub set: EntryRecord,
+    /// That the name does not exist.
+    pub nxdomain: EntryRecord,
+    /// That asking for data of the type failed.
+    pub failure: EntryRecord,
 }

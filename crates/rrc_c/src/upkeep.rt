@@ -1,32 +1,18 @@
 // SPDX-License-Identifier: MIT
-ghost use Rattle.std.specs.Prelude.{◌≡◌, ◌≤◌, ◌<◌, true, false, IfOk, IfErr, OnOk, OnErr};
+ghost use Rattle.std.specs.Prelude.{◌≡◌, IfOk, IfErr, OnOk, OnErr};
 ghost use Rattle.rrc_c.specs.Bounds.{AreBounded};
 ghost use Rattle.rrc_c.specs.Fed.{AreBoundedAtAnySize, FedAreBounded};
-ghost use Rattle.rrc_c.specs.Upkeep.{DropsChapters, IsNextExpiry, TellsFault};
-ghost use Rattle.rrc_c.specs.Parts.{keyed_part_of};
-ghost use Rattle.rrc_c.specs.Refusals.{OutOfMemory, PartDue, RecordDue, WriteDue};
-ghost use Rattle.rrc_c.specs.Shelves.{DropsRecord, IsLeftAs, MakesSweep, StartsRecord, recorded_chapters, recorded_events};
+ghost use Rattle.rrc_c.specs.Upkeep.{DropsChapters, IsNextExpiry, TellsFault, TellsSizes};
+ghost use Rattle.rrc_c.specs.Refusals.{OutOfMemory, RecordDue};
+ghost use Rattle.rrc_c.specs.Shelves.{DropsRecord, StartsRecord, recorded_chapters, recorded_events};
 ghost use Rattle.rrc_c.specs.Statuses.{number_of, number_of_call};
 
-use crate::division::{check_division, keyed_part_of};
-use crate::question::folded_name_of;
+use crate::sizes::Sizes;
 use crate::status::Status;
 use core::mem::replace_with;
-use rrc_history::Tag;
-use rrc_name::NameBuffer;
 use rrc_share::{CacheShelf, NotSwitched};
 use rrc_wire::{WireFault, read_message};
 use std::alloc::Global;
-
-/// Sweeps a shelf, and tells how many keys were removed.
-pub(crate) fn sweep(shelf: &mut CacheShelf, line: u64, moment: u64) -> Result<u64, Status>
-    ensures ok { IfOk result (MakesSweep shelf.old shelf.new (record { line = line; place = 0 }) moment) }
-    ensures left { OnErr result (IsLeftAs shelf.old shelf.new) }
-    ensures due { WriteDue shelf.old moment (number_of_call result) }
-{
-    let removed = shelf.sweep(Tag { line, place: 0 }, moment)?;
-    Ok(removed as u64)
-}
 
 /// A shelf that records from here on, or that shelf as it was, and why.
 fn recording(shelf: CacheShelf, _nothing: ()) -> (CacheShelf, Result<(), Status>)
@@ -50,21 +36,21 @@ pub(crate) fn record(shelf: &mut CacheShelf) -> Result<(), Status>
 }
 
 /// A shelf that records nothing from here on.
-fn released(shelf: CacheShelf, _nothing: ()) -> (CacheShelf, ())
+fn dropped(shelf: CacheShelf, _nothing: ()) -> (CacheShelf, ())
     ensures { DropsRecord shelf result.0 }
 {
     (shelf.drop_record(), ())
 }
 
 /// Records nothing from here on, and drops what was recorded.
-pub(crate) fn release(shelf: &mut CacheShelf)
+pub(crate) fn stop_and_drop(shelf: &mut CacheShelf)
     ensures { DropsRecord shelf.old shelf.new }
 {
-    replace_with(shelf, (), released);
+    replace_with(shelf, (), dropped);
 }
 
 /// How many events the open chapter has, if they are recorded.
-pub(crate) fn events_of(shelf: &CacheShelf) -> u64
+fn events_of(shelf: &CacheShelf) -> u64
     ensures { result ≡ recorded_events shelf.now.records shelf.now.shelf }
 {
     match shelf.recorded() {
@@ -74,12 +60,24 @@ pub(crate) fn events_of(shelf: &CacheShelf) -> u64
 }
 
 /// How many chapters are closed, if they are recorded.
-pub(crate) fn chapters_of(shelf: &CacheShelf) -> u64
+fn chapters_of(shelf: &CacheShelf) -> u64
     ensures { result ≡ recorded_chapters shelf.now.records shelf.now.shelf }
 {
     match shelf.recorded() {
         Some(shelf) => shelf.closed().len() as u64,
         None => 0,
+    }
+}
+
+/// How much a shelf holds.
+pub(crate) fn sizes_of(shelf: &CacheShelf) -> Sizes
+    ensures { TellsSizes result shelf.now shelf.now }
+{
+    Sizes {
+        keys: shelf.len() as u64,
+        events: events_of(shelf),
+        chapters: chapters_of(shelf),
+        octets: shelf.octets(),
     }
 }
 
@@ -113,18 +111,6 @@ pub(crate) fn fault_in(alloc: Global, octets: &[u8]) -> Result<u32, Status>
         Err(WireFault::Memory) => Err(Status::Memory),
         Err(fault) => Ok(u32::from(fault.number())),
     }
-}
-
-/// The part, of so many parts, that a name lies in by a seed.
-pub(crate) fn part_in(name: &[u8], parts: u64, seed: &[u8]) -> Result<u64, Status>
-    ensures value { IfOk result (λ part. part ≡ keyed_part_of seed.now name.now parts) }
-    ensures below { IfOk result (λ part. part < parts) }
-    ensures due { PartDue name.now parts seed.now (number_of_call result) }
-{
-    let seed = check_division(parts, seed)?;
-    let mut buffer = NameBuffer::new();
-    let name = folded_name_of(&mut buffer, name)?;
-    Ok(keyed_part_of(name, &seed, parts as usize) as u64)
 }
 
 /// The law of the octets that `rrc_sizes` tells: where no entry has more than some number, they are

@@ -11,7 +11,7 @@ use Rattle.rrc_history.specs.declared.event.Tag.{Tag}
 use Rattle.rrc_history.specs.declared.snapshot.Entry.{Entry}
 use Rattle.rrc_history.specs.declared.snapshot.Snapshot.{Snapshot}
 use Rattle.rrc_history.specs.Asked.{AskOf}
-use Rattle.rrc_history.specs.Judged.{reply_by, answering, is_miss, key_in}
+use Rattle.rrc_history.specs.Judged.{reply_by, answering, governing, is_miss, key_in}
 use Rattle.rrc_history.specs.Past.{entry_at, key_at, number_after}
 use Rattle.rrc_name.specs.declared.slot.Slot.{Slot}
 use Rattle.rrc_name.specs.declared.slot.Slot.TheVariants.{Set, Nx}
@@ -23,6 +23,9 @@ use Rattle.rrc_history.specs.Entries.{goes, found_among, promoted, in_front, ans
 use Rattle.rrc_history.specs.lemmas.OfferLaws.{length-staying_found}
 use Rattle.rrc_history.specs.lemmas.AskLaws.{found-contents, ask_contents}
 use Rattle.rrc_history.specs.Lives.{LAST_MOMENT}
+use Rattle.rrc_history.specs.Views.{held_in}
+use Rattle.rrc_history.specs.declared.judge.Held.{Held}
+use Rattle.rrc_cache.specs.Ages.{age_by, ahead_of, slot_age}
 use Rattle.rrc_cache.specs.Calls.{Leaves}
 use Rattle.rrc_cache.specs.Taken.{HasName, HasClass, IsAnswered, slot_of}
 use Rattle.rrc_cache.proofs.Leaving.{right_leaves}
@@ -110,3 +113,28 @@ answered_at stale ask entries reply a slot answered gave is = record {
     mapped : (a' : Option Entry) → option_map (key_at ask) (slot_of a') ≡ option_map (λ (entry : Entry). key_at ask entry.key.slot) a'
     mapped None = refl
     mapped (Some entry) = refl
+
+-- ---- its age
+
+-- what holds where something is lent, where that is an entry
+held_so : (C : Type 0) (lent : Option Held) (entry : Entry) → IfSome lent (λ _. C) → option_map held_in lent ≡ Some entry → C
+held_so C None entry so is = absurd cc
+held_so C (Some held) entry so is = so
+
+-- no more entries stand before the one that governs than the age of its slot tells
+pub governing_ahead : (entries : List Entry) (ask : AskOf) (set nx governs : Option Held) (set_age nx_age : ℕ)
+    → option_map held_in set ≡ entry_at (key_at ask (Set ask.rtype)) entries → option_map held_in nx ≡ entry_at (key_at ask Nx) entries
+    → IfSome set (λ _. ahead_of (key_at ask (Set ask.rtype)) entries ≤ set_age) → IfSome nx (λ _. ahead_of (key_at ask Nx) entries ≤ nx_age)
+    → option_map held_in governs ≡ governing (option_map held_in set) (option_map held_in nx) ask.moment
+    → IfSome governs (λ held. ahead_of held.key.now entries ≤ age_by (option_map held_in governs) set_age nx_age)
+governing_ahead entries ask set nx None set_age nx_age at_set at_nx ahead_set ahead_nx is = tt
+governing_ahead entries ask set nx (Some held) set_age nx_age at_set at_nx ahead_set ahead_nx is =
+    elim (governing-is_held (option_map held_in set) (option_map held_in nx) ask.moment (held_in held) (sym is)) [
+      | inl it ↦
+          subst P (entry_at-key (key_at ask (Set ask.rtype)) entries (held_in held) (sym at_set ∙ it))
+          (held_so (P (key_at ask (Set ask.rtype))) set (held_in held) ahead_set it)
+      | inr it ↦ subst P (entry_at-key (key_at ask Nx) entries (held_in held) (sym at_nx ∙ it)) (held_so (P (key_at ask Nx)) nx (held_in held) ahead_nx it)
+    ]
+  where
+    P : KeyOf → Type 0
+    P key = ahead_of key entries ≤ slot_age key.slot set_age nx_age

@@ -1,7 +1,11 @@
 -- SPDX-License-Identifier: MIT
 -- What a part that keeps no events keeps is what its history leaves, through every event.
 use Rattle.std.proofs.Common.{◌≡◌, ℕ, ◌+◌, ◌<◌, ◌≤◌, ◌^◌, List, [], ◌∷◌, ◌++◌, length, Option, refl, sym, ap, subst, ◌∙◌, arith}
+use Rattle.std.specs.Prelude.{IfSome}
+use Rattle.std.specs.Option.{option_map}
 use Rattle.std.proofs.lemmas.List.{length-append}
+use Rattle.std.proofs.lemmas.Option.{IfSome_then}
+use Rattle.rrc_name.specs.Key.{KeyOf}
 use Rattle.rrc_history.specs.declared.rules.Rules.{Rules}
 use Rattle.rrc_history.specs.declared.event.Event.{Event}
 use Rattle.rrc_history.specs.declared.snapshot.Entry.{Entry}
@@ -15,11 +19,16 @@ use Rattle.rrc_history.specs.Entries.{found_among}
 use Rattle.rrc_history.specs.Judged.{answering, key_in, reply_by}
 use Rattle.rrc_history.specs.Past.{held, number_after, found, reply_to, AreContents, moment_of}
 use Rattle.rrc_history.specs.Right.{IsLegal}
+use Rattle.rrc_history.specs.Views.{held_in, reply_in}
 use Rattle.rrc_history.specs.lemmas.AskLaws.{found-contents}
 use Rattle.rrc_history.specs.lemmas.LawsHold.{laws_hold}
+use Rattle.rrc_history.specs.lemmas.OneHistory.{one_contents}
+use Rattle.rrc_cache.specs.declared.lookup.Lookup.{Lookup}
+use Rattle.rrc_cache.specs.Ages.{StandsWithin, ahead_of}
 use Rattle.rrc_cache.specs.Calls.{Leaves, Writes}
 use Rattle.rrc_cache.specs.Expiry.{swept_until}
 use Rattle.rrc_cache.specs.Lean.{HoldsLean, IsLeanOpen, IsPick, begun_with, first_chapter, with_event}
+use Rattle.rrc_cache.specs.Lookups.{TellsLookup, TellsNoAge, TellsReply}
 use Rattle.rrc_cache.specs.Pairs.{StoreOf}
 use Rattle.rrc_cache.specs.Part.{PartOf, past_of, Adds}
 use Rattle.rrc_cache.specs.Taken.{IsAnswered, slot_of}
@@ -149,4 +158,28 @@ pick_answers part rules entries ask slot ruled contents pick =
           ap (λ f. reply_by part.snapshot.rules.stale f ask) same
           ∙ ap (λ (r : Rules). reply_by r.stale (found_among entries ask) ask) (sym ruled);
       from = pick ∙ ap (λ f. key_in (answering f ask (reply_to part.snapshot (past_of part) ask))) same;
+    }
+
+-- ---- what is looked up
+
+-- what stands before a key in the entries that are kept stands before it in what the keys are said to hold
+pub stands_within : (part : PartOf) (entries : List Entry) (key : KeyOf) (age : ℕ) → AreContents part.snapshot (past_of part) entries → ahead_of key entries ≤ age
+    → StandsWithin part key age
+stands_within part entries key age kept few contents are =
+    subst (λ (es : List Entry). ahead_of key es ≤ age) (one_contents part.snapshot (past_of part) entries contents kept are) few
+
+-- what was found of an ask in the entries that are kept is what its part tells of it
+pub lookup_told : (part : PartOf) (rules : Rules) (entries : List Entry) (ask : AskOf) (lookup : Lookup) → rules ≡ part.snapshot.rules
+    → AreContents part.snapshot (past_of part) entries → reply_in lookup.reply ≡ reply_by rules.stale (found_among entries ask) ask
+    → option_map held_in lookup.entry ≡ answering (found_among entries ask) ask (reply_in lookup.reply)
+    → IfSome lookup.entry (λ lent. ahead_of lent.key.now entries ≤ lookup.age) → TellsNoAge lookup → TellsLookup part ask lookup
+lookup_told part rules entries ask lookup ruled contents answered gave few none =
+    let same : found_among entries ask ≡ found part.snapshot (past_of part) ask = found-contents part.snapshot (past_of part) ask entries contents in
+    let reply : TellsReply part ask lookup =
+    answered ∙ (ap (λ (r : Rules). reply_by r.stale (found_among entries ask) ask) ruled ∙ ap (λ f. reply_by part.snapshot.rules.stale f ask) same) in
+    record {
+      reply = reply;
+      entry = gave ∙ (ap (λ f. answering f ask (reply_in lookup.reply)) same ∙ ap (λ r. answering (found part.snapshot (past_of part) ask) ask r) reply);
+      ahead = IfSome_then lookup.entry few (λ lent before. stands_within part entries lent.key.now lookup.age contents before);
+      miss = none;
     }

@@ -3,8 +3,13 @@
 use Rattle.std.specs.Prelude.{ℕ, ◌+◌, ◌-◌, ◌<◌, ◌^◌, List, [], ◌∷◌, Bool, if◌then◌else◌, map}
 use Rattle.lru.specs.LruCache.{LruCache}
 use Rattle.rrc_history.specs.declared.snapshot.Entry.{Entry}
+use Rattle.rrc_cache.specs.declared.clocked.Aged.{Aged}
 use Rattle.rrc_cache.specs.declared.clocked.Stamped.{Stamped}
 use Rattle.rrc_cache.specs.declared.hashed.HashedKey.{HashedKey}
+
+-- an entry that is lent, without its age
+abbrev pub aged_in : Aged → Entry
+aged_in aged = aged.entry.now
 
 -- pairs without the stamps
 abbrev pub unstamped : List (HashedKey × Stamped) → List (HashedKey × Entry)

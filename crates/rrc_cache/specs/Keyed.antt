@@ -4,7 +4,6 @@ use Rattle.std.specs.Prelude.{◌≡◌, ℕ, ◌&&◌, Bool, List, map, nat_eq,
 use Rattle.std.specs.List.{AllByRecursion}
 use Rattle.std.specs.Hash as fed
 use Rattle.std.specs.Hash.{HashWrites}
-use Rattle.std.specs.Hash.DefaultHasher as sip
 use Rattle.lru.specs.LruCache.{LruCache}
 use Rattle.rrc_name.specs.Key.{KeyOf, block_of, key_eq}
 use Rattle.rrc_name.specs.KeyRef.{key_of}
@@ -13,10 +12,11 @@ use Rattle.rrc_cache.specs.declared.clocked.Stamped.{Stamped}
 use Rattle.rrc_cache.specs.declared.hashed.HashedKey.{HashedKey}
 use Rattle.rrc_cache.specs.declared.hashed.HashedRef.{HashedRef}
 use Rattle.rrc_cache.specs.declared.seeded.Seeded.{Seeded}
+use Rattle.rrc_cache.specs.Seeds.{keyed_hash}
 
--- the hash of a name: SipHash-1-3 of its octets, under the keys that are the seed
+-- the hash of a name under the seed
 abbrev pub name_hash : Seeded → List ℕ → ℕ
-name_hash seeded name = sip.finish (sip.write seeded.fresh name)
+name_hash seeded name = keyed_hash seeded.seed name
 
 -- the key that is looked up, with its hash
 abbrev pub hashed_of : HashedRef → HashedKey

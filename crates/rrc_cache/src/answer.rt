@@ -64,11 +64,11 @@ pub(crate) fn answer(
     ensures answered { IfOk result (λ told. IsAnswered stale ask.now store.now.entries told.0 told.2) }
     ensures asked { IfOk result (λ told. told.1 ≡ ask.now) }
 {
-    let (reply, answering) = judge::judge(store, hash, ask.as_ref(), stale);
+    let lookup = judge::judge(store, hash, ask.as_ref(), stale);
     Ok((
-        reply.to_owned()?,
-        kept_ask(ask, answering)?,
-        slot_of(answering),
+        lookup.reply.to_owned()?,
+        kept_ask(ask, lookup.entry)?,
+        slot_of(lookup.entry),
     ))
 }
 
@@ -97,8 +97,8 @@ pub(crate) fn compare(
     requires timely { AllByRecursion IsTimely store.now.entries }
     ensures { IsCompared stale (ask_in ask.entry) store.now.entries reply.now result.0 result.1 }
 {
-    let (answered, answering) = judge::judge(store, hash, ask, stale);
-    (answered.is(reply), slot_of(answering))
+    let lookup = judge::judge(store, hash, ask, stale);
+    (lookup.reply.is(reply), slot_of(lookup.entry))
 }
 
 /// Moves the entry that gave an answer to the front. It takes no memory. The hint is as a rule the

@@ -2,10 +2,10 @@
 ghost use Rattle.std.specs.Prelude.{◌≡◌, ◌-◌, ◌<◌, ◌≤◌, ◌^◌, [], length, is_some, slice_get, take, IfOk, IfSome, IsSome, OnOk, OnErr};
 ghost use Rattle.std.specs.Map.{lookup, remove_entry, set_value};
 ghost use Rattle.std.specs.Map.Iter.{deref_pair};
-ghost use Rattle.std.specs.Option.{option_copied, option_map};
+ghost use Rattle.std.specs.Option.{option_map};
 ghost use Rattle.lru.specs.LruCache.{IsValid, last_entry, lru_cache, promoted, put_entries};
 ghost use Rattle.rrc_history.specs.Past.{entry_of};
-ghost use Rattle.rrc_cache.specs.Clocked.{ahead_in, unstamped};
+ghost use Rattle.rrc_cache.specs.Clocked.{aged_in, ahead_in, unstamped};
 ghost use Rattle.rrc_cache.specs.Keyed.{hashed_eq, hashed_of};
 
 use crate::hashed::{HashedKey, HashedRef};
@@ -28,6 +28,13 @@ impl Debug for Stamped {
     fn fmt<W: Write>(&self, f: &mut Formatter<W>) -> fmt::Result {
         self.entry.fmt(f)
     }
+}
+
+/// An entry that is lent, and how many touches came after its own last one.
+#[derive(Clone, Copy, Debug)]
+pub struct Aged<'a> {
+    pub(crate) entry: &'a Entry,
+    pub(crate) age: u64,
 }
 
 /// A map in the order of touch, in which each entry keeps the time of its last touch. Time is the
@@ -84,24 +91,18 @@ impl Clocked {
         &self.cache
     }
 
-    /// How many touches came after the last one of a key, if it has an entry. No more entries stand
-    /// before its own.
-    pub(crate) fn age(&self, key: HashedRef<'_>) -> Option<u64>
-        ensures held { is_some result ≡ is_some (lookup (hashed_eq (hashed_of key.entry)) self.now.entries) }
-        ensures ahead { IfSome result (λ age. ahead_in (hashed_eq (hashed_of key.entry)) self.now.entries ≤ age) }
+    /// The entry of a key, and its age: no more entries stand before it. It moves nothing.
+    #[inline(always)]
+    pub(crate) fn get(&self, key: HashedRef<'_>) -> Option<Aged<'_>>
+        ensures entry { option_map aged_in result ≡ lookup (hashed_eq (hashed_of key.entry)) self.now.entries }
+        ensures ahead { IfSome result (λ aged. ahead_in (hashed_eq (hashed_of key.entry)) self.now.entries ≤ aged.age) }
     {
         fits_memory(&self.cache);
         match self.cache.peek(key) {
-            Some(stamped) => Some(age_at(self.clock, stamped.touched)),
-            None => None,
-        }
-    }
-
-    pub(crate) fn peek(&self, key: HashedRef<'_>) -> Option<&Entry>
-        ensures { option_copied result ≡ lookup (hashed_eq (hashed_of key.entry)) self.now.entries }
-    {
-        match self.cache.peek(key) {
-            Some(stamped) => Some(&stamped.entry),
+            Some(stamped) => Some(Aged {
+                entry: &stamped.entry,
+                age: age_at(self.clock, stamped.touched),
+            }),
             None => None,
         }
     }
@@ -116,6 +117,7 @@ impl Clocked {
     }
 
     /// Moves the entry of a key to the front, and answers whether there is one.
+    #[inline(always)]
     pub(crate) fn promote(&mut self, key: HashedRef<'_>) -> bool
         ensures value { result ≡ is_some (lookup (hashed_eq (hashed_of key.entry)) self.old.entries) }
         ensures entries { self.new ≡ lru_cache (promoted (hashed_eq (hashed_of key.entry)) self.old.entries) self.old.cap }

@@ -64,7 +64,7 @@ pub(crate) fn take(
 {
     let key = KeyRef::of(&offer.key);
     let hash = store.hash_of(key.name);
-    let held = store.get(hash, key);
+    let held = store.get(hash, key).held;
     let outcome = verdict(held, offer);
     let evicted = match (outcome, held) {
         (Outcome::Kept, Some(held)) => {

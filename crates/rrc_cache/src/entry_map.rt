@@ -1,8 +1,8 @@
 // SPDX-License-Identifier: MIT
 ghost use Rattle.rrc_cache.specs.Ages.{ahead_of};
-ghost use Rattle.std.specs.Prelude.{◌≡◌, ◌-◌, ◌<◌, ◌≤◌, ◌^◌, ◌%◌, [], ◌∷◌, Some, None, length, is_some, take, IfOk, IfSome, OnOk, OnErr};
+ghost use Rattle.std.specs.Prelude.{◌≡◌, ◌-◌, ◌<◌, ◌≤◌, ◌^◌, ◌%◌, [], ◌∷◌, Some, None, length, take, IfOk, IfSome, OnOk, OnErr};
 ghost use Rattle.std.specs.Map.{lookup};
-ghost use Rattle.std.specs.Option.{option_copied, option_map};
+ghost use Rattle.std.specs.Option.{option_map};
 ghost use Rattle.lru.specs.LruCache.{lru_cache, promoted as lru_promoted};
 ghost use Rattle.rrc_name.specs.Key.{key_eq};
 ghost use Rattle.rrc_name.specs.KeyRef.{key_of};
@@ -10,10 +10,11 @@ ghost use Rattle.rrc_name.specs.NameRef.{name_in};
 ghost use Rattle.rrc_history.specs.Octets.{octets_of};
 ghost use Rattle.rrc_history.specs.Past.{entry_at, entry_of, last_key};
 ghost use Rattle.rrc_history.specs.Entries.{AreApart, goes, promoted, staying};
+ghost use Rattle.rrc_cache.specs.Clocked.{aged_in};
 ghost use Rattle.rrc_cache.specs.Counted.{counted_octets};
 ghost use Rattle.rrc_cache.specs.Keyed.{hashed_entries, name_hash};
 
-use crate::clocked::Stamped;
+use crate::clocked::{Aged, Stamped};
 use crate::hashed::HashedKey;
 use crate::holdings::Holdings;
 use crate::seeded::Seeded;
@@ -98,22 +99,15 @@ impl EntryMap {
         self.holdings.held()
     }
 
-    /// The entry of a key, whose name has the hash. It moves nothing.
-    pub(crate) fn get(&self, hash: u64, key: KeyRef<'_>) -> Option<&Entry>
+    /// The entry of a key, whose name has the hash, and its age: no more entries stand before it.
+    /// It moves nothing.
+    #[inline(always)]
+    pub(crate) fn get(&self, hash: u64, key: KeyRef<'_>) -> Option<Aged<'_>>
         requires { hash ≡ name_hash self.now.seeded (key_of key).name }
-        ensures { option_copied result ≡ entry_at (key_of key.entry) self.now.entries }
+        ensures entry { option_map aged_in result ≡ entry_at (key_of key.entry) self.now.entries }
+        ensures ahead { IfSome result (λ aged. ahead_of (key_of key.entry) self.now.entries ≤ aged.age) }
     {
-        self.holdings.peek(hash, key)
-    }
-
-    /// How many touches came after the last one of a key, whose name has the hash, if it has an
-    /// entry. No more entries stand before its own.
-    pub(crate) fn age(&self, hash: u64, key: KeyRef<'_>) -> Option<u64>
-        requires { hash ≡ name_hash self.now.seeded (key_of key).name }
-        ensures held { is_some result ≡ is_some (entry_at (key_of key.entry) self.now.entries) }
-        ensures ahead { IfSome result (λ age. ahead_of (key_of key.entry) self.now.entries ≤ age) }
-    {
-        self.holdings.age(hash, key)
+        self.holdings.get(hash, key)
     }
 
     /// Puts an entry in front, in the place of the one that its key had, and answers that one. An
@@ -153,6 +147,7 @@ impl EntryMap {
 
     /// Moves the entry of a key to the front, and answers its number, if there is one. Where the
     /// hint is the hash of its name, that is not hashed again.
+    #[inline(always)]
     pub(crate) fn promote(&mut self, hint: u64, key: KeyRef<'_>) -> Option<u64>
         ensures number { result ≡ option_map (λ entry. entry.number) (entry_at (key_of key.entry) self.old.entries) }
         ensures entries { self.new ≡ record self.old { entries = promoted (key_of key.entry) self.old.entries } }

@@ -79,8 +79,8 @@ impl Store {
             let map = self.filtered.map();
             let key = KeyRef::of(&expiry.key);
             match map.get(map.hash_of(key.name), key) {
-                Some(entry) => {
-                    let time = full_expiry_of(entry, self.stale);
+                Some(aged) => {
+                    let time = full_expiry_of(aged.entry, self.stale);
                     let key = expiry.key;
                     self.queue.add(Expiry { time, key });
                 }
@@ -168,7 +168,7 @@ fn is_fully_expired(map: &EntryMap, key: KeyRef<'_>, stale: u64, moment: u64) ->
     ensures { result ≡ is_swept stale (entry_at (key_of key.entry) map.now.entries) moment }
 {
     match map.get(map.hash_of(key.name), key) {
-        Some(entry) => full_expiry_of(entry, stale) <= moment,
+        Some(aged) => full_expiry_of(aged.entry, stale) <= moment,
         None => false,
     }
 }

@@ -2,9 +2,9 @@
 ghost use Rattle.std.specs.Prelude.{◌≡◌, ◌-◌, ◌<◌, ◌≤◌, ◌^◌, ◌%◌, [], Some, length, is_some, slice_get, take, IfOk, IfSome, OnOk, OnErr, IsSome};
 ghost use Rattle.std.specs.List.{IsDistinct};
 ghost use Rattle.std.specs.Map.{keys_of, lookup, remove_entry};
-ghost use Rattle.rrc_cache.specs.Clocked.{ahead_in};
+ghost use Rattle.rrc_cache.specs.Clocked.{aged_in, ahead_in};
 ghost use Rattle.std.specs.Map.Iter.{deref_pair};
-ghost use Rattle.std.specs.Option.{option_copied, option_map};
+ghost use Rattle.std.specs.Option.{option_map};
 ghost use Rattle.lru.specs.LruCache.{IsValid, last_entry, lru_cache, promoted, put_entries};
 ghost use Rattle.rrc_name.specs.Key.{key_eq};
 ghost use Rattle.rrc_name.specs.KeyRef.{key_of};
@@ -15,7 +15,7 @@ ghost use Rattle.rrc_cache.specs.Counted.{counted_octets, held_octets};
 ghost use Rattle.rrc_cache.specs.Keyed.{hashed_entries, name_hash};
 ghost use Rattle.rrc_cache.specs.Pairs.{entries_in, AreOwn};
 
-use crate::clocked::Stamped;
+use crate::clocked::{Aged, Stamped};
 use crate::hashed::HashedKey;
 use crate::keyed::Keyed;
 use crate::seeded::Seeded;
@@ -116,22 +116,15 @@ impl Holdings {
         self.keyed.held()
     }
 
-    /// The entry of a key, whose name has the hash. It moves nothing.
-    pub(crate) fn peek(&self, hash: u64, key: KeyRef<'_>) -> Option<&Entry>
+    /// The entry of a key, whose name has the hash, and its age: no more entries stand before it.
+    /// It moves nothing.
+    #[inline(always)]
+    pub(crate) fn get(&self, hash: u64, key: KeyRef<'_>) -> Option<Aged<'_>>
         requires { hash ≡ name_hash self.now.seeded (key_of key).name }
-        ensures { option_copied result ≡ lookup (key_eq (key_of key.entry)) self.now.map.entries }
+        ensures entry { option_map aged_in result ≡ lookup (key_eq (key_of key.entry)) self.now.map.entries }
+        ensures ahead { IfSome result (λ aged. ahead_in (key_eq (key_of key.entry)) self.now.map.entries ≤ aged.age) }
     {
-        self.keyed.peek(hash, key)
-    }
-
-    /// How many touches came after the last one of a key, whose name has the hash, if it has an
-    /// entry. No more entries stand before its own.
-    pub(crate) fn age(&self, hash: u64, key: KeyRef<'_>) -> Option<u64>
-        requires { hash ≡ name_hash self.now.seeded (key_of key).name }
-        ensures held { is_some result ≡ is_some (lookup (key_eq (key_of key.entry)) self.now.map.entries) }
-        ensures ahead { IfSome result (λ age. ahead_in (key_eq (key_of key.entry)) self.now.map.entries ≤ age) }
-    {
-        self.keyed.age(hash, key)
+        self.keyed.get(hash, key)
     }
 
     /// The entry in front, with its key.
@@ -143,6 +136,7 @@ impl Holdings {
 
     /// Moves the entry of a key to the front, and answers whether there is one. Where the hint is
     /// the hash of its name, that is not hashed again.
+    #[inline(always)]
     pub(crate) fn promote(&mut self, hint: u64, key: KeyRef<'_>) -> bool
         ensures value { result ≡ is_some (lookup (key_eq (key_of key.entry)) self.old.map.entries) }
         ensures entries { self.new.map ≡ lru_cache (promoted (key_eq (key_of key.entry)) self.old.map.entries) self.old.map.cap }

@@ -2,17 +2,17 @@
 ghost use Rattle.std.specs.Prelude.{◌≡◌, ◌-◌, ◌<◌, ◌≤◌, ◌^◌, [], length, is_some, slice_get, take, IfOk, IfSome, OnOk, OnErr, IsSome};
 ghost use Rattle.std.specs.Map.{lookup, remove_entry};
 ghost use Rattle.std.specs.Map.Iter.{deref_pair};
-ghost use Rattle.std.specs.Option.{option_copied, option_map};
+ghost use Rattle.std.specs.Option.{option_map};
 ghost use Rattle.lru.specs.LruCache.{IsValid, last_entry, lru_cache, promoted, put_entries};
 ghost use Rattle.rrc_name.specs.Key.{key_eq};
 ghost use Rattle.rrc_name.specs.KeyRef.{key_of};
 ghost use Rattle.rrc_name.specs.NameRef.{name_in};
 ghost use Rattle.rrc_history.specs.Past.{entry_of};
-ghost use Rattle.rrc_cache.specs.Clocked.{ahead_in};
+ghost use Rattle.rrc_cache.specs.Clocked.{aged_in, ahead_in};
 ghost use Rattle.rrc_cache.specs.Keyed.{hashed_entries, name_hash};
 ghost use Rattle.rrc_cache.specs.Pairs.{entries_in, AreOwn};
 
-use crate::clocked::{Clocked, Stamped};
+use crate::clocked::{Aged, Clocked, Stamped};
 use crate::hashed::{HashedKey, HashedRef};
 use crate::seeded::Seeded;
 use lru::LruCache;
@@ -89,22 +89,15 @@ impl Keyed {
         self.cache.held()
     }
 
-    /// The entry of a key, whose name has the hash. It moves nothing.
-    pub(crate) fn peek(&self, hash: u64, key: KeyRef<'_>) -> Option<&Entry>
+    /// The entry of a key, whose name has the hash, and its age: no more entries stand before it.
+    /// It moves nothing.
+    #[inline(always)]
+    pub(crate) fn get(&self, hash: u64, key: KeyRef<'_>) -> Option<Aged<'_>>
         requires { hash ≡ name_hash self.now.seeded (key_of key).name }
-        ensures { option_copied result ≡ lookup (key_eq (key_of key.entry)) self.now.map.entries }
+        ensures entry { option_map aged_in result ≡ lookup (key_eq (key_of key.entry)) self.now.map.entries }
+        ensures ahead { IfSome result (λ aged. ahead_in (key_eq (key_of key.entry)) self.now.map.entries ≤ aged.age) }
     {
-        self.cache.peek(HashedRef { hash, key })
-    }
-
-    /// How many touches came after the last one of a key, whose name has the hash, if it has an
-    /// entry. No more entries stand before its own.
-    pub(crate) fn age(&self, hash: u64, key: KeyRef<'_>) -> Option<u64>
-        requires { hash ≡ name_hash self.now.seeded (key_of key).name }
-        ensures held { is_some result ≡ is_some (lookup (key_eq (key_of key.entry)) self.now.map.entries) }
-        ensures ahead { IfSome result (λ age. ahead_in (key_eq (key_of key.entry)) self.now.map.entries ≤ age) }
-    {
-        self.cache.age(HashedRef { hash, key })
+        self.cache.get(HashedRef { hash, key })
     }
 
     /// The entry in front, with its key.
@@ -130,6 +123,7 @@ impl Keyed {
 
     /// Moves the entry of a key to the front, and returns whether there is one. Where the hint is
     /// the hash of the key's name, that is not hashed again.
+    #[inline(always)]
     pub(crate) fn promote(&mut self, hint: u64, key: KeyRef<'_>) -> bool
         ensures value { result ≡ is_some (lookup (key_eq (key_of key.entry)) self.old.map.entries) }
         ensures entries { self.new.map ≡ lru_cache (promoted (key_eq (key_of key.entry)) self.old.map.entries) self.old.map.cap }

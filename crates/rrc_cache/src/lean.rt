@@ -2,6 +2,8 @@
 ghost use Rattle.std.specs.Prelude.{◌≡◌, ◌<◌, ◌≤◌, ◌-◌, ◌^◌, ◌↔◌, [], is_some, IsTrue, IfOk, IfErr, IfSome, IfNone, OnErr, Err};
 
 use crate::history::{History, StepRef};
+use crate::lookup::Lookup;
+use crate::name_hash::NameHash;
 use crate::part::KNOWN_SEED;
 use crate::pick::Pick;
 use crate::refusal::Refusal;
@@ -56,8 +58,10 @@ impl LeanPart {
     ghost use Rattle.std.specs.Option.{option_map};
     ghost use Rattle.rrc_cache.specs.Expiry.{HoldsNothing, HoldsSomething, IsAfterLastSweep, NoneFullyExpiresBefore};
     ghost use Rattle.rrc_cache.specs.Lean.{begun_with, IsLeanDue, IsLeanOpen, IsLeanSound, IsPick, IsRestoreDue, Shuts};
+    ghost use Rattle.rrc_cache.specs.Lookups.{TellsAge, TellsEntry, TellsLookup, TellsNoAge, TellsReply};
     ghost use Rattle.rrc_cache.specs.Part.{past_of, next_number, Adds, IsCloseDue, IsOfMoments, WritesOffer, WritesAsk, WritesSweep};
     ghost use Rattle.rrc_cache.specs.Sizes.{HoldsKeys, HoldsOctets};
+    ghost use Rattle.rrc_cache.specs.Seeds.{IsHashOf};
     ghost use Rattle.rrc_cache.specs.Ages.{StandsWithin};
 
     /// An empty part in the first chapter of its history. Its seed is known, as that of
@@ -153,7 +157,7 @@ impl LeanPart {
     pub fn held(&self, key: KeyRef<'_>) -> Option<Held<'_>>
         ensures { option_map held_in result ≡ held self.now.snapshot (past_of self.now) (key_of key.entry) }
     {
-        self.store.get(self.store.hash_of(key.name), key)
+        self.store.get(self.store.hash_of(key.name), key).held
     }
 
     /// How many touches came after the last one of a key, if it holds something: no more keys than
@@ -162,7 +166,12 @@ impl LeanPart {
         ensures held { is_some result ≡ is_some (held self.now.snapshot (past_of self.now) (key_of key.entry)) }
         ensures ahead { IfSome result (λ age. StandsWithin self.now (key_of key.entry) age) }
     {
-        self.store.age(self.store.hash_of(key.name), key)
+        let aged = self.store.get(self.store.hash_of(key.name), key);
+        if aged.held.is_some() {
+            Some(aged.age)
+        } else {
+            None
+        }
     }
 
     /// A moment before which no key is fully expired, or `None` exactly where the part holds none:
@@ -196,8 +205,24 @@ impl LeanPart {
     pub fn would_answer(&self, ask: AskRef<'_>) -> ReplyRef<'_>
         ensures { reply_in result ≡ reply_to self.now.snapshot (past_of self.now) (ask_in ask.entry) }
     {
-        let hash = self.store.hash_of(ask.name);
-        judge::judge(&self.store, hash, ask, self.rules.stale).0
+        self.lookup(ask, self.store.name_hash(ask.name)).reply
+    }
+
+    /// What `ask` would answer to this ask now, the entry that gives that reply, and how many
+    /// touches came after the entry's own last one: no more keys than that were touched since.
+    /// Where the hash is under the part's own seed, the name is not hashed again. It comes whatever
+    /// the ask's moment is, also above the last one, and where the numbers are spent, where `ask`
+    /// refuses. It takes no memory and touches nothing.
+    #[inline(always)]
+    pub fn lookup(&self, ask: AskRef<'_>, hash: NameHash) -> Lookup<'_>
+        requires hash { IsHashOf hash (ask_in ask).name }
+        ensures reply { TellsReply self.now (ask_in ask.entry) result }
+        ensures entry { TellsEntry self.now (ask_in ask.entry) result }
+        ensures ahead { TellsAge self.now result }
+        ensures miss { TellsNoAge result }
+    {
+        let hash = self.store.hash_by(hash, ask.name);
+        judge::judge(&self.store, hash, ask, self.rules.stale)
     }
 
     /// Keeps the body of an offer under its key, or says why not. The history has one more event,
@@ -250,31 +275,35 @@ impl LeanPart {
         ensures err { OnErr result (self.new ≡ self.old) }
         ensures due { IsLeanDue self.old ask.now.moment result }
     {
-        let (reply, pick) = self.judge(ask.as_ref())?;
-        let reply = reply.to_owned()?;
+        let hash = self.store.name_hash(ask.name.as_ref());
+        let (lookup, pick) = self.judge(ask.as_ref(), hash)?;
+        let reply = lookup.reply.to_owned()?;
         self.note_asked(tag, ask.as_ref(), pick);
         Ok(reply)
     }
 
-    /// The first half of `ask`, which takes no memory: the reply, as it is kept, and which entry
-    /// gives it, to be handed to `note_asked`. It touches nothing. The refusals are
-    /// those of `offer`, without `Memory`.
-    pub fn judge(&self, ask: AskRef<'_>) -> Result<(ReplyRef<'_>, Pick), Refusal>
-        ensures reply { IfOk result (λ judged. reply_in judged.0 ≡ reply_to self.now.snapshot (past_of self.now) (ask_in ask.entry)) }
+    /// The first half of `ask`, which takes no memory: what `lookup` tells, with the reply as it is
+    /// kept, and which entry gives it, to be handed to `note_asked`. It touches nothing. The
+    /// refusals are those of `offer`, without `Memory`.
+    #[inline(always)]
+    pub fn judge(&self, ask: AskRef<'_>, hash: NameHash) -> Result<(Lookup<'_>, Pick), Refusal>
+        requires hash { IsHashOf hash (ask_in ask).name }
+        ensures reply { IfOk result (λ judged. TellsLookup self.now (ask_in ask.entry) judged.0) }
         ensures pick { IfOk result (λ judged. IsPick self.now (ask_in ask.entry) judged.1) }
         ensures due { IsLeanDue self.now (ask_in ask.entry).moment result }
         ensures only { IfErr result IsOfMoments }
     {
         self.admit(ask.moment)?;
-        let hash = self.store.hash_of(ask.name);
-        let (reply, answering) = judge::judge(&self.store, hash, ask, self.rules.stale);
-        let slot = answer::slot_of(answering);
-        Ok((reply, Pick { slot, hash }))
+        let hash = self.store.hash_by(hash, ask.name);
+        let lookup = judge::judge(&self.store, hash, ask, self.rules.stale);
+        let slot = answer::slot_of(lookup.entry);
+        Ok((lookup, Pick { slot, hash }))
     }
 
     /// The second half of `ask`, for an ask that `judge` answered just before, with the entry that
     /// it told: it moves that entry to the front, and the history has one more event, which tells
     /// the ask and its reply. It takes no memory and refuses nothing.
+    #[inline(always)]
     pub fn note_asked(&mut self, tag: Tag, ask: AskRef<'_>, pick: Pick)
         requires open { IsLeanOpen self.old (ask_in ask).moment }
         requires pick { IsPick self.old (ask_in ask) pick }

@@ -3,6 +3,7 @@
 //! what stands in it.
 #![tactic(auto)]
 
+mod aged_held;
 mod ahead;
 mod answer;
 mod chapter_entries;
@@ -20,6 +21,8 @@ mod holdings;
 mod judge;
 mod keyed;
 mod lean;
+mod lookup;
+mod name_hash;
 mod negative_filter;
 mod opening_tail;
 mod overwriting;
@@ -36,6 +39,8 @@ mod sweep;
 
 pub use classless::{ChapterFault, classless_chapter, classless_chapter_seeded};
 pub use lean::LeanPart;
+pub use lookup::Lookup;
+pub use name_hash::{NameHash, keyed_hash};
 pub use part::Part;
 pub use pick::Pick;
 pub use rechecks::{RecheckFault, recheck, recheck_seeded};

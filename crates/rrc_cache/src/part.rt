@@ -3,6 +3,8 @@ ghost use Rattle.std.specs.Prelude.{◌≡◌, ◌<◌, ◌≤◌, ◌-◌, ◌^
 ghost use Rattle.rrc_cache.specs.Recording.{refused_by, BeginsRecorded};
 
 use crate::lean::LeanPart;
+use crate::lookup::Lookup;
+use crate::name_hash::NameHash;
 use crate::recording::NotRecorded;
 use crate::refusal::Refusal;
 use crate::{answer, closing};
@@ -44,6 +46,8 @@ impl Part {
     ghost use Rattle.rrc_cache.specs.Lean.{begun_with, IsRestoreDue};
     ghost use Rattle.rrc_cache.specs.Part.{past_of, Closes, HasRoom, IsCloseDue, IsDue, IsOfMoments, IsSound, WritesOffer, WritesAsk, WritesSweep};
     ghost use Rattle.rrc_cache.specs.Ages.{StandsWithin};
+    ghost use Rattle.rrc_cache.specs.Lookups.{TellsAge, TellsEntry, TellsNoAge, TellsReply};
+    ghost use Rattle.rrc_cache.specs.Seeds.{IsHashOf};
     ghost use Rattle.rrc_cache.specs.Sizes.{HoldsKeys, HoldsOctets};
     ghost use Rattle.rrc_cache.specs.Expiry.{HoldsNothing, HoldsSomething, IsAfterLastSweep, NoneFullyExpiresBefore};
     ghost use Rattle.rrc_history.specs.Past.{held, reply_to};
@@ -185,6 +189,19 @@ impl Part {
         ensures { reply_in result ≡ reply_to self.now.snapshot (past_of self.now) (ask_in ask.entry) }
     {
         self.lean.would_answer(ask)
+    }
+
+    /// What `ask` would answer to this ask now, the entry that gives that reply, and how many
+    /// touches came after the entry's own last one (`LeanPart::lookup`). It comes in a full chapter
+    /// too. It takes no memory and touches nothing.
+    pub fn lookup(&self, ask: AskRef<'_>, hash: NameHash) -> Lookup<'_>
+        requires hash { IsHashOf hash (ask_in ask).name }
+        ensures reply { TellsReply self.now (ask_in ask.entry) result }
+        ensures entry { TellsEntry self.now (ask_in ask.entry) result }
+        ensures ahead { TellsAge self.now result }
+        ensures miss { TellsNoAge result }
+    {
+        self.lean.lookup(ask, hash)
     }
 
     /// Keeps the body of an offer under its key, or says why not, and appends one event that tells

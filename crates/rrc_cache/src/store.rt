@@ -1,5 +1,5 @@
 // SPDX-License-Identifier: MIT
-ghost use Rattle.std.specs.Prelude.{◌≡◌, ◌-◌, ◌≤◌, ◌^◌, ◌%◌, [], ◌∷◌, Some, None, length, is_some, take, true, false, IfOk, IfSome, OnOk, OnErr};
+ghost use Rattle.std.specs.Prelude.{◌≡◌, ◌-◌, ◌≤◌, ◌^◌, ◌%◌, [], ◌∷◌, Some, None, length, take, true, false, IfOk, IfSome, OnOk, OnErr};
 ghost use Rattle.rrc_cache.specs.Ages.{ahead_of};
 ghost use Rattle.std.specs.Option.{option_map};
 ghost use Rattle.rrc_name.specs.Key.{KeyOf};
@@ -13,11 +13,14 @@ ghost use Rattle.rrc_history.specs.Views.{held_in};
 ghost use Rattle.rrc_cache.specs.ExpiryQueue.{replaced_of};
 ghost use Rattle.rrc_cache.specs.Keyed.{name_hash};
 ghost use Rattle.rrc_cache.specs.NegativeFilter.{is_negative_slot};
+ghost use Rattle.rrc_cache.specs.Seeds.{IsHashOf};
 
+use crate::aged_held::AgedHeld;
 use crate::ahead;
 use crate::expiries::{expiries_of, expiry_if_sooner, is_expired_by};
 use crate::expiry_queue::{Expiry, ExpiryQueue, full_expiry, full_expiry_of};
 use crate::filtered_entries::FilteredEntries;
+use crate::name_hash::NameHash;
 use crate::replaced::Replaced;
 use crate::seeded::Seeded;
 use rrc_history::{Entry, Held, Offer, Rules, Snapshot};
@@ -117,28 +120,41 @@ impl Store {
         self.filtered.map().hash_of(name)
     }
 
-    /// What a key holds, whose name has the hash. It moves nothing.
-    pub(crate) fn get(&self, hash: u64, key: KeyRef<'_>) -> Option<Held<'_>>
-        requires { hash ≡ name_hash self.now.seeded (key_of key).name }
-        ensures { option_map held_in result ≡ entry_at (key_of key.entry) self.now.entries }
+    /// The hash of a name, with the seed that it is hashed under.
+    pub(crate) fn name_hash(&self, name: NameRef<'_>) -> NameHash
+        ensures { IsHashOf result (name_in name.entry) }
     {
-        match self.filtered.map().get(hash, key) {
-            Some(entry) => {
-                ahead::load_data(&entry.body);
-                Some(Held::of(entry))
-            }
-            None => None,
-        }
+        self.filtered.map().seeded().name_hash(name)
     }
 
-    /// How many touches came after the last one of a key, whose name has the hash, if it has an
-    /// entry. No more entries stand before its own.
-    pub(crate) fn age(&self, hash: u64, key: KeyRef<'_>) -> Option<u64>
-        requires { hash ≡ name_hash self.now.seeded (key_of key).name }
-        ensures held { is_some result ≡ is_some (entry_at (key_of key.entry) self.now.entries) }
-        ensures ahead { IfSome result (λ age. ahead_of (key_of key.entry) self.now.entries ≤ age) }
+    /// The hash of a name, which is not hashed again where its hash under the store's seed is
+    /// known.
+    #[inline(always)]
+    pub(crate) fn hash_by(&self, known: NameHash, name: NameRef<'_>) -> u64
+        requires { IsHashOf known (name_in name) }
+        ensures { result ≡ name_hash self.now.seeded (name_in name.entry) }
     {
-        self.filtered.map().age(hash, key)
+        self.filtered.map().seeded().hash_by(known, name)
+    }
+
+    /// What a key holds, whose name has the hash, and its age: no more entries stand before that.
+    /// It moves nothing.
+    #[inline(always)]
+    pub(crate) fn get(&self, hash: u64, key: KeyRef<'_>) -> AgedHeld<'_>
+        requires { hash ≡ name_hash self.now.seeded (key_of key).name }
+        ensures held { option_map held_in result.held ≡ entry_at (key_of key.entry) self.now.entries }
+        ensures ahead { IfSome result.held (λ _. ahead_of (key_of key.entry) self.now.entries ≤ result.age) }
+    {
+        match self.filtered.map().get(hash, key) {
+            Some(aged) => {
+                ahead::load_data(&aged.entry.body);
+                AgedHeld {
+                    held: Some(Held::of(aged.entry)),
+                    age: aged.age,
+                }
+            }
+            None => AgedHeld { held: None, age: 0 },
+        }
     }
 
     /// Whether NXDOMAIN or a failure may be cached of a name that has the hash. Where not, no
@@ -263,6 +279,7 @@ impl Store {
 
     /// Moves the entry of a key to the front. `hint` is the hash of its
     /// name as a rule, which then is not hashed again.
+    #[inline(always)]
     pub(crate) fn promote(&mut self, hint: u64, key: KeyRef<'_>)
         ensures { self.new ≡ record self.old { entries = promoted (key_of key.entry) self.old.entries } }
     {

@@ -7,7 +7,7 @@ ghost use Rattle.rrc_share.specs.Switches.{HandsOut, IsSwitchDue, Starts, Stops,
 use crate::calls::{on_shelf_ask, on_shelf_checkpoint, on_shelf_offer, on_shelf_sweep};
 use crate::shelf::Shelf;
 use crate::state::ShelfState;
-use rrc_cache::{LeanPart, Part, Pick, Refusal};
+use rrc_cache::{LeanPart, Lookup, NameHash, Part, Pick, Refusal};
 use rrc_history::{Ask, AskRef, Chapter, Held, Offer, Outcome, Reply, ReplyRef, Tag};
 use rrc_name::KeyRef;
 use std::alloc::Global;
@@ -45,6 +45,8 @@ impl CacheShelf {
     ghost use Rattle.rrc_cache.specs.Ages.{StandsWithin};
     ghost use Rattle.rrc_cache.specs.Expiry.{HoldsNothing, HoldsSomething, IsAfterLastSweep, NoneFullyExpiresBefore};
     ghost use Rattle.rrc_cache.specs.Lean.{IsLeanDue, IsLeanOpen, IsPick};
+    ghost use Rattle.rrc_cache.specs.Lookups.{TellsAge, TellsEntry, TellsLookup, TellsNoAge};
+    ghost use Rattle.rrc_cache.specs.Seeds.{IsHashOf};
     ghost use Rattle.rrc_cache.specs.Sizes.{HoldsKeys, HoldsOctets};
     ghost use Rattle.rrc_history.specs.Views.{ask_in, held_in, reply_in};
     ghost use Rattle.rrc_name.specs.KeyRef.{key_of};
@@ -181,6 +183,22 @@ impl CacheShelf {
         }
     }
 
+    /// What `ask` would answer, lent, the entry that gives that reply, and how many touches came
+    /// after the entry's own last one (`LeanPart::lookup`). It takes no memory and touches nothing.
+    #[inline(always)]
+    pub fn lookup(&self, ask: AskRef<'_>, hash: NameHash) -> Lookup<'_>
+        requires hash { IsHashOf hash (ask_in ask).name }
+        ensures reply { reply_in result.reply ≡ reply_of self.now.shelf (ask_in ask.entry) }
+        ensures entry { TellsEntry self.now.shelf.part (ask_in ask.entry) result }
+        ensures ahead { TellsAge self.now.shelf.part result }
+        ensures miss { TellsNoAge result }
+    {
+        match &self.state {
+            ShelfState::Lean(part) => part.lookup(ask, hash),
+            ShelfState::Recorded(shelf) => shelf.part.lookup(ask, hash),
+        }
+    }
+
     /// Makes an offer: `on_shelf_offer` while it records, else `LeanPart::offer`.
     ///
     /// `HistoryFull` comes first, then `MomentTooLarge` (above 2^40 seconds), then `Memory`. After
@@ -225,23 +243,27 @@ impl CacheShelf {
         }
     }
 
-    /// The first half of `ask` while nothing is recorded (`LeanPart::judge`): the reply, as it is
-    /// kept, and the slot for `note_asked`. It takes no memory and touches nothing.
-    pub fn judge(&self, ask: AskRef<'_>) -> Result<(ReplyRef<'_>, Pick), Refusal>
-        requires { self.now.records ≡ false }
-        ensures reply { IfOk result (λ judged. reply_in judged.0 ≡ reply_of self.now.shelf (ask_in ask.entry)) }
+    /// The first half of `ask` while nothing is recorded (`LeanPart::judge`): what `lookup` tells,
+    /// with the reply as it is kept, and the slot for `note_asked`. It takes no memory and touches
+    /// nothing.
+    #[inline(always)]
+    pub fn judge(&self, ask: AskRef<'_>, hash: NameHash) -> Result<(Lookup<'_>, Pick), Refusal>
+        requires lean { self.now.records ≡ false }
+        requires hash { IsHashOf hash (ask_in ask).name }
+        ensures reply { IfOk result (λ judged. TellsLookup self.now.shelf.part (ask_in ask.entry) judged.0) }
         ensures pick { IfOk result (λ judged. IsPick self.now.shelf.part (ask_in ask.entry) judged.1) }
         ensures due { IsLeanDue self.now.shelf.part (ask_in ask.entry).moment result }
         ensures only { IfErr result IsOfMoments }
     {
         match &self.state {
-            ShelfState::Lean(part) => part.judge(ask),
+            ShelfState::Lean(part) => part.judge(ask, hash),
             ShelfState::Recorded(_) => unreachable!(),
         }
     }
 
     /// The second half of `ask` while nothing is recorded (`LeanPart::note_asked`), for an ask that
     /// `judge` answered just before, with its slot. It takes no memory and refuses nothing.
+    #[inline(always)]
     pub fn note_asked(&mut self, tag: Tag, ask: AskRef<'_>, pick: Pick)
         requires lean { self.old.records ≡ false }
         requires open { IsLeanOpen self.old.shelf.part (ask_in ask).moment }

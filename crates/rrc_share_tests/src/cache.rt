@@ -6,6 +6,7 @@ pub(crate) mod calls;
 mod chapters;
 mod classless;
 mod lean;
+mod lookups;
 mod owners;
 mod rechecks;
 mod restored;

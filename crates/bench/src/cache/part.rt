@@ -1,13 +1,16 @@
 // SPDX-License-Identifier: MIT
 // A part of the cache that records its history or not. A call that was refused answers `None`.
 
-use rrc_cache::{LeanPart, Part, ReplyRef};
+use rrc_cache::{LeanPart, NameHash, Part, ReplyRef};
 use rrc_history::{Ask, Offer, Outcome, Reply, Rules, Tag};
 use rrc_share::Recording;
 use std::alloc::Global;
 
 /// The tag of each event, which tells nothing here.
 pub const TAG: Tag = Tag { line: 0, place: 0 };
+
+/// The seed of a part that is given none.
+const SEED: [u8; 16] = [0; 16];
 
 #[derive(Drop)]
 pub enum CachePart {
@@ -17,9 +20,10 @@ pub enum CachePart {
 
 /// Asks a part that records nothing, in two halves, which take no memory.
 fn judge_and_note(part: &mut LeanPart, ask: &Ask) -> Option<bool> {
-    let (reply, pick) = part.judge(ask.as_ref()).ok()?;
-    let is_answer = !matches!(reply, ReplyRef::Miss { .. });
-    part.note_asked(TAG, ask.as_ref(), pick);
+    let asked = ask.as_ref();
+    let (lookup, pick) = part.judge(asked, NameHash::of(SEED, asked.name)).ok()?;
+    let is_answer = !matches!(lookup.reply, ReplyRef::Miss { .. });
+    part.note_asked(TAG, asked, pick);
     Some(is_answer)
 }
 

@@ -100,7 +100,7 @@ pub(crate) fn asked_in(alloc: Global, octets: &[u8]) -> Result<Event, LineFault>
     let (purpose, rest) = purpose_at(rest)?;
     let (mode, rest) = mode_at(rest)?;
     let name = name.folded()?;
-    let _ = name.len();
+    name.is_a_wire_form();
     let ask = Ask {
         name,
         class: kind.class,

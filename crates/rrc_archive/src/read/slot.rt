@@ -49,8 +49,7 @@ pub(crate) fn owner_at(alloc: Global, octets: &[u8]) -> Result<(Name, &[u8]), Li
 {
     let (field, rest) = field_at(octets)?;
     let name = name_in(alloc, field)?;
-    // The length is read for what it tells: the name is a wire form.
-    let _ = name.len();
+    name.is_a_wire_form();
     Ok((name, rest))
 }
 

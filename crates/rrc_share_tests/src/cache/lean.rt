@@ -1,6 +1,6 @@
 // SPDX-License-Identifier: MIT
 use super::{TAG, fresh, question, rules, set};
-use rrc_cache::{LeanPart, ReplyRef};
+use rrc_cache::{LeanPart, NameHash, ReplyRef};
 use rrc_history::Ask;
 use std::alloc::Global;
 use std::process::Abort;
@@ -22,9 +22,11 @@ fn left_of(reply: ReplyRef<'_>) -> Option<u32> {
 
 /// The same of an ask by two calls: the reply is read where it is kept, and then noted.
 fn ask_by_two(rt: &impl Abort, part: &mut LeanPart, ask: &Ask) -> Option<u32> {
-    let (reply, slot) = part.judge(ask.as_ref()).expect(rt, "no reply");
-    let left = left_of(reply);
-    part.note_asked(TAG, ask.as_ref(), slot);
+    let asked = ask.as_ref();
+    let hash = NameHash::of([0; 16], asked.name);
+    let (lookup, pick) = part.judge(asked, hash).expect(rt, "no reply");
+    let left = left_of(lookup.reply);
+    part.note_asked(TAG, asked, pick);
     left
 }
 

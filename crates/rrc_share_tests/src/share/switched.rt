@@ -2,11 +2,14 @@
 ghost use Rattle.std.specs.Prelude.{◌≡◌, false};
 
 use crate::cache::{TAG, failure, question, rules};
-use rrc_cache::{LeanPart, ReplyRef};
+use rrc_cache::{LeanPart, NameHash, ReplyRef};
 use rrc_history::{Ask, Chapter, audit, chain};
 use rrc_share::CacheShelf;
 use std::alloc::Global;
 use std::process::Abort;
+
+/// A seed that no shelf is under.
+const SEED: [u8; 16] = [9; 16];
 
 /// A shelf that kept a failure, by rules for chapters of one event, of which nothing is recorded.
 fn kept(rt: &impl Abort, alloc: Global) -> CacheShelf
@@ -31,10 +34,18 @@ fn retry_from(reply: ReplyRef<'_>) -> Option<u64> {
 fn ask_by_two(rt: &impl Abort, shelf: &mut CacheShelf, ask: &Ask) -> Option<u64>
     requires { shelf.old.records ≡ false }
 {
-    let (reply, slot) = shelf.judge(ask.as_ref()).expect(rt, "no reply");
-    let told = retry_from(reply);
-    shelf.note_asked(TAG, ask.as_ref(), slot);
+    let asked = ask.as_ref();
+    let hash = NameHash::of(SEED, asked.name);
+    let (lookup, pick) = shelf.judge(asked, hash).expect(rt, "no reply");
+    let told = retry_from(lookup.reply);
+    shelf.note_asked(TAG, asked, pick);
     told
+}
+
+/// The same of an ask that is looked up alone.
+fn look_up(shelf: &CacheShelf, ask: &Ask) -> Option<u64> {
+    let asked = ask.as_ref();
+    retry_from(shelf.lookup(asked, NameHash::of(SEED, asked.name)).reply)
 }
 
 /// The chapters that are recorded of an ask and a sweep.
@@ -51,6 +62,15 @@ pub(crate) fn audited(rt: &impl Abort, chapters: Vec<Chapter>) -> (usize, usize,
     let events = whole.events.as_slice();
     let is_right = audit(&whole.snapshot, events).is_ok();
     (whole.snapshot.entries.len(), events.len(), is_right)
+}
+
+#[test]
+fn a_shelf_looks_up_the_same_whether_it_records_or_not(rt: HostRuntime) {
+    let ask = question(&rt, rt.alloc(), "a.example.");
+    let shelf = kept(&rt, rt.alloc());
+    let lean = look_up(&shelf, &ask);
+    let shelf = shelf.start_recording().expect(&rt, "no record");
+    assert!(rt; (lean, look_up(&shelf, &ask)) == (Some(40), Some(40)));
 }
 
 #[test]

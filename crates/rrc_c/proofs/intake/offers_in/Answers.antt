@@ -10,7 +10,7 @@ returns-clause-offers c =
       zone_is = c.in_ok-zone.ensures.wire_form;
       limits = limits;
       are_limits = c.in_ok-limits.ensures.limits;
-      brought = subst (λ zone. Brings limits c.args.octets.now zone c.args.moment made) c.in_ok-zone.ensures.name c.in_ok-made.ensures.offers;
+      brought = subst (λ zone. Brings limits c.args.octets.now zone c.args.terms.now.moment made) c.in_ok-zone.ensures.name c.in_ok-made.ensures.offers;
     }
 
 pub returns-clause-moments : goal.returns-clause-moments

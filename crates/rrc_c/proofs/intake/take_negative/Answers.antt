@@ -7,5 +7,5 @@ use Rattle.rrc_c.proofs.intake.take_negative.Goals as goal
 pub returns-in_err-offer-clause-due : goal.returns-in_err-offer-clause-due
 returns-in_err-offer-clause-due c =
     refused_told c.from_residual.result c.in_err-offer.field-0.0
-    (DenialDue c.args.name.now c.args.rtype c.args.class c.args.denial c.args.trust c.args.ttl c.args.soa_owner.now c.args.soa.now c.args.moment c.args.shelf.now) c.from_residual.ensures.1
+    (DenialDue c.args.name.now c.args.negative.now c.args.soa_owner.now c.args.soa.now c.args.shelf.now) c.from_residual.ensures.1
     (inl c.in_err-offer.ensures.refused)

@@ -5,4 +5,4 @@ use Rattle.rrc_c.specs.Readings.{placed_in}
 use Rattle.rrc_c.proofs.message.placed_in.Given as goal
 
 abbrev pub invariant-loop-offer : goal.invariant-loop-offer
-invariant-loop-offer l = l.placed.items ≡ map (placed_in l.parts l.seed) l.yielded
+invariant-loop-offer l = l.placed.items ≡ map (placed_in l.division) l.yielded

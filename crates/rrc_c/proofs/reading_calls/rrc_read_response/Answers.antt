@@ -1,11 +1,10 @@
 -- SPDX-License-Identifier: MIT
 use Rattle.std.proofs.Common.{rules, ◌≡◌, None, sym, subst, inr}
-use Rattle.rrc_c.specs.Responses.{query_of, ResponseDue, ResponseRefused}
+use Rattle.rrc_c.specs.Responses.{ResponseDue, ResponseRefused}
 use Rattle.rrc_c.proofs.reading_calls.rrc_read_response.Goals as goal
 
 pub returns-in-Err-clause-due : goal.returns-in-Err-clause-due
 returns-in-Err-clause-due c =
-    let query = query_of c.args.id c.args.name.now c.args.rtype c.args.class in
     let none : c.args.offers.now.seal.reading ≡ None = search rules in
-    let refused = subst (ResponseRefused c.args.octets.now c.args.zone.now c.args.name.now c.args.parts c.args.seed.now c.args.bounds.now) (sym c.number.ensures.value) c.in-Err.ensures.refused in
-    subst (λ reading. ResponseDue c.args.octets.now c.args.zone.now query c.args.parts c.args.seed.now c.args.bounds.now reading c.number.result) (sym none) (inr (inr refused))
+    let refused = subst (ResponseRefused c.args.octets.now c.args.zone.now c.args.name.now c.args.terms.now) (sym c.number.ensures.value) c.in-Err.ensures.refused in
+    subst (λ reading. ResponseDue c.args.octets.now c.args.zone.now c.args.name.now c.args.terms.now reading c.number.result) (sym none) (inr (inr refused))

@@ -12,17 +12,17 @@ use Rattle.rrc_cache.proofs.answer.answer.Goals as goal
 
 pub kept_ask-requires : goal.kept_ask-requires
 kept_ask-requires c =
-    let P : AskOf → Type 0 = λ ask. IfSome (option_map held_in c.judge.result.1) (HasName ask.name) in
+    let P : AskOf → Type 0 = λ ask. IfSome (option_map held_in c.judge-lookup.result.entry) (HasName ask.name) in
     subst P c.as_ref.ensures
-    (answering-named c.args.store.now.entries (ask_in c.as_ref.result) (reply_in c.judge.result.0) (option_map held_in c.judge.result.1) c.judge.ensures.answering)
+    (answering-named c.args.store.now.entries (ask_in c.as_ref.result) (reply_in c.judge-lookup.result.reply) (option_map held_in c.judge-lookup.result.entry) c.judge-lookup.ensures.answering)
 
 pub returns-clause-answered : goal.returns-clause-answered
 returns-clause-answered c =
     let asked : AskOf = ask_in c.as_ref.result in
     let P : AskOf → Type 0 = λ ask. IsAnswered c.args.stale ask c.args.store.now.entries c.in_ok-to_owned.field-0 c.slot_of.result in
-    let reply : c.in_ok-to_owned.field-0 ≡ reply_in c.judge.result.0 = c.in_ok-to_owned.ensures in
-    let gave : option_map held_in c.judge.result.1 ≡ answering (found_among c.args.store.now.entries asked) asked c.in_ok-to_owned.field-0 =
-    rw reply (c.judge.ensures.answering) in
+    let reply : c.in_ok-to_owned.field-0 ≡ reply_in c.judge-lookup.result.reply = c.in_ok-to_owned.ensures in
+    let gave : option_map held_in c.judge-lookup.result.entry ≡ answering (found_among c.args.store.now.entries asked) asked c.in_ok-to_owned.field-0 =
+    rw reply (c.judge-lookup.ensures.answering) in
     subst P c.as_ref.ensures
-    (answered_at c.args.stale asked c.args.store.now.entries c.in_ok-to_owned.field-0 (option_map held_in c.judge.result.1) c.slot_of.result (reply ∙ c.judge.ensures.reply) gave
+    (answered_at c.args.stale asked c.args.store.now.entries c.in_ok-to_owned.field-0 (option_map held_in c.judge-lookup.result.entry) c.slot_of.result (reply ∙ c.judge-lookup.ensures.reply) gave
     c.slot_of.ensures)

@@ -1,5 +1,5 @@
 -- SPDX-License-Identifier: MIT
-use Rattle.std.proofs.Common.{◌≡◌, ℕ, ◌<◌, Bool, sym, ap, subst, ◌∙◌}
+use Rattle.std.proofs.Common.{Bool, sym, ap, subst, ◌∙◌}
 use Rattle.std.specs.Map.{lookup, remove_entry}
 use Rattle.std.specs.Option.{option_map}
 use Rattle.lru.specs.LruCache.{LruCache, lru_cache}

@@ -1,5 +1,5 @@
 -- SPDX-License-Identifier: MIT
-use Rattle.std.proofs.Common.{◌≡◌, ℕ, ◌+◌, ◌<◌, ◌≤◌, Bool, Option, Some, None, refl, sym, ap, subst, ◌∙◌, arith}
+use Rattle.std.proofs.Common.{◌≡◌, Bool, Some, None, refl, sym, ap, ◌∙◌, arith}
 use Rattle.std.specs.Prelude.{is_some}
 use Rattle.std.specs.Map.{lookup}
 use Rattle.std.specs.Option.{option_copied_mut, option_map}
@@ -7,7 +7,7 @@ use Rattle.lru.specs.LruCache.{LruCache, lru_cache, promoted}
 use Rattle.rrc_history.specs.declared.snapshot.Entry.{Entry}
 use Rattle.rrc_cache.specs.declared.clocked.Stamped.{Stamped}
 use Rattle.rrc_cache.specs.declared.hashed.HashedKey.{HashedKey}
-use Rattle.rrc_cache.specs.Clocked.{FallBelow, unstamped}
+use Rattle.rrc_cache.specs.Clocked.{FallBelow}
 use Rattle.rrc_cache.specs.Keyed.{hashed_eq, hashed_of}
 use Rattle.rrc_cache.proofs.Clocking.{bare_unmoved, lookup_bare, restamped, restamped_bare, restamped_falls, ticks}
 use Rattle.rrc_cache.proofs.clocked.Clocked.promote.Goals as goal

@@ -1,15 +1,14 @@
 -- SPDX-License-Identifier: MIT
-use Rattle.std.proofs.Common.{◌≡◌, ℕ, ◌<◌, Bool, Some, None, Result, Ok, Err, IsSome, OnErr, false, true, refl, sym, ap, subst, ◌∙◌}
+use Rattle.std.proofs.Common.{◌≡◌, Bool, Some, None, Result, Ok, Err, IsSome, OnErr, false, true, refl, sym, ap, subst, ◌∙◌}
 use Rattle.std.specs.Prelude.{IfSome}
 use Rattle.std.specs.Map.{lookup, set_value}
 use Rattle.std.specs.Option.{option_copied_mut, option_map}
 use Rattle.lru.specs.LruCache.{LruCache, lru_cache}
 use Rattle.rrc_history.specs.declared.snapshot.Entry.{Entry}
-use Rattle.rrc_history.specs.Past.{entry_of}
 use Rattle.rrc_cache.specs.declared.clocked.Clocked.TheInside.{Inside}
 use Rattle.rrc_cache.specs.declared.clocked.Stamped.{Stamped}
 use Rattle.rrc_cache.specs.declared.hashed.HashedKey.{HashedKey}
-use Rattle.rrc_cache.specs.Clocked.{FallBelow, IsClocked, unstamped_map}
+use Rattle.rrc_cache.specs.Clocked.{IsClocked, unstamped_map}
 use Rattle.rrc_cache.specs.Keyed.{hashed_eq, hashed_of}
 use Rattle.rrc_cache.proofs.Clocking.{lookup_bare, set_bare, set_falls, set_same}
 use Rattle.rrc_cache.proofs.clocked.Clocked.write.Goals.{in-Some+in_ok-write_entry, in_default}

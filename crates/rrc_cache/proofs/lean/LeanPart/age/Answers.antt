@@ -1,28 +1,24 @@
 -- SPDX-License-Identifier: MIT
-use Rattle.std.proofs.Common.{◌≡◌, ◌≤◌, List, Option, ap, sym, subst, ◌∙◌}
+use Rattle.std.proofs.Common.{◌≡◌, ◌≤◌, true, Option, Some, None, sym, subst, ◌∙◌}
 use Rattle.std.specs.Prelude.{is_some, IfSome}
-use Rattle.std.proofs.lemmas.Option.{IfSome_then}
 use Rattle.rrc_name.specs.Key.{KeyOf}
 use Rattle.rrc_name.specs.KeyRef.{key_of}
-use Rattle.rrc_history.specs.declared.snapshot.Entry.{Entry}
-use Rattle.rrc_history.specs.Past.{AreContents, entry_at, held}
-use Rattle.rrc_history.specs.lemmas.OneHistory.{one_contents}
+use Rattle.rrc_history.specs.declared.judge.Held.{Held}
 use Rattle.rrc_cache.specs.Ages.{StandsWithin, ahead_of}
-use Rattle.rrc_cache.specs.Part.{PartOf, past_of}
+use Rattle.rrc_cache.specs.Part.{PartOf}
+use Rattle.rrc_cache.proofs.LeanKeeping.{stands_within}
 use Rattle.rrc_cache.proofs.lean.LeanPart.age.Goals as goal
 
-pub returns-clause-held : goal.returns-clause-held
-returns-clause-held c =
-    let key : KeyOf = key_of c.args.key in
-    c.age.ensures.held
-    ∙ ap is_some (c.self.invariant.leaves.contents.agree key ∙ ap (λ (part : PartOf). held part.snapshot (past_of part) key) c.self.view_is)
+-- what holds where something is lent
+where_lent : (P : Type 0) (lent : Option Held) → IfSome lent (λ _. P) → is_some lent ≡ true → P
+where_lent P None holds is = absurd cc
+where_lent P (Some held) holds is = holds
 
-pub returns-clause-ahead : goal.returns-clause-ahead
-returns-clause-ahead c =
+pub returns-then-is_some-clause-ahead : goal.returns-then-is_some-clause-ahead
+returns-then-is_some-clause-ahead c =
     let key : KeyOf = key_of c.args.key in
-    let entries : List Entry = c.self.inside.store.entries in
-    let P : PartOf → Type 0 = λ part. AreContents part.snapshot (past_of part) entries in
-    let held : P c.args.self.now = subst P c.self.view_is c.self.invariant.leaves.contents in
-    IfSome_then c.age.result c.age.ensures.ahead
-    (λ age few contents are.
-    subst (λ (es : List Entry). ahead_of key es ≤ age) (one_contents c.args.self.now.snapshot (past_of c.args.self.now) entries contents held are) few)
+    let few : ahead_of key c.self.inside.store.entries ≤ c.get-aged.result.age =
+    where_lent (ahead_of key c.self.inside.store.entries ≤ c.get-aged.result.age) c.get-aged.result.held c.get-aged.ensures.ahead (sym c.is_some.ensures ∙ c.if-is_some.true) in
+    let P : PartOf → Type 0 = λ part. StandsWithin part key c.get-aged.result.age in
+    subst P c.self.view_is
+    (stands_within c.self.inside.history.part c.self.inside.store.entries key c.get-aged.result.age c.self.invariant.leaves.contents few)

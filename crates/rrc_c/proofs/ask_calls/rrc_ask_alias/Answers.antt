@@ -1,0 +1,12 @@
+-- SPDX-License-Identifier: MIT
+use Rattle.std.proofs.Common.{length}
+use Rattle.rrc_c.specs.Refusals.{AskAliasDue}
+use Rattle.rrc_c.specs.Statuses.{number_of_reply}
+use Rattle.rrc_c.proofs.Refusing.{told_of_held}
+use Rattle.rrc_c.proofs.ask_calls.rrc_ask_alias.Goals as goal
+
+pub returns-clause-due : goal.returns-clause-due
+returns-clause-due c =
+    told_of_held c.args.handle.now.held.seal.shelf c.in-Some.shelf.now c.number_of_reply.result (number_of_reply c.ask_shelf_alias-fits.result)
+    (AskAliasDue c.args.name.now c.args.question.now c.args.handle.now.seed (length c.args.buffer.now)) c.in-Some.ensures.value c.number_of_reply.ensures.value
+    c.ask_shelf_alias-fits.ensures.due

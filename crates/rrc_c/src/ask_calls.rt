@@ -1,0 +1,175 @@
+// SPDX-License-Identifier: MIT
+ghost use Rattle.std.specs.Prelude.{◌≡◌, None, OnErr, length};
+ghost use Rattle.rrc_c.specs.Statuses.{number_of_reply, OnDone, OnRefused, OnSmall, OnUntold};
+ghost use Rattle.rrc_c.specs.Handles.{BothHold, IsKept, TellsNone};
+ghost use Rattle.rrc_c.specs.Aliases.{ask_or_alias};
+ghost use Rattle.rrc_c.specs.Asks.{asked, Answers, Shows, TellsSizeAlone};
+ghost use Rattle.rrc_c.specs.Refusals.{AskAliasDue, AskDue, IfHeld, IsQuestion, PeekAliasDue, PeekDue, StoredDue};
+ghost use Rattle.rrc_c.specs.Stored.{TellsStored};
+
+use crate::asking::{ask_shelf, ask_shelf_alias, peek_at_alias, peek_at_shelf};
+use crate::folded_name::FoldedName;
+use crate::look::ShelfLook;
+use crate::lookup::stored_in;
+use crate::reply_record::ReplyRecord;
+use crate::shelf_handle::ShelfHandle;
+use crate::status::{NO_SHELF, SMALL_BUFFER, Status};
+use crate::stored::Stored;
+use crate::terms::Question;
+use std::alloc::Global;
+
+/// What C is told of a call that tells a reply.
+fn number_of_reply(fits: Result<bool, Status>) -> u32
+    ensures value { result ≡ number_of_reply fits }
+    ensures shelf { result ≡ 1 → ⊥ }
+{
+    match fits {
+        Ok(true) => 0,
+        Ok(false) => SMALL_BUFFER,
+        Err(status) => status.number(),
+    }
+}
+
+/// Asks a shelf, which is one event.
+#[unsafe(no_mangle)]
+pub extern "C" fn rrc_ask(
+    alloc: Global,
+    handle: &mut ShelfHandle,
+    name: &FoldedName,
+    question: &Question,
+    told: &mut ReplyRecord,
+    buffer: &mut [u8],
+) -> u32
+    ensures none { TellsNone handle.old.held.seal.shelf result }
+    ensures done { OnDone result (BothHold handle.old.held.seal.shelf handle.new.held.seal.shelf (λ old new. Answers (asked name.now question.now) question.now.line told.new buffer.old buffer.new old new)) }
+    ensures small { OnSmall result (BothHold handle.old.held.seal.shelf handle.new.held.seal.shelf (λ old new. TellsSizeAlone (asked name.now question.now) told.new buffer.old buffer.new old new)) }
+    ensures refused { OnRefused result (IsKept handle.old.held.seal.shelf handle.new.held.seal.shelf) }
+    ensures buffer { OnRefused result (buffer.new ≡ buffer.old) }
+    ensures told { OnUntold result (told.new ≡ told.old) }
+    ensures seed { handle.new.seed ≡ handle.old.seed }
+    ensures fit { OnDone result (IsQuestion name.now question.now handle.old.seed) }
+    ensures due { IfHeld handle.old.held.seal.shelf (λ shelf. AskDue name.now question.now handle.old.seed (length buffer.old) shelf result) }
+{
+    let seed = handle.seed;
+    let Some(shelf) = handle.held.get_mut() else {
+        return NO_SHELF;
+    };
+    let fits = ask_shelf(alloc, shelf, &seed, name, question, told, buffer);
+    number_of_reply(fits)
+}
+
+/// Asks a shelf as `rrc_ask` does, but that the name's CNAME record may be told in place of data of
+/// the type.
+#[unsafe(no_mangle)]
+pub extern "C" fn rrc_ask_alias(
+    alloc: Global,
+    handle: &mut ShelfHandle,
+    name: &FoldedName,
+    question: &Question,
+    told: &mut ReplyRecord,
+    buffer: &mut [u8],
+) -> u32
+    ensures none { TellsNone handle.old.held.seal.shelf result }
+    ensures done { OnDone result (BothHold handle.old.held.seal.shelf handle.new.held.seal.shelf (λ old new. Answers (ask_or_alias old (asked name.now question.now)) question.now.line told.new buffer.old buffer.new old new)) }
+    ensures small { OnSmall result (BothHold handle.old.held.seal.shelf handle.new.held.seal.shelf (λ old new. TellsSizeAlone (ask_or_alias old (asked name.now question.now)) told.new buffer.old buffer.new old new)) }
+    ensures refused { OnRefused result (IsKept handle.old.held.seal.shelf handle.new.held.seal.shelf) }
+    ensures buffer { OnRefused result (buffer.new ≡ buffer.old) }
+    ensures told { OnUntold result (told.new ≡ told.old) }
+    ensures seed { handle.new.seed ≡ handle.old.seed }
+    ensures fit { OnDone result (IsQuestion name.now question.now handle.old.seed) }
+    ensures due { IfHeld handle.old.held.seal.shelf (λ shelf. AskAliasDue name.now question.now handle.old.seed (length buffer.old) shelf result) }
+{
+    let seed = handle.seed;
+    let Some(shelf) = handle.held.get_mut() else {
+        return NO_SHELF;
+    };
+    let fits = ask_shelf_alias(alloc, shelf, &seed, name, question, told, buffer);
+    number_of_reply(fits)
+}
+
+/// Tells what a shelf would answer, and writes no event.
+#[unsafe(no_mangle)]
+pub extern "C" fn rrc_peek(
+    look: &mut ShelfLook,
+    name: &FoldedName,
+    question: &Question,
+    told: &mut ReplyRecord,
+    buffer: &mut [u8],
+) -> u32
+    ensures kept { look.new.look.sight.shelf ≡ look.old.look.sight.shelf }
+    ensures life { look.new.look.sight.life ≡ look.old.look.sight.life }
+    ensures none { TellsNone look.old.look.sight.shelf result }
+    ensures done { OnDone result (BothHold look.old.look.sight.shelf look.new.look.sight.shelf (λ old new. Shows (asked name.now question.now) told.new buffer.old buffer.new old new)) }
+    ensures small { OnSmall result (BothHold look.old.look.sight.shelf look.new.look.sight.shelf (λ old new. TellsSizeAlone (asked name.now question.now) told.new buffer.old buffer.new old new)) }
+    ensures buffer { OnRefused result (buffer.new ≡ buffer.old) }
+    ensures told { OnUntold result (told.new ≡ told.old) }
+    ensures fit { OnDone result (IsQuestion name.now question.now look.old.seed) }
+    ensures due { IfHeld look.old.look.sight.shelf (λ shelf. PeekDue name.now question.now look.old.seed (length buffer.old) shelf result) }
+{
+    let seed = look.seed;
+    let Some(glance) = look.look.take() else {
+        return NO_SHELF;
+    };
+    let fits = peek_at_shelf(glance.get(), &seed, name, question, told, buffer);
+    look.look.put(glance);
+    number_of_reply(fits)
+}
+
+/// Tells what `rrc_ask_alias` would answer, and writes no event.
+#[unsafe(no_mangle)]
+pub extern "C" fn rrc_peek_alias(
+    look: &mut ShelfLook,
+    name: &FoldedName,
+    question: &Question,
+    told: &mut ReplyRecord,
+    buffer: &mut [u8],
+) -> u32
+    ensures kept { look.new.look.sight.shelf ≡ look.old.look.sight.shelf }
+    ensures life { look.new.look.sight.life ≡ look.old.look.sight.life }
+    ensures none { TellsNone look.old.look.sight.shelf result }
+    ensures done { OnDone result (BothHold look.old.look.sight.shelf look.new.look.sight.shelf (λ old new. Shows (ask_or_alias old (asked name.now question.now)) told.new buffer.old buffer.new old new)) }
+    ensures small { OnSmall result (BothHold look.old.look.sight.shelf look.new.look.sight.shelf (λ old new. TellsSizeAlone (ask_or_alias old (asked name.now question.now)) told.new buffer.old buffer.new old new)) }
+    ensures buffer { OnRefused result (buffer.new ≡ buffer.old) }
+    ensures told { OnUntold result (told.new ≡ told.old) }
+    ensures fit { OnDone result (IsQuestion name.now question.now look.old.seed) }
+    ensures due { IfHeld look.old.look.sight.shelf (λ shelf. PeekAliasDue name.now question.now look.old.seed (length buffer.old) shelf result) }
+{
+    let seed = look.seed;
+    let Some(glance) = look.look.take() else {
+        return NO_SHELF;
+    };
+    let fits = peek_at_alias(glance.get(), &seed, name, question, told, buffer);
+    look.look.put(glance);
+    number_of_reply(fits)
+}
+
+/// Tells what a shelf holds of a name and a class for a type: data or that there are none, that the
+/// name does not exist, that asking failed. Of the question the type and the class are read.
+#[unsafe(no_mangle)]
+pub extern "C" fn rrc_stored(
+    look: &mut ShelfLook,
+    name: &FoldedName,
+    question: &Question,
+    stored: &mut Stored,
+) -> u32
+    ensures kept { look.new.look.sight.shelf ≡ look.old.look.sight.shelf }
+    ensures life { look.new.look.sight.life ≡ look.old.look.sight.life }
+    ensures none { TellsNone look.old.look.sight.shelf result }
+    ensures done { OnDone result (BothHold look.old.look.sight.shelf look.new.look.sight.shelf (TellsStored name.now question.now stored.new)) }
+    ensures stored { OnRefused result (stored.new ≡ stored.old) }
+    ensures due { IfHeld look.old.look.sight.shelf (λ shelf. StoredDue name.now question.now look.old.seed result) }
+{
+    let seed = look.seed;
+    let Some(glance) = look.look.take() else {
+        return NO_SHELF;
+    };
+    let told = stored_in(glance.get(), &seed, name, question);
+    look.look.put(glance);
+    match told {
+        Ok(told) => {
+            *stored = told;
+            0
+        }
+        Err(status) => status.number(),
+    }
+}

@@ -1,0 +1,141 @@
+// SPDX-License-Identifier: MIT
+ghost use Rattle.std.specs.Prelude.{◌≡◌, ◌⊎◌, true, IfOk, OnErr};
+ghost use Rattle.rrc_c.specs.Statuses.{number_of_call, OnDone, OnNoShelf, OnRefused};
+ghost use Rattle.rrc_c.specs.Handles.{BothHold, HoldsNone, IsKept, TellsNone};
+ghost use Rattle.rrc_c.specs.Intake.{denial_offer, failure_offer, TakesMessage, TakesOne, TakesSet, TakesSome};
+ghost use Rattle.rrc_c.specs.PartIntake.{IsPart, TakesPart, TakesSomeOfPart};
+ghost use Rattle.rrc_c.specs.Refusals.{DenialDue, FailureDue, IfHeld, IsDenial, IsFailure, IsSet, SetDue, is_seed};
+
+use crate::counts::Counts;
+use crate::intake::{offer_message, offer_part, take_failure, take_negative, take_set};
+use crate::numbers::{number_of_call, number_of_u32};
+use crate::shelf_handle::ShelfHandle;
+use crate::status::NO_SHELF;
+use crate::terms::{FailureTerms, NegativeTerms, ResponseTerms, SetTerms};
+use std::alloc::Global;
+
+/// Offers all that a message offers, which it compares with no query, each offer as one event.
+#[unsafe(no_mangle)]
+pub extern "C" fn rrc_offer_message_unchecked(
+    alloc: Global,
+    handle: &mut ShelfHandle,
+    octets: &[u8],
+    zone: &[u8],
+    terms: &ResponseTerms,
+    counts: &mut Counts,
+) -> u32
+    ensures none { TellsNone handle.old.held.seal.shelf result }
+    ensures done { OnDone result (BothHold handle.old.held.seal.shelf handle.new.held.seal.shelf (TakesMessage octets.now zone.now terms.now counts.new)) }
+    ensures refused { OnRefused result (HoldsNone handle.old.held.seal.shelf handle.new.held.seal.shelf ⊎ BothHold handle.old.held.seal.shelf handle.new.held.seal.shelf (TakesSome result octets.now zone.now terms.now counts.new)) }
+    ensures counts { OnNoShelf result (counts.new ≡ counts.old) }
+    ensures seed { handle.new.seed ≡ handle.old.seed }
+{
+    let Some(shelf) = handle.held.get_mut() else {
+        return NO_SHELF;
+    };
+    let done = offer_message(alloc, shelf, octets, zone, terms, counts);
+    number_of_call(done)
+}
+
+/// Offers what a message offers of the names that lie in the part of the terms, each offer as one
+/// event. It compares the message with no query.
+#[unsafe(no_mangle)]
+pub extern "C" fn rrc_offer_part_unchecked(
+    alloc: Global,
+    handle: &mut ShelfHandle,
+    octets: &[u8],
+    zone: &[u8],
+    terms: &ResponseTerms,
+    counts: &mut Counts,
+) -> u32
+    ensures none { TellsNone handle.old.held.seal.shelf result }
+    ensures done { OnDone result (BothHold handle.old.held.seal.shelf handle.new.held.seal.shelf (TakesPart octets.now zone.now terms.now counts.new)) }
+    ensures part { OnDone result (IsPart terms.now.parts.count terms.now.part) }
+    ensures divided { OnDone result (is_seed terms.now.parts.seed ≡ true) }
+    ensures seeded { OnDone result (terms.now.parts.seed ≡ handle.old.seed) }
+    ensures refused { OnRefused result (HoldsNone handle.old.held.seal.shelf handle.new.held.seal.shelf ⊎ BothHold handle.old.held.seal.shelf handle.new.held.seal.shelf (TakesSomeOfPart result octets.now zone.now terms.now handle.old.seed counts.new)) }
+    ensures counts { OnNoShelf result (counts.new ≡ counts.old) }
+    ensures seed { handle.new.seed ≡ handle.old.seed }
+{
+    let seed = handle.seed;
+    let Some(shelf) = handle.held.get_mut() else {
+        return NO_SHELF;
+    };
+    let done = offer_part(alloc, shelf, octets, zone, terms, &seed, counts);
+    number_of_call(done)
+}
+
+/// Offers one set, which is one event.
+#[unsafe(no_mangle)]
+pub extern "C" fn rrc_offer_set(
+    alloc: Global,
+    handle: &mut ShelfHandle,
+    owner: &[u8],
+    set: &SetTerms,
+    octets: &[u8],
+    outcome: &mut u32,
+) -> u32
+    ensures none { TellsNone handle.old.held.seal.shelf result }
+    ensures done { OnDone result (BothHold handle.old.held.seal.shelf handle.new.held.seal.shelf (TakesSet owner.now set.now octets.now outcome.new)) }
+    ensures refused { OnRefused result (IsKept handle.old.held.seal.shelf handle.new.held.seal.shelf) }
+    ensures outcome { OnRefused result (outcome.new ≡ outcome.old) }
+    ensures seed { handle.new.seed ≡ handle.old.seed }
+    ensures fit { OnDone result (IsSet owner.now set.now octets.now) }
+    ensures due { IfHeld handle.old.held.seal.shelf (λ shelf. SetDue owner.now set.now octets.now shelf result) }
+{
+    let Some(shelf) = handle.held.get_mut() else {
+        return NO_SHELF;
+    };
+    let done = take_set(alloc, shelf, owner, set, octets);
+    number_of_u32(done, outcome)
+}
+
+/// Offers a negative answer, which is one event.
+#[unsafe(no_mangle)]
+pub extern "C" fn rrc_offer_negative(
+    alloc: Global,
+    handle: &mut ShelfHandle,
+    name: &[u8],
+    negative: &NegativeTerms,
+    soa_owner: &[u8],
+    soa: &[u8],
+    outcome: &mut u32,
+) -> u32
+    ensures none { TellsNone handle.old.held.seal.shelf result }
+    ensures done { OnDone result (BothHold handle.old.held.seal.shelf handle.new.held.seal.shelf (TakesOne negative.now.line (denial_offer name.now negative.now soa_owner.now soa.now) outcome.new)) }
+    ensures refused { OnRefused result (IsKept handle.old.held.seal.shelf handle.new.held.seal.shelf) }
+    ensures outcome { OnRefused result (outcome.new ≡ outcome.old) }
+    ensures seed { handle.new.seed ≡ handle.old.seed }
+    ensures fit { OnDone result (IsDenial name.now negative.now soa_owner.now soa.now) }
+    ensures due { IfHeld handle.old.held.seal.shelf (λ shelf. DenialDue name.now negative.now soa_owner.now soa.now shelf result) }
+{
+    let Some(shelf) = handle.held.get_mut() else {
+        return NO_SHELF;
+    };
+    let done = take_negative(alloc, shelf, name, negative, soa_owner, soa);
+    number_of_u32(done, outcome)
+}
+
+/// Offers that asking failed, which is one event.
+#[unsafe(no_mangle)]
+pub extern "C" fn rrc_offer_failure(
+    alloc: Global,
+    handle: &mut ShelfHandle,
+    name: &[u8],
+    failure: &FailureTerms,
+    outcome: &mut u32,
+) -> u32
+    ensures none { TellsNone handle.old.held.seal.shelf result }
+    ensures done { OnDone result (BothHold handle.old.held.seal.shelf handle.new.held.seal.shelf (TakesOne failure.now.line (failure_offer name.now failure.now) outcome.new)) }
+    ensures refused { OnRefused result (IsKept handle.old.held.seal.shelf handle.new.held.seal.shelf) }
+    ensures outcome { OnRefused result (outcome.new ≡ outcome.old) }
+    ensures seed { handle.new.seed ≡ handle.old.seed }
+    ensures fit { OnDone result (IsFailure name.now failure.now) }
+    ensures due { IfHeld handle.old.held.seal.shelf (λ shelf. FailureDue name.now failure.now shelf result) }
+{
+    let Some(shelf) = handle.held.get_mut() else {
+        return NO_SHELF;
+    };
+    let done = take_failure(alloc, shelf, name, failure);
+    number_of_u32(done, outcome)
+}

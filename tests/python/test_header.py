@@ -1,0 +1,148 @@
+# SPDX-License-Identifier: MIT
+"""What the package says of the library for C, compared with include/rrcache.h: its enumerations,
+structs, calls, numbers and words."""
+import re
+import shutil
+import subprocess
+from ctypes import (POINTER, Array, Structure, c_bool, c_char_p, c_size_t, c_uint8, c_uint16,
+                    c_uint32, c_uint64, c_void_p, sizeof)
+from itertools import count
+
+import pytest
+
+import rrcache
+from rrcache import library, refusals, structs
+from tests.forwarder.harness import BUILD
+
+INCLUDE = BUILD.parent / "include"
+HEADER = re.sub(r"/\*.*?\*/", " ", (INCLUDE / "rrcache.h").read_text(), flags=re.S)
+# The classes of the package that are enumerations of the header.
+ENUMS = {"status": rrcache.Status, "kind": rrcache.Kind, "class": rrcache.Class,
+         "purpose": rrcache.Purpose, "mode": rrcache.Mode, "trust": rrcache.Trust,
+         "outcome": rrcache.Outcome, "message_fault": rrcache.MessageFault}
+# Those that are read by the header's inline functions alone, of which the package has none.
+INLINE = {f"rrcache_{it}" for it in ("query", "response", "set", "negative", "failure")}
+TOLD_INLINE = {rrcache.Status.NULL, rrcache.Status.SINK, rrcache.Status.OVERLAP}
+TYPES = {"void *": c_void_p, "bool": c_bool, "uint8_t": c_uint8, "uint16_t": c_uint16,
+         "uint32_t": c_uint32, "uint64_t": c_uint64, "size_t": c_size_t, "uint8_t *": c_char_p,
+         "uint32_t *": POINTER(c_uint32), "uint64_t *": POINTER(c_uint64)}
+
+
+def c_name(name):
+    """The name in C of a struct of the package."""
+    if name.endswith("Terms"):
+        return f"rrc_{name.removesuffix('Terms').lower()}"
+    return "rrcache" + re.sub(r"[A-Z]", lambda it: f"_{it[0].lower()}", name)
+
+
+STRUCTS = {c_name(name): it for name, it in vars(structs).items()
+           if isinstance(it, type) and issubclass(it, Structure) and it is not Structure}
+
+
+def type_of(text):
+    """The type of a field or an argument, as ctypes has it."""
+    text = text.replace("const ", "").strip()
+    if not text.startswith("struct "):
+        return TYPES[text]
+    name, pointer = re.fullmatch(r"struct (\w+)( \*)?", text).groups()
+    return POINTER(STRUCTS[name]) if pointer else STRUCTS[name]
+
+
+def enums():
+    """The enumerations of the header: their numbers by name."""
+    found = re.findall(r"enum rrcache_(\w+) \{(.*?)\};", HEADER, re.S)
+    return {name: {word: int(number) for word, number in
+                   re.findall(r"RRCACHE_(\w+) = (\d+)", text)} for name, text in found}
+
+
+def fields_of(text):
+    """The fields of a struct in C."""
+    for kind, name, size in re.findall(r"((?:struct )?\w+(?: \*|\s))\s*(\w+)(?:\[(\d+)\])?;", text):
+        yield name, type_of(kind) * int(size) if size else type_of(kind)
+
+
+def structs_of_header():
+    """The structs that calls of the library take: their fields by name."""
+    found = re.findall(r"^struct (rrc(?:ache)?_\w+) \{(.*?)^\};", HEADER, re.S | re.M)
+    return {name: [*fields_of(text)] for name, text in found if name not in INLINE}
+
+
+def calls_of_header():
+    """The types of what each call of the library takes."""
+    found = re.findall(r"^uint32_t (rrc_\w+)\(([^)]*)\);", HEADER, re.M)
+    return {name: [type_of(re.sub(r"\w+$", "", " ".join(it.split())))
+                   for it in text.split(",") if it != "void"] for name, text in found}
+
+
+def test_enumerations():
+    found = enums()
+    assert set(found) == set(ENUMS)
+    for name, numbers in found.items():
+        assert numbers == {word: int(it) for word, it in ENUMS[name].__members__.items()}, name
+
+
+def test_fields_of_structs():
+    found = structs_of_header()
+    assert set(found) == set(STRUCTS)
+    for name, fields in found.items():
+        assert fields == STRUCTS[name]._fields_, name
+
+
+@pytest.mark.skipif(shutil.which("cc") is None, reason="there is no compiler of C here")
+def test_layouts_of_structs():
+    """The size of each struct, and the place and the size of each of its fields, by a compiler."""
+    lines = ['#include "rrcache.h"']
+    for name, it in STRUCTS.items():
+        lines.append(f"_Static_assert(sizeof(struct {name}) == {sizeof(it)}, \"{name}\");")
+        for field, _ in it._fields_:
+            place = getattr(it, field)
+            for found, wanted in ((f"offsetof(struct {name}, {field})", place.offset),
+                                  (f"sizeof(((struct {name} *)0)->{field})", place.size)):
+                lines.append(f'_Static_assert({found} == {wanted}, "{name}.{field}");')
+    ran = subprocess.run(["cc", "-std=c11", "-fsyntax-only", f"-I{INCLUDE}", "-xc", "-"],
+                         input="\n".join(lines), text=True, capture_output=True)
+    assert (ran.returncode, ran.stderr) == (0, "")
+
+
+def leaves(it):
+    """The numbers of a struct of ctypes, one after another; a seed as octets."""
+    for name, _ in it._fields_:
+        value = getattr(it, name)
+        if isinstance(value, Structure):
+            yield from leaves(value)
+        else:
+            yield bytes(value) if isinstance(value, Array) else value
+
+
+@pytest.mark.parametrize("name", sorted(set(STRUCTS) - {
+    f"rrcache_{it}" for it in ("shelf", "offers", "chapters", "name")}))
+def test_numbers_are_filled_and_read_in_their_places(name):
+    made, numbers = STRUCTS[name](), count(1)
+    given = [bytes([next(numbers)] * 16) if isinstance(it, bytes) else next(numbers)
+             for it in leaves(made)]
+    assert structs.fill(made, *given) is made
+    assert [*leaves(made)] == given == [*structs.numbers_in(made)]
+
+
+def test_calls():
+    assert calls_of_header() == library.CALLS
+
+
+def test_numbers():
+    version = [int(re.search(rf"RRCACHE_VERSION_{it} (\d+)", HEADER)[1])
+               for it in ("MAJOR", "MINOR")]
+    assert version == [library.MAJOR, library.MINOR]
+    assert library.SONAME == f"librrcache.so.{library.MAJOR}"
+    assert f"RRCACHE_RECORD_OCTETS = {rrcache.RECORD_OCTETS} " in HEADER
+    limits = re.search(r"define RRCACHE_LIMITS[\s\\]+\{[\s\\]+([\d, ]+)", HEADER)[1]
+    assert tuple(map(int, limits.split(","))) == rrcache.Limits()
+
+
+def test_refusals_say_what_statuses_do():
+    """Each status that the library may return has an exception, with the header's words."""
+    words = dict(re.findall(r'case RRCACHE_(\w+):\s+return "(.*?)";', HEADER))
+    assert set(words) == set(rrcache.Status.__members__)
+    told = set(rrcache.Status) - {rrcache.Status.DONE, rrcache.Status.SMALL} - TOLD_INLINE
+    assert set(refusals.BY_STATUS) == told
+    for status, refused in refusals.BY_STATUS.items():
+        assert str(refused()) == words[status.name]
