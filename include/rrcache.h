@@ -175,9 +175,9 @@
      RRCACHE_NULL; RRCACHE_OVERLAP; RRCACHE_NO_SHELF or RRCACHE_HAS_SHELF; RRCACHE_NO_OFFERS or
      RRCACHE_HAS_OFFERS; RRCACHE_NO_CHAPTERS or RRCACHE_HAS_CHAPTERS; RRCACHE_NO_LINE; RRCACHE_SINK;
      RRCACHE_BAD_RULES; RRCACHE_BAD_SEED; RRCACHE_BAD_LIMITS; RRCACHE_BAD_CHOICE; RRCACHE_BAD_TYPE;
-     RRCACHE_BAD_NAME; RRCACHE_BAD_MESSAGE or RRCACHE_BAD_DATA; RRCACHE_OTHER_QUERY;
-     RRCACHE_OTHER_SEED; RRCACHE_WRONG_BODY; RRCACHE_WIDE; RRCACHE_SMALL; RRCACHE_HISTORY_FULL;
-     RRCACHE_MOMENT_TOO_LARGE.
+     RRCACHE_BAD_NAME; RRCACHE_OTHER_QUERY or RRCACHE_NO_QUESTION; RRCACHE_BAD_MESSAGE or
+     RRCACHE_BAD_DATA; RRCACHE_OTHER_SEED; RRCACHE_WRONG_BODY; RRCACHE_WIDE; RRCACHE_SMALL;
+     RRCACHE_HISTORY_FULL; RRCACHE_MOMENT_TOO_LARGE.
    - RRCACHE_MEMORY is told where malloc refuses while a call tests these: in place of those that
      the call would have found later.
    - A message meets RRCACHE_HISTORY_FULL and RRCACHE_MOMENT_TOO_LARGE with its first offer. One
@@ -241,8 +241,8 @@ enum rrcache_status {
     RRCACHE_NULL = 17,            /* a pointer is null (told by the inline functions alone) */
     RRCACHE_NO_OFFERS = 18,       /* the handle holds no offers */
     RRCACHE_HAS_OFFERS = 19,      /* the handle holds offers already */
-    RRCACHE_OTHER_QUERY = 20,     /* the response has another identifier or question than the query
-                                     that was sent */
+    RRCACHE_OTHER_QUERY = 20,     /* the octets have another identifier or question than the query
+                                     that was sent, or are a query themselves */
     RRCACHE_NO_CHAPTERS = 21,     /* the handle holds no chapters */
     RRCACHE_HAS_CHAPTERS = 22,    /* the handle holds chapters already */
     RRCACHE_NO_LINE = 23,         /* there is no such chapter, or it has no such line */
@@ -250,8 +250,12 @@ enum rrcache_status {
                                      alone) */
     RRCACHE_OVERLAP = 25,         /* what is to be written overlaps something else that is handed in
                                      (told by the inline functions alone) */
-    RRCACHE_OTHER_SEED = 26       /* the name was made, or the message was read, under another seed
+    RRCACHE_OTHER_SEED = 26,      /* the name was made, or the message was read, under another seed
                                      than that of the shelf */
+    RRCACHE_NO_QUESTION = 27      /* the response is a header without a question, of a server that
+                                     could or would not read the query: its RCODE, the low four
+                                     bits of its fourth octet, is FORMERR (1), NOTIMP (4) or
+                                     REFUSED (5) */
 };
 
 /* What a reply is, and what is stored: 1, 3, 4 and 6 of these, or 0 where nothing is. */
@@ -482,6 +486,8 @@ struct rrcache_query {
     uint16_t id;
     uint16_t rtype;
     uint16_t rclass; /* enum rrcache_class */
+    bool with_case;  /* whether a response has to repeat the letters of the name in their case. Who
+                        draws these cases at random makes a response harder to guess */
 };
 
 /* A response: its octets, without those of its length over TCP, the zone whose server sent it, when
@@ -564,6 +570,7 @@ struct rrc_response {
     uint16_t id;
     uint16_t rtype;
     uint16_t rclass;
+    bool with_case;
 };
 
 struct rrc_set {
@@ -712,7 +719,7 @@ static inline const char *rrcache_status_text(enum rrcache_status status)
     case RRCACHE_HAS_OFFERS:
         return "the handle holds offers already";
     case RRCACHE_OTHER_QUERY:
-        return "the response answers another query";
+        return "the octets answer no query, or another one";
     case RRCACHE_NO_CHAPTERS:
         return "the handle holds no chapters";
     case RRCACHE_HAS_CHAPTERS:
@@ -725,6 +732,8 @@ static inline const char *rrcache_status_text(enum rrcache_status status)
         return "what is to be written overlaps something else";
     case RRCACHE_OTHER_SEED:
         return "the name or the message is of another seed than the shelf";
+    case RRCACHE_NO_QUESTION:
+        return "the response has no question";
     }
     return "no such status";
 }
@@ -848,10 +857,18 @@ static inline enum rrcache_status rrcache_can_read(const struct rrcache_response
    of its offers that are relevant to the query that was sent. It tells which of the parts they
    concern: bit 0 of `concerned` is set where one lies in part 0, bit 1 for part 1, and so on. It
    takes no shelf and writes no event. A handle that holds offers keeps them, and RRCACHE_HAS_OFFERS
-   is returned, whatever else would be refused. A response with another identifier or question (in
-   which the case of letters counts for nothing) is RRCACHE_OTHER_QUERY. Where a response offers
-   nothing, as one with TC set, `concerned` is 0, and the handle is to be freed like any other. What
-   the handle holds can be offered, and cannot be read.
+   is returned, whatever else would be refused. Where a response offers nothing, as one with TC set,
+   `concerned` is 0, and the handle is to be freed like any other. What the handle holds can be
+   offered, and cannot be read.
+
+   The identifier and the question are compared first (RFC 5452 section 9.1), and what stands behind
+   them is read only where they are the query's. So octets that are RRCACHE_OTHER_QUERY cost next to
+   nothing, and anyone may have sent them: the caller drops them and waits on. Such are those with
+   another identifier, or too few for one; those with QR clear; and those with another question, in
+   which the case of letters counts where the query has `with_case`. A question whose name has a
+   pointer is another one. RRCACHE_BAD_MESSAGE is told of octets alone that answer the query and
+   cannot be read: they are a failure of the server's (RFC 8767 section 5). So is
+   RRCACHE_NO_QUESTION; a server that tells FORMERR so may know no EDNS (RFC 6891 section 7).
 
    Relevant are: of the answer section, RRsets of the name and of at most 11 that CNAME records lead
    to from it, of the type that was asked for (any type, where that is ANY) or CNAME, and DNAME
@@ -890,6 +907,7 @@ static inline enum rrcache_status rrcache_read_response(struct rrcache_offers *o
     terms.id = query->id;
     terms.rtype = query->rtype;
     terms.rclass = query->rclass;
+    terms.with_case = query->with_case;
     return (enum rrcache_status)rrc_read_response(
         offers, rrcache_octets(response->octets, response->size), response->size,
         rrcache_octets(response->zone, response->zone_size), response->zone_size,

@@ -214,8 +214,9 @@ enum outcome look_up(const struct question *question, enum rrcache_mode mode, st
 /* ---- Keeping. */
 
 /* Offers what of a response is relevant to its question, each name's to the shelf of that name;
-   false where it cannot be read. That its identifier is the query's is known. It is read once,
-   under no lock. Where memory is refused a part of it is kept. */
+   false where it cannot be read, or its question is written with a pointer. That its identifier is
+   the query's is known. It is read once, under no lock. Where memory is refused a part of it is
+   kept. */
 static bool offer(const struct question *question, const uint8_t *message, size_t size)
 {
     const struct rrcache_response response = {
@@ -247,7 +248,7 @@ static bool offer(const struct question *question, const uint8_t *message, size_
         pthread_mutex_unlock(&shelf->lock);
     }
     rrcache_free_offers(&offers);
-    return status != RRCACHE_BAD_MESSAGE;
+    return status != RRCACHE_BAD_MESSAGE && status != RRCACHE_OTHER_QUERY;
 }
 
 /* Whether no name of a reply that was taken from a message goes on in what was cut off, or in the

@@ -21,8 +21,8 @@ from .names import NameFault, to_text, to_wire
 from .offers import Offers, read_message_unchecked, read_response
 from .parts import AnyName, Name, Parts, make_name
 from .refusals import (BadChoice, BadData, BadLimits, BadMessage, BadName, BadRules, BadSeed,
-                       BadType, HasOffers, HistoryFull, Memory, MomentTooLarge, NoOffers, NoShelf,
-                       OtherQuery, OtherSeed, Refused, Status, Wide, WrongBody)
+                       BadType, HasOffers, HistoryFull, Memory, MomentTooLarge, NoOffers,
+                       NoQuestion, NoShelf, OtherQuery, OtherSeed, Refused, Status, Wide, WrongBody)
 from .replies import (RECORD_OCTETS, Counts, Limits, Query, Reply, Sizes, Stored, StoredEntry,
                       Swept)
 from .shelf import Shelf
@@ -32,8 +32,9 @@ __all__ = [
     "BadRules", "BadSeed", "BadType", "Body", "Cache", "Chapter", "Class", "Counts", "Entry",
     "Event", "Failure", "HasOffers", "HistoryFull", "Key", "Kind", "Limits", "Memory",
     "MessageFault", "Mode", "MomentTooLarge", "Name", "NameFault", "Negative", "NoOffers",
-    "NoShelf", "Offer", "Offers", "OtherQuery", "OtherSeed", "Outcome", "Parts", "Purpose", "Query",
-    "RECORD_OCTETS", "RRset", "Refused", "Reply", "Shelf", "Sizes", "Slot", "Status", "Stored",
-    "StoredEntry", "Sweep", "Swept", "Trust", "Wide", "WrongBody", "fault", "library_version",
-    "make_name", "read_archive", "read_message_unchecked", "read_response", "to_text", "to_wire",
+    "NoQuestion", "NoShelf", "Offer", "Offers", "OtherQuery", "OtherSeed", "Outcome", "Parts",
+    "Purpose", "Query", "RECORD_OCTETS", "RRset", "Refused", "Reply", "Shelf", "Sizes", "Slot",
+    "Status", "Stored", "StoredEntry", "Sweep", "Swept", "Trust", "Wide", "WrongBody", "fault",
+    "library_version", "make_name", "read_archive", "read_message_unchecked", "read_response",
+    "to_text", "to_wire",
 ]

@@ -38,7 +38,7 @@ def terms(moment: int, limits: Limits, line: int = 0, parts: Parts | None = None
           query: Query | None = None) -> structs.ResponseTerms:
     """`struct rrc_response`: what a call is handed beside the octets of a response."""
     count, seed = parts or (0, bytes(structs.SEED_OCTETS))
-    asked = (query.id, query.rtype, query.rclass) if query else (0, 0, 0)
+    asked = (query.id, query.rtype, query.rclass, query.with_case) if query else (0, 0, 0, 0)
     return structs.fill(structs.ResponseTerms(), moment, line, count, seed_of(seed), part, *limits,
                         *asked)
 
@@ -46,8 +46,11 @@ def terms(moment: int, limits: Limits, line: int = 0, parts: Parts | None = None
 def read_response(message: bytes, zone: str | bytes, query: Query, parts: Parts, moment: int,
                   limits: Limits = Limits()) -> Offers:
     """Reads a response of a server of a zone to a query, once for all of these parts: what is
-    relevant to the query. The caller checks from which address and port it came. `OtherQuery` is
-    raised where the response has another identifier or question.
+    relevant to the query. The caller checks from which address and port it came.
+
+    `OtherQuery` is raised of octets with another identifier or question, whatever stands behind
+    that: the caller drops them and waits on. `BadMessage` is raised of octets alone that answer the
+    query and cannot be read, and `NoQuestion` of a header without a question that refuses it.
 
     >>> import os
     >>> message = bytes([0x12, 0x34, 0x84, 0, 0, 1, 0, 0, 0, 0, 0, 0])

@@ -38,6 +38,7 @@ class Status(IntEnum):
     SINK = 24
     OVERLAP = 25
     OTHER_SEED = 26
+    NO_QUESTION = 27
 
 
 class Refused(Exception):
@@ -158,9 +159,9 @@ class HasOffers(Refused):
 
 
 class OtherQuery(Refused):
-    """The response has another identifier or question than the query."""
+    """The octets have another identifier or question than the query, or are a query themselves."""
 
-    status, reason = Status.OTHER_QUERY, "the response answers another query"
+    status, reason = Status.OTHER_QUERY, "the octets answer no query, or another one"
 
 
 class NoChapters(Refused):
@@ -185,6 +186,14 @@ class OtherSeed(Refused):
     """The name was made, or the message was read, under another seed than the shelf's."""
 
     status, reason = Status.OTHER_SEED, "the name or the message is of another seed than the shelf"
+
+
+class NoQuestion(Refused):
+    """The response is a header without a question, of a server that could or would not read the
+    query: its RCODE, the low four bits of its fourth octet, is FORMERR (1), NOTIMP (4) or REFUSED
+    (5)."""
+
+    status, reason = Status.NO_QUESTION, "the response has no question"
 
 
 BY_STATUS: dict[int, type[Refused]] = {it.status: it for it in Refused.__subclasses__()}

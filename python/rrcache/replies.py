@@ -78,12 +78,14 @@ class Stored(NamedTuple):
 
 
 class Query(NamedTuple):
-    """A query that was sent: the name and type that it asks for, its identifier, and its class."""
+    """A query that was sent: the name and type that it asks for, its identifier, its class, and
+    whether the response has to repeat the letters of the name in their case."""
 
     name: str | bytes
     rtype: int
     id: int
     rclass: Class | int = Class.IN
+    with_case: bool = False
 
 
 class Limits(NamedTuple):

@@ -131,7 +131,8 @@ class ResponseTerms(Structure):
     """What is handed in beside the octets of a response."""
 
     _fields_ = [("moment", c_uint64), ("line", c_uint64), ("parts", Parts), ("part", c_uint64),
-                ("limits", Limits), ("id", c_uint16), ("rtype", c_uint16), ("rclass", c_uint16)]
+                ("limits", Limits), ("id", c_uint16), ("rtype", c_uint16), ("rclass", c_uint16),
+                ("with_case", c_bool)]
 
 
 class SetTerms(Structure):

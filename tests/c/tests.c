@@ -525,13 +525,13 @@ static void test_layout(void)
     EXPECT(rrcache_version() == RRCACHE_VERSION);
 }
 
-enum { STATUSES = 27 };
+enum { STATUSES = 28 };
 
 /* Each status has a text of its own, and so has a number that is none. */
 static void test_status_texts(void)
 {
     const char *unknown = rrcache_status_text((enum rrcache_status)STATUSES);
-    EXPECT(RRCACHE_OTHER_SEED == STATUSES - 1 && unknown != NULL && *unknown != 0);
+    EXPECT(RRCACHE_NO_QUESTION == STATUSES - 1 && unknown != NULL && *unknown != 0);
     EXPECT(strcmp(unknown, rrcache_status_text((enum rrcache_status)1000)) == 0);
     for (int one = 0; one < STATUSES; one++) {
         const char *text = rrcache_status_text((enum rrcache_status)one);
@@ -1962,6 +1962,10 @@ static void test_refused_responses(void)
     REFUSED(RRCACHE_BAD_NAME);
     query.name = THIRD;
     query.name_size = sizeof THIRD;
+    REFUSED(RRCACHE_OTHER_QUERY);
+    query.id = 0x1234;
+    REFUSED(RRCACHE_OTHER_QUERY);
+    query = query_of(OF(NAME));
     REFUSED(RRCACHE_BAD_MESSAGE);
 #undef REFUSED
     EXPECT(rrcache_free_offers(&offers) == RRCACHE_NO_OFFERS);
@@ -1988,8 +1992,78 @@ static void test_other_queries(void)
 #undef OTHER_QUERY
     EXPECT(read_response(&offers, response, query_of(OF(THIRD)), &concerned) == RRCACHE_OTHER_QUERY
            && concerned == 7 && rrcache_free_offers(&offers) == RRCACHE_NO_OFFERS);
+    /* The case of letters counts where the query says so. */
+    query = query_of(OF(UPPER));
+    query.with_case = true;
+    EXPECT(read_response(&offers, response, query, &concerned) == RRCACHE_OTHER_QUERY
+           && concerned == 7);
+    query = query_of(OF(NAME));
+    query.with_case = true;
+    EXPECT(read_response(&offers, response, query, &concerned) == RRCACHE_DONE
+           && rrcache_free_offers(&offers) == RRCACHE_DONE);
     EXPECT(read_response(&offers, response, query_of(OF(NAME)), &concerned) == RRCACHE_DONE
            && rrcache_free_offers(&offers) == RRCACHE_DONE);
+}
+
+/* What is answered of octets to the query for NAME, which leave the handle empty. */
+static uint32_t refused_answer(const uint8_t *octets, size_t size)
+{
+    struct rrcache_offers offers = {0};
+    uint64_t concerned = 7;
+    uint32_t status =
+        read_response(&offers, response_of(octets, size), query_of(OF(NAME)), &concerned);
+    EXPECT(concerned == 7 && rrcache_free_offers(&offers) == RRCACHE_NO_OFFERS);
+    return status;
+}
+
+/* Octets of which the identifier, QR or the question is not that of a response to the query, whether
+   they can be read or not, and those that answer it and cannot be read. */
+static void test_octets_by_their_front(void)
+{
+    enum { QUESTION = 29 }; /* the octets of a header and the question */
+    uint8_t octets[sizeof POISON];
+#define ANSWERS(place, octet, wanted)                                                              \
+    do {                                                                                           \
+        memcpy(octets, POISON, sizeof octets);                                                     \
+        memset(octets + QUESTION, 0xff, sizeof octets - QUESTION);                                 \
+        octets[place] = (octet);                                                                   \
+        EXPECT(refused_answer(OF(octets)) == (wanted));                                            \
+    } while (0)
+    ANSWERS(0, 0x12, RRCACHE_BAD_MESSAGE);
+    ANSWERS(0, 0x13, RRCACHE_OTHER_QUERY);
+    ANSWERS(1, 0x35, RRCACHE_OTHER_QUERY);
+    ANSWERS(2, 0x04, RRCACHE_OTHER_QUERY); /* QR is clear */
+    ANSWERS(5, 0, RRCACHE_OTHER_QUERY);    /* QDCOUNT */
+    ANSWERS(5, 2, RRCACHE_OTHER_QUERY);
+    ANSWERS(4, 1, RRCACHE_OTHER_QUERY);
+    ANSWERS(12, 0xc0, RRCACHE_OTHER_QUERY); /* a pointer, and a label of another length */
+    ANSWERS(12, 2, RRCACHE_OTHER_QUERY);
+    ANSWERS(13, 'W', RRCACHE_BAD_MESSAGE);
+    ANSWERS(13, 'x', RRCACHE_OTHER_QUERY);
+    ANSWERS(24, 1, RRCACHE_OTHER_QUERY); /* the name's last octet, the type's and the class's */
+    ANSWERS(26, 2, RRCACHE_OTHER_QUERY);
+    ANSWERS(28, 3, RRCACHE_OTHER_QUERY);
+#undef ANSWERS
+    for (size_t size = 0; size < sizeof POISON; size++)
+        EXPECT(refused_answer(POISON, size)
+               == (size < QUESTION ? RRCACHE_OTHER_QUERY : RRCACHE_BAD_MESSAGE));
+}
+
+/* A header without a question is told as such where its RCODE is FORMERR, NOTIMP or REFUSED (RFC
+   1035 section 4.1.1), whatever stands behind it. */
+static void test_headers_alone(void)
+{
+    for (uint8_t rcode = 0; rcode < 16; rcode++) {
+        uint8_t octets[] = {0x12, 0x34, 0x80, rcode, 0, 0, 0, 1, 0, 0, 0, 0, 0xff};
+        bool is_told = rcode == 1 || rcode == 4 || rcode == 5;
+        uint32_t status = is_told ? RRCACHE_NO_QUESTION : RRCACHE_OTHER_QUERY;
+        EXPECT(refused_answer(octets, 12) == status && refused_answer(OF(octets)) == status
+               && refused_answer(octets, 11) == RRCACHE_OTHER_QUERY);
+        octets[2] = 0;
+        EXPECT(refused_answer(octets, 12) == RRCACHE_OTHER_QUERY);
+        octets[2] = 0x80, octets[1] = 0x35;
+        EXPECT(refused_answer(octets, 12) == RRCACHE_OTHER_QUERY);
+    }
 }
 
 /* A response of which all was forgotten, then one with limits alone, then one with no octets; and a
@@ -2010,7 +2084,7 @@ static void test_forgotten_responses(void)
                && offer_part(&shelf, responses[n], 1, 0, &counts) == statuses[n]
                && read_message(&offers, responses[n], 1, &concerned) == statuses[n]
                && read_response(&offers, responses[n], query_of(OF(NAME)), &concerned)
-                      == statuses[n]);
+                      == (n == 2 ? RRCACHE_OTHER_QUERY : statuses[n]));
     EXPECT(read_response(&offers, response_of(OF(ANSWER)), no_query, &concerned)
            == RRCACHE_BAD_NAME);
     EXPECT(!offers.is_live && events(&shelf) == 0 && rrcache_free(&shelf) == RRCACHE_DONE);
@@ -3866,6 +3940,8 @@ static void (*const TESTS[])(void) = {
     test_relevant,
     test_refused_responses,
     test_other_queries,
+    test_octets_by_their_front,
+    test_headers_alone,
     test_forgotten_responses,
     test_one_reading,
     test_refused_readings,

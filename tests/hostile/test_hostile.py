@@ -8,6 +8,7 @@ goes with the size, and 16 where it goes with its square: the bar is 8. So they 
 What stays of a message is what the C library's allocator has given out more than before (mallinfo2,
 of glibc).
 """
+import contextlib
 import subprocess
 
 import pytest
@@ -29,7 +30,10 @@ STAYS, EVENT_STAYS, PROGRAM_HOLDS, BESIDE = 100, 40, 20, 3_000
 # What a key has at most of the octets that are told, of what is relevant of a response.
 OF_A_KEY, URI = 302_830, 256
 CLASHES = 10_000
+# Octets that answer another query cost at most so many times what their first 12 cost.
+DROPPED = 2
 PARTS = rrcache.Parts(1, bytes(range(16)))
+QUERY = rrcache.Query("a.example", A, 0x1234)
 # How long a run may take that has to end.
 SECONDS = 60
 # The octets of messages that the model reads, which is slow.
@@ -58,6 +62,15 @@ def offered(message):
     """The milliseconds of an offer of a message to an empty shelf."""
     with rrcache.Shelf(MOST_KEYS, MOST_KEYS) as shelf:
         return timed(shelf.offer_message_unchecked, message, ROOT, 0)[0]
+
+
+def dropped(message):
+    """The milliseconds of 100 readings of octets that answer another query."""
+    def read_all():
+        for _ in range(100):
+            with contextlib.suppress(rrcache.OtherQuery):
+                rrcache.read_response(message, ROOT, QUERY, PARTS, 0)
+    return timed(read_all)[0]
 
 
 def names_of(keys, end, step=1):
@@ -139,6 +152,14 @@ def test_names_behind_the_longest_chain_of_pointers():
 def test_messages_of_four_times_the_size(make, call):
     small, large = make(MOST_OCTETS // 4), make(MOST_OCTETS)
     assert times(lambda: call(small), lambda: call(large)) <= FOUR_TIMES
+
+
+@pytest.mark.alone
+@of_each_message
+def test_messages_under_a_wrong_identifier(make):
+    """However many octets stand behind a wrong identifier, they cost what a header alone costs."""
+    message = b"\x43\x21" + make(MOST_OCTETS)[2:]
+    assert times(lambda: dropped(message[:12]), lambda: dropped(message)) <= DROPPED
 
 
 @of_each_message

@@ -42,6 +42,8 @@ def negative(shelf, kind, trust=4):
 
 RESPONSE = answered("a.example", A)
 QUERY = rrcache.Query("a.example", A, ID)
+# A header without a question, whose RCODE is REFUSED.
+REFUSED_ALONE = ID.to_bytes(2, "big") + bytes([0x80, 5, *bytes(8)])
 
 
 @pytest.mark.parametrize("status, call", [
@@ -91,7 +93,9 @@ QUERY = rrcache.Query("a.example", A, ID)
     (10, lambda it: read(b"x", parts(4))),
     (9, lambda it: read(RESPONSE, parts(4), b"\1")),
     (20, lambda it: rrcache.read_response(RESPONSE, ".", QUERY._replace(rtype=CNAME), parts(4), 1)),
-    (20, lambda it: rrcache.read_response(RESPONSE, ".", QUERY._replace(id=ID + 1), parts(4), 1))])
+    (20, lambda it: rrcache.read_response(RESPONSE, ".", QUERY._replace(id=ID + 1), parts(4), 1)),
+    (20, lambda it: rrcache.read_response(b"x", ".", QUERY, parts(4), 1)),
+    (27, lambda it: rrcache.read_response(REFUSED_ALONE, ".", QUERY, parts(4), 1))])
 def test_refusals(status, call):
     with rrcache.Shelf(record=True) as shelf:
         with pytest.raises(rrcache.Refused) as refused:

@@ -43,6 +43,7 @@ fn offer_relevant<R: Wait>(rt: &R, alloc: Global, cache: &SharedCache, now: u64)
     let query = Query {
         id: 0x1234,
         question,
+        with_case: false,
     };
     // Data live a week at most, negative answers three hours, failures half a minute.
     let limits = Limits::new(604_800, 10_800, 30)?;

@@ -6,6 +6,7 @@ pub mod Filling
 pub mod Answering
 pub mod Taking
 pub mod Refusing
+pub mod Querying
 pub mod SetFits
 pub mod Sharing
 pub mod Bounding

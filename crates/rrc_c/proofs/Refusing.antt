@@ -1,7 +1,7 @@
 -- SPDX-License-Identifier: MIT
 -- Why calls are refused.
-use Rattle.std.proofs.Common.{◌≡◌, ℕ, ◌+◌, ◌^◌, ◌<◌, ◌≤◌, List, [], ◌∷◌, ◌++◌, length, drop, get_or, refl, sym, ap, subst, inl, inr, arith, Bool, true, false, Option, Some, Result, Ok, Err}
-use Rattle.std.proofs.lemmas.List.{drop_all}
+use Rattle.std.proofs.Common.{◌≡◌, ℕ, ◌+◌, ◌^◌, ◌<◌, ◌≤◌, List, [], ◌∷◌, ◌++◌, length, drop, get_or, refl, sym, ap, subst, ◌∙◌, inl, inr, arith, Bool, true, false, Option, Some, Result, Ok, Err}
+use Rattle.std.proofs.lemmas.List.{append-nil, drop_all}
 use Rattle.std.specs.List.{AllByRecursion}
 use Rattle.std.specs.Prelude.{IfErr, IsErrAnd}
 use Rattle.rrc_history.specs.declared.event.Outcome.{Outcome}
@@ -11,10 +11,10 @@ use Rattle.rrc_cache.specs.declared.refusal.Refusal.{Refusal}
 use Rattle.rrc_cache.specs.declared.refusal.Refusal.TheVariants as Refusals
 use Rattle.rrc_share.specs.CacheShelf.{CacheShelfOf, IsDueBy}
 use Rattle.rrc_history.specs.Lives.{LAST_MOMENT}
-use Rattle.rrc_c.specs.Refusals.{Because, IfHeld, IsDoneOrMemory, NoteDue, Then, WriteDue}
+use Rattle.rrc_c.specs.Refusals.{Because, DataRefused, DatumRefused, IfHeld, IsDoneOrMemory, NoteDue, Then, WriteDue}
 use Rattle.rrc_c.specs.Shelves.{CanWriteBy, IsSpentBy}
 use Rattle.rrc_c.specs.Statuses.{number_of, number_of_call, refused_as}
-use Rattle.rrc_c.specs.ReplyRecord.{data_text, AreNarrow, AreTellable}
+use Rattle.rrc_c.specs.ReplyRecord.{data_text, datum, AreNarrow, AreTellable}
 use Rattle.rrc_c.specs.declared.status.Status.{Status}
 use Rattle.rrc_c.specs.declared.status.Status.TheVariants.{HistoryFull, MomentTooLarge}
 use Rattle.rrc_c.proofs.Filling.{narrow_next}
@@ -56,6 +56,23 @@ refused_told (Err one) status X is x = subst (λ it. X (number_of it)) (sym is) 
 pub on_err : {A : Type 0} (result : Result A Status) (status : Status) (X : ℕ → Type 0) → IsErrAnd result (λ one. one ≡ status) → X (number_of status) → IfErr result (λ one. X (number_of one))
 on_err (Ok answer) status X is x = tt
 on_err (Err one) status X is x = subst (λ it. X (number_of it)) (sym is) x
+
+-- ---- data
+
+-- where octets are one datum that is refused, so are they
+pub alone_refused : (rtype : ℕ) (only octets : List ℕ) (number : ℕ) → octets ≡ datum only → DatumRefused rtype only number → DataRefused rtype octets number
+alone_refused rtype only octets number is (inl memory) = inl memory
+alone_refused rtype only octets number is (inr told) = inr (
+  told.0,
+  record {
+    items = [];
+    rest = octets;
+    parts = refl;
+    plain = tt;
+    some = omega (arith, ap length is);
+    fault = inr (record { first = only; behind = []; parts = is ∙ sym (append-nil (datum only)); no = told.1 });
+  },
+)
 
 -- ---- handles
 

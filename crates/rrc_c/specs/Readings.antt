@@ -130,6 +130,7 @@ terms_of_share terms share = record {
   id = terms.id;
   rtype = terms.rtype;
   rclass = terms.rclass;
+  with_case = terms.with_case;
 }
 
 -- what a reading of a message offers by a part is what the message offers under names of that part

@@ -1,24 +1,26 @@
 -- SPDX-License-Identifier: MIT
 -- What of a response to a query is read: what is relevant to it.
-use Rattle.std.specs.Prelude.{◌≡◌, ℕ, ◌⊎◌, List, Option, None, Some}
+use Rattle.std.specs.Prelude.{◌≡◌, ℕ, ◌⊎◌, List, Bool, true, false, Option, None, Some}
 use Rattle.rrc_name.specs.Wire.{IsWireForm}
 use Rattle.rrc_history.specs.Fits.{OfferOf}
 use Rattle.rrc_sets.specs.Limits.{LimitsAre}
 use Rattle.rrc_sets.specs.Relevance.{AreDefault}
-use Rattle.rrc_sets.specs.RelevantMessage.{BringsRelevant, IsOfOtherQuery}
+use Rattle.rrc_sets.specs.RelevantMessage.{BringsRelevant, IsNoResponse, IsOfOtherQuery}
 use Rattle.rrc_sets.specs.declared.limits.Limits.{Limits}
 use Rattle.rrc_sets.specs.declared.query.Query.{Query}
 use Rattle.rrc_sets.specs.declared.query.QueryFault.{QueryFault}
+use Rattle.rrc_sets.specs.declared.query.QueryFault.TheVariants.{NoQuestion}
 use Rattle.rrc_sets.specs.declared.relevance.RelevanceLimits.{RelevanceLimits}
 use Rattle.rrc_c.specs.Readings.{HoldsOffers}
-use Rattle.rrc_c.specs.Refusals.{AreLimits, Because, DivisionRefused, IsDivision, MessageRefused, NameRefused, Then}
+use Rattle.rrc_c.specs.Refusals.{AreLimits, Because, DivisionRefused, IsDivision, NameRefused, OutOfMemory, Then}
 use Rattle.rrc_c.specs.declared.reading.Reading.{Reading}
-use Rattle.rrc_c.specs.declared.status.Status.TheVariants.{BadLimits}
+use Rattle.rrc_c.specs.declared.status.Status.TheVariants as statuses
 use Rattle.rrc_c.specs.declared.terms.ResponseTerms.{ResponseTerms}
 
 -- the query that was sent
 abbrev pub query_of : List ℕ → ResponseTerms → Query
-query_of name terms = record { id = terms.id; question = record { name = name; qtype = terms.rtype; qclass = terms.rclass } }
+query_of name terms =
+    record { id = terms.id; question = record { name = name; qtype = terms.rtype; qclass = terms.rclass }; with_case = terms.with_case }
 
 -- octets are a response to a query, and this of what it offers is relevant, by the limits that are set by default
 pub record BringsByDefault (query : Query) (limits : Limits) (octets zone : List ℕ) (at : ℕ) (offers : List OfferOf) : Type 0 where
@@ -39,11 +41,33 @@ pub record IsResponseReading (octets zone name : List ℕ) (terms : ResponseTerm
   pub offered : AreRelevant octets zone name terms offers
   pub holds : HoldsOffers terms offers reading
 
--- octets are a message that answers another query
-abbrev pub IsOther : Query → List ℕ → Type 0
-IsOther query octets = (fault : QueryFault) × IsOfOtherQuery query octets fault
+-- whether a fault is that of a header without a question
+abbrev pub is_header_alone : QueryFault → Bool
+is_header_alone (NoQuestion rcode) = true
+is_header_alone fault = false
 
--- all that is tested before is right, and octets are a message that answers another query
+-- octets answer no query, or another one
+pub record IsOther (query : Query) (octets : List ℕ) : Type 0 where
+  pub fault : QueryFault
+  pub other : IsOfOtherQuery query octets fault
+  pub more : is_header_alone fault ≡ false
+
+-- octets are a header without a question that says that the query could or would not be read
+pub record IsHeaderAlone (query : Query) (octets : List ℕ) : Type 0 where
+  pub rcode : ℕ
+  pub alone : IsOfOtherQuery query octets (NoQuestion rcode)
+
+-- octets answer the query and cannot be read
+pub record CannotBeRead (query : Query) (octets : List ℕ) : Type 0 where
+  pub fault : QueryFault
+  pub no_response : IsNoResponse query octets fault
+
+-- nothing relevant is made of octets
+abbrev pub AnswerRefused : Query → List ℕ → ℕ → Type 0
+AnswerRefused query octets number =
+    OutOfMemory number ⊎ (Because statuses.NoQuestion (IsHeaderAlone query octets) number ⊎ Because statuses.BadMessage (CannotBeRead query octets) number)
+
+-- all that is tested before is right, and octets answer no query, or another one
 pub record IsOtherAtLast (octets zone name : List ℕ) (terms : ResponseTerms) : Type 0 where
   pub division : IsDivision terms.parts
   pub limits : AreLimits terms.limits
@@ -55,11 +79,11 @@ pub record IsOtherAtLast (octets zone name : List ℕ) (terms : ResponseTerms) :
 abbrev pub ResponseRefused : List ℕ → List ℕ → List ℕ → ResponseTerms → ℕ → Type 0
 ResponseRefused octets zone name terms =
     Then (DivisionRefused terms.parts) (IsDivision terms.parts)
-    (Then (Because BadLimits (AreLimits terms.limits → ⊥)) (AreLimits terms.limits)
-    (Then (NameRefused zone) (IsWireForm zone) (Then (NameRefused name) (IsWireForm name) (MessageRefused octets))))
+    (Then (Because statuses.BadLimits (AreLimits terms.limits → ⊥)) (AreLimits terms.limits)
+    (Then (NameRefused zone) (IsWireForm zone) (Then (NameRefused name) (IsWireForm name) (AnswerRefused (query_of name terms) octets))))
 
 -- when a response is read into a handle, and when that is refused with what: 19 is answered exactly where the handle holds offers, and
--- 20 of a message that answers another query
+-- 20 of octets that answer no query, or another one
 abbrev pub ResponseDue : List ℕ → List ℕ → List ℕ → ResponseTerms → Option Reading → ℕ → Type 0
 ResponseDue octets zone name terms (Some reading) number = number ≡ 19
 ResponseDue octets zone name terms None number =

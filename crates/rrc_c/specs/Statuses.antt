@@ -4,9 +4,9 @@ use Rattle.std.specs.Prelude.{◌≡◌, ℕ, Bool, true, false, Result, Ok, Err
 use Rattle.rrc_cache.specs.declared.refusal.Refusal.{Refusal}
 use Rattle.rrc_cache.specs.declared.refusal.Refusal.TheVariants as Refusals
 use Rattle.rrc_c.specs.declared.status.Status.{Status}
-use Rattle.rrc_c.specs.declared.status.Status.TheVariants.{Memory, HistoryFull, MomentTooLarge, BadRules, BadSeed, BadLimits, BadName, BadMessage, BadChoice, BadType, BadData, WrongBody, WideAnswer, OtherSeed}
+use Rattle.rrc_c.specs.declared.status.Status.TheVariants.{Memory, HistoryFull, MomentTooLarge, BadRules, BadSeed, BadLimits, BadName, BadMessage, BadChoice, BadType, BadData, WrongBody, WideAnswer, OtherSeed, NoQuestion}
 
--- the number of a status, 3 to 15, or 26
+-- the number of a status, 3 to 15, 26 or 27
 abbrev pub number_of : Status → ℕ
 number_of Memory = 3
 number_of HistoryFull = 4
@@ -22,6 +22,7 @@ number_of BadData = 13
 number_of WrongBody = 14
 number_of WideAnswer = 15
 number_of OtherSeed = 26
+number_of NoQuestion = 27
 
 -- the status of a call that a shelf refused
 abbrev pub refused_as : Refusal → Status

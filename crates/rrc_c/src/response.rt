@@ -1,8 +1,8 @@
 // SPDX-License-Identifier: MIT
 ghost use Rattle.std.specs.Prelude.{◌≡◌, IfOk, IfErr, IfSome, IfNone, OnOk};
 ghost use Rattle.rrc_c.specs.Intake.{AreAt};
-ghost use Rattle.rrc_c.specs.Refusals.{MessageRefused, NameRefused};
-ghost use Rattle.rrc_c.specs.Responses.{query_of, BringsByDefault, IsOther, IsOtherAtLast, IsResponseReading, ResponseRefused};
+ghost use Rattle.rrc_c.specs.Refusals.{NameRefused};
+ghost use Rattle.rrc_c.specs.Responses.{query_of, AnswerRefused, BringsByDefault, IsOther, IsOtherAtLast, IsResponseReading, ResponseRefused};
 ghost use Rattle.rrc_c.specs.Statuses.{number_of};
 ghost use Rattle.rrc_name.specs.Wire.{IsWireForm};
 
@@ -34,11 +34,11 @@ fn query_of(alloc: Global, name: &[u8], terms: &ResponseTerms) -> Result<Query, 
     Ok(Query {
         id: terms.id,
         question,
+        with_case: terms.with_case,
     })
 }
 
-/// What of octets is relevant to a query, or `None` where they are a message that answers another
-/// one.
+/// What of octets is relevant to a query, or `None` where they answer none, or another one.
 fn relevant_in(
     alloc: Global,
     octets: &[u8],
@@ -50,19 +50,22 @@ fn relevant_in(
     ensures some { IfOk result (λ found. IfSome found (λ made. BringsByDefault query.now limits.now octets.now zone.now moment made.items)) }
     ensures moments { IfOk result (λ found. IfSome found (λ made. AreAt moment made.items)) }
     ensures none { IfOk result (λ found. IfNone found (IsOther query.now octets.now)) }
-    ensures refused { IfErr result (λ status. MessageRefused octets.now (number_of status)) }
+    ensures refused { IfErr result (λ status. AnswerRefused query.now octets.now (number_of status)) }
 {
     let relevance = RelevanceLimits::default();
     match relevant_offers_in(alloc, octets, query, zone, moment, limits, &relevance) {
         Ok(made) => Ok(Some(made)),
         Err(QueryFault::Memory) => Err(Status::Memory),
         Err(QueryFault::NoResponse(_)) => Err(Status::BadMessage),
-        Err(QueryFault::OtherIdentifier | QueryFault::OtherQuestion) => Ok(None),
+        Err(QueryFault::NoQuestion(_)) => Err(Status::NoQuestion),
+        Err(QueryFault::OtherIdentifier) => Ok(None),
+        Err(QueryFault::IsQuery) => Ok(None),
+        Err(QueryFault::OtherQuestion) => Ok(None),
     }
 }
 
 /// Reads a response to a query that a zone's server sent into what of it is relevant, each offer
-/// beside the part that its name lies in; `None` where it answers another query.
+/// beside the part that its name lies in; `None` where it answers none, or another one.
 pub(crate) fn read_response(
     alloc: Global,
     octets: &[u8],

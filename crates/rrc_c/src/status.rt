@@ -37,6 +37,9 @@ pub(crate) enum Status {
     WideAnswer,
     /// The name was hashed under another seed than the shelf's.
     OtherSeed,
+    /// The response is a header without a question, of a server that could or would not read the
+    /// query.
+    NoQuestion,
 }
 
 /// What C is told where the handle holds no shelf.
@@ -69,7 +72,7 @@ pub(crate) const HAS_CHAPTERS: u32 = 22;
 pub(crate) const NO_LINE: u32 = 23;
 
 impl Status {
-    /// The number that C is told, by `include/rrcache.h`: 3 to 15, or 26.
+    /// The number that C is told, by `include/rrcache.h`: 3 to 15, 26 or 27.
     pub(crate) fn number(self) -> u32
         ensures value { result ≡ number_of self }
         ensures some { 3 ≤ result }
@@ -89,6 +92,7 @@ impl Status {
             Status::WrongBody => 14,
             Status::WideAnswer => 15,
             Status::OtherSeed => 26,
+            Status::NoQuestion => 27,
         }
     }
 }

@@ -60,6 +60,8 @@ pub struct ResponseTerms {
     pub rtype: u16,
     /// The query's class.
     pub rclass: u16,
+    /// Whether the response has to repeat the query's letters in their case.
+    pub with_case: bool,
 }
 
 /// Which share of what was read is offered.

@@ -11,32 +11,32 @@ use Rattle.rrc_wire.specs.FirstFault.{FirstFault}
 use Rattle.rrc_sets.specs.declared.query.Query.{Query}
 use Rattle.rrc_sets.specs.declared.query.QueryFault.{QueryFault}
 use Rattle.rrc_sets.specs.declared.query.QueryFault.TheVariants.{Memory}
-use Rattle.rrc_sets.specs.Queries.{mismatch, of_wire}
-use Rattle.rrc_sets.specs.RelevantMessage.{IsNoResponse, IsOfOtherQuery}
+use Rattle.rrc_sets.specs.Queries.{front_mismatch, mismatch, of_wire}
+use Rattle.rrc_sets.specs.RelevantMessage.{IsNoResponse, IsOfOtherQuery, by_message}
 
 -- the first fault is told, and a want of memory as one
-pub unread : (query : Query) (octets : List ℕ) (first : WireFault) → (first ≡ wire.Memory) ⊎ FirstFault octets first
-    → (of_wire first ≡ Memory) ⊎ (IsNoResponse octets (of_wire first) ⊎ IsOfOtherQuery query octets (of_wire first))
-unread query octets first (inl memory) = inl (ap of_wire memory)
-unread query octets wire.Memory (inr is) = inl refl
-unread query octets wire.Short (inr is) = inr (inl (record { first = wire.Short; is_first = is; told = refl }))
-unread query octets wire.ReservedLabel (inr is) = inr (inl (record { first = wire.ReservedLabel; is_first = is; told = refl }))
-unread query octets wire.BadPointer (inr is) = inr (inl (record { first = wire.BadPointer; is_first = is; told = refl }))
-unread query octets wire.NameTooLong (inr is) = inr (inl (record { first = wire.NameTooLong; is_first = is; told = refl }))
-unread query octets wire.BadData (inr is) = inr (inl (record { first = wire.BadData; is_first = is; told = refl }))
-unread query octets wire.NotResponse (inr is) = inr (inl (record { first = wire.NotResponse; is_first = is; told = refl }))
-unread query octets wire.NotOneQuestion (inr is) = inr (inl (record { first = wire.NotOneQuestion; is_first = is; told = refl }))
-unread query octets wire.TooLong (inr is) = inr (inl (record { first = wire.TooLong; is_first = is; told = refl }))
+pub unread : (query : Query) (octets : List ℕ) (first : WireFault) → front_mismatch query octets ≡ None → (first ≡ wire.Memory) ⊎ FirstFault octets first
+    → (of_wire first ≡ Memory) ⊎ (IsNoResponse query octets (of_wire first) ⊎ IsOfOtherQuery query octets (of_wire first))
+unread query octets first front (inl memory) = inl (ap of_wire memory)
+unread query octets wire.Memory front (inr is) = inl refl
+unread query octets wire.Short front (inr is) = inr (inl (record { front = front; first = wire.Short; is_first = is; told = refl }))
+unread query octets wire.ReservedLabel front (inr is) = inr (inl (record { front = front; first = wire.ReservedLabel; is_first = is; told = refl }))
+unread query octets wire.BadPointer front (inr is) = inr (inl (record { front = front; first = wire.BadPointer; is_first = is; told = refl }))
+unread query octets wire.NameTooLong front (inr is) = inr (inl (record { front = front; first = wire.NameTooLong; is_first = is; told = refl }))
+unread query octets wire.BadData front (inr is) = inr (inl (record { front = front; first = wire.BadData; is_first = is; told = refl }))
+unread query octets wire.NotResponse front (inr is) = inr (inl (record { front = front; first = wire.NotResponse; is_first = is; told = refl }))
+unread query octets wire.NotOneQuestion front (inr is) = inr (inl (record { front = front; first = wire.NotOneQuestion; is_first = is; told = refl }))
+unread query octets wire.TooLong front (inr is) = inr (inl (record { front = front; first = wire.TooLong; is_first = is; told = refl }))
 
 -- so is another query
-pub unmade : (query : Query) (octets : List ℕ) (message : Message) (fault : QueryFault) → MessageOf octets message
-    → fault ≡ unwrap_or (mismatch query message) Memory → (fault ≡ Memory) ⊎ (IsNoResponse octets fault ⊎ IsOfOtherQuery query octets fault)
-unmade query octets message fault begins is = by (mismatch query message) refl is
+pub unmade : (query : Query) (octets : List ℕ) (message : Message) (fault : QueryFault) → front_mismatch query octets ≡ None
+    → MessageOf octets message → fault ≡ unwrap_or (mismatch query message) Memory → (fault ≡ Memory) ⊎ (IsNoResponse query octets fault ⊎ IsOfOtherQuery query octets fault)
+unmade query octets message fault front begins is = by (mismatch query message) refl is
   where
     by : (other : Option QueryFault) → mismatch query message ≡ other → fault ≡ unwrap_or other Memory
-        → (fault ≡ Memory) ⊎ (IsNoResponse octets fault ⊎ IsOfOtherQuery query octets fault)
+        → (fault ≡ Memory) ⊎ (IsNoResponse query octets fault ⊎ IsOfOtherQuery query octets fault)
     by None says told = inl told
-    by (Some why) says told = inr (inr (record { message = message; begins = begins; told = says ∙ ap Some (sym told) }))
+    by (Some why) says told = inr (inr (by_message front begins (says ∙ ap Some (sym told))))
 
 -- what follows from an answer follows from each that comes
 pub map_ok : {A B : Type 0} (result : Result A B) (X Y : A → Type 0) → ((value : A) → X value → Y value) → IfOk result X → IfOk result Y

@@ -11,24 +11,26 @@ use Rattle.rrc_sets.specs.declared.relevance.RelevanceLimits.{RelevanceLimits}
 use Rattle.rrc_sets.specs.declared.query.Query.{Query}
 use Rattle.rrc_sets.specs.declared.query.QueryFault.{QueryFault}
 use Rattle.rrc_sets.specs.declared.query.QueryFault.TheVariants.{NoResponse}
-use Rattle.rrc_sets.specs.Queries.{mismatch}
+use Rattle.rrc_sets.specs.Queries.{front_mismatch, mismatch}
 use Rattle.rrc_sets.specs.Relevant.{relevant_of}
 
--- octets begin with a message (RFC 1035 4.1) that answers a query, and this of what it offers is relevant
+-- octets begin with a message (RFC 1035 4.1) that answers a query, as their front does, and this of what it offers is relevant
 pub record BringsRelevant (query : Query) (limits : Limits) (relevance : RelevanceLimits) (octets zone : List ℕ) (moment : ℕ) (offers : List OfferOf) : Type 0 where
   pub message : Message
   pub begins : MessageOf octets message
+  pub front : front_mismatch query octets ≡ None
   pub response : mismatch query message ≡ None
   pub offered : offers ≡ relevant_of message zone moment limits relevance
 
--- octets are no response, and this is their first fault
-pub record IsNoResponse (octets : List ℕ) (fault : QueryFault) : Type 0 where
+-- the front of octets answers a query, and they cannot be read, for this first fault
+pub record IsNoResponse (query : Query) (octets : List ℕ) (fault : QueryFault) : Type 0 where
+  pub front : front_mismatch query octets ≡ None
   pub first : WireFault
   pub is_first : FirstFault octets first
   pub told : fault ≡ NoResponse first
 
--- octets begin with a message that does not answer a query, and this is why
-pub record IsOfOtherQuery (query : Query) (octets : List ℕ) (fault : QueryFault) : Type 0 where
-  pub message : Message
-  pub begins : MessageOf octets message
-  pub told : mismatch query message ≡ Some fault
+-- octets do not answer a query, and this is why, by their front, or else by the message that they begin with
+pub data IsOfOtherQuery (query : Query) (octets : List ℕ) (fault : QueryFault) : Type 0 where
+  by_front : front_mismatch query octets ≡ Some fault → IsOfOtherQuery query octets fault
+  by_message : {message : Message} → front_mismatch query octets ≡ None → MessageOf octets message → mismatch query message ≡ Some fault
+      → IsOfOtherQuery query octets fault

@@ -8,7 +8,7 @@ ghost use Rattle.rrc_sets.specs.Octets.{most_octets, HasWithin, MakesAtMost};
 ghost use Rattle.rrc_sets.specs.RelevantMessage.{BringsRelevant, IsNoResponse, IsOfOtherQuery};
 
 use crate::limits::Limits;
-use crate::query::{Query, QueryFault};
+use crate::query::{Query, QueryFault, front_mismatch};
 use crate::relevance::RelevanceLimits;
 use crate::relevant::relevant_offers;
 use crate::reply::offers;
@@ -39,8 +39,13 @@ pub fn offers_in(
 }
 
 /// Reads a response (RFC 1035 section 4.1), and tells what of it is relevant to a query for a zone,
-/// at a moment in seconds, as `relevant_offers` does. The first fault of octets that are no
-/// message, why the message does not answer the query, or `Memory`.
+/// at a moment in seconds, as `relevant_offers` does. Else it answers why the octets do not answer
+/// the query, the first fault of those that do, or `Memory`.
+///
+/// The identifier and the question are compared first, in time that goes with the question alone,
+/// so octets that do not answer the query cost the same whatever stands behind that (RFC 5452
+/// section 9.1). Only the name of the question that is written out is the query's: a pointer there
+/// makes it another question.
 ///
 /// No RRset has more octets of rdata than the limit, and no entry that an offer makes has more
 /// octets than the limit, two names, and 48 for each record that the octets have room for (`few`):
@@ -59,8 +64,11 @@ pub fn relevant_offers_in(
     ensures kept { IfOk result (λ offers. All IsOfRecords offers.items) }
     ensures within { IfOk result (λ offers. All (HasWithin relevance.now.octets) offers.items) }
     ensures few { IfOk result (λ offers. All (MakesAtMost (most_octets relevance.now.octets (length octets.now))) offers.items) }
-    ensures err { IfErr result (λ fault. (fault ≡ QueryFault.Memory) ⊎ (IsNoResponse octets.now fault ⊎ IsOfOtherQuery query.now octets.now fault)) }
+    ensures err { IfErr result (λ fault. (fault ≡ QueryFault.Memory) ⊎ (IsNoResponse query.now octets.now fault ⊎ IsOfOtherQuery query.now octets.now fault)) }
 {
+    if let Some(fault) = front_mismatch(query, octets) {
+        return Err(fault);
+    }
     let message = read_message(alloc, octets)?;
     relevant_offers(alloc, &message, query, zone, moment, limits, relevance)
 }

@@ -7,6 +7,7 @@ pub mod Item
 pub mod Shown
 pub mod Name
 pub mod Question
+pub mod Front
 pub mod Data
 pub mod Record
 pub mod Plain

@@ -27,7 +27,7 @@ pub(crate) struct Header {
 pub(crate) const SIZE: usize = 12;
 
 /// Whether the bit of a flag word is set, the lowest being bit 0.
-fn flag(flags: u16, bit: u8) -> bool
+pub(crate) fn flag(flags: u16, bit: u8) -> bool
     requires { bit < 16 }
     ensures { result ≡ flag flags bit }
 {
@@ -42,7 +42,7 @@ fn opcode_of(flags: u16) -> u8
 }
 
 /// The RCODE in a flag word.
-fn rcode_of(flags: u16) -> u8
+pub(crate) fn rcode_of(flags: u16) -> u8
     ensures { result ≡ flags % 16 }
 {
     (flags & 0xf) as u8

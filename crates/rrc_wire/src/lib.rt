@@ -22,6 +22,7 @@
 mod data;
 mod fault;
 mod field;
+mod front;
 mod header;
 mod item;
 mod layout;
@@ -35,6 +36,7 @@ mod same;
 mod source;
 
 pub use fault::WireFault;
+pub use front::{Front, begins_with_question, front_of};
 pub use layout::{is_kept, is_kept_class};
 pub use message::{
     Message, chains_lead_to_names, first_fault_is_the_readers, one_message_or_fault, read_message,
