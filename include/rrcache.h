@@ -383,7 +383,8 @@ struct rrcache_entry {
     uint64_t number; /* of the event that stored it, which no other entry of the shelf has */
     uint64_t age;    /* how many touches came after its own last one: no more keys than that were
                         touched since. A reply tells it as it was before: an ask then moves the
-                        entry to the front, a peek does not */
+                        entry to the front, a peek does not. Where it is in front already, with
+                        the age 0, an ask is no touch */
 };
 
 /* A reply. Its buffer begins with `owner_size` octets, the owner's wire form as it was received,

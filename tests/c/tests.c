@@ -1116,22 +1116,23 @@ static void test_ages_of_asks(struct rrcache_shelf *shelf)
            && have_ages(shelf, 2, 1, 0));
     EXPECT(asked(shelf, OF(NAME), question(A, FIRST)).told.entry.age == 2
            && have_ages(shelf, 0, 2, 1));
+    /* An ask that the entry in front answers, a miss, an ask that is refused and one whose buffer is
+       too small touch nothing. */
     EXPECT(asked(shelf, OF(NAME), question(A, FIRST)).told.entry.age == 0
-           && have_ages(shelf, 0, 3, 2));
-    /* A miss, an ask that is refused and one whose buffer is too small touch nothing. */
+           && have_ages(shelf, 0, 2, 1));
     struct rrcache_told told;
     EXPECT(asked(shelf, OF(NAME), question(TXT, FIRST)).told.kind == RRCACHE_MISS
            && ask(shelf, LATE, &told, NULL, 0) == RRCACHE_MOMENT_TOO_LARGE
-           && ask(shelf, FIRST, &told, NULL, 0) == RRCACHE_SMALL && have_ages(shelf, 0, 3, 2));
-    EXPECT(asked(shelf, OF(THIRD), question(A, FIRST)).told.entry.age == 2
-           && have_ages(shelf, 1, 4, 0));
+           && ask(shelf, FIRST, &told, NULL, 0) == RRCACHE_SMALL && have_ages(shelf, 0, 2, 1));
+    EXPECT(asked(shelf, OF(THIRD), question(A, FIRST)).told.entry.age == 1
+           && have_ages(shelf, 1, 3, 0));
 }
 
 /* Nor do offers that are not kept and sweeps. */
 static void test_ages_of_offers(struct rrcache_shelf *shelf)
 {
     EXPECT(offer_address(shelf, OF(NAME), RRCACHE_ADDITIONAL, 60) == RRCACHE_OUTRANKED
-           && have_ages(shelf, 1, 4, 0));
+           && have_ages(shelf, 1, 3, 0));
     EXPECT(offer_address(shelf, OF(OTHER), RRCACHE_AUTHORITY, 60) == RRCACHE_KEPT
            && have_ages(shelf, 2, 0, 1));
     struct rrcache_set text = set_of(OF(NAME), TXT, OF(ADDRESS));

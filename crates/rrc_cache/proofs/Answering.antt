@@ -1,9 +1,11 @@
 -- SPDX-License-Identifier: MIT
 -- What a past leaves after an ask.
-use Rattle.std.proofs.Common.{◌≡◌, ℕ, ◌^◌, ◌<◌, ◌≤◌, List, ◌∷◌, length, Option, Some, None, ◌||◌, true, false, ◌⊎◌, inl, inr, Bool, refl, sym, ap, subst, ◌∙◌, arith}
-use Rattle.std.specs.Prelude.{IfSome}
-use Rattle.rrc_name.specs.Key.{KeyOf}
-use Rattle.rrc_name.specs.lemmas.KeyLaws.{key_eq-laws}
+use Rattle.std.proofs.Common.{◌≡◌, ℕ, ◌+◌, ◌^◌, ◌<◌, ◌≤◌, List, [], ◌∷◌, length, Option, Some, None, ◌||◌, true, false, ◌⊎◌, inl, inr, Bool, refl, sym, ap, subst, ◌∙◌, arith}
+use Rattle.std.specs.Prelude.{IfSome, nat_le}
+use Rattle.std.proofs.lemmas.Bool.{leb-false, leb-true}
+use Rattle.rrc_name.specs.Key.{KeyOf, key_eq}
+use Rattle.rrc_name.specs.lemmas.KeyLaws.{key_eq-laws, key_eq-same}
+use Rattle.rrc_history.specs.lemmas.Apart.{staying-lacks}
 use Rattle.rrc_history.specs.declared.event.Event.{Event}
 use Rattle.rrc_history.specs.declared.event.Event.TheVariants.{Asked}
 use Rattle.rrc_history.specs.declared.event.Reply.{Reply}
@@ -19,7 +21,7 @@ use Rattle.rrc_history.specs.lemmas.EntryLaws.{entry_at-key}
 use Rattle.rrc_history.specs.lemmas.TrustHolds.{governing-is_held}
 use Rattle.std.specs.Option.{option_map}
 use Rattle.rrc_history.specs.Right.{IsRight}
-use Rattle.rrc_history.specs.Entries.{goes, found_among, promoted, in_front, answered_from}
+use Rattle.rrc_history.specs.Entries.{goes, found_among, promoted, in_front, answered_from, staying, AreApart, LacksKey}
 use Rattle.rrc_history.specs.lemmas.OfferLaws.{length-staying_found}
 use Rattle.rrc_history.specs.lemmas.AskLaws.{found-contents, ask_contents}
 use Rattle.rrc_history.specs.Lives.{LAST_MOMENT}
@@ -27,7 +29,7 @@ use Rattle.rrc_history.specs.Views.{held_in}
 use Rattle.rrc_history.specs.declared.judge.Held.{Held}
 use Rattle.rrc_cache.specs.Ages.{age_by, ahead_of, slot_age}
 use Rattle.rrc_cache.specs.Calls.{Leaves}
-use Rattle.rrc_cache.specs.Taken.{HasName, HasClass, IsAnswered, slot_of}
+use Rattle.rrc_cache.specs.Taken.{HasName, HasClass, IsAnswered, IsMove, slot_of}
 use Rattle.rrc_cache.proofs.Leaving.{right_leaves}
 use Rattle.rrc_cache.proofs.Sound.{made_of, made_answered_from}
 
@@ -51,7 +53,7 @@ pub ask_leaves : (snapshot : Snapshot) (past : List Event) (entries : List Entry
 ask_leaves snapshot past entries tag ask reply slot kept leaves below timely answered touched =
     let event : Event = Asked tag ask reply in
     let key : Option KeyOf = key_in (answering (found_among entries ask) ask reply) in
-    let is : kept ≡ answered_from key entries = touched ∙ ap (λ k. answered_from k entries) answered.from in
+    let is : kept ≡ answered_from key entries = touched ∙ answered.moves in
     let right : IsRight snapshot past event = record {
       numbered = below;
       right = record {
@@ -102,17 +104,57 @@ answering-keyed ask (Some entry) named classed =
     let classes : ask.class ≡ entry.key.class = sym classed in
     λ i. Some (record { name = names i; class = classes i; slot = entry.key.slot })
 
--- the answer, and the slot of the entry that gave it
-pub answered_at : (stale : ℕ) (ask : AskOf) (entries : List Entry) (reply : Reply) (a : Option Entry) (slot : Option Slot) → reply ≡ reply_by stale (found_among entries ask) ask
-    → a ≡ answering (found_among entries ask) ask reply → slot ≡ slot_of a → IsAnswered stale ask entries reply slot
-answered_at stale ask entries reply a slot answered gave is = record {
-  answered = answered;
-  from = ap (option_map (key_at ask)) is ∙ (mapped a ∙ (answering-keyed ask a (answering-named entries ask reply a gave) (answering-classed entries ask reply a gave) ∙ ap key_in gave));
-}
+-- the slot of the entry that answers moves it
+slot_moves : (ask : AskOf) (entries : List Entry) (reply : Reply) (a : Option Entry) (slot : Option Slot) → a ≡ answering (found_among entries ask) ask reply
+    → slot ≡ slot_of a → IsMove ask entries reply slot
+slot_moves ask entries reply a slot gave is =
+    ap (λ key. answered_from key entries)
+    (ap (option_map (key_at ask)) is ∙ (mapped a ∙ (answering-keyed ask a (answering-named entries ask reply a gave) (answering-classed entries ask reply a gave) ∙ ap key_in gave)))
   where
     mapped : (a' : Option Entry) → option_map (key_at ask) (slot_of a') ≡ option_map (λ (entry : Entry). key_at ask entry.key.slot) a'
     mapped None = refl
     mapped (Some entry) = refl
+
+-- the entry that none stands before is in front
+in_front_stays : (key : KeyOf) (entries : List Entry) → AreApart entries → ahead_of key entries ≤ 0 → promoted key entries ≡ entries
+in_front_stays key [] apart few = refl
+in_front_stays key (entry ∷ entries) apart few = by (key_eq key entry.key) refl few
+  where
+    by : (b : Bool) → key_eq key entry.key ≡ b → ahead_of key (entry ∷ entries) ≤ 0 → promoted key (entry ∷ entries) ≡ entry ∷ entries
+    by true is first =
+        let gone : goes key None entry.key ≡ true = ap (λ b. b || false) is in
+        let P : KeyOf → Type 0 = λ k. LacksKey k entries in
+        rw (is, gone) (ap (λ es. entry ∷ es) (staying-lacks key entries (subst P (sym (key_eq-same key entry.key is)) apart.0)))
+    by false is first =
+        let more : ahead_of key entries + 1 ≤ 0 = rw is at first in
+        absurd omega (arith, more)
+
+-- so where the age of the one that answers is 0, no slot moves it, and else its own does
+pub moves_by_age : (ask : AskOf) (entries : List Entry) (reply : Reply) (lent : Option Held) (slot : Option Slot) (age : ℕ)
+    → option_map held_in lent ≡ answering (found_among entries ask) ask reply → IfSome lent (λ held. ahead_of held.key.now entries ≤ age) → AreApart entries
+    → (age ≡ 0 → slot ≡ None) → (0 < age → slot ≡ slot_of (option_map held_in lent)) → IsMove ask entries reply slot
+moves_by_age ask entries reply lent slot age gave few apart in_front behind = by (nat_le 1 age) refl
+  where
+    by : (b : Bool) → nat_le 1 age ≡ b → IsMove ask entries reply slot
+    by true ge =
+        let more : 1 ≤ age = leb-true 1 age ge in
+        slot_moves ask entries reply (option_map held_in lent) slot gave (behind (omega (arith, more)))
+    by false lt =
+        let less : age < 1 = leb-false 1 age lt in
+        let none : age ≡ 0 = omega (arith, less) in
+        ap (λ s. answered_from (option_map (key_at ask) s) entries) (in_front none) ∙ (sym (stays lent few none) ∙ ap (λ a. answered_from (key_in a) entries) gave)
+      where
+        stays : (l : Option Held) → IfSome l (λ held. ahead_of held.key.now entries ≤ age) → age ≡ 0 → answered_from (key_in (option_map held_in l)) entries ≡ entries
+        stays None before none = refl
+        stays (Some held) before none = in_front_stays held.key.now entries apart (omega (arith, before, none))
+
+-- the answer, and the slot that moves the entry that gave it
+pub answered_at : (stale : ℕ) (ask : AskOf) (entries : List Entry) (reply : Reply) (a : Option Entry) (slot : Option Slot) → reply ≡ reply_by stale (found_among entries ask) ask
+    → a ≡ answering (found_among entries ask) ask reply → slot ≡ slot_of a → IsAnswered stale ask entries reply slot
+answered_at stale ask entries reply a slot answered gave is = record {
+  answered = answered;
+  moves = slot_moves ask entries reply a slot gave is;
+}
 
 -- ---- its age
 

@@ -16,7 +16,7 @@ use Rattle.rrc_name.specs.declared.slot.Slot.{Slot}
 use Rattle.rrc_history.specs.declared.event.Reply.{Reply}
 use Rattle.rrc_history.specs.Asked.{AskOf}
 use Rattle.rrc_history.specs.Entries.{found_among}
-use Rattle.rrc_history.specs.Judged.{answering, key_in, reply_by}
+use Rattle.rrc_history.specs.Judged.{answering, reply_by}
 use Rattle.rrc_history.specs.Past.{held, number_after, found, reply_to, AreContents, moment_of}
 use Rattle.rrc_history.specs.Right.{IsLegal}
 use Rattle.rrc_history.specs.Views.{held_in, reply_in}
@@ -31,8 +31,7 @@ use Rattle.rrc_cache.specs.Lean.{HoldsLean, IsLeanOpen, IsPick, begun_with, firs
 use Rattle.rrc_cache.specs.Lookups.{TellsLookup, TellsNoAge, TellsReply}
 use Rattle.rrc_cache.specs.Pairs.{StoreOf}
 use Rattle.rrc_cache.specs.Part.{PartOf, past_of, Adds}
-use Rattle.rrc_cache.specs.Taken.{IsAnswered, slot_of}
-use Rattle.rrc_cache.proofs.Answering.{answered_at}
+use Rattle.rrc_cache.specs.Taken.{IsAnswered, IsMove}
 use Rattle.rrc_cache.proofs.Keeping.{number-of, past-more}
 use Rattle.rrc_cache.proofs.Written.{writes_leaves}
 
@@ -136,16 +135,12 @@ pub answered_by_history : (part : PartOf) (rules : Rules) (entries : List Entry)
 answered_by_history part rules entries ask reply slot ruled contents answered =
     let same : found_among entries ask ≡ found part.snapshot (past_of part) ask = found-contents part.snapshot (past_of part) ask entries contents in
     let told : reply ≡ reply_to part.snapshot (past_of part) ask =
-    answered.answered ∙ (ap (λ (r : Rules). reply_by r.stale (found_among entries ask) ask) ruled ∙ ap (λ f. reply_by part.snapshot.rules.stale f ask) same) in
-    (told, answered.from ∙ (ap (λ f. key_in (answering f ask reply)) same ∙ ap (λ r. key_in (answering (found part.snapshot (past_of part) ask) ask r)) told))
-
--- the slot that was told is that of the entry that answers by the history
-pub picked : (part : PartOf) (rules : Rules) (entries : List Entry) (ask : AskOf) (reply : Reply) (answering' : Option Entry) (slot : Option Slot) → rules ≡ part.snapshot.rules
-    → AreContents part.snapshot (past_of part) entries → reply ≡ reply_by rules.stale (found_among entries ask) ask
-    → answering' ≡ answering (found_among entries ask) ask reply → slot ≡ slot_of answering' → IsPick part ask slot
-picked part rules entries ask reply answering' slot ruled contents answered gave is =
-    let taken : IsAnswered rules.stale ask entries reply slot = answered_at rules.stale ask entries reply answering' slot answered gave is in
-    (answered_by_history part rules entries ask reply slot ruled contents taken).1
+    answered.answered ∙ (ap (λ (r : Rules). reply_by r.stale (found_among entries ask) ask) ruled ∙ ap (λ f. reply_by part.snapshot.rules.stale f ask) same) in (
+      told,
+      λ others are.
+          let P : List Entry → Type 0 = λ es. IsMove ask es (reply_to part.snapshot (past_of part) ask) slot in
+          subst P (one_contents part.snapshot (past_of part) entries others contents are) (subst (λ r. IsMove ask entries r slot) told answered.moves),
+    )
 
 -- and so the ask is answered by the entries from that one
 pub pick_answers : (part : PartOf) (rules : Rules) (entries : List Entry) (ask : AskOf) (slot : Option Slot) → rules ≡ part.snapshot.rules
@@ -157,7 +152,7 @@ pick_answers part rules entries ask slot ruled contents pick =
       answered =
           ap (λ f. reply_by part.snapshot.rules.stale f ask) same
           ∙ ap (λ (r : Rules). reply_by r.stale (found_among entries ask) ask) (sym ruled);
-      from = pick ∙ ap (λ f. key_in (answering f ask (reply_to part.snapshot (past_of part) ask))) same;
+      moves = pick entries contents;
     }
 
 -- ---- what is looked up

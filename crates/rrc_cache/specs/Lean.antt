@@ -1,21 +1,21 @@
 -- SPDX-License-Identifier: MIT
 -- A part that keeps no events: what its history is told, and what it keeps of that.
 use Rattle.std.specs.Prelude.{◌≡◌, ℕ, ◌+◌, ◌^◌, ◌<◌, ◌≤◌, List, [], ◌∷◌, ◌++◌, length, Option, Result, Ok, Err}
-use Rattle.std.specs.Option.{option_map}
 use Rattle.rrc_name.specs.declared.slot.Slot.{Slot}
 use Rattle.rrc_history.specs.declared.event.Event.{Event}
 use Rattle.rrc_history.specs.declared.rules.Rules.{Rules}
 use Rattle.rrc_history.specs.declared.snapshot.Snapshot.{Snapshot}
 use Rattle.rrc_history.specs.Asked.{AskOf}
 use Rattle.rrc_history.specs.Chapters.{IsChapter}
-use Rattle.rrc_history.specs.Judged.{answering, key_in}
 use Rattle.rrc_history.specs.Lives.{LAST_MOMENT}
-use Rattle.rrc_history.specs.Past.{found, key_at, reply_to}
+use Rattle.rrc_history.specs.declared.snapshot.Entry.{Entry}
+use Rattle.rrc_history.specs.Past.{AreContents, reply_to}
 use Rattle.rrc_history.specs.Right.{IsLegal}
 use Rattle.rrc_cache.specs.Calls.{Leaves}
 use Rattle.rrc_cache.specs.Expiry.{swept_until}
 use Rattle.rrc_cache.specs.Pairs.{StoreOf}
 use Rattle.rrc_cache.specs.Part.{PartOf, past_of, next_number}
+use Rattle.rrc_cache.specs.Taken.{IsMove}
 use Rattle.rrc_cache.specs.declared.refusal.Refusal.{Refusal}
 use Rattle.rrc_cache.specs.declared.refusal.Refusal.TheVariants.{HistoryFull, MomentTooLarge, Memory}
 
@@ -35,9 +35,11 @@ with_event part event = record { number = part.number; snapshot = part.snapshot;
 abbrev pub next_chapter : PartOf → Snapshot → PartOf
 next_chapter part closing = record { number = part.number + 1; snapshot = closing; events = [] }
 
--- the slot is that of the entry that answers an ask, and none where none answers
+-- whatever entries the keys of a part are said to hold, moving the one of the slot to the front, if there is a slot, is moving
+-- the one that answers an ask, if one does
 abbrev pub IsPick : PartOf → AskOf → Option Slot → Type 0
-IsPick part ask slot = option_map (key_at ask) slot ≡ key_in (answering (found part.snapshot (past_of part) ask) ask (reply_to part.snapshot (past_of part) ask))
+IsPick part ask slot =
+    (contents : List Entry) → AreContents part.snapshot (past_of part) contents → IsMove ask contents (reply_to part.snapshot (past_of part) ask) slot
 
 -- a part that keeps no events could take a call at this moment: the next event has a number below 2^62
 pub record IsLeanOpen (part : PartOf) (at : ℕ) : Type 0 where

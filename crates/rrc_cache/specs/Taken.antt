@@ -12,7 +12,7 @@ use Rattle.rrc_history.specs.Fits.{OfferOf}
 use Rattle.rrc_history.specs.Asked.{AskOf}
 use Rattle.rrc_history.specs.declared.event.Reply.{Reply}
 use Rattle.rrc_history.specs.Auditing.{reply_eq}
-use Rattle.rrc_history.specs.Entries.{found_among, goes, kept_after, fully_expired_keys, staying}
+use Rattle.rrc_history.specs.Entries.{answered_from, found_among, goes, kept_after, fully_expired_keys, staying}
 use Rattle.rrc_history.specs.Judged.{verdict, reply_by, answering, key_in}
 use Rattle.rrc_history.specs.Past.{entry_at, is_among, key_at}
 use Rattle.rrc_history.specs.Right.{evicted_by}
@@ -36,10 +36,16 @@ HasName name entry = entry.key.name ≡ name
 abbrev pub HasClass : ℕ → Entry → Type 0
 HasClass class entry = entry.key.class ≡ class
 
--- an ask was answered by what its keys held, from the entry of a slot of its name and class, if from any
+-- moving the entry of a slot to the front, if there is a slot, is moving the one that answers an ask, if one does: where
+-- that stands in front already, no slot will do
+abbrev pub IsMove : AskOf → List Entry → Reply → Option Slot → Type 0
+IsMove ask entries reply slot =
+    answered_from (option_map (key_at ask) slot) entries ≡ answered_from (key_in (answering (found_among entries ask) ask reply)) entries
+
+-- an ask was answered by what its keys held, and this moves the entry that answers to the front
 pub record IsAnswered (stale : ℕ) (ask : AskOf) (entries : List Entry) (reply : Reply) (slot : Option Slot) : Type 0 where
   pub answered : reply ≡ reply_by stale (found_among entries ask) ask
-  pub from : option_map (key_at ask) slot ≡ key_in (answering (found_among entries ask) ask reply)
+  pub moves : IsMove ask entries reply slot
 
 -- the slot of the entry that answers, if any does
 abbrev pub slot_of : Option Entry → Option Slot

@@ -1,5 +1,5 @@
 // SPDX-License-Identifier: MIT
-ghost use Rattle.std.specs.Prelude.{◌≡◌, ◌≤◌, IfOk, IfSome};
+ghost use Rattle.std.specs.Prelude.{◌≡◌, ◌<◌, ◌≤◌, None, IfOk, IfSome};
 ghost use Rattle.std.specs.List.{AllByRecursion};
 ghost use Rattle.std.specs.Option.{option_map};
 ghost use Rattle.rrc_history.specs.declared.event.Event.TheVariants.{Asked};
@@ -38,7 +38,7 @@ fn kept_ask(ask: &Ask, answering: Option<Held<'_>>) -> Result<Ask, AllocError>
     }
 }
 
-pub(crate) fn slot_of(answering: Option<Held<'_>>) -> Option<Slot>
+fn slot_of(answering: Option<Held<'_>>) -> Option<Slot>
     ensures { result ≡ slot_of (option_map held_in answering.entry) }
 {
     match answering {
@@ -50,8 +50,18 @@ pub(crate) fn slot_of(answering: Option<Held<'_>>) -> Option<Slot>
     }
 }
 
+/// The slot of the entry that answers, of this age, where that is to be moved to the front. Of the
+/// age 0 it stands there, so an ask that it answers is no touch.
+#[inline(always)]
+pub(crate) fn slot_to_move(answering: Option<Held<'_>>, age: u64) -> Option<Slot>
+    ensures in_front { age ≡ 0 → result ≡ None }
+    ensures behind { 0 < age → result ≡ slot_of (option_map held_in answering.entry) }
+{
+    if age == 0 { None } else { slot_of(answering) }
+}
+
 /// What an ask, whose name has the hash, is answered, the ask as its event is to keep it, and the
-/// slot of the entry that answers.
+/// slot of the entry to be moved to the front.
 pub(crate) fn answer(
     store: &Store,
     hash: u64,
@@ -64,11 +74,12 @@ pub(crate) fn answer(
     ensures answered { IfOk result (λ told. IsAnswered stale ask.now store.now.entries told.0 told.2) }
     ensures asked { IfOk result (λ told. told.1 ≡ ask.now) }
 {
+    store.has_distinct_keys();
     let lookup = judge::judge(store, hash, ask.as_ref(), stale);
     Ok((
         lookup.reply.to_owned()?,
         kept_ask(ask, lookup.entry)?,
-        slot_of(lookup.entry),
+        slot_to_move(lookup.entry, lookup.age),
     ))
 }
 

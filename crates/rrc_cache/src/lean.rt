@@ -296,7 +296,7 @@ impl LeanPart {
         self.admit(ask.moment)?;
         let hash = self.store.hash_by(hash, ask.name);
         let lookup = judge::judge(&self.store, hash, ask, self.rules.stale);
-        let slot = answer::slot_of(lookup.entry);
+        let slot = answer::slot_to_move(lookup.entry, lookup.age);
         Ok((lookup, Pick { slot, hash }))
     }
 

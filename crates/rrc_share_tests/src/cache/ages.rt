@@ -33,14 +33,16 @@ fn ages(rt: &impl Abort, alloc: Global, part: &LeanPart) -> Ages {
     )
 }
 
-/// The ages after each step: three names are offered, the first is asked for, a name is asked for
-/// of which nothing is kept, the second is offered anew.
+/// The ages after each step: three names are offered, the first is asked for twice, of which the
+/// second time is no touch, a name is asked for of which nothing is kept, the second is offered
+/// anew.
 fn told(rt: &impl Abort, alloc: Global) -> (Ages, Ages, Ages, Ages) {
     let mut part = LeanPart::new(alloc, rules(rt, 512)).expect(rt, "no part");
     keep(rt, alloc, &mut part, "a.example.");
     keep(rt, alloc, &mut part, "b.example.");
     let two = ages(rt, alloc, &part);
     keep(rt, alloc, &mut part, "c.example.");
+    ask(rt, alloc, &mut part, "a.example.");
     ask(rt, alloc, &mut part, "a.example.");
     let asked = ages(rt, alloc, &part);
     ask(rt, alloc, &mut part, "d.example.");

@@ -7,7 +7,7 @@ use Rattle.rrc_history.specs.Judged.{answering}
 use Rattle.rrc_history.specs.Entries.{found_among}
 use Rattle.rrc_history.specs.Views.{ask_in, held_in, reply_in}
 use Rattle.rrc_cache.specs.Taken.{HasName, IsAnswered}
-use Rattle.rrc_cache.proofs.Answering.{answering-named, answered_at}
+use Rattle.rrc_cache.proofs.Answering.{answering-named, moves_by_age}
 use Rattle.rrc_cache.proofs.answer.answer.Goals as goal
 
 pub kept_ask-requires : goal.kept_ask-requires
@@ -19,10 +19,14 @@ kept_ask-requires c =
 pub returns-clause-answered : goal.returns-clause-answered
 returns-clause-answered c =
     let asked : AskOf = ask_in c.as_ref.result in
-    let P : AskOf → Type 0 = λ ask. IsAnswered c.args.stale ask c.args.store.now.entries c.in_ok-to_owned.field-0 c.slot_of.result in
+    let P : AskOf → Type 0 = λ ask. IsAnswered c.args.stale ask c.args.store.now.entries c.in_ok-to_owned.field-0 c.slot_to_move.result in
     let reply : c.in_ok-to_owned.field-0 ≡ reply_in c.judge-lookup.result.reply = c.in_ok-to_owned.ensures in
     let gave : option_map held_in c.judge-lookup.result.entry ≡ answering (found_among c.args.store.now.entries asked) asked c.in_ok-to_owned.field-0 =
     rw reply (c.judge-lookup.ensures.answering) in
     subst P c.as_ref.ensures
-    (answered_at c.args.stale asked c.args.store.now.entries c.in_ok-to_owned.field-0 (option_map held_in c.judge-lookup.result.entry) c.slot_of.result (reply ∙ c.judge-lookup.ensures.reply) gave
-    c.slot_of.ensures)
+    record {
+      answered = reply ∙ c.judge-lookup.ensures.reply;
+      moves =
+          moves_by_age asked c.args.store.now.entries c.in_ok-to_owned.field-0 c.judge-lookup.result.entry c.slot_to_move.result c.judge-lookup.result.age gave
+          c.judge-lookup.ensures.ahead c.has_distinct_keys.ensures c.slot_to_move.ensures.in_front c.slot_to_move.ensures.behind;
+    }
