@@ -879,13 +879,16 @@ static inline enum rrcache_status rrcache_can_read(const struct rrcache_response
    names in the data of these records, in the order of the message: a name in two data counts twice,
    and one outside the zone counts, though its addresses are left out.
 
+   No DS set of `zone` itself is relevant, since its parent has it (RFC 4035 section 2.4).
+
    No set with more than 16,384 octets of data is relevant, and of class IN none of type A in which
    a datum has other than 4 octets, or of type AAAA other than 16.
 
    So a server of `example` that is asked for one name can replace what is held of another one in
    three ways alone: its CNAME records lead the question there; its NS, MX or SRV records name the
    other one as a host; or the other one is above the question's name, or above one that CNAME
-   records lead to, and the server sends its NS, SOA, DS or DNAME records. */
+   records lead to, and the server sends its NS, SOA, DS or DNAME records, but for DS records
+   of `example` itself. */
 static inline enum rrcache_status rrcache_read_response(struct rrcache_offers *offers,
                                                         const struct rrcache_response *response,
                                                         const struct rrcache_query *query,

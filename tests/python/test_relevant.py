@@ -3,7 +3,7 @@
 import pytest
 from dns.flags import AA, TC
 from dns.rcode import NXDOMAIN, SERVFAIL
-from dns.rdatatype import A, CNAME, DNAME, NS, SOA, TXT
+from dns.rdatatype import A, CNAME, DNAME, DS, NS, SOA, TXT
 
 import rrcache
 from tests.forwarder.harness import (ID, SOA as SOA_RECORD, aliases, answered, hosts, record_of,
@@ -14,6 +14,7 @@ NAME, SEED = "a.example.", bytes(range(16))
 PARTS = rrcache.Parts(1, SEED)
 POINTER = b"\xc0\x0e"  # to the last label but one of the question's name
 FRESH, NO_NAME, FAILED = rrcache.Kind.FRESH, rrcache.Kind.NXDOMAIN, rrcache.Kind.FAILED
+DIGEST = "1 8 2 " + 32 * "ab"  # of a key, in a DS record
 
 
 def with_data(rtype, *data):
@@ -86,6 +87,12 @@ RELEVANT = {
     "servers of two zones that the question is in": (
         to_a(flags=0, authority=["example 60 NS a.example", "a.example 60 NS example"]),
         [("example", NS, FRESH)]),
+    "a referral to a zone that is signed": (
+        to_a(flags=0, authority=["a.example 60 NS b.example", f"a.example 60 DS {DIGEST}"]),
+        [("a.example", NS, FRESH), ("a.example", DS, FRESH)]),
+    "keys of the zone itself and of one below it": (
+        to_a(*hosts(NAME), authority=[f"example 60 DS {DIGEST}", f"a.example 60 DS {DIGEST}"]),
+        [(NAME, A, FRESH), ("a.example", DS, FRESH)]),
     "an address of three octets": (with_data(A, b"\xc0\0\2"), []),
 }
 
@@ -105,6 +112,15 @@ def test_what_is_relevant_in_responses(octets, relevant):
         assert kept == len(relevant)
         for owner, rtype, kind in relevant:
             assert shelf.peek(owner, rtype, 100, rrcache.Purpose.ANYTHING).kind == kind
+
+
+@pytest.mark.parametrize("name, kept", [("example", 0), ("a.example", 1)])
+@pytest.mark.parametrize("flags", [AA, 0])
+def test_what_is_relevant_to_questions_about_a_zone(name, kept, flags):
+    """The keys of one below, and not of the zone itself."""
+    octets = answered(name, DS, f"{name} 60 DS {DIGEST}", flags=flags)
+    with rrcache.Shelf(seed=SEED) as shelf:
+        assert offered_as_relevant(shelf, octets, rrcache.Query(name, DS, ID)) == kept
 
 
 def chain(number):

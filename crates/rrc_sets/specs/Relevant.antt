@@ -24,6 +24,10 @@ use Rattle.rrc_sets.specs.Offers.{section_offers, failure_offers, is_silent}
 abbrev pub is_set_of : ℕ → OfferOf → Bool
 is_set_of rtype offer = slot_eq (Set rtype) offer.key.slot
 
+-- whether an RRset may come from the servers of a zone: a DS RRset of the zone itself is its parent's (RFC 4035 2.4)
+unfoldable pub may_come_from : List ℕ → OfferOf → Bool
+may_come_from zone offer = not (is_set_of 43 offer && same_name zone offer.key.name)
+
 -- whether the owner of an offer is one of these names
 abbrev pub is_owned_by : List (List ℕ) → OfferOf → Bool
 is_owned_by names offer = list_any (λ name. same_name name offer.key.name) names
@@ -112,13 +116,15 @@ is_measured relevance offer =
 unfoldable pub relevant_answer : Message → List ℕ → ℕ → Limits → RelevanceLimits → List OfferOf
 relevant_answer message zone moment limits relevance =
     let names = question_names relevance.aliases message in
-    filter (λ offer. is_on_chain message.question.qtype names offer && is_measured relevance offer) (section_offers Answer message zone moment limits)
+    let wanted = λ (offer : OfferOf). may_come_from zone offer && is_on_chain message.question.qtype names offer in
+    filter (λ offer. wanted offer && is_measured relevance offer) (section_offers Answer message zone moment limits)
 
 -- those of the authority section: the first of each type
 unfoldable pub relevant_authority : Message → List ℕ → ℕ → Limits → RelevanceLimits → List OfferOf
 relevant_authority message zone moment limits relevance =
     let final = final_name message in
-    uniques same_type (filter (λ offer. is_of_final_zone final offer && is_measured relevance offer) (section_offers Authority message zone moment limits))
+    let wanted = λ (offer : OfferOf). may_come_from zone offer && is_of_final_zone final offer in
+    uniques same_type (filter (λ offer. wanted offer && is_measured relevance offer) (section_offers Authority message zone moment limits))
 
 -- those of the additional section: addresses of the hosts that relevant offers name
 unfoldable pub relevant_additional : List OfferOf → Message → List ℕ → ℕ → Limits → RelevanceLimits → List OfferOf

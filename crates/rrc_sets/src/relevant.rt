@@ -9,7 +9,7 @@ ghost use Rattle.rrc_sets.specs.Response.{of_response};
 ghost use Rattle.rrc_sets.specs.Octets.{HasWithin};
 ghost use Rattle.rrc_sets.specs.Offers.{section_offers, offers_of};
 ghost use Rattle.rrc_sets.specs.Queries.{mismatch};
-ghost use Rattle.rrc_sets.specs.Relevant.{is_owned_by, is_above, is_asked_for, is_on_chain, has_below, is_of_final_zone, same_type, is_address_of, relevant_answer, relevant_authority, relevant_additional, relevant_offers, relevant_of};
+ghost use Rattle.rrc_sets.specs.Relevant.{may_come_from, is_owned_by, is_above, is_asked_for, is_on_chain, has_below, is_of_final_zone, same_type, is_address_of, relevant_answer, relevant_authority, relevant_additional, relevant_offers, relevant_of};
 
 use crate::alias::{final_name, question_names, same};
 use crate::class::in_own_class;
@@ -28,6 +28,15 @@ use rrc_name::{Name, Octets};
 use rrc_wire::Message;
 use rrc_wire::rcode::{NOERROR, NXDOMAIN};
 use std::alloc::{AllocError, Global};
+
+/// Whether an RRset may come from the servers of a zone: a DS RRset of the zone itself is its
+/// parent's (RFC 4035 section 2.4).
+#[tactic(auto, unfolding(crate::specs::Relevant::may_come_from))]
+fn may_come_from(zone: &Name, offer: &Offer) -> bool
+    ensures { result ≡ may_come_from zone.now offer.now }
+{
+    !(is_set_of(DS, offer) && zone.same(&offer.key.name))
+}
 
 /// Whether the owner of an offer is one of these names.
 fn is_owned_by(names: &[Name], offer: &Offer) -> bool
@@ -155,7 +164,9 @@ fn relevant_answer(
     let names = question_names(alloc, response.message, relevance.aliases)?;
     let mut offers = section_offers(alloc, Section::Answer, response)?;
     offers.retain(|offer| {
-        is_on_chain(qtype, names.as_slice(), offer) && is_measured(relevance, offer)
+        may_come_from(response.zone, offer)
+            && is_on_chain(qtype, names.as_slice(), offer)
+            && is_measured(relevance, offer)
     });
     Ok(offers)
 }
@@ -172,7 +183,11 @@ fn relevant_authority(
 {
     let name = final_name(alloc, response.message)?;
     let mut offers = section_offers(alloc, Section::Authority, response)?;
-    offers.retain(|offer| is_of_final_zone(&name, offer) && is_measured(relevance, offer));
+    offers.retain(|offer| {
+        may_come_from(response.zone, offer)
+            && is_of_final_zone(&name, offer)
+            && is_measured(relevance, offer)
+    });
     let firsts = first_of_each_type(alloc, offers)?;
     Ok(firsts)
 }
@@ -249,6 +264,8 @@ fn relevant_of(
 ///   that the final name is in;
 /// - of the additional section the addresses of hosts that NS, MX and SRV records among these name;
 /// - the negative answer, and the failure.
+///
+/// A DS RRset of the zone itself is never among them: its parent has it (RFC 4035 section 2.4).
 ///
 /// No RRset has more octets than the limit, and the addresses of class IN have 4 or 16 octets (RFC
 /// 1035 section 3.4.1, RFC 3596 section 2.2). A response with another identifier or to another

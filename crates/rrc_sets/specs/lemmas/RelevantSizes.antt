@@ -24,7 +24,7 @@ use Rattle.rrc_sets.specs.Classes.{in_own_class}
 use Rattle.rrc_sets.specs.Denials.{negative_offer}
 use Rattle.rrc_sets.specs.Octets.{most_octets, HasWithin, MakesAtMost, AreFew}
 use Rattle.rrc_sets.specs.Offers.{section_offers, failure_offers, is_silent}
-use Rattle.rrc_sets.specs.Relevant.{items_of, is_measured, is_on_chain, is_of_final_zone, is_address_of, same_type, hosts_named, relevant_answer, relevant_authority, relevant_additional, relevant_offers, relevant_of}
+use Rattle.rrc_sets.specs.Relevant.{items_of, is_measured, may_come_from, is_on_chain, is_of_final_zone, is_address_of, same_type, hosts_named, relevant_answer, relevant_authority, relevant_additional, relevant_offers, relevant_of}
 use Rattle.rrc_sets.specs.lemmas.MessageSizes.{all_append, HasSize, of_message, of_own_class}
 use Rattle.rrc_sets.specs.lemmas.OfferSizes.{all_uniques, IsSmallBody, IsSmall, IsBare, of_section, negative_bare, of_negative, failures_bare, of_failure}
 
@@ -115,17 +115,19 @@ module _ (P Q : OfferOf → Type 0) (relevance : RelevanceLimits)
     of_answer : AllByRecursion P (relevant_answer message zone moment limits relevance)
     unfolding relevant_answer
     of_answer =
-        kept (is_on_chain message.question.qtype (question_names relevance.aliases message))
+        kept (λ offer. may_come_from zone offer && is_on_chain message.question.qtype
+        (question_names relevance.aliases message) offer)
         (section_offers Answer message zone moment limits) (sections Answer)
 
     of_authority : AllByRecursion P (relevant_authority message zone moment limits relevance)
     unfolding relevant_authority
     of_authority =
         let offers = section_offers Authority message zone moment limits in
-        let own : List OfferOf = filter (λ offer. is_of_final_zone (final_name message) offer &&
-        is_measured relevance offer) offers in
-        all_uniques P same_type own (kept (is_of_final_zone (final_name message)) offers
-        (sections Authority))
+        let wanted : OfferOf → Bool = λ offer. may_come_from zone offer &&
+        is_of_final_zone (final_name message) offer in
+        let own : List OfferOf = filter (λ offer. wanted offer && is_measured relevance offer)
+        offers in
+        all_uniques P same_type own (kept wanted offers (sections Authority))
 
     of_additional : (naming : List OfferOf)
         → AllByRecursion P (relevant_additional naming message zone moment limits relevance)
