@@ -879,7 +879,12 @@ static inline enum rrcache_status rrcache_can_read(const struct rrcache_response
    names in the data of these records, in the order of the message: a name in two data counts twice,
    and one outside the zone counts, though its addresses are left out.
 
-   No DS set of `zone` itself is relevant, since its parent has it (RFC 4035 section 2.4).
+   No DS set of `zone` itself is relevant, since its parent has it (RFC 4035 section 2.4). An NS set
+   of the authority section is relevant in a referral alone (RFC 1034 section 4.3.2), with AA clear
+   and an owner below `zone`, or where NS was asked for: so the servers of a zone do not renew their
+   own delegation. A referral that comes again does renew its NS set. Who wants a delegation to end
+   with its first time to live peeks for that set, and skips the share of its name's part where an
+   unexpired set of the same data is held.
 
    No set with more than 16,384 octets of data is relevant, and of class IN none of type A in which
    a datum has other than 4 octets, or of type AAAA other than 16.
@@ -887,8 +892,8 @@ static inline enum rrcache_status rrcache_can_read(const struct rrcache_response
    So a server of `example` that is asked for one name can replace what is held of another one in
    three ways alone: its CNAME records lead the question there; its NS, MX or SRV records name the
    other one as a host; or the other one is above the question's name, or above one that CNAME
-   records lead to, and the server sends its NS, SOA, DS or DNAME records, but for DS records
-   of `example` itself. */
+   records lead to, and the server sends its NS, SOA, DS or DNAME records, of which NS and DS are
+   bounded as above. */
 static inline enum rrcache_status rrcache_read_response(struct rrcache_offers *offers,
                                                         const struct rrcache_response *response,
                                                         const struct rrcache_query *query,

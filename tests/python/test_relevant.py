@@ -80,13 +80,22 @@ RELEVANT = {
         to_a("example 60 DNAME x", *aliases([NAME, "a.x"]), "a.example 60 DNAME y"),
         [("example", DNAME, FRESH), (NAME, CNAME, FRESH)]),
     "a referral, with the address of its server and of another host": (
-        to_a(flags=0, authority=["example 60 NS ns.example"],
+        to_a(flags=0, authority=["a.example 60 NS ns.example"],
              additional=hosts("ns.example", "b.example")),
-        [("example", NS, FRESH), ("ns.example", A, FRESH)]),
+        [("a.example", NS, FRESH), ("ns.example", A, FRESH)]),
     "servers of another name": (to_a(flags=0, authority=["b.example 60 NS example"]), []),
-    "servers of two zones that the question is in": (
+    "servers of the zone itself and of one below it": (
         to_a(flags=0, authority=["example 60 NS a.example", "a.example 60 NS example"]),
-        [("example", NS, FRESH)]),
+        [("a.example", NS, FRESH)]),
+    "servers of the zone itself, with the address of one": (
+        to_a(flags=0, authority=["example 60 NS ns.example"], additional=hosts("ns.example")), []),
+    "an authoritative answer, with servers and the address of one": (
+        to_a(*hosts(NAME), authority=["a.example 60 NS ns.example"],
+             additional=hosts("ns.example")),
+        [(NAME, A, FRESH)]),
+    "two zones that the question is in": (
+        to_a(*hosts(NAME), authority=[SOA_RECORD, SOA_RECORD.replace("example", NAME, 1)]),
+        [(NAME, A, FRESH), ("example", SOA, FRESH)]),
     "a referral to a zone that is signed": (
         to_a(flags=0, authority=["a.example 60 NS b.example", f"a.example 60 DS {DIGEST}"]),
         [("a.example", NS, FRESH), ("a.example", DS, FRESH)]),
@@ -114,13 +123,19 @@ def test_what_is_relevant_in_responses(octets, relevant):
             assert shelf.peek(owner, rtype, 100, rrcache.Purpose.ANYTHING).kind == kind
 
 
-@pytest.mark.parametrize("name, kept", [("example", 0), ("a.example", 1)])
+@pytest.mark.parametrize("name, rtype, sections, kept", [
+    ("example", NS, [["example 60 NS b.example"], []], 2),
+    ("example", NS, [[], ["example 60 NS b.example"]], 2),
+    ("example", DS, [[f"example 60 DS {DIGEST}"], []], 0),
+    ("a.example", DS, [[f"a.example 60 DS {DIGEST}"], []], 1)])
 @pytest.mark.parametrize("flags", [AA, 0])
-def test_what_is_relevant_to_questions_about_a_zone(name, kept, flags):
-    """The keys of one below, and not of the zone itself."""
-    octets = answered(name, DS, f"{name} 60 DS {DIGEST}", flags=flags)
+def test_what_is_relevant_to_questions_about_a_zone(name, rtype, sections, kept, flags):
+    """Its servers with the address of one, in either section, and the keys of one below."""
+    answer, authority = sections
+    octets = answered(name, rtype, *answer, authority=authority, additional=hosts("b.example"),
+                      flags=flags)
     with rrcache.Shelf(seed=SEED) as shelf:
-        assert offered_as_relevant(shelf, octets, rrcache.Query(name, DS, ID)) == kept
+        assert offered_as_relevant(shelf, octets, rrcache.Query(name, rtype, ID)) == kept
 
 
 def chain(number):
@@ -130,7 +145,7 @@ def chain(number):
 
 def servers(number):
     names = [f"ns{it}.example" for it in range(number)]
-    return answered("x0.example", A, authority=[f"example 60 NS {it}" for it in names],
+    return answered("x0.example", A, authority=[f"x0.example 60 NS {it}" for it in names],
                     additional=hosts(*names), flags=0)
 
 

@@ -1,7 +1,7 @@
 -- SPDX-License-Identifier: MIT
 -- What is relevant of a message is some of what it offers.
 use Rattle.std.proofs.Common.{ℕ, List, [], ◌++◌, Bool, true, false, cond, refl, sym, subst, append_assoc}
-use Rattle.std.specs.Prelude.{filter, ◌||◌, ◌==◌, ◌&&◌}
+use Rattle.std.specs.Prelude.{filter, not, ◌||◌, ◌==◌, ◌&&◌}
 use Rattle.std.specs.Option.{option_to_list}
 use Rattle.rrc_history.specs.Fits.{OfferOf}
 use Rattle.rrc_wire.specs.declared.message.Message.{Message}
@@ -13,7 +13,7 @@ use Rattle.rrc_sets.specs.Aliases.{final_name}
 use Rattle.rrc_sets.specs.Denials.{negative_offer}
 use Rattle.rrc_sets.specs.Classes.{in_own_class}
 use Rattle.rrc_sets.specs.Offers.{section_offers, answer_offers, failure_offers, is_silent, offers_of}
-use Rattle.rrc_sets.specs.Relevant.{may_come_from, is_of_final_zone, is_measured, same_type, relevant_answer, relevant_authority, relevant_additional, relevant_offers, relevant_of}
+use Rattle.rrc_sets.specs.Relevant.{may_come_from, is_of_final_zone, may_refer, is_measured, same_type, relevant_answer, relevant_authority, relevant_additional, relevant_offers, relevant_of}
 use Rattle.rrc_sets.proofs.Subsets.{whole, of_filter, of_uniques, of_some, of_append}
 
 module _ (message : Message) (zone : List ℕ) (moment : ℕ) (limits : Limits) (relevance : RelevanceLimits) where
@@ -25,7 +25,7 @@ module _ (message : Message) (zone : List ℕ) (moment : ℕ) (limits : Limits) 
   unfolding relevant_authority
   of_authority =
       let offers = section_offers Authority message zone moment limits in
-      let wanted : OfferOf → Bool = λ offer. may_come_from zone offer && is_of_final_zone (final_name message) offer in
+      let wanted : OfferOf → Bool = λ offer. may_come_from zone offer && (is_of_final_zone (final_name message) offer && (not relevance.only_referrals || may_refer message zone offer)) in
       let own : List OfferOf = filter (λ offer. wanted offer && is_measured relevance offer) offers in
       of_some (relevant_authority message zone moment limits relevance) own offers (of_uniques same_type own) (of_filter _ offers)
 

@@ -58,6 +58,12 @@ has_below (Some name) offer = is_at_or_below name offer.key.name
 unfoldable pub is_of_final_zone : Option (List ℕ) → OfferOf → Bool
 is_of_final_zone final offer = (is_set_of 6 offer || (is_set_of 2 offer || is_set_of 43 offer)) && has_below final offer
 
+-- whether an RRset of the authority section is no NS RRset, or is that of a referral (RFC 1034 4.3.2), which has AA clear and leads below
+-- the zone, or was asked for
+unfoldable pub may_refer : Message → List ℕ → OfferOf → Bool
+may_refer message zone offer =
+    not (is_set_of 2 offer) || (message.question.qtype == 2 || (not message.aa && not (same_name zone offer.key.name)))
+
 -- whether two offers are of one type
 abbrev pub same_type : OfferOf → OfferOf → Bool
 same_type a b = slot_eq a.key.slot b.key.slot
@@ -123,7 +129,7 @@ relevant_answer message zone moment limits relevance =
 unfoldable pub relevant_authority : Message → List ℕ → ℕ → Limits → RelevanceLimits → List OfferOf
 relevant_authority message zone moment limits relevance =
     let final = final_name message in
-    let wanted = λ (offer : OfferOf). may_come_from zone offer && is_of_final_zone final offer in
+    let wanted = λ (offer : OfferOf). may_come_from zone offer && (is_of_final_zone final offer && (not relevance.only_referrals || may_refer message zone offer)) in
     uniques same_type (filter (λ offer. wanted offer && is_measured relevance offer) (section_offers Authority message zone moment limits))
 
 -- those of the additional section: addresses of the hosts that relevant offers name

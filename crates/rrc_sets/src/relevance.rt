@@ -14,6 +14,11 @@ pub struct RelevanceLimits {
     pub hosts: u8,
     /// The most octets of the rdata of an RRset, all together: by default 16,384.
     pub octets: u32,
+    /// Whether NS RRsets of the authority section are relevant in referrals alone (RFC 1034 section
+    /// 4.3.2): where AA is clear and their owner is below the zone; or where NS was asked for. By
+    /// default so: else the servers of a zone may prolong its delegation, also one that its parent
+    /// has ended.
+    pub only_referrals: bool,
 }
 
 impl Default for RelevanceLimits {
@@ -26,6 +31,7 @@ impl Default for RelevanceLimits {
             aliases: 11,
             hosts: 20,
             octets: 16_384,
+            only_referrals: true,
         }
     }
 }

@@ -9,7 +9,7 @@ ghost use Rattle.rrc_sets.specs.Response.{of_response};
 ghost use Rattle.rrc_sets.specs.Octets.{HasWithin};
 ghost use Rattle.rrc_sets.specs.Offers.{section_offers, offers_of};
 ghost use Rattle.rrc_sets.specs.Queries.{mismatch};
-ghost use Rattle.rrc_sets.specs.Relevant.{may_come_from, is_owned_by, is_above, is_asked_for, is_on_chain, has_below, is_of_final_zone, same_type, is_address_of, relevant_answer, relevant_authority, relevant_additional, relevant_offers, relevant_of};
+ghost use Rattle.rrc_sets.specs.Relevant.{may_come_from, is_owned_by, is_above, is_asked_for, is_on_chain, has_below, is_of_final_zone, may_refer, same_type, is_address_of, relevant_answer, relevant_authority, relevant_additional, relevant_offers, relevant_of};
 
 use crate::alias::{final_name, question_names, same};
 use crate::class::in_own_class;
@@ -89,6 +89,17 @@ fn is_of_final_zone(name: &Option<Name>, offer: &Offer) -> bool
 {
     (is_set_of(SOA, offer) || is_set_of(NS, offer) || is_set_of(DS, offer))
         && has_below(name, offer)
+}
+
+/// Whether an RRset of the authority section is no NS RRset, or is that of a referral (RFC 1034
+/// section 4.3.2), which has AA clear and leads below the zone, or was asked for.
+#[tactic(auto, unfolding(crate::specs::Relevant::may_refer))]
+fn may_refer(message: &Message, zone: &Name, offer: &Offer) -> bool
+    ensures { result ≡ may_refer message.now zone.now offer.now }
+{
+    !is_set_of(NS, offer)
+        || message.question.qtype == NS
+        || (!message.aa && !zone.same(&offer.key.name))
 }
 
 /// Whether the owner of an offer is one of these hosts.
@@ -186,6 +197,7 @@ fn relevant_authority(
     offers.retain(|offer| {
         may_come_from(response.zone, offer)
             && is_of_final_zone(&name, offer)
+            && (!relevance.only_referrals || may_refer(response.message, response.zone, offer))
             && is_measured(relevance, offer)
     });
     let firsts = first_of_each_type(alloc, offers)?;
@@ -261,7 +273,8 @@ fn relevant_of(
 ///   have the type that was asked for or are CNAME records, and the DNAME records above such a
 ///   name;
 /// - of the authority section the first SOA record, the first NS and the first DS RRset of a zone
-///   that the final name is in;
+///   that the final name is in, where an NS RRset is that of a referral or was asked for, unless
+///   the limits say that any will do (`only_referrals`, RFC 1034 section 4.3.2);
 /// - of the additional section the addresses of hosts that NS, MX and SRV records among these name;
 /// - the negative answer, and the failure.
 ///

@@ -1,6 +1,6 @@
 -- SPDX-License-Identifier: MIT
 -- The relevant offers of a response are within the limit of octets, and make entries of few octets.
-use Rattle.std.specs.Prelude.{◌≡◌, ℕ, ◌+◌, ◌*◌, ◌/◌, ◌≤◌, ◌&&◌, ◌||◌, ◌==◌, Bool, true, false, cond, List, [], ◌∷◌, ◌++◌, length, filter, Option, Some, None, IfSome}
+use Rattle.std.specs.Prelude.{◌≡◌, ℕ, ◌+◌, ◌*◌, ◌/◌, ◌≤◌, ◌&&◌, ◌||◌, ◌==◌, not, Bool, true, false, cond, List, [], ◌∷◌, ◌++◌, length, filter, Option, Some, None, IfSome}
 use Rattle.std.specs.List.{All, AllByRecursion, sum_by}
 use Rattle.std.specs.Option.{option_to_list}
 use Rattle.std.proofs.Common.{refl, sym, ap, subst, arith}
@@ -24,7 +24,7 @@ use Rattle.rrc_sets.specs.Classes.{in_own_class}
 use Rattle.rrc_sets.specs.Denials.{negative_offer}
 use Rattle.rrc_sets.specs.Octets.{most_octets, HasWithin, MakesAtMost, AreFew}
 use Rattle.rrc_sets.specs.Offers.{section_offers, failure_offers, is_silent}
-use Rattle.rrc_sets.specs.Relevant.{items_of, is_measured, may_come_from, is_on_chain, is_of_final_zone, is_address_of, same_type, hosts_named, relevant_answer, relevant_authority, relevant_additional, relevant_offers, relevant_of}
+use Rattle.rrc_sets.specs.Relevant.{items_of, is_measured, may_come_from, is_on_chain, is_of_final_zone, may_refer, is_address_of, same_type, hosts_named, relevant_answer, relevant_authority, relevant_additional, relevant_offers, relevant_of}
 use Rattle.rrc_sets.specs.lemmas.MessageSizes.{all_append, HasSize, of_message, of_own_class}
 use Rattle.rrc_sets.specs.lemmas.OfferSizes.{all_uniques, IsSmallBody, IsSmall, IsBare, of_section, negative_bare, of_negative, failures_bare, of_failure}
 
@@ -124,7 +124,8 @@ module _ (P Q : OfferOf → Type 0) (relevance : RelevanceLimits)
     of_authority =
         let offers = section_offers Authority message zone moment limits in
         let wanted : OfferOf → Bool = λ offer. may_come_from zone offer &&
-        is_of_final_zone (final_name message) offer in
+        (is_of_final_zone (final_name message) offer &&
+        (not relevance.only_referrals || may_refer message zone offer)) in
         let own : List OfferOf = filter (λ offer. wanted offer && is_measured relevance offer)
         offers in
         all_uniques P same_type own (kept wanted offers (sections Authority))
