@@ -876,8 +876,9 @@ static inline enum rrcache_status rrcache_can_read(const struct rrcache_response
    records above them; of the authority section, the first NS, SOA and DS set of a zone that the
    last name is in; of the additional section, addresses of the hosts that NS, MX and SRV records
    among these name; and the negative answer, or that asking failed. The hosts are the first 20
-   names in the data of these records, in the order of the message: a name in two data counts twice,
-   and one outside the zone counts, though its addresses are left out.
+   names in the data of these records, those of NS records first, else in the order of the message:
+   a name in two data counts once, and one outside the zone counts, though its addresses are left
+   out.
 
    No DS set of `zone` itself is relevant, since its parent has it (RFC 4035 section 2.4). An NS set
    of the authority section is relevant in a referral alone (RFC 1034 section 4.3.2), with AA clear

@@ -3,7 +3,7 @@
 import pytest
 from dns.flags import AA, TC
 from dns.rcode import NXDOMAIN, SERVFAIL
-from dns.rdatatype import A, CNAME, DNAME, DS, NS, SOA, TXT
+from dns.rdatatype import A, CNAME, DNAME, DS, MX, NS, SOA, TXT
 
 import rrcache
 from tests.forwarder.harness import (ID, SOA as SOA_RECORD, aliases, answered, hosts, record_of,
@@ -149,15 +149,38 @@ def servers(number):
                     additional=hosts(*names), flags=0)
 
 
+def mail(number):
+    """Hosts that two records name each, with another preference and in other case."""
+    names = [f"mx{it}.example" for it in range(number)]
+    data = [bytes([0, 1]) + wire_name(it) for it in names]
+    data += [bytes([0, 2]) + wire_name(it.upper()) for it in names]
+    return answered("x0.example", MX, *(record_of("x0.example.", MX, it) for it in data),
+                    additional=hosts(*names))
+
+
 def text_of(size):
     return answered("x0.example", TXT, record_of("x0.example.", TXT, bytes(size)))
 
 
 @pytest.mark.parametrize("octets_of, number, rtype, kept", [
     (chain, 11, A, 12), (chain, 12, A, 12), (servers, 20, A, 21), (servers, 21, A, 21),
+    (mail, 20, MX, 21), (mail, 21, MX, 21),
     (text_of, 16_384, TXT, 1), (text_of, 16_385, TXT, 0)])
 def test_how_much_is_relevant(octets_of, number, rtype, kept):
     """At most 11 aliases behind the question's name, 20 hosts, and 16,384 octets of an RRset."""
     query = rrcache.Query("x0.example", rtype, ID)
     with rrcache.Shelf(seed=SEED) as shelf:
         assert offered_as_relevant(shelf, octets_of(number), query) == kept
+
+
+def test_hosts_of_servers_come_first():
+    """Ten mail hosts and 13 servers: the addresses of all servers, and of seven mail hosts."""
+    exchanges = [f"mx{it}.example" for it in range(10)]
+    names = [f"ns{it}.example" for it in range(13)]
+    octets = answered("x0.example", MX, *(f"x0.example 60 MX 10 {it}" for it in exchanges),
+                      authority=[f"x0.example 60 NS {it}" for it in names],
+                      additional=hosts(*exchanges, *names), flags=0)
+    with rrcache.Shelf(seed=SEED) as shelf:
+        assert offered_as_relevant(shelf, octets, rrcache.Query("x0.example", MX, ID)) == 22
+        kinds = [shelf.peek(it, A, 100, rrcache.Purpose.ANYTHING).kind for it in names + exchanges]
+    assert kinds == 20 * [FRESH] + 3 * [rrcache.Kind.MISS]

@@ -71,7 +71,7 @@ module _ {A : Type 0} (same : A → A → Bool) (laws : IsEquivalence same) wher
       ap (λ us. x ∷ filter (λ other. not (same x other)) us) (uniques-push xs z) ∙ push-head x z (uniques same xs)
 
   -- no two are the same
-  abbrev AreUnlike : List A → Type 0
+  abbrev pub AreUnlike : List A → Type 0
   AreUnlike [] = Unit {0}
   AreUnlike (x ∷ xs) = AllByRecursion (λ other. same x other ≡ false) xs × AreUnlike xs
 
@@ -101,7 +101,7 @@ module _ {A : Type 0} (same : A → A → Bool) (laws : IsEquivalence same) wher
       by rest true is = rest
       by rest false is = (is, rest)
 
-  uniques-unlike : (xs : List A) → AreUnlike (uniques same xs)
+  pub uniques-unlike : (xs : List A) → AreUnlike (uniques same xs)
   uniques-unlike [] = tt
   uniques-unlike (x ∷ xs) =
       (unlike-first x (uniques same xs), unlike-filter (λ other. not (same x other)) (uniques same xs) (uniques-unlike xs))

@@ -88,9 +88,10 @@ host_place offer =
 abbrev pub hosts_of : OfferOf → List (List ℕ)
 hosts_of offer = option_map_or (λ place. map (drop place) (items_of offer.body)) (host_place offer) []
 
--- the hosts that offers name, so many at most
+-- the hosts that offers name, those of NS RRsets first, each once, so many at most
 unfoldable pub hosts_named : ℕ → List OfferOf → List (List ℕ)
-hosts_named most offers = take most (flat_map hosts_of offers)
+hosts_named most offers =
+    take most (uniques same_name (flat_map hosts_of (filter (is_set_of 2) offers) ++ flat_map hosts_of (filter (λ offer. not (is_set_of 2 offer)) offers)))
 
 -- the addresses of a host
 unfoldable pub is_address_of : List (List ℕ) → OfferOf → Bool

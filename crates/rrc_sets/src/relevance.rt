@@ -9,8 +9,8 @@ pub struct RelevanceLimits {
     /// The most aliases behind the question's name (RFC 1034 section 3.6.2): 0 to 255, by default
     /// 11.
     pub aliases: u8,
-    /// The most hosts, named by NS, MX and SRV records, whose addresses are relevant: 0 to 255, by
-    /// default 20.
+    /// The most hosts whose addresses are relevant: 0 to 255, by default 20. They are named by NS,
+    /// MX and SRV records, and each counts once.
     pub hosts: u8,
     /// The most octets of the rdata of an RRset, all together: by default 16,384.
     pub octets: u32,

@@ -275,7 +275,8 @@ fn relevant_of(
 /// - of the authority section the first SOA record, the first NS and the first DS RRset of a zone
 ///   that the final name is in, where an NS RRset is that of a referral or was asked for, unless
 ///   the limits say that any will do (`only_referrals`, RFC 1034 section 4.3.2);
-/// - of the additional section the addresses of hosts that NS, MX and SRV records among these name;
+/// - of the additional section the addresses of hosts that NS, MX and SRV records among these name:
+///   those of NS records count first, and each counts once;
 /// - the negative answer, and the failure.
 ///
 /// A DS RRset of the zone itself is never among them: its parent has it (RFC 4035 section 2.4).

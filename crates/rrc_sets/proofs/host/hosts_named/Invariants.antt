@@ -1,12 +1,15 @@
 -- SPDX-License-Identifier: MIT
--- the hosts of the offers so far, while they are not too many
-use Rattle.std.proofs.Common.{◌≡◌, ◌≤◌, length, take}
+-- the hosts of the NS RRsets, and of the others so far, each once, while they are not too many
+use Rattle.std.proofs.Common.{◌≡◌, ◌++◌, take}
+use Rattle.std.specs.Prelude.{filter, not}
 use Rattle.std.specs.List.{flat_map}
-use Rattle.rrc_sets.specs.Relevant.{hosts_of}
+use Rattle.rrc_name.specs.Wire.{same_name}
+use Rattle.rrc_history.specs.Fits.{OfferOf}
+use Rattle.rrc_sets.specs.Relevant.{is_set_of, hosts_of}
+use Rattle.rrc_sets.specs.Uniques.{uniques}
 use Rattle.rrc_sets.proofs.host.hosts_named.Given as goal
 
 abbrev pub invariant-loop-offer : goal.invariant-loop-offer
-invariant-loop-offer l = record {
-  value : l.hosts.items ≡ take l.most (flat_map hosts_of (take l.offer-index l.offers));
-  few : length l.hosts.items ≤ l.most;
-}
+invariant-loop-offer l =
+    l.hosts.items ≡ take l.most (uniques same_name (flat_map hosts_of (filter (is_set_of 2) l.offers)
+    ++ flat_map hosts_of (filter (λ (offer : OfferOf). not (is_set_of 2 offer)) (take l.offer-index l.offers))))
