@@ -184,3 +184,45 @@ def test_hosts_of_servers_come_first():
         assert offered_as_relevant(shelf, octets, rrcache.Query("x0.example", MX, ID)) == 22
         kinds = [shelf.peek(it, A, 100, rrcache.Purpose.ANYTHING).kind for it in names + exchanges]
     assert kinds == 20 * [FRESH] + 3 * [rrcache.Kind.MISS]
+
+
+# A name of z.example, as the servers of that zone answer, which add its NS RRset, and as those of
+# its parent do, which refer to them.
+OF_Z = rrcache.Query("www.z.example", A, ID)
+SERVERS = ["z.example 100 NS ns.z.example"]
+ANSWER = answered("www.z.example", A, *hosts("www.z.example"), authority=SERVERS)
+REFERRAL = answered("www.z.example", A, authority=SERVERS, flags=0)
+
+
+def is_delegated(shelf, moment):
+    return shelf.peek("z.example", NS, moment, rrcache.Purpose.ANYTHING).kind == FRESH
+
+
+def offer_relevant(shelf, octets, zone, moment):
+    with rrcache.read_response(octets, zone, OF_Z, PARTS, moment) as offers:
+        shelf.offer_read(offers, 0)
+
+
+def offer_all(shelf, octets, zone, moment):
+    shelf.offer_message_unchecked(octets, zone, moment)
+
+
+def offer_unless_delegated(shelf, octets, zone, moment):
+    if not is_delegated(shelf, moment):
+        offer_relevant(shelf, octets, zone, moment)
+
+
+@pytest.mark.parametrize("octets, zone, offer, ends", [
+    (ANSWER, "z.example", offer_relevant, 100), (ANSWER, "z.example", offer_all, 1000),
+    (REFERRAL, "example", offer_unless_delegated, 100), (REFERRAL, "example", offer_relevant, 1000),
+])
+def test_when_a_delegation_ends(octets, zone, offer, ends):
+    """It came with a TTL of 100, and its parent took it back at once. While it is held these
+    servers are asked each 20 seconds, for 1,000 seconds at most."""
+    moment = 0
+    with rrcache.Shelf(seed=SEED) as shelf:
+        offer_relevant(shelf, REFERRAL, "example", moment)
+        while is_delegated(shelf, moment) and moment < 1000:
+            offer(shelf, octets, zone, moment)
+            moment += 20
+    assert moment == ends
