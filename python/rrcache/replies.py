@@ -53,7 +53,8 @@ class StoredEntry:
     it was stored, and that moment; the number of the event that stored it, which no other entry of
     the shelf has; and its age, which is how many touches came after its own last one. An ask that
     it answers touches it, where it is not in front already, and so the age is 0 then; a peek
-    touches nothing. A resolver renews data before `ttl` seconds from `moment` on are over, where they are asked for late in that time.
+    touches nothing. A resolver renews data before `ttl` seconds from `moment` on are over, where
+    they are asked for late in that time.
 
     >>> entry = StoredEntry(Kind.FRESH, Trust.AUTHORITY, ttl=60, moment=1000, number=0, age=0)
     >>> entry.moment + entry.ttl

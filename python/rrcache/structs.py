@@ -159,7 +159,7 @@ class FailureTerms(Structure):
 # ---- Numbers of a struct, all at once: that takes a third of the time of one after another, and
 # one that its field has no room for is refused, of which ctypes would keep the lower bits.
 
-LETTERS = {c_uint16: "H", c_uint32: "I", c_uint64: "Q", Seed: f"{SEED_OCTETS}s"}
+LETTERS = {c_bool: "?", c_uint16: "H", c_uint32: "I", c_uint64: "Q", Seed: f"{SEED_OCTETS}s"}
 
 
 def letters_of(kind: Any) -> str:

@@ -1116,8 +1116,8 @@ static void test_ages_of_asks(struct rrcache_shelf *shelf)
            && have_ages(shelf, 2, 1, 0));
     EXPECT(asked(shelf, OF(NAME), question(A, FIRST)).told.entry.age == 2
            && have_ages(shelf, 0, 2, 1));
-    /* An ask that the entry in front answers, a miss, an ask that is refused and one whose buffer is
-       too small touch nothing. */
+    /* An ask that the entry in front answers, a miss, an ask that is refused and one whose buffer
+       is too small touch nothing. */
     EXPECT(asked(shelf, OF(NAME), question(A, FIRST)).told.entry.age == 0
            && have_ages(shelf, 0, 2, 1));
     struct rrcache_told told;
@@ -2017,8 +2017,8 @@ static uint32_t refused_answer(const uint8_t *octets, size_t size)
     return status;
 }
 
-/* Octets of which the identifier, QR or the question is not that of a response to the query, whether
-   they can be read or not, and those that answer it and cannot be read. */
+/* Octets of which the identifier, QR or the question is not that of a response to the query,
+   whether they can be read or not, and those that answer it and cannot be read. */
 static void test_octets_by_their_front(void)
 {
     enum { QUESTION = 29 }; /* the octets of a header and the question */

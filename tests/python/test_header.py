@@ -105,7 +105,7 @@ def test_layouts_of_structs():
 
 
 def leaves(it):
-    """The numbers of a struct of ctypes, one after another; a seed as octets."""
+    """The numbers and truth values of a struct of ctypes, one after another; a seed as octets."""
     for name, _ in it._fields_:
         value = getattr(it, name)
         if isinstance(value, Structure):
@@ -118,7 +118,8 @@ def leaves(it):
     f"rrcache_{it}" for it in ("shelf", "offers", "chapters", "name")}))
 def test_numbers_are_filled_and_read_in_their_places(name):
     made, numbers = STRUCTS[name](), count(1)
-    given = [bytes([next(numbers)] * 16) if isinstance(it, bytes) else next(numbers)
+    given = [bytes([next(numbers)] * 16) if isinstance(it, bytes)
+             else next(numbers) > 0 if isinstance(it, bool) else next(numbers)
              for it in leaves(made)]
     assert structs.fill(made, *given) is made
     assert [*leaves(made)] == given == [*structs.numbers_in(made)]

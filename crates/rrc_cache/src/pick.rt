@@ -2,9 +2,9 @@
 use rrc_name::Slot;
 use std::marker::Model;
 
-/// Which entry an ask moves to the front, as `LeanPart::judge` found it, for `LeanPart::note_asked`.
-/// Contracts see the slot of its key, or `None` where none is to be moved: no entry answers, or the
-/// one that does stands in front.
+/// Which entry an ask moves to the front, as `LeanPart::judge` found it, for
+/// `LeanPart::note_asked`. Contracts see the slot of its key, or `None` where none is to be moved:
+/// no entry answers, or the one that does stands in front.
 #[derive(Debug, Drop)]
 pub struct Pick {
     pub(crate) slot: Option<Slot>,
