@@ -239,7 +239,7 @@ enum rrcache_status {
     RRCACHE_SMALL = 16,           /* the buffer is too small: `told` says what it needs, and no
                                      event was written */
     RRCACHE_NULL = 17,            /* a pointer is null (told by the inline functions alone) */
-    RRCACHE_NO_OFFERS = 18,       /* the handle holds no offers */
+    RRCACHE_NO_OFFERS = 18,       /* the handle holds no offers, or none with this number */
     RRCACHE_HAS_OFFERS = 19,      /* the handle holds offers already */
     RRCACHE_OTHER_QUERY = 20,     /* the octets have another identifier or question than the query
                                      that was sent, or are a query themselves */
@@ -628,6 +628,8 @@ uint32_t rrc_read_response(struct rrcache_offers *offers, const uint8_t *octets,
 uint32_t rrc_read_message_unchecked(struct rrcache_offers *offers, const uint8_t *octets,
                                     size_t size, const uint8_t *zone, size_t zone_size,
                                     const struct rrc_response *response, uint64_t *concerned);
+uint32_t rrc_tell_offer(struct rrcache_offers *offers, uint64_t index, struct rrcache_name *name,
+                        struct rrcache_told *told, uint8_t *buffer, size_t buffer_size);
 uint32_t rrc_offer_read(struct rrcache_shelf *shelf, struct rrcache_offers *offers,
                         const struct rrcache_share *share, struct rrcache_counts *counts);
 uint32_t rrc_free_offers(struct rrcache_offers *offers);
@@ -716,7 +718,7 @@ static inline const char *rrcache_status_text(enum rrcache_status status)
     case RRCACHE_NULL:
         return "a pointer is null";
     case RRCACHE_NO_OFFERS:
-        return "the handle holds no offers";
+        return "the handle holds no offers, or none with this number";
     case RRCACHE_HAS_OFFERS:
         return "the handle holds offers already";
     case RRCACHE_OTHER_QUERY:
@@ -860,7 +862,7 @@ static inline enum rrcache_status rrcache_can_read(const struct rrcache_response
    takes no shelf and writes no event. A handle that holds offers keeps them, and RRCACHE_HAS_OFFERS
    is returned, whatever else would be refused. Where a response offers nothing, as one with TC set,
    `concerned` is 0, and the handle is to be freed like any other. What the handle holds can be
-   offered, and cannot be read.
+   offered, and told by `rrcache_tell_offer`.
 
    The identifier and the question are compared first (RFC 5452 section 9.1), and what stands behind
    them is read only where they are the query's. So octets that are RRCACHE_OTHER_QUERY cost next to
@@ -965,6 +967,36 @@ static inline enum rrcache_status rrcache_offer_read(struct rrcache_shelf *shelf
         || rrcache_overlap(counts, sizeof *counts, share, sizeof *share))
         return RRCACHE_OVERLAP;
     return (enum rrcache_status)rrc_offer_read(shelf, offers, share, counts);
+}
+
+/* Tells one of the offers that a handle holds, by its number: they are counted from 0, in the order
+   of the message, and RRCACHE_NO_OFFERS is returned where there is none with this number. It is
+   told as the reply that it makes at the moment of the response, with its whole TTL left. So a
+   client that waits can be answered by what no shelf keeps: data with a TTL of 0, or less trusted
+   than what is held. `name` is made, under the seed that the response was read with, from the name
+   that the offer is of: the owner of a set, or the name that is denied or that asking failed for.
+   Its `part` is where the offer lies.
+
+   `told->rtype` is the offer's type, and 0 with RRCACHE_NXDOMAIN; `told->retry_from`, with
+   RRCACHE_FAILED, is when the failure is over; `told->entry` has rank, TTL and moment of the offer,
+   and 0 for what only a shelf can tell. All offers of a response are of the class of its question.
+   Where the buffer is too small RRCACHE_SMALL is returned, and `name` and `told` are told: 28,551
+   octets are always enough after `rrcache_read_response`. It takes no memory. */
+static inline enum rrcache_status rrcache_tell_offer(struct rrcache_offers *offers, uint64_t index,
+                                                     struct rrcache_name *name,
+                                                     struct rrcache_told *told, uint8_t *buffer,
+                                                     size_t buffer_size)
+{
+    uint8_t none;
+    if (offers == NULL || name == NULL || told == NULL || !rrcache_is_there(buffer, buffer_size))
+        return RRCACHE_NULL;
+    if (rrcache_overlap(name, sizeof *name, told, sizeof *told)
+        || rrcache_overlap(offers, sizeof *offers, buffer, buffer_size)
+        || rrcache_touch(name, sizeof *name, told, sizeof *told, offers, sizeof *offers)
+        || rrcache_touch(name, sizeof *name, told, sizeof *told, buffer, buffer_size))
+        return RRCACHE_OVERLAP;
+    return (enum rrcache_status)rrc_tell_offer(offers, index, name, told,
+                                               buffer_size == 0 ? &none : buffer, buffer_size);
 }
 
 /* Frees the offers of a handle, which then holds none; what shelves kept of them stays. Where it

@@ -81,6 +81,23 @@ def room_for(told: structs.Told) -> Any:
     return create_string_buffer(told.owner_size + told.data_size)
 
 
+def told_offer(handle: structs.Offers, index: int) -> tuple[Name, Reply] | None:
+    """The offer with a number of those that were read: the name that it is of, and the reply that
+    it makes. None is answered where there is no such offer."""
+    work, made = taken(), structs.Name()
+    try:
+        tell, buffer = library().rrc_tell_offer, work.buffer
+        while status := tell(handle, index, made, work.told, buffer, sizeof(buffer)):
+            if status == Status.NO_OFFERS:
+                return None
+            if status != Status.SMALL:
+                raise refusal(status)
+            buffer = room_for(work.told)
+        return Name(made), reply_of(work.told, buffer)
+    finally:
+        _idle.append(work)
+
+
 def answered(export: str, handle: structs.Shelf, name: Name, *question: int) -> Reply:
     """The reply to a question, whose numbers are those of `struct rrcache_question`, of a call that
     asks. A reply that has no room is asked for again, since no event was written."""

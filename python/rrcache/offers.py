@@ -2,23 +2,28 @@
 """The offers of a message that was read once, for several parts."""
 from __future__ import annotations
 
+import itertools
+from collections.abc import Iterator
 from ctypes import c_uint64
 from typing import Any
 
 from . import structs
+from .asking import told_offer
 from .library import Held, seed_of, sized, told
 from .names import to_wire
-from .parts import Parts
-from .replies import Limits, Query
+from .parts import Name, Parts
+from .replies import Limits, Query, Reply
 
 
 class Offers(Held):
     """What a response says that servers of a zone sent, read once and for no shelf, by
-    `read_response`: `Shelf.offer_read` then offers the share of a part. What they are cannot be
-    read here. It is for one thread at a time. A `with` frees it at its end, and offering it after
-    that raises `NoOffers`.
+    `read_response`: `Shelf.offer_read` then offers the share of a part. It is for one thread at a
+    time. A `with` frees it at its end, and offering it after that raises `NoOffers`.
 
-    `concerned` are the parts, counted from 0, that the response has something for.
+    `concerned` are the parts, counted from 0, that the response has something for. To go through
+    the offers tells of each, in the order of the message, the name that it is of, whose `part` is
+    where it lies, and the reply that it makes at the moment of the response, with its whole TTL
+    left, also where no shelf will keep it.
     """
 
     _kind, _freed_by = structs.Offers, "rrc_free_offers"
@@ -26,6 +31,13 @@ class Offers(Held):
     def __init__(self) -> None:
         super().__init__()
         self.concerned: list[int] = []
+
+    def __iter__(self) -> Iterator[tuple[Name, Reply]]:
+        for index in itertools.count():
+            offer = told_offer(self._handle, index)
+            if offer is None:
+                return
+            yield offer
 
     def _read(self, export: str, count: int, *arguments: Any) -> Offers:
         """Reads them, for so many parts."""
@@ -57,8 +69,8 @@ def read_response(message: bytes, zone: str | bytes, query: Query, parts: Parts,
     >>> message += b"\\3www\\7example\\0\\0\\1\\0\\1"
     >>> query, parts = Query("www.example.", 1, id=0x1234), Parts(16, seed=os.urandom(16))
     >>> with read_response(message, "example.", query, parts, moment=1000) as offers:
-    ...     offers.concerned
-    []
+    ...     offers.concerned, list(offers)
+    ([], [])
     """
     return Offers()._read("rrc_read_response", parts.count, *sized(message), *sized(to_wire(zone)),
                           *sized(to_wire(query.name)), terms(moment, limits, 0, parts, 0, query))

@@ -149,7 +149,7 @@ class Wide(Refused):
 class NoOffers(Refused):
     """The offers were freed."""
 
-    status, reason = Status.NO_OFFERS, "the handle holds no offers"
+    status, reason = Status.NO_OFFERS, "the handle holds no offers, or none with this number"
 
 
 class HasOffers(Refused):

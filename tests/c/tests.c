@@ -1932,6 +1932,67 @@ static void test_relevant(void)
     EXPECT(rrcache_free(&shelf) == RRCACHE_DONE);
 }
 
+/* Whether the name and the reply that were told are of an offer at FIRST with a TTL of 300, and the
+   buffer has its owner, which is the name, and its one datum. */
+static bool is_told_offer(const struct rrcache_name *name, const struct rrcache_told *told,
+                          const uint8_t *buffer, const uint8_t *owner, size_t owner_size,
+                          uint16_t rtype, uint32_t trust, const uint8_t *datum, size_t size)
+{
+    struct rrcache_name made = name_of(owner, owner_size);
+    return name->size == made.size && memcmp(name->octets, made.octets, made.size) == 0
+           && name->hash == made.hash && name->part == made.part && told->kind == RRCACHE_FRESH
+           && told->rtype == rtype && told->left == 300 && told->retry_from == 0
+           && is_entry(&told->entry, RRCACHE_FRESH, trust, 300, FIRST, 0, 0)
+           && told->owner_size == owner_size && told->data_size == size + 2
+           && memcmp(buffer, owner, owner_size) == 0 && buffer[owner_size] == 0
+           && buffer[owner_size + 1] == size && memcmp(buffer + owner_size + 2, datum, size) == 0;
+}
+
+/* Each offer that was read is told by its number. A buffer that is too small, and a number that
+   there is not, leave what they may not write. */
+static void test_told_offers(void)
+{
+    static const uint8_t ADDRESS_9[] = {192, 0, 2, 9};
+    struct rrcache_offers offers = {0};
+    struct rrcache_response response = response_of(OF(ALIAS));
+    struct rrcache_query query = query_of(OF(UPPER));
+    struct rrcache_name name = {0};
+    struct rrcache_told told = {0}, as_it_was;
+    uint8_t buffer[64] = {0}, zeros[64] = {0};
+    uint64_t concerned;
+#define TELL(index, room) rrcache_tell_offer(&offers, index, &name, &told, buffer, room)
+    EXPECT(TELL(0, sizeof buffer) == RRCACHE_NO_OFFERS);
+    EXPECT(rrcache_read_response(&offers, &response, &query, PARTED(PARTS), &concerned)
+           == RRCACHE_DONE);
+    EXPECT(TELL(2, sizeof buffer) == RRCACHE_NO_OFFERS
+           && TELL(UINT64_MAX, sizeof buffer) == RRCACHE_NO_OFFERS && name.size == 0
+           && told.kind == 0 && memcmp(buffer, zeros, sizeof buffer) == 0);
+    EXPECT(TELL(0, sizeof NAME + sizeof OTHER + 1) == RRCACHE_SMALL && name.size == sizeof NAME
+           && told.rtype == CNAME && told.owner_size == sizeof NAME
+           && told.data_size == 2 + sizeof OTHER && memcmp(buffer, zeros, sizeof buffer) == 0);
+    EXPECT(TELL(1, 0) == RRCACHE_SMALL && told.rtype == A);
+    EXPECT(TELL(0, sizeof NAME + sizeof OTHER + 2) == RRCACHE_DONE
+           && is_told_offer(&name, &told, buffer, OF(NAME), CNAME, RRCACHE_AUTHORITATIVE_ANSWER,
+                            OF(OTHER)));
+    EXPECT(TELL(1, sizeof buffer) == RRCACHE_DONE
+           && is_told_offer(&name, &told, buffer, OF(OTHER), A, RRCACHE_NON_AUTHORITATIVE_ANSWER,
+                            OF(ADDRESS_9)));
+    as_it_was = told;
+    EXPECT(TELL(2, sizeof buffer) == RRCACHE_NO_OFFERS
+           && memcmp(&told, &as_it_was, sizeof told) == 0);
+#undef TELL
+    EXPECT(rrcache_tell_offer(NULL, 0, &name, &told, buffer, 1) == RRCACHE_NULL
+           && rrcache_tell_offer(&offers, 0, NULL, &told, buffer, 1) == RRCACHE_NULL
+           && rrcache_tell_offer(&offers, 0, &name, NULL, buffer, 1) == RRCACHE_NULL
+           && rrcache_tell_offer(&offers, 0, &name, &told, NULL, 1) == RRCACHE_NULL
+           && rrcache_tell_offer(&offers, 0, &name, &told, NULL, 0) == RRCACHE_SMALL);
+    EXPECT(rrcache_tell_offer(&offers, 0, &name, &told, (uint8_t *)&told, 1) == RRCACHE_OVERLAP
+           && rrcache_tell_offer(&offers, 0, &name, &told, (uint8_t *)&name, 1) == RRCACHE_OVERLAP
+           && rrcache_tell_offer(&offers, 0, &name, &told, (uint8_t *)&offers, 1)
+                  == RRCACHE_OVERLAP);
+    EXPECT(rrcache_free_offers(&offers) == RRCACHE_DONE);
+}
+
 /* What is refused of a response, the first that is due, leaves the handle empty and nothing told.
  */
 static void test_refused_responses(void)
@@ -3939,6 +4000,7 @@ static void (*const TESTS[])(void) = {
     test_parts,
     test_whole_message,
     test_relevant,
+    test_told_offers,
     test_refused_responses,
     test_other_queries,
     test_octets_by_their_front,

@@ -226,3 +226,55 @@ def test_when_a_delegation_ends(octets, zone, offer, ends):
             offer(shelf, octets, zone, moment)
             moment += 20
     assert moment == ends
+
+
+def told(octets, query=None, zone="example"):
+    """What is told of the offers of a response: of those that are relevant to a query, or of all of
+    them; and the same names by `make_name`."""
+    parts = rrcache.Parts(16, SEED)
+    with (rrcache.read_response(octets, zone, query, parts, 100) if query else
+          rrcache.read_message_unchecked(octets, zone, parts, 100)) as offers:
+        found = list(offers)
+        assert sorted({name.part for name, _ in found}) == offers.concerned
+    made = [rrcache.make_name(name.octets, parts) for name, _ in found]
+    assert [name.part for name, _ in found] == [it.part for it in made]
+    return [(name.octets, reply) for name, reply in found]
+
+
+def test_what_was_read_is_told():
+    """In the order of the message, also what no shelf keeps."""
+    octets = answered("www.example", A, "www.example 0 CNAME a.example", "a.example 7 A 192.0.2.9",
+                      "a.example 7 A 192.0.2.8", flags=0)
+    query = rrcache.Query("www.example", A, ID)
+    (alias, first), (name, second) = told(octets, query)
+    assert (alias, name) == (wire_name("www.example"), wire_name("a.example"))
+    assert (first.kind, first.rtype, first.left, first.owner) == (
+        FRESH, CNAME, 0, wire_name("www.example"))
+    assert first.data == (wire_name("a.example"),)
+    low = rrcache.Trust.NON_AUTHORITATIVE_ANSWER
+    assert (first.entry.trust, first.entry.ttl, first.entry.moment) == (low, 0, 100)
+    assert (first.entry.number, first.entry.age, first.retry_from) == (0, 0, 0)
+    assert (second.kind, second.rtype, second.left) == (FRESH, A, 7)
+    assert second.owner == wire_name("a.example")
+    assert second.data == (bytes([192, 0, 2, 9]), bytes([192, 0, 2, 8]))
+
+
+def test_negative_answers_and_failures_that_were_read_are_told():
+    (_, soa), (name, missing) = told(to_a(authority=[SOA_RECORD], rcode=NXDOMAIN))
+    assert (name, missing.kind, missing.rtype) == (wire_name(NAME), NO_NAME, 0)
+    assert (missing.owner, missing.data) == (soa.owner, soa.data)
+    _, (name, missing) = told(to_a(authority=[SOA_RECORD]))
+    assert (name, missing.kind, missing.rtype) == (wire_name(NAME), rrcache.Kind.NODATA, A)
+    assert (missing.owner, missing.data) == (soa.owner, soa.data)
+    ((name, failed),) = told(to_a(rcode=SERVFAIL))
+    assert (name, failed.kind, failed.rtype, failed.left) == (wire_name(NAME), FAILED, A, 0)
+    assert (failed.retry_from, failed.owner, failed.data) == (130, b"", ())
+    assert (failed.entry.kind, failed.entry.trust, failed.entry.ttl) == (FAILED, None, 30)
+
+
+@pytest.mark.parametrize("octets, relevant", RELEVANT.values(), ids=RELEVANT)
+def test_what_is_relevant_is_told(octets, relevant):
+    """What is told of each response's offers is what is kept of it."""
+    query = rrcache.Query("A.example", A, ID)
+    assert [(name, reply.rtype or A, reply.kind) for name, reply in told(octets, query)] == [
+        (wire_name(owner), rtype, kind) for owner, rtype, kind in relevant]

@@ -12,6 +12,7 @@ pub mod Parts
 pub mod Intake
 pub mod PartIntake
 pub mod Readings
+pub mod Offered
 pub mod Upkeep
 pub mod Stored
 pub mod Responses

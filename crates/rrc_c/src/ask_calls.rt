@@ -19,9 +19,10 @@ use crate::terms::Question;
 use std::alloc::Global;
 
 /// What C is told of a call that tells a reply.
-fn number_of_reply(fits: Result<bool, Status>) -> u32
+pub(crate) fn number_of_reply(fits: Result<bool, Status>) -> u32
     ensures value { result ≡ number_of_reply fits }
     ensures shelf { result ≡ 1 → ⊥ }
+    ensures offers { result ≡ 18 → ⊥ }
 {
     match fits {
         Ok(true) => 0,

@@ -19,7 +19,7 @@ use std::alloc::Global;
 
 /// Whether a buffer has as many octets as a reply takes.
 #[inline(always)]
-fn has_room(buffer: &[u8], told: &ReplyRecord) -> bool
+pub(crate) fn has_room(buffer: &[u8], told: &ReplyRecord) -> bool
     ensures { IsTrue result ↔ (told.now.owner_size + told.now.data_size ≤ length buffer.now) }
 {
     let room = buffer.len() as u64;

@@ -22,6 +22,7 @@ mod message;
 mod names;
 mod numbers;
 mod offer_calls;
+mod offered;
 mod offers;
 mod question;
 mod reading;

@@ -1,15 +1,19 @@
 // SPDX-License-Identifier: MIT
-ghost use Rattle.std.specs.Prelude.{◌≡◌, ◌<◌, ◌⊎◌, None};
+ghost use Rattle.std.specs.Prelude.{◌≡◌, ◌<◌, ◌⊎◌, length, None, true, false, IfSome};
+ghost use Rattle.rrc_c.specs.Offered.{offer_in, IsOfferAnd, OfferDue, TellsNoSuchOffer, TellsOfferOr};
 ghost use Rattle.rrc_c.specs.Handles.{TellsNone};
 ghost use Rattle.rrc_c.specs.Readings.{parts_below, AllHold, HoldsReading, IfRead, IsReading, OneLacks, ReadingDue, TakesShare, TakesSomeOfShare, TellsNoOffers};
 ghost use Rattle.rrc_c.specs.Refusals.{IfHeld};
 ghost use Rattle.rrc_c.specs.Responses.{IsResponseReading, ResponseDue};
-ghost use Rattle.rrc_c.specs.Statuses.{OnDone, OnNoOffers, OnNoShelf, OnRefused};
+ghost use Rattle.rrc_c.specs.Statuses.{OnDone, OnNoOffers, OnNoShelf, OnRefused, OnSmall, OnUntold};
 
 use crate::counts::Counts;
+use crate::folded_name::FoldedName;
 use crate::message::read;
 use crate::numbers::number_of_call;
+use crate::offered::tell_offer_at;
 use crate::offers::Offers;
+use crate::reply_record::ReplyRecord;
 use crate::response::read_response;
 use crate::shares::{offer_share, parts_concerned};
 use crate::shelf_handle::ShelfHandle;
@@ -78,6 +82,31 @@ pub extern "C" fn rrc_read_response(
             0
         }
     }
+}
+
+/// Tells one of the offers that were read, by its number, and makes the name that it is of, under
+/// the seed of the reading. They are counted from 0, in the order of the message.
+#[unsafe(no_mangle)]
+pub extern "C" fn rrc_tell_offer(
+    offers: &mut Offers,
+    index: u64,
+    name: &mut FoldedName,
+    told: &mut ReplyRecord,
+    buffer: &mut [u8],
+) -> u32
+    ensures none { TellsNoSuchOffer offers.old.seal.reading index result }
+    ensures done { OnDone result (HoldsReading offers.old.seal.reading (λ reading. IsOfferAnd (offer_in reading index) (λ offer. TellsOfferOr true reading offer name.new told.new buffer.old buffer.new))) }
+    ensures small { OnSmall result (HoldsReading offers.old.seal.reading (λ reading. IsOfferAnd (offer_in reading index) (λ offer. TellsOfferOr false reading offer name.new told.new buffer.old buffer.new))) }
+    ensures name { OnUntold result (name.new ≡ name.old) }
+    ensures told { OnUntold result (told.new ≡ told.old) }
+    ensures buffer { OnRefused result (buffer.new ≡ buffer.old) }
+    ensures kept { offers.new.seal.reading ≡ offers.old.seal.reading }
+    ensures due { IfRead offers.old.seal.reading (λ reading. IfSome (offer_in reading index) (λ offer. OfferDue reading offer (length buffer.old) result)) }
+{
+    let Some(reading) = offers.get_mut() else {
+        return NO_OFFERS;
+    };
+    tell_offer_at(reading, index, name, told, buffer)
 }
 
 /// Offers a shelf what was read for a part, each offer as one event.

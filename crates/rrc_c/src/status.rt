@@ -76,6 +76,7 @@ impl Status {
     pub(crate) fn number(self) -> u32
         ensures value { result ≡ number_of self }
         ensures some { 3 ≤ result }
+        ensures offers { result ≡ 18 → ⊥ }
     {
         match self {
             Status::Memory => 3,

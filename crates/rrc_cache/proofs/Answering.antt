@@ -21,7 +21,7 @@ use Rattle.rrc_history.specs.lemmas.EntryLaws.{entry_at-key}
 use Rattle.rrc_history.specs.lemmas.TrustHolds.{governing-is_held}
 use Rattle.std.specs.Option.{option_map}
 use Rattle.rrc_history.specs.Right.{IsRight}
-use Rattle.rrc_history.specs.Entries.{goes, found_among, promoted, in_front, answered_from, staying, AreApart, LacksKey}
+use Rattle.rrc_history.specs.Entries.{goes, found_among, promoted, in_front, answered_from, AreApart, LacksKey}
 use Rattle.rrc_history.specs.lemmas.OfferLaws.{length-staying_found}
 use Rattle.rrc_history.specs.lemmas.AskLaws.{found-contents, ask_contents}
 use Rattle.rrc_history.specs.Lives.{LAST_MOMENT}
