@@ -462,6 +462,12 @@ struct rrcache_share {
     uint64_t line;
 };
 
+/* Which of the offers that were read is offered, counted from 0. */
+struct rrcache_offer_pick {
+    uint64_t index;
+    uint64_t line;
+};
+
 /* A place in chapters: a chapter, a line of it, and an octet of that, each counted from 0. */
 struct rrcache_place {
     uint64_t chapter;
@@ -632,6 +638,8 @@ uint32_t rrc_tell_offer(struct rrcache_offers *offers, uint64_t index, struct rr
                         struct rrcache_told *told, uint8_t *buffer, size_t buffer_size);
 uint32_t rrc_offer_read(struct rrcache_shelf *shelf, struct rrcache_offers *offers,
                         const struct rrcache_share *share, struct rrcache_counts *counts);
+uint32_t rrc_offer_one(struct rrcache_shelf *shelf, struct rrcache_offers *offers,
+                       const struct rrcache_offer_pick *pick, uint32_t *outcome);
 uint32_t rrc_free_offers(struct rrcache_offers *offers);
 uint32_t rrc_offer_message_unchecked(struct rrcache_shelf *shelf, const uint8_t *octets,
                                      size_t size, const uint8_t *zone, size_t zone_size,
@@ -997,6 +1005,26 @@ static inline enum rrcache_status rrcache_tell_offer(struct rrcache_offers *offe
         return RRCACHE_OVERLAP;
     return (enum rrcache_status)rrc_tell_offer(offers, index, name, told,
                                                buffer_size == 0 ? &none : buffer, buffer_size);
+}
+
+/* Offers a shelf one of the offers that a handle holds, by its number, and tells what became of it,
+   by a number of `enum rrcache_outcome`. So a caller that judges for itself, as one that validates,
+   takes some offers and leaves others. The shelf is to be that of the part where the offer lies,
+   which `rrcache_tell_offer` tells: nothing tests that. It is refused as by `rrcache_offer_read`,
+   and where there is no offer with this number by RRCACHE_NO_OFFERS. */
+static inline enum rrcache_status rrcache_offer_one(struct rrcache_shelf *shelf,
+                                                    struct rrcache_offers *offers,
+                                                    const struct rrcache_offer_pick *pick,
+                                                    uint32_t *outcome)
+{
+    if (shelf == NULL || offers == NULL || pick == NULL || outcome == NULL)
+        return RRCACHE_NULL;
+    if (rrcache_holds(shelf, offers, sizeof *offers)
+        || rrcache_touch(shelf, sizeof *shelf, offers, sizeof *offers, outcome, sizeof *outcome)
+        || rrcache_touch(shelf, sizeof *shelf, offers, sizeof *offers, pick, sizeof *pick)
+        || rrcache_overlap(outcome, sizeof *outcome, pick, sizeof *pick))
+        return RRCACHE_OVERLAP;
+    return (enum rrcache_status)rrc_offer_one(shelf, offers, pick, outcome);
 }
 
 /* Frees the offers of a handle, which then holds none; what shelves kept of them stays. Where it

@@ -17,7 +17,8 @@ HEADER = (TOP / "include" / "rrcache.h").read_text()
 GROUPS = {
     "make free": "make and free a shelf",
     "make_name": "make a name, for all that is asked of it",
-    "read_response offer_read free_offers": "read a response once and offer it to several shelves",
+    "read_response tell_offer offer_read offer_one free_offers":
+        "read a response once, tell what it offers and offer it to several shelves",
     "offer_set offer_negative offer_failure": "offer a set, a negative answer or a failure",
     "read_message_unchecked offer_message_unchecked offer_part_unchecked":
         "offer what a response says, compared with no query",

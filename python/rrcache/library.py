@@ -37,6 +37,7 @@ CALLS: dict[str, list[Any]] = {
     "rrc_read_message_unchecked": [OFFERS, *OCTETS, *OCTETS, RESPONSE, WIDE_NUMBER],
     "rrc_tell_offer": [OFFERS, c_uint64, NAME, POINTER(structs.Told), *OCTETS],
     "rrc_offer_read": [SHELF, OFFERS, POINTER(structs.Share), COUNTS],
+    "rrc_offer_one": [SHELF, OFFERS, POINTER(structs.OfferPick), NUMBER],
     "rrc_free_offers": [OFFERS],
     "rrc_offer_message_unchecked": [SHELF, *OCTETS, *OCTETS, RESPONSE, COUNTS],
     "rrc_offer_part_unchecked": [SHELF, *OCTETS, *OCTETS, RESPONSE, COUNTS],

@@ -126,6 +126,13 @@ class Shelf(Held):
         return self._offer("rrc_offer_read", offers._handle,
                            structs.fill(structs.Share(), part, line))
 
+    def offer_one(self, offers: Offers, index: int, line: int = 0) -> Outcome:
+        """Offers one of the offers that were read, counted from 0 as they are gone through, so that
+        a caller may judge each for itself. The shelf is to be that of its name's part. `NoOffers`
+        is raised where there is none with this number, `OtherSeed` or `MomentTooLarge`."""
+        pick = structs.fill(structs.OfferPick(), index, line)
+        return Outcome(told("rrc_offer_one", c_uint32, self._handle, offers._handle, pick))
+
     def offer_set(self, owner: str | bytes, rtype: int, trust: Trust | int, ttl: int,
                   data: Iterable[bytes], moment: int, line: int = 0,
                   rclass: Class | int = Class.IN) -> Outcome:

@@ -115,6 +115,12 @@ class Share(Structure):
     _fields_ = [("part", c_uint64), ("line", c_uint64)]
 
 
+class OfferPick(Structure):
+    """Which of the offers that were read is offered."""
+
+    _fields_ = [("index", c_uint64), ("line", c_uint64)]
+
+
 class Place(Structure):
     """A place in chapters."""
 

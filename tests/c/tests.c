@@ -1993,6 +1993,52 @@ static void test_told_offers(void)
     EXPECT(rrcache_free_offers(&offers) == RRCACHE_DONE);
 }
 
+/* One offer of those that were read is offered by its number. */
+static void test_picked_offers(void)
+{
+    struct rrcache_shelf shelf = {0}, other = {0};
+    struct rrcache_offers offers = {0};
+    struct rrcache_offer_pick pick = {.index = 1, .line = 7};
+    struct rrcache_response late = response_of(OF(ALIAS));
+    uint64_t concerned;
+    uint32_t outcome = 9;
+#define PICK(shelf) rrcache_offer_one(shelf, &offers, &pick, &outcome)
+    EXPECT(PICK(&shelf) == RRCACHE_NO_SHELF && make(&shelf) == RRCACHE_DONE
+           && PICK(&shelf) == RRCACHE_NO_OFFERS);
+    EXPECT(read_response(&offers, response_of(OF(ALIAS)), query_of(OF(NAME)), &concerned)
+               == RRCACHE_DONE
+           && PICK(&other) == RRCACHE_NO_SHELF);
+    struct rrcache_rules rules = *RULES(100, 4, 0);
+    rules.seed[0] ^= 1;
+    EXPECT(rrcache_make(&other, &rules) == RRCACHE_DONE && PICK(&other) == RRCACHE_OTHER_SEED
+           && keys(&other) == 0 && events(&other) == 0 && outcome == 9
+           && rrcache_free(&other) == RRCACHE_DONE);
+    EXPECT(PICK(&shelf) == RRCACHE_DONE && outcome == RRCACHE_KEPT && keys(&shelf) == 1
+           && events(&shelf) == 1 && kind_at(&shelf, OF(OTHER), A, FIRST) == RRCACHE_FRESH
+           && kind_at(&shelf, OF(NAME), CNAME, FIRST) == RRCACHE_MISS);
+    pick.index = 2;
+    EXPECT(PICK(&shelf) == RRCACHE_NO_OFFERS && events(&shelf) == 1);
+    pick.index = 0;
+    EXPECT(PICK(&shelf) == RRCACHE_DONE && outcome == RRCACHE_KEPT && keys(&shelf) == 2
+           && kind_at(&shelf, OF(NAME), CNAME, FIRST) == RRCACHE_FRESH);
+    EXPECT(offer_address(&shelf, OF(OTHER), RRCACHE_AUTHORITATIVE_ANSWER, 60) == RRCACHE_KEPT);
+    pick.index = 1;
+    EXPECT(PICK(&shelf) == RRCACHE_DONE && outcome == RRCACHE_OUTRANKED && events(&shelf) == 4);
+    EXPECT(rrcache_offer_one(NULL, &offers, &pick, &outcome) == RRCACHE_NULL
+           && rrcache_offer_one(&shelf, NULL, &pick, &outcome) == RRCACHE_NULL
+           && rrcache_offer_one(&shelf, &offers, NULL, &outcome) == RRCACHE_NULL
+           && rrcache_offer_one(&shelf, &offers, &pick, NULL) == RRCACHE_NULL
+           && rrcache_offer_one(&shelf, &offers, &pick, (uint32_t *)&pick) == RRCACHE_OVERLAP
+           && rrcache_offer_one(&shelf, &offers, &pick, (uint32_t *)&shelf) == RRCACHE_OVERLAP);
+#undef PICK
+    EXPECT(rrcache_free_offers(&offers) == RRCACHE_DONE);
+    late.moment = LATE;
+    EXPECT(read_response(&offers, late, query_of(OF(NAME)), &concerned) == RRCACHE_DONE
+           && rrcache_offer_one(&shelf, &offers, &pick, &outcome) == RRCACHE_MOMENT_TOO_LARGE
+           && events(&shelf) == 4 && rrcache_free_offers(&offers) == RRCACHE_DONE
+           && rrcache_free(&shelf) == RRCACHE_DONE);
+}
+
 /* What is refused of a response, the first that is due, leaves the handle empty and nothing told.
  */
 static void test_refused_responses(void)
@@ -4001,6 +4047,7 @@ static void (*const TESTS[])(void) = {
     test_whole_message,
     test_relevant,
     test_told_offers,
+    test_picked_offers,
     test_refused_responses,
     test_other_queries,
     test_octets_by_their_front,

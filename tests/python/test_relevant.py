@@ -278,3 +278,19 @@ def test_what_is_relevant_is_told(octets, relevant):
     query = rrcache.Query("A.example", A, ID)
     assert [(name, reply.rtype or A, reply.kind) for name, reply in told(octets, query)] == [
         (wire_name(owner), rtype, kind) for owner, rtype, kind in relevant]
+
+
+def test_offers_are_picked():
+    """A caller takes what it judged to be right, and leaves the rest."""
+    octets = to_a(*aliases([NAME, "b.example"]), *hosts("b.example"))
+    query = rrcache.Query(NAME, A, ID)
+    with (rrcache.read_response(octets, "example", query, PARTS, 100) as offers,
+          rrcache.Shelf(seed=SEED) as shelf, rrcache.Shelf(seed=bytes(range(1, 17))) as other):
+        assert [reply.rtype for _, reply in offers] == [CNAME, A]
+        assert shelf.offer_one(offers, 1) == rrcache.Outcome.KEPT
+        assert shelf.sizes().keys == 1 and shelf.peek("b.example", A, 100).kind == FRESH
+        with pytest.raises(rrcache.NoOffers):
+            shelf.offer_one(offers, 2)
+        with pytest.raises(rrcache.OtherSeed):
+            other.offer_one(offers, 1)
+        assert (shelf.sizes().keys, other.sizes().keys) == (1, 0)

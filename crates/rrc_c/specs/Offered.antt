@@ -1,6 +1,6 @@
 -- SPDX-License-Identifier: MIT
 -- What C is told of an offer that was read: the reply that it makes once it is kept.
-use Rattle.std.specs.Prelude.{◌≡◌, ℕ, ◌+◌, ◌-◌, ◌^◌, ◌↔◌, min, List, Bool, true, false, Option, None, Some, slice_get}
+use Rattle.std.specs.Prelude.{◌≡◌, ℕ, ◌+◌, ◌-◌, ◌^◌, ◌⊎◌, ◌↔◌, min, List, Bool, true, false, Option, None, Some, slice_get}
 use Rattle.std.specs.Option.{option_map}
 use Rattle.rrc_name.specs.declared.slot.Slot.{Slot}
 use Rattle.rrc_name.specs.declared.slot.Slot.TheVariants.{Set, Nx, Failed}
@@ -12,13 +12,16 @@ use Rattle.rrc_history.specs.declared.event.Reply.{Reply}
 use Rattle.rrc_history.specs.declared.event.Reply.TheVariants.{Fresh, NoData, NxDomain, Miss}
 use Rattle.rrc_name.specs.Wire.{IsWireForm}
 use Rattle.rrc_c.specs.Folding.{IsFoldedName}
-use Rattle.rrc_c.specs.Refusals.{DivisionRefused, HasRoomFor, IsDivision, IsSmall, ReplyRefused, Then, WireRefused}
+use Rattle.rrc_c.specs.Intake.{TakesOne}
+use Rattle.rrc_c.specs.Refusals.{Because, DivisionRefused, HasRoomFor, IsDivision, IsSmall, OutOfMemory, ReplyRefused, Then, WireRefused, WriteDue}
 use Rattle.rrc_c.specs.ReplyRecord.{data_of, record_of, text_of, told_of, AreTellable, IsFilled}
 use Rattle.rrc_c.specs.declared.folded_name.FoldedName.{FoldedName}
 use Rattle.rrc_c.specs.declared.reading.Placed.{Placed}
 use Rattle.rrc_c.specs.declared.reading.Reading.{Reading}
 use Rattle.rrc_c.specs.declared.reply_record.ReplyRecord.{ReplyRecord}
+use Rattle.rrc_c.specs.declared.status.Status.TheVariants.{OtherSeed}
 use Rattle.rrc_c.specs.declared.terms.Division.{Division}
+use Rattle.rrc_share.specs.CacheShelf.{CacheShelfOf}
 
 -- a moment so many seconds after another one, at most the last that a number can tell
 abbrev pub later : ℕ → ℕ → ℕ
@@ -84,3 +87,15 @@ IsOfferAnd (Some offer) fact = fact offer
 abbrev pub TellsNoSuchOffer : Option Reading → ℕ → ℕ → Type 0
 TellsNoSuchOffer None index number = number ≡ 18
 TellsNoSuchOffer (Some reading) index number = (number ≡ 18) ↔ (offer_in reading index ≡ None)
+
+-- ---- offering one
+
+-- when an offer of a reading is offered alone to a shelf of this seed, and when that is refused with what
+abbrev pub OneDue : Reading → OfferOf → List ℕ → CacheShelfOf → ℕ → Type 0
+OneDue reading offer seed shelf =
+    Then (Because OtherSeed (reading.seed ≡ seed → ⊥)) (reading.seed ≡ seed) (λ number. OutOfMemory number ⊎ WriteDue shelf offer.moment number)
+
+-- it was read by the seed of the shelf, and one event was written, of just that offer
+pub record TakesOffer (line : ℕ) (reading : Reading) (offer : OfferOf) (seed : List ℕ) (outcome : ℕ) (old new : CacheShelfOf) : Type 0 where
+  pub seeded : reading.seed ≡ seed
+  pub takes : TakesOne line offer outcome old new

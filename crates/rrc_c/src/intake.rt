@@ -229,7 +229,7 @@ fn outcome_number(outcome: Outcome) -> u32
 }
 
 /// Makes an offer to a shelf, and tells the number of what became of it.
-fn make_offer(shelf: &mut CacheShelf, line: u64, offer: Offer) -> Result<u32, Status>
+pub(crate) fn make_offer(shelf: &mut CacheShelf, line: u64, offer: Offer) -> Result<u32, Status>
     ensures ok { IfOk result (λ number. TakesOne line offer number shelf.old shelf.new) }
     ensures left { OnErr result (IsLeftAs shelf.old shelf.new) }
     ensures due { WriteDue shelf.old offer.moment (number_of_call result) }

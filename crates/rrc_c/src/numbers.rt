@@ -17,6 +17,7 @@ pub(crate) fn number_of_call(done: Result<(), Status>) -> u32
 
 /// What C is told of a call that tells a number, which is then written.
 pub(crate) fn number_of_u32(done: Result<u32, Status>, out: &mut u32) -> u32
+    ensures offers { result ≡ 18 → ⊥ }
     ensures told { IfOk done (λ number. out.new ≡ number) }
     ensures kept { OnErr done (out.new ≡ out.old) }
     ensures status { result ≡ number_of_call done }

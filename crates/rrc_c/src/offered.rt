@@ -2,21 +2,25 @@
 ghost use Rattle.std.specs.Prelude.{◌≡◌, ◌↔◌, length, None, true, false, IfOk, IfSome, OnErr};
 ghost use Rattle.std.specs.Option.{option_map};
 ghost use Rattle.rrc_history.specs.Views.{reply_in};
-ghost use Rattle.rrc_c.specs.Offered.{denial_of, later, offer_in, reply_of_offer, type_of, IsOfferAnd, OfferDue, TellsOfferOr};
-ghost use Rattle.rrc_c.specs.Statuses.{number_of_reply, OnDone, OnRefused, OnSmall, OnUntold};
+ghost use Rattle.rrc_c.specs.Offered.{denial_of, later, offer_in, reply_of_offer, type_of, IsOfferAnd, OfferDue, OneDue, TakesOffer, TellsOfferOr};
+ghost use Rattle.rrc_c.specs.Shelves.{IsLeftAs};
+ghost use Rattle.rrc_c.specs.Statuses.{number_of_call, number_of_reply, OnDone, OnRefused, OnSmall, OnUntold};
 
 use crate::ask_calls::number_of_reply;
 use crate::asks::has_room;
 use crate::folded_name::FoldedName;
+use crate::intake::make_offer;
 use crate::names::fold_name;
+use crate::numbers::number_of_u32;
 use crate::reading::Reading;
 use crate::reply_record::{ReplyRecord, data_of, owner_of, told_of};
 use crate::status::{NO_OFFERS, Status};
-use crate::terms::Division;
+use crate::terms::{Division, OfferPick};
 use crate::text::fill;
 use rrc_cache::Lookup;
 use rrc_history::{Body, Held, Offer, ReplyRef, SetRef, SoaRef};
 use rrc_name::Slot;
+use rrc_share::CacheShelf;
 
 /// A moment so many seconds after another one, at most the last that a number can tell.
 fn later(at: u64, seconds: u32) -> u64
@@ -151,4 +155,45 @@ pub(crate) fn tell_offer_at(
     };
     let fits = tell_offer(reading, offer, name, told, buffer);
     number_of_reply(fits)
+}
+
+/// Offers a shelf, whose names are hashed under the seed, one offer of a reading.
+fn take_offer(
+    shelf: &mut CacheShelf,
+    reading: &Reading,
+    offer: &Offer,
+    line: u64,
+    seed: &[u8; 16],
+) -> Result<u32, Status>
+    ensures ok { IfOk result (λ number. TakesOffer line reading.now offer.now seed.now number shelf.old shelf.new) }
+    ensures left { OnErr result (IsLeftAs shelf.old shelf.new) }
+    ensures due { OneDue reading.now offer.now seed.now shelf.old (number_of_call result) }
+{
+    if reading.seed != *seed {
+        return Err(Status::OtherSeed);
+    }
+    let offer = offer.clone()?;
+    make_offer(shelf, line, offer)
+}
+
+/// The same of the offer with a number, and what C is told of that.
+pub(crate) fn take_offer_at(
+    shelf: &mut CacheShelf,
+    reading: &Reading,
+    pick: &OfferPick,
+    seed: &[u8; 16],
+    outcome: &mut u32,
+) -> u32
+    ensures none { (result ≡ 18) ↔ (offer_in reading.now pick.now.index ≡ None) }
+    ensures shelf { result ≡ 1 → ⊥ }
+    ensures done { OnDone result (IsOfferAnd (offer_in reading.now pick.now.index) (λ offer. TakesOffer pick.now.line reading.now offer seed.now outcome.new shelf.old shelf.new)) }
+    ensures left { OnRefused result (IsLeftAs shelf.old shelf.new) }
+    ensures outcome { OnRefused result (outcome.new ≡ outcome.old) }
+    ensures due { IfSome (offer_in reading.now pick.now.index) (λ offer. OneDue reading.now offer seed.now shelf.old result) }
+{
+    let Some(offer) = offer_in(reading, pick.index) else {
+        return NO_OFFERS;
+    };
+    let done = take_offer(shelf, reading, offer, pick.line, seed);
+    number_of_u32(done, outcome)
 }

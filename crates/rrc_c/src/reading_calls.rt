@@ -1,7 +1,7 @@
 // SPDX-License-Identifier: MIT
 ghost use Rattle.std.specs.Prelude.{◌≡◌, ◌<◌, ◌⊎◌, length, None, true, false, IfSome};
-ghost use Rattle.rrc_c.specs.Offered.{offer_in, IsOfferAnd, OfferDue, TellsNoSuchOffer, TellsOfferOr};
-ghost use Rattle.rrc_c.specs.Handles.{TellsNone};
+ghost use Rattle.rrc_c.specs.Offered.{offer_in, IsOfferAnd, OfferDue, OneDue, TakesOffer, TellsNoSuchOffer, TellsOfferOr};
+ghost use Rattle.rrc_c.specs.Handles.{IsKept, TellsNone};
 ghost use Rattle.rrc_c.specs.Readings.{parts_below, AllHold, HoldsReading, IfRead, IsReading, OneLacks, ReadingDue, TakesShare, TakesSomeOfShare, TellsNoOffers};
 ghost use Rattle.rrc_c.specs.Refusals.{IfHeld};
 ghost use Rattle.rrc_c.specs.Responses.{IsResponseReading, ResponseDue};
@@ -11,14 +11,14 @@ use crate::counts::Counts;
 use crate::folded_name::FoldedName;
 use crate::message::read;
 use crate::numbers::number_of_call;
-use crate::offered::tell_offer_at;
+use crate::offered::{take_offer_at, tell_offer_at};
 use crate::offers::Offers;
 use crate::reply_record::ReplyRecord;
 use crate::response::read_response;
 use crate::shares::{offer_share, parts_concerned};
 use crate::shelf_handle::ShelfHandle;
 use crate::status::{HAS_OFFERS, NO_OFFERS, NO_SHELF, OTHER_QUERY};
-use crate::terms::{ResponseTerms, Share};
+use crate::terms::{OfferPick, ResponseTerms, Share};
 use std::alloc::Global;
 
 /// Reads a message, which it compares with no query, into a handle that holds no offers, and tells
@@ -138,6 +138,33 @@ pub extern "C" fn rrc_offer_read(
     };
     let done = offer_share(alloc, shelf, reading, share, &seed, counts);
     number_of_call(done)
+}
+
+/// Offers a shelf one of the offers that were read, by its number, which is one event.
+#[unsafe(no_mangle)]
+pub extern "C" fn rrc_offer_one(
+    handle: &mut ShelfHandle,
+    offers: &mut Offers,
+    pick: &OfferPick,
+    outcome: &mut u32,
+) -> u32
+    ensures none { TellsNone handle.old.held.seal.shelf result }
+    ensures no_offer { IfHeld handle.old.held.seal.shelf (λ shelf. TellsNoSuchOffer offers.old.seal.reading pick.now.index result) }
+    ensures done { OnDone result (AllHold offers.old.seal.reading handle.old.held.seal.shelf handle.new.held.seal.shelf (λ reading old new. IsOfferAnd (offer_in reading pick.now.index) (λ offer. TakesOffer pick.now.line reading offer handle.old.seed outcome.new old new))) }
+    ensures refused { OnRefused result (IsKept handle.old.held.seal.shelf handle.new.held.seal.shelf) }
+    ensures outcome { OnRefused result (outcome.new ≡ outcome.old) }
+    ensures kept { offers.new.seal.reading ≡ offers.old.seal.reading }
+    ensures seed { handle.new.seed ≡ handle.old.seed }
+    ensures due { IfHeld handle.old.held.seal.shelf (λ shelf. IfRead offers.old.seal.reading (λ reading. IfSome (offer_in reading pick.now.index) (λ offer. OneDue reading offer handle.old.seed shelf result))) }
+{
+    let seed = handle.seed;
+    let Some(shelf) = handle.held.get_mut() else {
+        return NO_SHELF;
+    };
+    let Some(reading) = offers.get_mut() else {
+        return NO_OFFERS;
+    };
+    take_offer_at(shelf, reading, pick, &seed, outcome)
 }
 
 /// Frees the offers of a handle, which then holds none.

@@ -74,6 +74,16 @@ pub struct Share {
     pub line: u64,
 }
 
+/// Which of the offers that were read is offered.
+#[repr(C)]
+#[derive(Clone, Copy, Debug)]
+pub struct OfferPick {
+    /// Its number, counted from 0.
+    pub index: u64,
+    /// A number of the caller's own that the event is kept with.
+    pub line: u64,
+}
+
 /// A set that is offered, but for its owner and its data.
 #[repr(C)]
 #[derive(Clone, Copy, Debug)]
