@@ -1,5 +1,5 @@
 // SPDX-License-Identifier: MIT
-ghost use Rattle.std.specs.Prelude.{◌≡◌, ◌↔◌, length, None, true, false, IfOk, IfSome, OnErr};
+ghost use Rattle.std.specs.Prelude.{◌≡◌, ◌↔◌, drop, length, None, true, false, IfOk, IfSome, OnErr};
 ghost use Rattle.std.specs.Option.{option_map};
 ghost use Rattle.rrc_history.specs.Views.{reply_in};
 ghost use Rattle.rrc_c.specs.Offered.{denial_of, later, offer_in, reply_of_offer, type_of, IsOfferAnd, OfferDue, OneDue, TakesOffer, TellsOfferOr};
@@ -92,6 +92,7 @@ fn tell_offer(
 ) -> Result<bool, Status>
     ensures ok { IfOk result (λ fits. TellsOfferOr fits reading.now offer.now name.new told.new buffer.old buffer.new) }
     ensures name { OnErr result (name.new ≡ name.old) }
+    ensures behind { drop name.new.size name.new.octets ≡ drop name.new.size name.old.octets }
     ensures told { OnErr result (told.new ≡ told.old) }
     ensures buffer { OnErr result (buffer.new ≡ buffer.old) }
     ensures due { OfferDue reading.now offer.now (length buffer.old) (number_of_reply result) }
@@ -146,6 +147,7 @@ pub(crate) fn tell_offer_at(
     ensures done { OnDone result (IsOfferAnd (offer_in reading.now index) (λ offer. TellsOfferOr true reading.now offer name.new told.new buffer.old buffer.new)) }
     ensures small { OnSmall result (IsOfferAnd (offer_in reading.now index) (λ offer. TellsOfferOr false reading.now offer name.new told.new buffer.old buffer.new)) }
     ensures name { OnUntold result (name.new ≡ name.old) }
+    ensures behind { drop name.new.size name.new.octets ≡ drop name.new.size name.old.octets }
     ensures told { OnUntold result (told.new ≡ told.old) }
     ensures buffer { OnRefused result (buffer.new ≡ buffer.old) }
     ensures due { IfSome (offer_in reading.now index) (λ offer. OfferDue reading.now offer (length buffer.old) result) }

@@ -1,5 +1,5 @@
 // SPDX-License-Identifier: MIT
-ghost use Rattle.std.specs.Prelude.{◌≡◌, ◌<◌, ◌⊎◌, length, None, true, false, IfSome};
+ghost use Rattle.std.specs.Prelude.{◌≡◌, ◌<◌, ◌⊎◌, drop, length, None, true, false, IfSome};
 ghost use Rattle.rrc_c.specs.Offered.{offer_in, IsOfferAnd, OfferDue, OneDue, TakesOffer, TellsNoSuchOffer, TellsOfferOr};
 ghost use Rattle.rrc_c.specs.Handles.{IsKept, TellsNone};
 ghost use Rattle.rrc_c.specs.Readings.{parts_below, AllHold, HoldsReading, IfRead, IsReading, OneLacks, ReadingDue, TakesShare, TakesSomeOfShare, TellsNoOffers};
@@ -98,6 +98,7 @@ pub extern "C" fn rrc_tell_offer(
     ensures done { OnDone result (HoldsReading offers.old.seal.reading (λ reading. IsOfferAnd (offer_in reading index) (λ offer. TellsOfferOr true reading offer name.new told.new buffer.old buffer.new))) }
     ensures small { OnSmall result (HoldsReading offers.old.seal.reading (λ reading. IsOfferAnd (offer_in reading index) (λ offer. TellsOfferOr false reading offer name.new told.new buffer.old buffer.new))) }
     ensures name { OnUntold result (name.new ≡ name.old) }
+    ensures behind { drop name.new.size name.new.octets ≡ drop name.new.size name.old.octets }
     ensures told { OnUntold result (told.new ≡ told.old) }
     ensures buffer { OnRefused result (buffer.new ≡ buffer.old) }
     ensures kept { offers.new.seal.reading ≡ offers.old.seal.reading }
