@@ -1,18 +1,14 @@
 -- SPDX-License-Identifier: MIT
 -- Why octets bring nothing that is relevant to a query.
-use Rattle.std.proofs.Common.{◌≡◌, ◌⊎◌, List, ℕ, Option, Some, None, Result, Ok, Err, inl, inr, refl, sym, ap, ◌∙◌}
-use Rattle.std.specs.Prelude.{IfOk, IfErr}
-use Rattle.std.specs.Option.{unwrap_or}
+use Rattle.std.proofs.Common.{◌≡◌, ◌⊎◌, List, ℕ, None, Result, Ok, Err, inl, inr, refl, ap}
+use Rattle.std.specs.Prelude.{IfErr}
 use Rattle.rrc_wire.specs.declared.fault.WireFault.{WireFault}
 use Rattle.rrc_wire.specs.declared.fault.WireFault.TheVariants as wire
-use Rattle.rrc_wire.specs.declared.message.Message.{Message}
-use Rattle.rrc_wire.specs.Grammar.{MessageOf}
 use Rattle.rrc_wire.specs.FirstFault.{FirstFault}
 use Rattle.rrc_sets.specs.declared.query.Query.{Query}
-use Rattle.rrc_sets.specs.declared.query.QueryFault.{QueryFault}
 use Rattle.rrc_sets.specs.declared.query.QueryFault.TheVariants.{Memory}
-use Rattle.rrc_sets.specs.Queries.{front_mismatch, mismatch, of_wire}
-use Rattle.rrc_sets.specs.RelevantMessage.{IsNoResponse, IsOfOtherQuery, by_message}
+use Rattle.rrc_sets.specs.Queries.{front_mismatch, of_wire}
+use Rattle.rrc_sets.specs.RelevantMessage.{IsNoResponse, IsOfOtherQuery}
 
 -- the first fault is told, and a want of memory as one
 pub unread : (query : Query) (octets : List ℕ) (first : WireFault) → front_mismatch query octets ≡ None → (first ≡ wire.Memory) ⊎ FirstFault octets first
@@ -27,21 +23,6 @@ unread query octets wire.BadData front (inr is) = inr (inl (record { front = fro
 unread query octets wire.NotResponse front (inr is) = inr (inl (record { front = front; first = wire.NotResponse; is_first = is; told = refl }))
 unread query octets wire.NotOneQuestion front (inr is) = inr (inl (record { front = front; first = wire.NotOneQuestion; is_first = is; told = refl }))
 unread query octets wire.TooLong front (inr is) = inr (inl (record { front = front; first = wire.TooLong; is_first = is; told = refl }))
-
--- so is another query
-pub unmade : (query : Query) (octets : List ℕ) (message : Message) (fault : QueryFault) → front_mismatch query octets ≡ None
-    → MessageOf octets message → fault ≡ unwrap_or (mismatch query message) Memory → (fault ≡ Memory) ⊎ (IsNoResponse query octets fault ⊎ IsOfOtherQuery query octets fault)
-unmade query octets message fault front begins is = by (mismatch query message) refl is
-  where
-    by : (other : Option QueryFault) → mismatch query message ≡ other → fault ≡ unwrap_or other Memory
-        → (fault ≡ Memory) ⊎ (IsNoResponse query octets fault ⊎ IsOfOtherQuery query octets fault)
-    by None says told = inl told
-    by (Some why) says told = inr (inr (by_message front begins (says ∙ ap Some (sym told))))
-
--- what follows from an answer follows from each that comes
-pub map_ok : {A B : Type 0} (result : Result A B) (X Y : A → Type 0) → ((value : A) → X value → Y value) → IfOk result X → IfOk result Y
-map_ok (Ok value) X Y step is = step value is
-map_ok (Err error) X Y step none = tt
 
 -- what follows from a fault follows from each that comes
 pub map_err : {A B : Type 0} (result : Result A B) (X Y : B → Type 0) → ((error : B) → X error → Y error) → IfErr result X → IfErr result Y

@@ -7,10 +7,12 @@ pub mod Chains
 pub mod Fitting
 pub mod Records
 pub mod Classes
+pub mod Denying
 pub mod Moments
 pub mod Unaliased
 pub mod Subsets
 pub mod SomeOffers
+pub mod Within
 pub mod Links
 pub mod Hosts
 pub mod Answering

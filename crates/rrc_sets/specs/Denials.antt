@@ -46,10 +46,10 @@ minimum_of rdata = long_at rdata (length rdata - 4)
 abbrev pub negative_life : Limits → Rr → ℕ
 negative_life limits soa = min (min (life soa.ttl limits) (life (minimum_of soa.rdata) limits)) limits.negative_cap
 
--- that a name does not exist or has no such type, as a SOA record says; an alias on the way is ranked as another owner is (ours)
-abbrev pub denial : Message → Limits → List ℕ → Rr → Body
-denial message limits name soa =
-    Negative (section_rank Answer message.aa (same_name name message.question.name)) (negative_life limits soa) soa.owner soa.rdata
+-- that a name does not exist or has no such type, for so many seconds, as a SOA record says; an alias on the way is ranked as another owner is (ours)
+abbrev pub denial : Message → ℕ → List ℕ → Rr → Body
+denial message ttl name soa =
+    Negative (section_rank Answer message.aa (same_name name message.question.name)) ttl soa.owner soa.rdata
 
 infixl 10 ◌>>=◌
 abbrev ◌>>=◌ : {A B : Type 0} → Option A → (A → Option B) → Option B
@@ -63,6 +63,6 @@ negative_offer message zone moment limits = do
   soa ← soa_of message zone name
   Some (record {
     key = record { name = folded name; class = message.question.qclass; slot = slot };
-    body = denial message limits name soa;
+    body = denial message (negative_life limits soa) name soa;
     moment = moment;
   })

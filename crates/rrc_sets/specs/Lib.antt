@@ -8,14 +8,14 @@ pub mod Ranks
 pub mod Classes
 pub mod Aliases
 pub mod Denials
+pub mod Cleared
 pub mod Offers
 pub mod Message
 pub mod Response
 pub mod Gathering
 pub mod Trees
 pub mod Relevance
+pub mod Kinds
 pub mod Queries
 pub mod Relevant
 pub mod RelevantMessage
-pub mod Octets
-pub mod lemmas

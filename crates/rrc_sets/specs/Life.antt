@@ -16,6 +16,7 @@ lowest_life limits ttls = fold (λ lowest ttl. min lowest (life ttl limits)) lim
 abbrev pub are_one : List ℕ → Bool
 are_one ttls = list_all (λ ttl. ttl == slice_index ttls 0) ttls
 
--- the life of a set whose records have these times: their lowest; a set whose times differ has none, but where the reply is authoritative (RFC 2181 5.2)
+-- the life of a set whose records have these times: their lowest; a set whose times differ has none, but where they may, as in an
+-- authoritative reply (RFC 2181 5.2)
 abbrev pub set_life : Limits → Bool → List ℕ → Option ℕ
-set_life limits aa ttls = if aa || are_one ttls then Some (lowest_life limits ttls) else None
+set_life limits may_differ ttls = if may_differ || are_one ttls then Some (lowest_life limits ttls) else None

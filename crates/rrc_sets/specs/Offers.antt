@@ -1,6 +1,6 @@
 -- SPDX-License-Identifier: MIT
 -- What a response offers to a cache.
-use Rattle.std.specs.Prelude.{ℕ, List, [], ◌∷◌, ◌++◌, Bool, ◌||◌, not, ◌==◌, if◌then◌else◌, Option, None, option_map}
+use Rattle.std.specs.Prelude.{ℕ, List, [], ◌∷◌, ◌++◌, Bool, false, ◌||◌, not, ◌==◌, if◌then◌else◌, Option, None, option_map}
 use Rattle.std.specs.List.{filter_map}
 use Rattle.std.specs.Option.{option_to_list}
 use Rattle.rrc_name.specs.declared.slot.Slot.TheVariants as slots
@@ -29,10 +29,10 @@ living_offer section message moment set ttl =
       moment = moment;
     }
 
--- the offer of a set of the zone, if it has a life (ours: the zone)
-abbrev pub set_offer : Section → Message → List ℕ → ℕ → Limits → SetOf → Option OfferOf
-set_offer section message zone moment limits set =
-    if is_at_or_below set.owner zone then option_map (living_offer section message moment set) (set_life limits message.aa set.ttls) else None
+-- the offer of a set of the zone, if it has a life (ours: the zone): where the lowest time is to count, it has one whatever its times
+abbrev pub set_offer : Section → Bool → Message → List ℕ → ℕ → Limits → SetOf → Option OfferOf
+set_offer section lowest message zone moment limits set =
+    if is_at_or_below set.owner zone then option_map (living_offer section message moment set) (set_life limits (message.aa || lowest) set.ttls) else None
 
 -- the records of a section
 abbrev pub records_of : Section → Message → List Rr
@@ -41,16 +41,16 @@ records_of Authority message = message.authority
 records_of Additional message = message.additional
 
 -- the offers of a section's sets, in order
-unfoldable pub section_offers : Section → Message → List ℕ → ℕ → Limits → List OfferOf
-section_offers section message zone moment limits =
-    filter_map (set_offer section message zone moment limits) (sets_of (records_of section message))
+unfoldable pub section_offers : Section → Bool → Message → List ℕ → ℕ → Limits → List OfferOf
+section_offers section lowest message zone moment limits =
+    filter_map (set_offer section lowest message zone moment limits) (sets_of (records_of section message))
 
 -- the offers of a reply that answers: the sets of its three sections, and then its negative answer
-unfoldable pub answer_offers : Message → List ℕ → ℕ → Limits → List OfferOf
-answer_offers message zone moment limits =
-    section_offers Answer message zone moment limits
-    ++ (section_offers Authority message zone moment limits
-    ++ (section_offers Additional message zone moment limits
+unfoldable pub answer_offers : Bool → Message → List ℕ → ℕ → Limits → List OfferOf
+answer_offers lowest message zone moment limits =
+    section_offers Answer lowest message zone moment limits
+    ++ (section_offers Authority lowest message zone moment limits
+    ++ (section_offers Additional lowest message zone moment limits
     ++ option_to_list (negative_offer message zone moment limits)))
 
 -- the offer of a reply that failed: that asking for the question's name and type did (RFC 8767 5)
@@ -75,5 +75,5 @@ is_silent message zone =
 unfoldable pub offers_of : Message → List ℕ → ℕ → Limits → List OfferOf
 offers_of message zone moment limits =
     if is_silent message zone then []
-    else if message.rcode == 0 || message.rcode == 3 then answer_offers (in_own_class message) zone moment limits
+    else if message.rcode == 0 || message.rcode == 3 then answer_offers false (in_own_class message) zone moment limits
     else failure_offers message moment limits

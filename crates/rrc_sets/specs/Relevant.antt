@@ -1,6 +1,6 @@
 -- SPDX-License-Identifier: MIT
 -- Which offers of a response are relevant to its question: those that a resolver needs which asked it (RFC 5452 6, ours).
-use Rattle.std.specs.Prelude.{ℕ, List, [], ◌++◌, length, map, take, drop, filter, Bool, true, false, ◌&&◌, ◌||◌, not, ◌==◌, nat_le, if◌then◌else◌, Option, Some, None}
+use Rattle.std.specs.Prelude.{ℕ, List, [], ◌++◌, length, map, take, drop, filter, Bool, true, false, ◌&&◌, ◌||◌, not, ◌==◌, ◌≤◌, nat_le, if◌then◌else◌, Option, Some, None}
 use Rattle.std.specs.List.{list_any, list_all, sum_by, flat_map}
 use Rattle.std.specs.Option.{option_map_or, option_to_list}
 use Rattle.rrc_name.specs.declared.slot.Slot.TheVariants.{Set}
@@ -17,8 +17,9 @@ use Rattle.rrc_sets.specs.declared.rank.Section.TheVariants.{Answer, Authority, 
 use Rattle.rrc_sets.specs.Uniques.{uniques}
 use Rattle.rrc_sets.specs.Aliases.{final_name, question_names}
 use Rattle.rrc_sets.specs.Denials.{negative_offer}
+use Rattle.rrc_sets.specs.Cleared.{clearing_offers}
 use Rattle.rrc_sets.specs.Classes.{in_own_class}
-use Rattle.rrc_sets.specs.Offers.{section_offers, failure_offers, is_silent}
+use Rattle.rrc_sets.specs.Offers.{section_offers, answer_offers, failure_offers, is_silent}
 
 -- whether an offer is one of an RRset of a type
 abbrev pub is_set_of : ℕ → OfferOf → Bool
@@ -112,6 +113,10 @@ abbrev pub has_length : Option ℕ → List ℕ → Bool
 has_length None octets = true
 has_length (Some wanted) octets = length octets == wanted
 
+-- an offer has at most so many octets of RDATA of an RRset
+abbrev pub HasWithin : ℕ → OfferOf → Type 0
+HasWithin most offer = sum_by length (items_of offer.body) ≤ most
+
 -- an RRset of no more octets than the limit, whose addresses are as long as addresses are
 unfoldable pub is_measured : RelevanceLimits → OfferOf → Bool
 is_measured relevance offer =
@@ -124,20 +129,20 @@ unfoldable pub relevant_answer : Message → List ℕ → ℕ → Limits → Rel
 relevant_answer message zone moment limits relevance =
     let names = question_names relevance.aliases message in
     let wanted = λ (offer : OfferOf). may_come_from zone offer && is_on_chain message.question.qtype names offer in
-    filter (λ offer. wanted offer && is_measured relevance offer) (section_offers Answer message zone moment limits)
+    filter (λ offer. wanted offer && is_measured relevance offer) (section_offers Answer relevance.lowest_ttl message zone moment limits)
 
 -- those of the authority section: the first of each type
 unfoldable pub relevant_authority : Message → List ℕ → ℕ → Limits → RelevanceLimits → List OfferOf
 relevant_authority message zone moment limits relevance =
     let final = final_name message in
     let wanted = λ (offer : OfferOf). may_come_from zone offer && (is_of_final_zone final offer && (not relevance.only_referrals || may_refer message zone offer)) in
-    uniques same_type (filter (λ offer. wanted offer && is_measured relevance offer) (section_offers Authority message zone moment limits))
+    uniques same_type (filter (λ offer. wanted offer && is_measured relevance offer) (section_offers Authority relevance.lowest_ttl message zone moment limits))
 
 -- those of the additional section: addresses of the hosts that relevant offers name
 unfoldable pub relevant_additional : List OfferOf → Message → List ℕ → ℕ → Limits → RelevanceLimits → List OfferOf
 relevant_additional naming message zone moment limits relevance =
     let hosts = hosts_named relevance.hosts naming in
-    filter (λ offer. is_address_of hosts offer && is_measured relevance offer) (section_offers Additional message zone moment limits)
+    filter (λ offer. is_address_of hosts offer && is_measured relevance offer) (section_offers Additional relevance.lowest_ttl message zone moment limits)
 
 -- those of a reply that answers, in the order in which it offers them
 unfoldable pub relevant_offers : Message → List ℕ → ℕ → Limits → RelevanceLimits → List OfferOf
@@ -145,9 +150,18 @@ relevant_offers message zone moment limits relevance =
     let naming = relevant_answer message zone moment limits relevance ++ relevant_authority message zone moment limits relevance in
     naming ++ (relevant_additional naming message zone moment limits relevance ++ option_to_list (negative_offer message zone moment limits))
 
--- those of a message: of one that answers these, and of one that failed its failure
+-- those of a message: of one that answers these, and what its denial clears, and of one that failed its failure
 unfoldable pub relevant_of : Message → List ℕ → ℕ → Limits → RelevanceLimits → List OfferOf
 relevant_of message zone moment limits relevance =
+    let own = in_own_class message in
     if is_silent message zone then []
-    else if message.rcode == 0 || message.rcode == 3 then relevant_offers (in_own_class message) zone moment limits relevance
+    else if message.rcode == 0 || message.rcode == 3 then relevant_offers own zone moment limits relevance ++ clearing_offers own zone moment relevance
+    else failure_offers message moment limits
+
+-- all offers of a message, of which those are some: what `offers_of` has, but for TTLs that differ, and what its denial clears
+unfoldable pub offers_by : Message → List ℕ → ℕ → Limits → RelevanceLimits → List OfferOf
+offers_by message zone moment limits relevance =
+    let own = in_own_class message in
+    if is_silent message zone then []
+    else if message.rcode == 0 || message.rcode == 3 then answer_offers relevance.lowest_ttl own zone moment limits ++ clearing_offers own zone moment relevance
     else failure_offers message moment limits

@@ -14,12 +14,16 @@ use Rattle.rrc_sets.specs.declared.query.QueryFault.TheVariants.{NoResponse}
 use Rattle.rrc_sets.specs.Queries.{front_mismatch, mismatch}
 use Rattle.rrc_sets.specs.Relevant.{relevant_of}
 
--- octets begin with a message (RFC 1035 4.1) that answers a query, as their front does, and this of what it offers is relevant
-pub record BringsRelevant (query : Query) (limits : Limits) (relevance : RelevanceLimits) (octets zone : List ℕ) (moment : ℕ) (offers : List OfferOf) : Type 0 where
-  pub message : Message
+-- octets begin with a message (RFC 1035 4.1) that answers a query, as their front does
+pub record Answers (query : Query) (octets : List ℕ) (message : Message) : Type 0 where
   pub begins : MessageOf octets message
   pub front : front_mismatch query octets ≡ None
   pub response : mismatch query message ≡ None
+
+-- they do, and this of what the message offers is relevant
+pub record BringsRelevant (query : Query) (limits : Limits) (relevance : RelevanceLimits) (octets zone : List ℕ) (moment : ℕ) (offers : List OfferOf) : Type 0 where
+  pub message : Message
+  pub answers : Answers query octets message
   pub offered : offers ≡ relevant_of message zone moment limits relevance
 
 -- the front of octets answers a query, and they cannot be read, for this first fault

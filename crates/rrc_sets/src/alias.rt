@@ -10,7 +10,7 @@ use rrc_wire::{Message, Rr};
 use std::alloc::{AllocError, Global};
 
 /// The most names of a chain of aliases: the question's, and 16 behind it.
-const MOST_NAMES: u8 = 17;
+pub(crate) const MOST_NAMES: u8 = 17;
 
 /// Whether two names in wire form are the same but for the case of letters.
 pub(crate) fn same(a: &[u8], b: &[u8]) -> bool
@@ -36,7 +36,7 @@ fn alias_of<'a>(answer: &'a [Rr], name: &[u8]) -> Option<&'a Rr>
 }
 
 /// The name that a name is an alias of, in wire form: the data of its first CNAME record.
-fn target_of<'a>(answer: &'a [Rr], name: &[u8]) -> Option<&'a [u8]>
+pub(crate) fn target_of<'a>(answer: &'a [Rr], name: &[u8]) -> Option<&'a [u8]>
     ensures value { option_map (λ target. target.now) result ≡ target_of answer.now name.now }
     ensures name { IfSome result (λ target. IsWireForm target.now) }
 {
@@ -61,7 +61,7 @@ fn end_of_chain<'a>(answer: &'a [Rr], name: &'a [u8]) -> Option<&'a [u8]>
 }
 
 /// The name of a wire form.
-fn name_of(alloc: Global, wire: &[u8]) -> Result<Name, AllocError>
+pub(crate) fn name_of(alloc: Global, wire: &[u8]) -> Result<Name, AllocError>
     requires { IsWireForm wire.now }
     ensures { IfOk result (λ name. name ≡ wire.now) }
 {

@@ -23,7 +23,7 @@ use rrc_wire::{Message, Rr, is_kept};
 use std::alloc::{AllocError, Global};
 
 /// Whether some records have one of a name.
-fn owns(records: &[Rr], name: &Name) -> bool
+pub(crate) fn owns(records: &[Rr], name: &Name) -> bool
     ensures { result ≡ list_any (λ rr. same_name rr.owner name.now) records.now }
 {
     records.iter().any(|rr| rr.owner.same(name))
@@ -75,7 +75,7 @@ fn denied(message: &Message, name: &Name) -> Option<Slot>
 
 /// The SOA record of a negative reply (RFC 2308 section 2): the first of the authority section
 /// whose owner is in the zone, and at or above the name.
-fn soa_of<'a>(message: &'a Message, zone: &Name, name: &Name) -> Option<&'a Rr>
+pub(crate) fn soa_of<'a>(message: &'a Message, zone: &Name, name: &Name) -> Option<&'a Rr>
     ensures value { option_copied result ≡ soa_of message.now zone.now name.now }
     ensures soa { IfSome result (λ rr. rr.now.rtype ≡ 6) }
 {
@@ -103,10 +103,10 @@ fn negative_life(soa: &Rr, limits: &Limits) -> u32
         .min(limits.negative_cap)
 }
 
-/// That a name does not exist or has no such type, as a SOA record says.
-fn denial(message: &Message, limits: &Limits, name: &Name, soa: &Rr) -> Result<Body, AllocError>
+/// That a name does not exist or has no such type, for `ttl` seconds, as a SOA record says.
+pub(crate) fn denial(message: &Message, ttl: u32, name: &Name, soa: &Rr) -> Result<Body, AllocError>
     requires { soa.now.rtype ≡ 6 }
-    ensures value { IfOk result (λ body. body ≡ denial message.now limits.now name.now soa.now) }
+    ensures value { IfOk result (λ body. body ≡ denial message.now ttl name.now soa.now) }
     ensures plain { OnOk result (IsPlain 6 soa.now.rdata) }
 {
     let asked = name.same(&message.question.name);
@@ -114,7 +114,7 @@ fn denial(message: &Message, limits: &Limits, name: &Name, soa: &Rr) -> Result<B
         soa_owner: soa.owner.clone()?,
         soa: Shared::new(soa.rdata.alloc(), soa.rdata.clone()?)?,
         trust: section_rank(Section::Answer, message.aa, asked),
-        ttl: negative_life(soa, limits),
+        ttl,
     })
 }
 
@@ -136,6 +136,7 @@ pub(crate) fn negative_offer(alloc: Global, response: Response) -> Result<Option
         return Ok(None);
     };
     let key = Key::of(&name, message.question.qclass, slot)?;
-    let body = denial(message, response.limits, &name, soa)?;
+    let ttl = negative_life(soa, response.limits);
+    let body = denial(message, ttl, &name, soa)?;
     Ok(Some(Offer { key, body, moment }))
 }

@@ -5,13 +5,14 @@
 
 mod alias;
 mod class;
+mod cleared;
 mod denial;
 mod fault;
 mod host;
+mod kind;
 mod limits;
 mod measure;
 mod message;
-mod octets;
 mod query;
 mod rank;
 mod relevance;
@@ -25,9 +26,9 @@ mod trees;
 mod walks;
 
 pub use fault::SetsFault;
+pub use kind::{ResponseKind, kind_of};
 pub use limits::Limits;
-pub use message::{offers_in, relevant_offers_in};
-pub use octets::relevant_offers_make_few_octets;
+pub use message::{answer_in, offers_in, relevant_offers_in};
 pub use query::{Query, QueryFault};
 pub use relevance::RelevanceLimits;
 pub use relevant::relevant_offers;

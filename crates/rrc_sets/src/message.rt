@@ -1,20 +1,20 @@
 // SPDX-License-Identifier: MIT
-ghost use Rattle.std.specs.Prelude.{◌≡◌, ◌⊎◌, IfOk, IfErr, length};
+ghost use Rattle.std.specs.Prelude.{◌≡◌, ◌⊎◌, IfOk, IfErr};
 ghost use Rattle.std.specs.List.{All};
 ghost use Rattle.rrc_wire.specs.FirstFault.{FirstFault};
 ghost use Rattle.rrc_sets.specs.Kept.{IsOfRecords};
 ghost use Rattle.rrc_sets.specs.Message.{Brings};
-ghost use Rattle.rrc_sets.specs.Octets.{most_octets, HasWithin, MakesAtMost};
-ghost use Rattle.rrc_sets.specs.RelevantMessage.{BringsRelevant, IsNoResponse, IsOfOtherQuery};
+ghost use Rattle.rrc_sets.specs.Relevant.{HasWithin};
+ghost use Rattle.rrc_sets.specs.RelevantMessage.{Answers, BringsRelevant, IsNoResponse, IsOfOtherQuery};
 
 use crate::limits::Limits;
-use crate::query::{Query, QueryFault, front_mismatch};
+use crate::query::{Query, QueryFault, front_mismatch, mismatch};
 use crate::relevance::RelevanceLimits;
 use crate::relevant::relevant_offers;
 use crate::reply::offers;
 use rrc_history::Offer;
 use rrc_name::Name;
-use rrc_wire::{WireFault, read_message};
+use rrc_wire::{Message, WireFault, read_message};
 use std::alloc::Global;
 
 /// Reads a response (RFC 1035 section 4.1), and tells what it offers to a cache for a zone, at a
@@ -38,18 +38,31 @@ pub fn offers_in(
     }
 }
 
-/// Reads a response (RFC 1035 section 4.1), and tells what of it is relevant to a query for a zone,
-/// at a moment in seconds, as `relevant_offers` does. Else it answers why the octets do not answer
+/// Reads a response (RFC 1035 section 4.1) to a query. Else it answers why the octets do not answer
 /// the query, the first fault of those that do, or `Memory`.
 ///
 /// The identifier and the question are compared first, in time that goes with the question alone,
 /// so octets that do not answer the query cost the same whatever stands behind that (RFC 5452
 /// section 9.1). Only the name of the question that is written out is the query's: a pointer there
 /// makes it another question.
+pub fn answer_in(alloc: Global, octets: &[u8], query: &Query) -> Result<Message, QueryFault>
+    ensures ok { IfOk result (Answers query.now octets.now) }
+    ensures err { IfErr result (λ fault. (fault ≡ QueryFault.Memory) ⊎ (IsNoResponse query.now octets.now fault ⊎ IsOfOtherQuery query.now octets.now fault)) }
+{
+    if let Some(fault) = front_mismatch(query, octets) {
+        return Err(fault);
+    }
+    let message = read_message(alloc, octets)?;
+    match mismatch(query, &message) {
+        Some(fault) => Err(fault),
+        None => Ok(message),
+    }
+}
+
+/// Reads a response (RFC 1035 section 4.1), and tells what of it is relevant to a query for a zone,
+/// at a moment in seconds, as `relevant_offers` does. It fails as `answer_in` does.
 ///
-/// No RRset has more octets of rdata than the limit, and no entry that an offer makes has more
-/// octets than the limit, two names, and 48 for each record that the octets have room for (`few`):
-/// 302,830 by default, where the octets are as many as they may be.
+/// No RRset has more octets of rdata than the limit.
 pub fn relevant_offers_in(
     alloc: Global,
     octets: &[u8],
@@ -63,12 +76,8 @@ pub fn relevant_offers_in(
     ensures moments { IfOk result (λ offers. All (λ offer. offer.moment ≡ moment) offers.items) }
     ensures kept { IfOk result (λ offers. All IsOfRecords offers.items) }
     ensures within { IfOk result (λ offers. All (HasWithin relevance.now.octets) offers.items) }
-    ensures few { IfOk result (λ offers. All (MakesAtMost (most_octets relevance.now.octets (length octets.now))) offers.items) }
     ensures err { IfErr result (λ fault. (fault ≡ QueryFault.Memory) ⊎ (IsNoResponse query.now octets.now fault ⊎ IsOfOtherQuery query.now octets.now fault)) }
 {
-    if let Some(fault) = front_mismatch(query, octets) {
-        return Err(fault);
-    }
-    let message = read_message(alloc, octets)?;
+    let message = answer_in(alloc, octets, query)?;
     relevant_offers(alloc, &message, query, zone, moment, limits, relevance)
 }

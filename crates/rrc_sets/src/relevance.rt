@@ -19,6 +19,14 @@ pub struct RelevanceLimits {
     /// default so: else the servers of a zone may prolong its delegation, also one that its parent
     /// has ended.
     pub only_referrals: bool,
+    /// Whether an RRset whose records have different TTLs is relevant where AA is clear, with the
+    /// lowest of them. By default it is not: RFC 2181 section 5.2 has a reply that is not
+    /// authoritative treated as an error there.
+    pub lowest_ttl: bool,
+    /// Whether an authoritative denial of a name (RFC 2308 section 2.1) comes with offers that
+    /// clear what is held of it: of its addresses, its alias, and the type that was asked for. By
+    /// default it does not, and what was stored before it answers again once it is gone.
+    pub clears_denied: bool,
 }
 
 impl Default for RelevanceLimits {
@@ -32,6 +40,8 @@ impl Default for RelevanceLimits {
             hosts: 20,
             octets: 16_384,
             only_referrals: true,
+            lowest_ttl: false,
+            clears_denied: false,
         }
     }
 }

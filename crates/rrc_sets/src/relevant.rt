@@ -1,18 +1,18 @@
 // SPDX-License-Identifier: MIT
-ghost use Rattle.std.specs.Prelude.{◌≡◌, IfOk, IfErr, OnOk, None};
+ghost use Rattle.std.specs.Prelude.{◌≡◌, false, IfOk, IfErr, OnOk, None};
 ghost use Rattle.std.specs.Option.{unwrap_or};
 ghost use Rattle.std.specs.List.{All, list_any};
 ghost use Rattle.rrc_sets.specs.Uniques.{uniques, AreSomeOf};
 ghost use Rattle.rrc_sets.specs.Gathering.{with_value};
 ghost use Rattle.rrc_sets.specs.Kept.{IsOfRecords};
 ghost use Rattle.rrc_sets.specs.Response.{of_response};
-ghost use Rattle.rrc_sets.specs.Octets.{HasWithin};
 ghost use Rattle.rrc_sets.specs.Offers.{section_offers, offers_of};
 ghost use Rattle.rrc_sets.specs.Queries.{mismatch};
-ghost use Rattle.rrc_sets.specs.Relevant.{may_come_from, is_owned_by, is_above, is_asked_for, is_on_chain, has_below, is_of_final_zone, may_refer, same_type, is_address_of, relevant_answer, relevant_authority, relevant_additional, relevant_offers, relevant_of};
+ghost use Rattle.rrc_sets.specs.Relevant.{HasWithin, may_come_from, is_owned_by, is_above, is_asked_for, is_on_chain, has_below, is_of_final_zone, may_refer, same_type, is_address_of, relevant_answer, relevant_authority, relevant_additional, relevant_offers, relevant_of, offers_by};
 
 use crate::alias::{final_name, question_names, same};
 use crate::class::in_own_class;
+use crate::cleared::clearing_offers;
 use crate::denial::negative_offer;
 use crate::host::hosts_named;
 use crate::limits::Limits;
@@ -151,13 +151,14 @@ fn first_of_each_type(alloc: Global, offers: Vec<Offer>) -> Result<Vec<Offer>, A
 fn section_offers(
     alloc: Global,
     section: Section,
+    lowest: bool,
     response: Response,
 ) -> Result<Vec<Offer>, AllocError>
-    ensures value { IfOk result (λ offers. offers.items ≡ of_response (section_offers section) response.entry) }
+    ensures value { IfOk result (λ offers. offers.items ≡ of_response (section_offers section lowest) response.entry) }
     ensures kept { IfOk result (λ offers. All IsOfRecords offers.items) }
 {
     let mut offers = Vec::new(alloc);
-    add_section(alloc, &mut offers, section, response)?;
+    add_section(alloc, &mut offers, section, lowest, response)?;
     Ok(offers)
 }
 
@@ -173,7 +174,7 @@ fn relevant_answer(
 {
     let qtype = response.message.question.qtype;
     let names = question_names(alloc, response.message, relevance.aliases)?;
-    let mut offers = section_offers(alloc, Section::Answer, response)?;
+    let mut offers = section_offers(alloc, Section::Answer, relevance.lowest_ttl, response)?;
     offers.retain(|offer| {
         may_come_from(response.zone, offer)
             && is_on_chain(qtype, names.as_slice(), offer)
@@ -193,7 +194,7 @@ fn relevant_authority(
     ensures kept { IfOk result (λ offers. All IsOfRecords offers.items) }
 {
     let name = final_name(alloc, response.message)?;
-    let mut offers = section_offers(alloc, Section::Authority, response)?;
+    let mut offers = section_offers(alloc, Section::Authority, relevance.lowest_ttl, response)?;
     offers.retain(|offer| {
         may_come_from(response.zone, offer)
             && is_of_final_zone(&name, offer)
@@ -216,7 +217,7 @@ fn relevant_additional(
     ensures kept { IfOk result (λ offers. All IsOfRecords offers.items) }
 {
     let hosts = hosts_named(alloc, naming, relevance.hosts)?;
-    let mut offers = section_offers(alloc, Section::Additional, response)?;
+    let mut offers = section_offers(alloc, Section::Additional, relevance.lowest_ttl, response)?;
     offers.retain(|offer| is_address_of(hosts.as_slice(), offer) && is_measured(relevance, offer));
     Ok(offers)
 }
@@ -251,7 +252,7 @@ fn relevant_of(
     ensures value { IfOk result (λ offers. offers.items ≡ of_response relevant_of response.entry relevance.now) }
     ensures kept { IfOk result (λ offers. All IsOfRecords offers.items) }
 {
-    if is_silent(response) {
+    if is_silent(response.message, response.zone) {
         return Ok(Vec::new(alloc));
     }
     let rcode = response.message.rcode;
@@ -263,11 +264,14 @@ fn relevant_of(
         message: own.as_ref(),
         ..response
     };
-    relevant_answer_offers(alloc, response, relevance)
+    let mut offers = relevant_answer_offers(alloc, response, relevance)?;
+    let mut cleared = clearing_offers(alloc, response, relevance)?;
+    offers.append(&mut cleared)?;
+    Ok(offers)
 }
 
 /// Those of the offers of a response, as `offers` makes them and in their order, that are relevant
-/// to a query:
+/// to a query (where the limits say so, with the lowest TTL of those that differ):
 ///
 /// - of the answer section the RRsets of the question's name, and of the aliases behind it, that
 ///   have the type that was asked for or are CNAME records, and the DNAME records above such a
@@ -277,7 +281,10 @@ fn relevant_of(
 ///   the limits say that any will do (`only_referrals`, RFC 1034 section 4.3.2);
 /// - of the additional section the addresses of hosts that NS, MX and SRV records among these name:
 ///   those of NS records count first, and each counts once;
-/// - the negative answer, and the failure.
+/// - the negative answer, and the failure;
+/// - if the limits say so (`clears_denied`) and an authoritative response denies the final name,
+///   that this has neither addresses nor an alias, nor data of the type that was asked for, with a
+///   TTL of 0: a cache clears what it holds of them.
 ///
 /// A DS RRset of the zone itself is never among them: its parent has it (RFC 4035 section 2.4).
 ///
@@ -297,7 +304,8 @@ pub fn relevant_offers(
 ) -> Result<Vec<Offer>, QueryFault>
     ensures ok { IfOk result (λ offers. offers.items ≡ relevant_of message.now zone.now moment limits.now relevance.now) }
     ensures response { OnOk result (mismatch query.now message.now ≡ None) }
-    ensures some { IfOk result (λ offers. AreSomeOf offers.items (offers_of message.now zone.now moment limits.now)) }
+    ensures some { IfOk result (λ offers. AreSomeOf offers.items (offers_by message.now zone.now moment limits.now relevance.now)) }
+    ensures plain { IfOk result (λ offers. (relevance.now.lowest_ttl ≡ false) → (relevance.now.clears_denied ≡ false) → AreSomeOf offers.items (offers_of message.now zone.now moment limits.now)) }
     ensures moments { IfOk result (λ offers. All (λ offer. offer.moment ≡ moment) offers.items) }
     ensures kept { IfOk result (λ offers. All IsOfRecords offers.items) }
     ensures within { IfOk result (λ offers. All (HasWithin relevance.now.octets) offers.items) }

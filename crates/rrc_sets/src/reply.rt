@@ -1,5 +1,5 @@
 // SPDX-License-Identifier: MIT
-ghost use Rattle.std.specs.Prelude.{◌≡◌, ◌++◌, IfOk, IfErr, OnOk, IfSome};
+ghost use Rattle.std.specs.Prelude.{◌≡◌, ◌++◌, false, IfOk, IfErr, OnOk, IfSome};
 ghost use Rattle.std.specs.Option.{option_to_list};
 ghost use Rattle.std.specs.List.{All};
 ghost use Rattle.rrc_sets.specs.Offers.{set_offer, records_of, section_offers, answer_offers, failure_offers, is_silent, offers_of};
@@ -24,14 +24,15 @@ use std::alloc::{AllocError, Global};
 /// The opcode of a standard query.
 const QUERY: u8 = 0;
 
-/// The offer of a set of the zone that has a life.
+/// The offer of a set of the zone that has a life: where the lowest TTL is to count, each has one.
 fn set_offer(
     alloc: Global,
     section: Section,
+    lowest: bool,
     response: Response,
     set: Set,
 ) -> Result<Option<Offer>, AllocError>
-    ensures value { IfOk result (λ offer. offer ≡ of_response (set_offer section) response.entry set) }
+    ensures value { IfOk result (λ offer. offer ≡ of_response (set_offer section lowest) response.entry set) }
     ensures kept { IfOk result (λ offer. IfSome offer IsOfRecords) }
 {
     if !set.owner.is_at_or_below(response.zone) {
@@ -39,7 +40,8 @@ fn set_offer(
     }
     let message = response.message;
     let moment = response.moment;
-    let Some(ttl) = set_life(set.ttls.as_slice(), message.aa, response.limits) else {
+    let ttls = set.ttls.as_slice();
+    let Some(ttl) = set_life(ttls, message.aa || lowest, response.limits) else {
         return Ok(None);
     };
     let key = Key::of(&set.owner, set.class, Slot::Set(set.rtype))?;
@@ -82,14 +84,15 @@ pub(crate) fn add_section(
     alloc: Global,
     offers: &mut Vec<Offer>,
     section: Section,
+    lowest: bool,
     response: Response,
 ) -> Result<(), AllocError>
     requires { All IsOfRecords offers.old.items }
-    ensures value { OnOk result (offers.new.items ≡ offers.old.items ++ of_response (section_offers section) response.entry) }
+    ensures value { OnOk result (offers.new.items ≡ offers.old.items ++ of_response (section_offers section lowest) response.entry) }
     ensures kept { OnOk result (All IsOfRecords offers.new.items) }
 {
     for set in sets_of(alloc, records_of(section, response.message))? {
-        let offer = set_offer(alloc, section, response, set)?;
+        let offer = set_offer(alloc, section, lowest, response, set)?;
         add(offers, offer)?;
     }
     Ok(())
@@ -98,14 +101,14 @@ pub(crate) fn add_section(
 /// The offers of a reply that answers.
 #[tactic(auto, unfolding(crate::specs::Offers::answer_offers))]
 fn answer_offers(alloc: Global, response: Response) -> Result<Vec<Offer>, AllocError>
-    ensures value { IfOk result (λ offers. offers.items ≡ of_response answer_offers response.entry) }
+    ensures value { IfOk result (λ offers. offers.items ≡ of_response (answer_offers false) response.entry) }
     ensures kept { IfOk result (λ offers. All IsOfRecords offers.items) }
 {
     let mut offers = Vec::new(alloc);
     let made = &mut offers;
-    add_section(alloc, made, Section::Answer, response)?;
-    add_section(alloc, made, Section::Authority, response)?;
-    add_section(alloc, made, Section::Additional, response)?;
+    add_section(alloc, made, Section::Answer, false, response)?;
+    add_section(alloc, made, Section::Authority, false, response)?;
+    add_section(alloc, made, Section::Additional, false, response)?;
     add(made, negative_offer(alloc, response)?)?;
     Ok(offers)
 }
@@ -130,14 +133,13 @@ pub(crate) fn failure_offers(alloc: Global, response: Response) -> Result<Vec<Of
 }
 
 /// Whether a response offers nothing.
-pub(crate) fn is_silent(response: Response) -> bool
-    ensures { result ≡ is_silent response.entry.message.now response.entry.zone.now }
+pub(crate) fn is_silent(message: &Message, zone: &Name) -> bool
+    ensures { result ≡ is_silent message.now zone.now }
 {
-    let message = response.message;
     message.tc
         || message.opcode != QUERY
         || !is_kept_class(message.question.qclass)
-        || !message.question.name.is_at_or_below(response.zone)
+        || !message.question.name.is_at_or_below(zone)
 }
 
 /// What a response offers, as `offers` answers it.
@@ -146,7 +148,7 @@ fn offers_of(alloc: Global, response: Response) -> Result<Vec<Offer>, AllocError
     ensures value { IfOk result (λ offers. offers.items ≡ of_response offers_of response.entry) }
     ensures kept { IfOk result (λ offers. All IsOfRecords offers.items) }
 {
-    if is_silent(response) {
+    if is_silent(response.message, response.zone) {
         return Ok(Vec::new(alloc));
     }
     let rcode = response.message.rcode;

@@ -40,13 +40,13 @@ fn lowest_life(ttls: &[u32], limits: &Limits) -> u32
     lowest
 }
 
-/// The life of a set whose records have these times to live (RFC 2181 section 5.2): a reply that is
-/// not authoritative gives none to a set whose times differ.
-pub(crate) fn set_life(ttls: &[u32], aa: bool, limits: &Limits) -> Option<u32>
-    ensures value { result ≡ set_life limits.now aa ttls.now }
+/// The life of a set whose records have these times to live (RFC 2181 section 5.2), and none where
+/// they differ and may not: they may in a reply that is authoritative.
+pub(crate) fn set_life(ttls: &[u32], may_differ: bool, limits: &Limits) -> Option<u32>
+    ensures value { result ≡ set_life limits.now may_differ ttls.now }
     ensures capped { IfSome result (λ ttl. ttl ≤ limits.now.cap) }
 {
-    if aa || are_one(ttls) {
+    if may_differ || are_one(ttls) {
         Some(lowest_life(ttls, limits))
     } else {
         None

@@ -15,7 +15,7 @@ pub returns-clause-value : goal.returns-clause-value
 unfolding relevant_additional
 returns-clause-value c =
     let passes : List (List ℕ) → OfferOf → Bool = λ hosts offer. is_address_of hosts offer && is_measured c.args.relevance.now offer in
-    let offers = of_response (section_offers Additional) c.args.response in
+    let offers = of_response (section_offers Additional c.args.relevance.now.lowest_ttl) c.args.response in
     filter_same _ (passes c.in_ok-hosts.hosts.items) _ (λ offer b f' k. search rules) _ _ c.retain.ensures.filtered
     ∙ (ap (filter (passes c.in_ok-hosts.hosts.items)) c.in_ok-offers.ensures.value
     ∙ ap (λ hosts. filter (passes hosts) offers) c.in_ok-hosts.ensures)

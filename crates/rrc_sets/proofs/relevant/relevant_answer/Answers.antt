@@ -16,7 +16,7 @@ unfolding relevant_answer
 returns-clause-value c =
     let qtype = c.args.response.message.now.question.qtype in
     let passes : List (List ℕ) → OfferOf → Bool = λ names offer. (may_come_from c.args.response.zone.now offer && is_on_chain qtype names offer) && is_measured c.args.relevance.now offer in
-    let offers = of_response (section_offers Answer) c.args.response in
+    let offers = of_response (section_offers Answer c.args.relevance.now.lowest_ttl) c.args.response in
     filter_same _ (passes c.in_ok-names.names.items) _ (λ offer b f' k. search rules) _ _ c.retain.ensures.filtered
     ∙ (ap (filter (passes c.in_ok-names.names.items)) c.in_ok-offers.ensures.value
     ∙ ap (λ names. filter (passes names) offers) c.in_ok-names.ensures)

@@ -17,7 +17,7 @@ unfolding relevant_authority
 returns-clause-value c =
     let message = c.args.response.message.now in let zone = c.args.response.zone.now in let relevance = c.args.relevance.now in
     let passes : Option (List ℕ) → OfferOf → Bool = λ final offer. (may_come_from zone offer && (is_of_final_zone final offer && (not relevance.only_referrals || may_refer message zone offer))) && is_measured relevance offer in
-    let offers = of_response (section_offers Authority) c.args.response in
+    let offers = of_response (section_offers Authority c.args.relevance.now.lowest_ttl) c.args.response in
     c.in_ok-firsts.ensures
     ∙ ap (uniques same_type) (filter_same _ (passes c.in_ok-name.name) _ (λ offer b f' k. search rules) _ _ c.retain.ensures.filtered
     ∙ (ap (filter (passes c.in_ok-name.name)) c.in_ok-offers.ensures.value

@@ -17,7 +17,7 @@ alone None = refl
 
 pub loop-set-preserved : goal.loop-set-preserved
 loop-set-preserved c =
-    let made = of_response (set_offer c.args.section) c.args.response in
+    let made = of_response (set_offer c.args.section c.args.lowest) c.args.response in
     let before = c.args.offers.now.items in let set = c.in-Some.set in
     let more : filter_map made (c.loop-set.yielded ++ set ∷ []) ≡ filter_map made c.loop-set.yielded ++ option_to_list c.in_ok-offer.offer =
     filter_map-append made c.loop-set.yielded (set ∷ [])
@@ -39,7 +39,7 @@ returns-clause-kept c = c.loop-set.invariant.kept
 pub returns-clause-value : goal.returns-clause-value
 unfolding section_offers
 returns-clause-value c =
-    let made = of_response (set_offer c.args.section) c.args.response in
+    let made = of_response (set_offer c.args.section c.args.lowest) c.args.response in
     let before = c.args.offers.now.items in let sets = c.in_ok-set-items.set-items in
     let gives = c.into_iter-set-iterator.ensures.into_iter_gives in
     let from = YieldsList-from_vec {s = c.into_iter-set-iterator.result} sets.items gives.0 (gives.1 ∙ sets.ok.0) in

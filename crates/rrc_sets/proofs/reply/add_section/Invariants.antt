@@ -9,6 +9,6 @@ use Rattle.rrc_sets.proofs.reply.add_section.Given as goal
 
 abbrev pub invariant-loop-set : goal.invariant-loop-set
 invariant-loop-set l = record {
-  value : l.offers.items ≡ l.initial.offers.items ++ filter_map (of_response (set_offer l.section) l.response) l.yielded;
+  value : l.offers.items ≡ l.initial.offers.items ++ filter_map (of_response (set_offer l.section l.lowest) l.response) l.yielded;
   kept : All IsOfRecords l.offers.items;
 }
