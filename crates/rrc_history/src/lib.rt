@@ -40,7 +40,7 @@ pub use laws::{
     calls_determine_the_history, legal_histories_keep_the_laws, same_snapshots_are_one,
     snapshots_lead_to_themselves, sound_entries_have_no_fault,
 };
-pub use octets::RECORD_OCTETS;
+pub use octets::{BLOCK_OCTETS, ENTRY_OCTETS, INLINE_OCTETS, SHARED_OCTETS, VALUE_OCTETS};
 pub use offer::{Offer, OfferFault};
 pub use reply::{ReplyRef, SetRef, SoaRef};
 pub use rrc_name as name;

@@ -40,7 +40,8 @@ impl RdataList {
         }
     }
 
-    /// The rdata of a vector. It takes no memory.
+    /// The rdata of a vector. It takes no memory, and gives back the room that the vector has
+    /// beyond them.
     pub fn from_vec(list: Vec<Octets>) -> RdataList
         ensures { result ≡ list.items }
     {
@@ -50,6 +51,7 @@ impl RdataList {
                 return RdataList::one(rdata);
             }
         }
+        list.shrink_to_fit();
         RdataList {
             place: Place::InVector(list),
         }
