@@ -1,12 +1,19 @@
 -- SPDX-License-Identifier: MIT
 -- The last entry goes.
 use Rattle.std.proofs.Common.{◌≡◌, ℕ, suc, ◌-◌, List, [], ◌∷◌, length, take, Option, Some, None, true, false, ◌||◌, refl, ap, sym, subst, ◌∙◌, arith}
+use Rattle.std.specs.List.{slice_get}
+use Rattle.std.specs.Option.{option_map}
+use Rattle.lru.specs.LruCache.{last_entry}
 use Rattle.rrc_name.specs.Key.{KeyOf, key_eq}
 use Rattle.rrc_name.specs.lemmas.KeyLaws.{key_eq-laws}
 use Rattle.rrc_history.specs.declared.snapshot.Entry.{Entry}
 use Rattle.rrc_history.specs.Past.{last_key}
 use Rattle.rrc_history.specs.Entries.{LacksKey, AreApart, goes, staying}
+use Rattle.rrc_cache.specs.declared.clocked.Stamped.{Stamped}
+use Rattle.rrc_cache.specs.declared.hashed.HashedKey.{HashedKey}
 use Rattle.rrc_cache.specs.ExpiryQueue.{AreQueued, ExpiryQueueOf}
+use Rattle.rrc_cache.specs.Keyed.{hashed_entries}
+use Rattle.rrc_cache.specs.Lasts.{last_of}
 use Rattle.rrc_cache.proofs.Timed.{removed_queued}
 
 -- a key that no entry has is not the last one's
@@ -14,6 +21,20 @@ pub lacks_last : (key : KeyOf) (entries : List Entry) (last : KeyOf) → LacksKe
 lacks_last key [] last lacks is = absurd cc
 lacks_last key (entry ∷ []) last lacks is = let same : entry.key ≡ last = cc in subst (λ k. key_eq key k ≡ false) same lacks.0
 lacks_last key (entry ∷ next ∷ entries) last lacks is = lacks_last key (next ∷ entries) last lacks.1 is
+
+-- the entry of a pair
+abbrev pub entry_in : HashedKey × Stamped → Entry
+entry_in pair = pair.1.entry
+
+-- the last pair is that of the last entry
+pub last_hashed : (pairs : List (HashedKey × Stamped)) → option_map entry_in (last_entry pairs) ≡ last_of (hashed_entries pairs)
+last_hashed [] = refl
+last_hashed (pair ∷ []) = refl
+last_hashed (first ∷ next ∷ pairs) =
+    let behind : length (first ∷ next ∷ pairs) - 1 ≡ suc (length (next ∷ pairs) - 1) = omega arith in
+    let others : length (hashed_entries (first ∷ next ∷ pairs)) - 1 ≡ suc (length (hashed_entries (next ∷ pairs)) - 1) = omega arith in
+    ap (λ n. option_map entry_in (slice_get (first ∷ next ∷ pairs) n)) behind
+    ∙ (last_hashed (next ∷ pairs) ∙ sym (ap (slice_get (hashed_entries (first ∷ next ∷ pairs))) others))
 
 -- its key goes just where it does
 pub last_leaves : (key : KeyOf) (entries : List Entry) → AreApart entries → last_key entries ≡ Some key

@@ -1,7 +1,8 @@
 -- SPDX-License-Identifier: MIT
 -- What a part that keeps no events keeps is what its history leaves, through every event.
-use Rattle.std.proofs.Common.{◌≡◌, ℕ, ◌+◌, ◌<◌, ◌≤◌, ◌^◌, List, [], ◌∷◌, ◌++◌, length, Option, refl, sym, ap, subst, ◌∙◌, arith}
+use Rattle.std.proofs.Common.{◌≡◌, ℕ, zero, suc, ◌+◌, ◌-◌, ◌<◌, ◌≤◌, ◌^◌, List, [], ◌∷◌, ◌++◌, length, Option, Some, None, true, refl, sym, ap, subst, ◌∙◌, arith}
 use Rattle.std.specs.Prelude.{IfSome}
+use Rattle.std.specs.List.{AllByRecursion, slice_get}
 use Rattle.std.specs.Option.{option_map}
 use Rattle.std.proofs.lemmas.List.{length-append}
 use Rattle.std.proofs.lemmas.Option.{IfSome_then}
@@ -10,7 +11,9 @@ use Rattle.rrc_history.specs.declared.rules.Rules.{Rules}
 use Rattle.rrc_history.specs.declared.event.Event.{Event}
 use Rattle.rrc_history.specs.declared.snapshot.Entry.{Entry}
 use Rattle.rrc_history.specs.declared.snapshot.Snapshot.{Snapshot}
-use Rattle.rrc_history.specs.Sound.{AreSound}
+use Rattle.rrc_history.specs.Fits.{fits}
+use Rattle.rrc_history.specs.Sound.{AreSound, IsFit}
+use Rattle.rrc_history.specs.declared.judge.Held.{Held}
 use Rattle.rrc_history.specs.lemmas.Openings.{opening}
 use Rattle.rrc_name.specs.declared.slot.Slot.{Slot}
 use Rattle.rrc_history.specs.declared.event.Reply.{Reply}
@@ -27,6 +30,7 @@ use Rattle.rrc_cache.specs.declared.lookup.Lookup.{Lookup}
 use Rattle.rrc_cache.specs.Ages.{StandsWithin, ahead_of}
 use Rattle.rrc_cache.specs.Calls.{Leaves, Writes}
 use Rattle.rrc_cache.specs.Expiry.{swept_until}
+use Rattle.rrc_cache.specs.Lasts.{last_of}
 use Rattle.rrc_cache.specs.Lean.{HoldsLean, IsLeanOpen, IsPick, begun_with, first_chapter, with_event}
 use Rattle.rrc_cache.specs.Lookups.{TellsLookup, TellsNoAge, TellsReply}
 use Rattle.rrc_cache.specs.Pairs.{StoreOf}
@@ -178,3 +182,17 @@ lookup_told part rules entries ask lookup ruled contents answered gave few none 
       ahead = IfSome_then lookup.entry few (λ lent before. stands_within part entries lent.key.now lookup.age contents before);
       miss = none;
     }
+
+-- ---- the last key
+
+-- what holds of each entry holds of one of them
+all_got : (entries : List Entry) (place : ℕ) (entry : Entry) → AllByRecursion IsFit entries → slice_get entries place ≡ Some entry → IsFit entry
+all_got [] place entry all is = absurd cc
+all_got (first ∷ entries) zero entry all is = let same : first ≡ entry = cc in subst IsFit same all.0
+all_got (first ∷ entries) (suc place) entry all is = all_got entries place entry all.1 is
+
+-- the body of the last entry fits its key
+pub last_fits : (entries : List Entry) (last : Option Held) → AllByRecursion IsFit entries → option_map held_in last ≡ last_of entries
+    → IfSome last (λ held. fits held.key.now held.body.now ≡ true)
+last_fits entries None all is = tt
+last_fits entries (Some held) all is = all_got entries (length entries - 1) (held_in held) all (sym is)

@@ -5,6 +5,7 @@ pub mod Clocking
 pub mod Counted
 pub mod Turned
 pub mod Due
+pub mod Evicting
 pub mod Timed
 pub mod Stored
 pub mod Sound

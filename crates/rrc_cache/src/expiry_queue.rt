@@ -208,6 +208,14 @@ impl ExpiryQueue {
         }
     }
 
+    /// Notes when a key expires, while no expiries are kept.
+    pub(crate) fn note(&mut self, time: u64)
+        requires { self.old.kept ≡ false }
+        ensures { (expiry : Expiry) → expiry.time ≡ time → (key : KeyOf) (at : ℕ) → (is_by key at expiry || expires_by self.old key at) ≡ true → expires_by self.new key at ≡ true }
+    {
+        self.soonest = self.soonest.min(time);
+    }
+
     /// Adds an expiry to those that wait, for which there is room.
     fn push(&mut self, expiry: Expiry)
         requires { 0 < self.old.room }

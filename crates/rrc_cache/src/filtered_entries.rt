@@ -75,6 +75,7 @@ impl FilteredEntries {
 
     /// Puts an entry in front, in the place of the one that its key had, and answers that one. An
     /// `Err` leaves all as it was.
+    #[inline(always)]
     pub(crate) fn put(&mut self, hash: u64, entry: Entry) -> Result<Option<Entry>, AllocError>
         requires { hash ≡ name_hash self.old.seeded entry.key.name }
         ensures old { IfOk result (λ old. old ≡ entry_at entry.key self.old.entries) }

@@ -3,7 +3,7 @@ ghost use Rattle.std.specs.Prelude.{◌≡◌};
 ghost use Rattle.std.specs.Borrow.{ftrue};
 ghost use Rattle.rrc_cache.specs.Part.{PartOf};
 
-use rrc_history::{AskRef, Offer, Outcome, Rules, Snapshot, Tag};
+use rrc_history::{AskRef, Held, Offer, Outcome, Rules, Snapshot, Tag};
 use rrc_name::Key;
 use std::marker::Model;
 
@@ -42,6 +42,13 @@ pub(crate) enum StepRef<'a> {
         tag: Tag,
         moment: u64,
         gone: &'a [Key],
+    },
+    /// What a key held ended at once: it was offered with a TTL of 0.
+    Ended {
+        tag: Tag,
+        held: Held<'a>,
+        moment: u64,
+        outcome: Outcome,
     },
     /// The chapter ends, and the next one begins with this.
     Closed {

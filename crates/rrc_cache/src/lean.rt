@@ -1,5 +1,6 @@
 // SPDX-License-Identifier: MIT
-ghost use Rattle.std.specs.Prelude.{◌≡◌, ◌<◌, ◌≤◌, ◌-◌, ◌^◌, ◌↔◌, [], is_some, IsTrue, IfOk, IfErr, IfSome, IfNone, OnErr, Err};
+ghost use Rattle.rrc_cache.specs.Evicting.{is_data};
+ghost use Rattle.std.specs.Prelude.{◌≡◌, ◌<◌, ◌≤◌, ◌-◌, ◌^◌, ◌↔◌, [], is_some, true, IsTrue, IfOk, IfErr, IfSome, IfNone, OnErr, Err};
 
 use crate::history::{History, StepRef};
 use crate::lookup::Lookup;
@@ -11,13 +12,14 @@ use crate::seeded::Seeded;
 use crate::store::Store;
 use crate::{ahead, answer, entries, judge, sweep};
 use rrc_history::{
-    Ask, AskRef, Held, LAST_MOMENT, NUMBER_LIMIT, Offer, Outcome, Reply, ReplyRef, Rules, Snapshot,
-    Tag,
+    Ask, AskRef, Body, Held, LAST_MOMENT, NUMBER_LIMIT, Offer, Outcome, Reply, ReplyRef, Rules,
+    Snapshot, Tag,
 };
 use rrc_name::{Key, KeyRef, Shared};
 use std::alloc::{AllocError, Global};
 use std::fmt::{self, Debug, Formatter, Write};
 use std::marker::Model;
+use std::slice;
 
 /// A part of the cache that keeps no events. Contracts see it as they see a `Part`: the chapter of
 /// its history that is open, with the snapshot that it began with and the events since. That
@@ -52,12 +54,15 @@ impl Model for LeanPart {
 
 impl LeanPart {
     ghost use Rattle.rrc_history.specs.declared.event.Event.TheVariants.{Offered, Swept};
+    ghost use Rattle.rrc_history.specs.Fits.{fits};
     ghost use Rattle.rrc_history.specs.Past.{held, reply_to};
     ghost use Rattle.rrc_history.specs.Views.{ask_in, held_in, reply_in};
     ghost use Rattle.rrc_name.specs.KeyRef.{key_of};
     ghost use Rattle.std.specs.Option.{option_map};
+    ghost use Rattle.rrc_cache.specs.Evicting.{AreLasting, EvictsBy, IsEvictDue};
     ghost use Rattle.rrc_cache.specs.Expiry.{HoldsNothing, HoldsSomething, IsAfterLastSweep, NoneFullyExpiresBefore};
     ghost use Rattle.rrc_cache.specs.Lean.{begun_with, IsLeanDue, IsLeanOpen, IsLeanSound, IsPick, IsRestoreDue, Shuts};
+    ghost use Rattle.rrc_cache.specs.Lasts.{IsLast};
     ghost use Rattle.rrc_cache.specs.Lookups.{TellsAge, TellsEntry, TellsLookup, TellsNoAge, TellsReply};
     ghost use Rattle.rrc_cache.specs.Part.{past_of, next_number, Adds, IsCloseDue, IsOfMoments, WritesOffer, WritesAsk, WritesSweep};
     ghost use Rattle.rrc_cache.specs.Sizes.{HoldsKeys, HoldsOctets};
@@ -143,9 +148,8 @@ impl LeanPart {
         self.store.len()
     }
 
-    /// How many octets the part holds: of each key its name, of an RRset its owner and its rdata,
-    /// and `RECORD_OCTETS` for each record, of a negative answer the owner and the rdata of its SOA
-    /// record. They are counted already, modulo 2^64.
+    /// How many octets of memory the keys take (`Body::octets_under`): each entry, its name and
+    /// what it holds, with the room that the heap adds. They are counted already, modulo 2^64.
     pub fn octets(&self) -> u64
         ensures { HoldsOctets self.now result }
     {
@@ -158,6 +162,15 @@ impl LeanPart {
         ensures { option_map held_in result ≡ held self.now.snapshot (past_of self.now) (key_of key.entry) }
     {
         self.store.get(self.store.hash_of(key.name), key).held
+    }
+
+    /// What the key touched least recently holds, lent, if there is a key. It takes no memory and
+    /// touches nothing.
+    pub fn last(&self) -> Option<Held<'_>>
+        ensures value { IsLast self.now (option_map held_in result) }
+        ensures fits { IfSome result (λ held. fits held.key.now held.body.now ≡ true) }
+    {
+        self.store.last()
     }
 
     /// How many touches came after the last one of a key, if it holds something: no more keys than
@@ -343,6 +356,56 @@ impl LeanPart {
         Ok(gone)
     }
 
+    /// Removes the key touched least recently, if there is one, and tells whether there was. The
+    /// history has one more event where it held data, and two for a failure (`evictions_by`). It
+    /// takes no memory.
+    ///
+    /// `HistoryFull` comes first, where the numbers do not go on to two events, and then
+    /// `MomentTooLarge` (above 2^40 seconds). A part that refuses is as it was.
+    pub fn evict_last(&mut self, tag: Tag, moment: u64) -> Result<bool, Refusal>
+        requires { AreLasting self.old }
+        ensures ok { IfOk result (λ went. EvictsBy went tag moment self.old self.new) }
+        ensures err { OnErr result (self.new ≡ self.old) }
+        ensures due { IsEvictDue self.old moment result }
+    {
+        if self.next + 1 >= NUMBER_LIMIT {
+            return Err(Refusal::HistoryFull);
+        }
+        if moment > LAST_MOMENT {
+            return Err(Refusal::MomentTooLarge);
+        }
+        let Some(held) = self.store.last() else {
+            return Ok(false);
+        };
+        if is_data(held.body) {
+            self.history = self.history.then(&StepRef::Ended {
+                tag,
+                held,
+                moment,
+                outcome: Outcome::Cleared,
+            });
+            let _ = self.store.remove_last();
+            self.next += 1;
+            self.swept_until = 0;
+            return Ok(true);
+        }
+        let ended = self.history.then(&StepRef::Ended {
+            tag,
+            held,
+            moment,
+            outcome: Outcome::Kept,
+        });
+        self.history = ended.then(&StepRef::Swept {
+            tag,
+            moment: 0,
+            gone: slice::from_ref(held.key),
+        });
+        let _ = self.store.remove_last();
+        self.next += 2;
+        self.swept_until = 1;
+        Ok(true)
+    }
+
     /// What `judge` tells, whatever the ask's moment is: the reply, the ask, as its event is to
     /// keep them, and which entry answers.
     pub(crate) fn answer(&self, ask: &Ask) -> Result<(Reply, Ask, Pick), AllocError>
@@ -402,6 +465,13 @@ impl LeanPart {
     {
         self.store.let_go();
     }
+}
+
+/// Whether a body is data.
+fn is_data(body: &Body) -> bool
+    ensures { result ≡ is_data body.now }
+{
+    !matches!(body, Body::Failure { .. })
 }
 
 /// It tells what is kept, and that is no history.

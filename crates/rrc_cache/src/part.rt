@@ -1,5 +1,5 @@
 // SPDX-License-Identifier: MIT
-ghost use Rattle.std.specs.Prelude.{◌≡◌, ◌<◌, ◌≤◌, ◌-◌, ◌^◌, ◌↔◌, ◌++◌, ◌∷◌, [], None, length, is_some, IsTrue, IfOk, IfErr, IfSome, IfNone, OnOk, OnErr, Err};
+ghost use Rattle.std.specs.Prelude.{◌≡◌, ◌<◌, ◌≤◌, ◌-◌, ◌^◌, ◌↔◌, ◌++◌, ◌∷◌, [], None, length, is_some, true, IsTrue, IfOk, IfErr, IfSome, IfNone, OnOk, OnErr, Err};
 ghost use Rattle.rrc_cache.specs.Recording.{refused_by, BeginsRecorded};
 
 use crate::lean::LeanPart;
@@ -46,6 +46,8 @@ impl Part {
     ghost use Rattle.rrc_cache.specs.Lean.{begun_with, IsRestoreDue};
     ghost use Rattle.rrc_cache.specs.Part.{past_of, Closes, HasRoom, IsCloseDue, IsDue, IsOfMoments, IsSound, WritesOffer, WritesAsk, WritesSweep};
     ghost use Rattle.rrc_cache.specs.Ages.{StandsWithin};
+    ghost use Rattle.rrc_cache.specs.Lasts.{IsLast};
+    ghost use Rattle.rrc_history.specs.Fits.{fits};
     ghost use Rattle.rrc_cache.specs.Lookups.{TellsAge, TellsEntry, TellsNoAge, TellsReply};
     ghost use Rattle.rrc_cache.specs.Seeds.{IsHashOf};
     ghost use Rattle.rrc_cache.specs.Sizes.{HoldsKeys, HoldsOctets};
@@ -134,9 +136,8 @@ impl Part {
         self.lean.len()
     }
 
-    /// How many octets the part holds: of each key its name, of an RRset its owner and its rdata,
-    /// and `RECORD_OCTETS` for each record, of a negative answer the owner and the rdata of its SOA
-    /// record. They are counted already, modulo 2^64.
+    /// How many octets of memory the keys take (`Body::octets_under`): each entry, its name and
+    /// what it holds, with the room that the heap adds. They are counted already, modulo 2^64.
     pub fn octets(&self) -> u64
         ensures { HoldsOctets self.now result }
     {
@@ -149,6 +150,15 @@ impl Part {
         ensures { option_map held_in result ≡ held self.now.snapshot (past_of self.now) (key_of key.entry) }
     {
         self.lean.held(key)
+    }
+
+    /// What the key touched least recently holds, lent, if there is a key. It takes no memory and
+    /// touches nothing.
+    pub fn last(&self) -> Option<Held<'_>>
+        ensures value { IsLast self.now (option_map held_in result) }
+        ensures fits { IfSome result (λ held. fits held.key.now held.body.now ≡ true) }
+    {
+        self.lean.last()
     }
 
     /// How many touches came after the last one of a key, if it holds something

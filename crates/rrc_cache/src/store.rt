@@ -12,6 +12,7 @@ ghost use Rattle.rrc_history.specs.Entries.{AreApart, goes, promoted, staying};
 ghost use Rattle.rrc_history.specs.Views.{held_in};
 ghost use Rattle.rrc_cache.specs.ExpiryQueue.{replaced_of};
 ghost use Rattle.rrc_cache.specs.Keyed.{name_hash};
+ghost use Rattle.rrc_cache.specs.Lasts.{last_of};
 ghost use Rattle.rrc_cache.specs.NegativeFilter.{is_negative_slot};
 ghost use Rattle.rrc_cache.specs.Seeds.{IsHashOf};
 
@@ -157,6 +158,16 @@ impl Store {
         }
     }
 
+    /// What the last entry holds, the key touched least recently. It moves nothing.
+    pub(crate) fn last(&self) -> Option<Held<'_>>
+        ensures { option_map held_in result ≡ last_of self.now.entries }
+    {
+        match self.filtered.map().held().peek_lru() {
+            Some((_, stamped)) => Some(Held::of(&stamped.entry)),
+            None => None,
+        }
+    }
+
     /// Whether NXDOMAIN or a failure may be cached of a name that has the hash. Where not, no
     /// look-up finds any of these.
     pub(crate) fn may_hold_negative(&self, hash: u64) -> bool
@@ -228,6 +239,11 @@ impl Store {
         ensures err { OnErr result (self.new ≡ self.old) }
     {
         let time = full_expiry_of(&entry, self.stale);
+        if !self.queue.is_kept() {
+            self.filtered.put(hash, entry)?;
+            self.queue.note(time);
+            return Ok(());
+        }
         let key = entry.key.clone()?;
         self.queue.reserve()?;
         let old = self.filtered.put(hash, entry)?;
