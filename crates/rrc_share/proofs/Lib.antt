@@ -2,3 +2,4 @@
 pub mod Chaining
 pub mod Got
 pub mod Shelved
+pub mod Trimming

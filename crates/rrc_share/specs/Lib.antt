@@ -3,4 +3,6 @@ pub mod Shelf
 pub mod Shared
 pub mod CacheShelf
 pub mod Switches
+pub mod Trims
+pub mod Evictions
 pub mod Empty

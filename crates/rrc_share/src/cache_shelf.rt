@@ -5,7 +5,7 @@ ghost use Rattle.rrc_share.specs.CacheShelf.{lean_shelf};
 ghost use Rattle.rrc_share.specs.Switches.{HandsOut, IsSwitchDue, Starts, Stops, refused_by};
 
 use crate::calls::{on_shelf_ask, on_shelf_checkpoint, on_shelf_offer, on_shelf_sweep};
-use crate::shelf::Shelf;
+use crate::shelf::{Shelf, has_sound_snapshot};
 use crate::state::ShelfState;
 use rrc_cache::{LeanPart, Lookup, NameHash, Part, Pick, Refusal};
 use rrc_history::{Ask, AskRef, Chapter, Held, Offer, Outcome, Reply, ReplyRef, Tag};
@@ -43,11 +43,15 @@ impl Model for CacheShelf {
 
 impl CacheShelf {
     ghost use Rattle.rrc_cache.specs.Ages.{StandsWithin};
+    ghost use Rattle.rrc_cache.specs.Evicting.{AreLasting, EvictsBy, IsEvictDue};
     ghost use Rattle.rrc_cache.specs.Expiry.{HoldsNothing, HoldsSomething, IsAfterLastSweep, NoneFullyExpiresBefore};
+    ghost use Rattle.rrc_cache.specs.Lasts.{IsLast};
     ghost use Rattle.rrc_cache.specs.Lean.{IsLeanDue, IsLeanOpen, IsPick};
     ghost use Rattle.rrc_cache.specs.Lookups.{TellsAge, TellsEntry, TellsLookup, TellsNoAge};
     ghost use Rattle.rrc_cache.specs.Seeds.{IsHashOf};
     ghost use Rattle.rrc_cache.specs.Sizes.{HoldsKeys, HoldsOctets};
+    ghost use Rattle.rrc_history.specs.Fits.{fits};
+    ghost use Rattle.rrc_history.specs.Sound.{AreSound};
     ghost use Rattle.rrc_history.specs.Views.{ask_in, held_in, reply_in};
     ghost use Rattle.rrc_name.specs.KeyRef.{key_of};
     ghost use Rattle.rrc_share.specs.CacheShelf.{held_by, reply_of, IsDueBy, IsLeftBy, IsSoundBy, NotesAsk, ShutsBy, TakesAsk, TakesOffer, TakesSweep};
@@ -112,6 +116,15 @@ impl CacheShelf {
         }
     }
 
+    /// That the snapshot which a recorded chapter began with is sound, for proofs; it does nothing.
+    pub(crate) fn has_sound_snapshot(&self)
+        ensures { self.now.records ≡ true → AreSound self.now.shelf.part.snapshot.rules.capacity self.now.shelf.part.snapshot.first self.now.shelf.part.snapshot.entries }
+    {
+        if let ShelfState::Recorded(shelf) = &self.state {
+            has_sound_snapshot(&shelf.part);
+        }
+    }
+
     /// How many keys the part holds. Those that are fully expired and not yet swept are counted
     /// too.
     pub fn len(&self) -> usize
@@ -141,6 +154,18 @@ impl CacheShelf {
         match &self.state {
             ShelfState::Lean(part) => part.held(key),
             ShelfState::Recorded(shelf) => shelf.part.held(key),
+        }
+    }
+
+    /// What the key touched least recently holds, lent, if there is a key (`Part::last`). It takes
+    /// no memory and touches nothing.
+    pub fn last(&self) -> Option<Held<'_>>
+        ensures value { IsLast self.now.shelf.part (option_map held_in result) }
+        ensures fits { IfSome result (λ held. fits held.key.now held.body.now ≡ true) }
+    {
+        match &self.state {
+            ShelfState::Lean(part) => part.last(),
+            ShelfState::Recorded(shelf) => shelf.part.last(),
         }
     }
 
@@ -273,6 +298,22 @@ impl CacheShelf {
     {
         match &mut self.state {
             ShelfState::Lean(part) => part.note_asked(tag, ask, pick),
+            ShelfState::Recorded(_) => unreachable!(),
+        }
+    }
+
+    /// Removes the key touched least recently while nothing is recorded (`LeanPart::evict_last`).
+    /// It takes no memory.
+    pub(crate) fn evict_unrecorded(&mut self, tag: Tag, moment: u64) -> Result<bool, Refusal>
+        requires lean { self.old.records ≡ false }
+        requires lasting { AreLasting self.old.shelf.part }
+        ensures records { self.new.records ≡ false }
+        ensures ok { IfOk result (λ went. EvictsBy went tag moment self.old.shelf.part self.new.shelf.part) }
+        ensures err { OnErr result (self.new ≡ self.old) }
+        ensures due { IsEvictDue self.old.shelf.part moment result }
+    {
+        match &mut self.state {
+            ShelfState::Lean(part) => part.evict_last(tag, moment),
             ShelfState::Recorded(_) => unreachable!(),
         }
     }

@@ -10,6 +10,7 @@ mod shared;
 mod shelf;
 mod state;
 mod switches;
+mod trim;
 
 pub use cache_shelf::{CacheShelf, NotSwitched};
 pub use calls::{on_shelf_ask, on_shelf_checkpoint, on_shelf_offer, on_shelf_sweep};

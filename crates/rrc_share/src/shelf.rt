@@ -83,7 +83,7 @@ impl Shelf {
 }
 
 /// That the entries of the part's snapshot are sound, for proofs; it does nothing.
-fn has_sound_snapshot(part: &Part)
+pub(crate) fn has_sound_snapshot(part: &Part)
     ensures { AreSound part.now.snapshot.rules.capacity part.now.snapshot.first part.now.snapshot.entries }
 {
     // The contract of `Snapshot::rules` tells it.
