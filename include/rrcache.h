@@ -32,14 +32,16 @@
      has that shelf. Any other call wants it alone, under the lock for writers, `rrcache_ask` and
      `rrcache_ask_alias` too. That two threads keep to this nothing tests. A call takes one shelf,
      so no second lock is ever needed beside it.
-   - `rrcache_read_response`, `rrcache_read_message_unchecked` and `rrcache_free_offers` take no
-     shelf, and so need no lock of one. Of a handle of offers the same is true as of a shelf's: one
-     call at a time, and `rrcache_offer_read` writes into both of its handles for a while.
+   - `rrcache_read_response`, `rrcache_read_message_unchecked`, `rrcache_tell_response`,
+     `rrcache_tell_offer` and `rrcache_free_offers` take no shelf, and so need no lock of one. Of a
+     handle of offers the same is true as of a shelf's: one call at a time, and `rrcache_offer_read`
+     and `rrcache_offer_one` write into both of their handles for a while.
    - `rrcache_take_chapters` and `rrcache_stop_recording` want the shelf's lock. What is done with
      the chapters then, by `rrcache_chapter_line`, `rrcache_write_line`, `rrcache_write_chapter` and
      `rrcache_free_chapters`, takes no shelf, and needs none: the shelf may be called or freed
      meanwhile. Of a handle of chapters the same is true: one call at a time.
-   - `rrcache_fault` and `rrcache_make_name` take no handle and need no lock.
+   - `rrcache_fault`, `rrcache_make_name` and `rrcache_compose_response` take no handle and need no
+     lock.
    - No call waits, sleeps or takes a lock, unless malloc or free does, and none calls back but
      `rrcache_write_line` and `rrcache_write_chapter`, which call the sink that they are handed.
      None may be made in a signal handler, nor after a fork in the child of a process with threads.
@@ -48,26 +50,28 @@
    - The library takes memory by malloc and realloc alone, and gives it back by free. Where they
      refuse, the call returns RRCACHE_MEMORY.
    - What only looks takes no memory, however long the name is, and never returns RRCACHE_MEMORY:
-     `rrcache_peek`, `rrcache_peek_alias` and `rrcache_tell_stored`. Neither does
-   `rrcache_make_name`, nor `rrcache_ask` and `rrcache_ask_alias` while nothing is recorded.
+     `rrcache_peek`, `rrcache_peek_alias` and `rrcache_tell_stored`. Neither do
+     `rrcache_make_name`, `rrcache_tell_response`, `rrcache_tell_offer` and
+     `rrcache_compose_response`, nor `rrcache_ask` and `rrcache_ask_alias` while nothing is
+     recorded.
    - What a reply says is copied into the caller's buffer.
 
    What a refusal leaves
    - Every call but `rrcache_version` and `rrcache_status_text` returns a status. RRCACHE_DONE is 0;
      each other one is a refusal, and nothing ends the process.
    - A struct of which a field was forgotten, and so is 0, is refused where that matters: no
-   purpose, no mode, no class, no trust, no kind, no seed and no limit is 0.
+     purpose, no mode, no class, no trust, no kind, no section, no seed and no limit is 0.
    - A refusal leaves the shelf's history and its replies as they were; while the history is
      recorded, a chapter that was full may have been closed. `rrcache_offer_read`,
-     `rrcache_offer_message_unchecked`, `rrcache_offer_part_unchecked` and `rrcache_sweep_some`
-     alone may leave a part of their work: the offers of one message, and the sweeps of one call,
-     are made one after another, and where one is refused, those before it stay. `counts` tells how
-     many offers these are, and `swept` how many keys they removed. Of what `rrcache_write_chapter`
-     and `rrcache_write_line` write, a beginning may have been written.
+     `rrcache_offer_message_unchecked`, `rrcache_offer_part_unchecked`, `rrcache_sweep_some` and
+     `rrcache_trim` alone may leave a part of their work: the offers of one message, and the sweeps
+     or evictions of one call, are made one after another, and where one is refused, those before it
+     stay. `counts` tells how many offers these are, and `swept` how many keys they removed. Of what
+     `rrcache_write_chapter` and `rrcache_write_line` write, a beginning may have been written.
    - Chapters that were to be taken stay in their shelf, and a record that was to end goes on.
    - What a call was to write for the caller is as it was after a refusal, but for `counts` and
-     `swept`, and for `told` after RRCACHE_SMALL. RRCACHE_NULL, RRCACHE_OVERLAP, RRCACHE_NO_SHELF
-     and RRCACHE_NO_OFFERS leave all of it.
+     `swept`, and for `told` and `size` after RRCACHE_SMALL. RRCACHE_NULL, RRCACHE_OVERLAP,
+     RRCACHE_NO_SHELF and RRCACHE_NO_OFFERS leave all of it.
 
    A message that has more than one name
    - A response may tell of names that lie in other shelves than the one that was asked for: the
@@ -90,14 +94,17 @@
    - `rrcache_read_response` takes of a message only what is relevant to the query that the resolver
      sent, and refuses one with another identifier or question. That is the call for what comes from
      servers. The caller checks from which address and port it came.
+   - A resolver that parses responses itself hands in what it parsed, RRset by RRset and by section,
+     to `rrcache_compose_response`. That writes it as a message, which is then read as above.
    - A call whose name ends in `_unchecked` reads a message by itself, and takes all that it says
      within the zone. It does not compare it with a query: the caller checks addresses and ports,
      the identifier and the question before it offers the message.
    - A message that was truncated, with TC set (0x02 of the third octet), offers nothing (RFC 2181
      section 9). Where it can be read RRCACHE_DONE is returned, `counts` is all 0 and no event is
-     written. Where it ends within a record it is RRCACHE_BAD_MESSAGE, as it is without TC. So the
-     caller looks at TC first, and where it is set asks again over TCP. The two octets of the length
-     that stand before a message there are no part of what is offered.
+     written, and `rrcache_tell_response` tells TC. Where it ends within a record it is
+     RRCACHE_BAD_MESSAGE, as it is without TC. So the caller looks at TC first, and where it is set
+     asks again over TCP. The two octets of the length that stand before a message there are no part
+     of what is offered.
    - In the same way a message offers nothing whose opcode is not that of a standard query, or whose
      question is of a class that is not kept, or not at or below the zone.
    - What is kept is of class IN, CH or HS (RFC 1035 section 3.2.4), and each class of a name has
@@ -106,11 +113,13 @@
      or of type 0, is refused. One of another type that is not kept may be asked: it is a miss, or
      RRCACHE_NXDOMAIN where that is held. Of ANY that is so also where sets of the name are held
      that are trusted more.
-   - A message may answer its question and leave nothing to ask for: its time to live is 0, its type
-     is not kept, the times to live of a set differ with AA clear, a negative answer has no SOA
-     record, or the set is not relevant. No call tells what a handle of offers holds. So where the
-     ask that follows is a miss, the client that waits is answered from the message, which the
-     resolver reads by itself.
+   - A message may answer its question and leave nothing to ask for: its time to live is 0, its
+     type is not kept, the times to live of a set differ with AA clear and `lowest_ttl` was not
+     chosen, a negative answer has no SOA record, or the set is not relevant.
+     `rrcache_tell_response` tells what the response comes to all the same, and
+     `rrcache_tell_offer` a set whose time to live is 0. So where the ask that follows is a miss,
+     the client that waits is answered from these; only of data that are left out, as those of a
+     type that is not kept, does the resolver read the message by itself.
    - A failure that the shelf holds is still told after such a message, as RRCACHE_FAILED and until
      its time is over, since nothing later is held. `rrcache_offer_failure` with `ttl` 0 ends it.
    - Nor does such a message touch a set that the shelf holds, which may be told on, also as stale.
@@ -130,14 +139,15 @@
    - So a clock that is set back lengthens the life of all that is kept by as much. What had
      expired, and was not yet replaced, cleared, evicted or swept, may answer again, and keeps out
      what is trusted less. A clock that is set forward lets data expire early, and a sweep then
-     removes for good what is fully expired by it. Take a clock that nobody sets, as CLOCK_MONOTONIC
-     of POSIX.
+     removes for good what is fully expired by it. Take a clock that nobody sets and that goes on
+     while the machine is suspended, as CLOCK_BOOTTIME of Linux; CLOCK_MONOTONIC stands still
+     meanwhile.
    - Which of two events came later goes by the order of the calls, and never by their moments.
 
    The history and its chapters
    - The history of a shelf grows by one event with each ask, each sweep and each offer of a set, a
-     negative answer or a failure that returns RRCACHE_DONE, and with a message by one for each of
-     its offers that was made.
+     negative answer or a failure that returns RRCACHE_DONE, with a message by one for each of its
+     offers that was made, and with a trim by one or two for each key that goes.
    - A shelf is made to record none of it. Then an event takes a number and no memory, no chapter is
      ever full or closed, and there is nothing to drop. `rrcache_record` keeps the events from that
      call on in memory. `rrcache_stop_recording` ends that and hands out what was recorded,
@@ -190,10 +200,11 @@
    The functions of the library proper begin with `rrc_`, and need pointers that are not null and
    buffers that do not overlap. The inline functions below return RRCACHE_NULL where a pointer is
    null that may not be, and RRCACHE_OVERLAP where what the call writes, the handle too, overlaps
-   any octets that it is handed; what is only read may overlap, and a struct with pointers, and one
-   that stands beside it, is read before anything is written. Otherwise they call them. No test can
-   tell whether a handle or a name began as zeros, whether two threads are in a handle, and whether
-   buffers lie where they are said to. */
+   any octets that it is handed, or an array; what is only read may overlap, and a struct with
+   pointers, and one that stands beside it, is read before anything is written. Otherwise they call
+   them, but for `rrcache_compose_response`, which calls none. No test can tell whether a handle or
+   a name began as zeros, whether two threads are in a handle, and whether buffers lie where they
+   are said to. */
 #ifndef RRCACHE_H
 #define RRCACHE_H
 
@@ -221,23 +232,25 @@ enum rrcache_status {
     RRCACHE_HISTORY_FULL = 4,     /* the numbers of events or of chapters, 2^62 each, are spent */
     RRCACHE_MOMENT_TOO_LARGE = 5, /* the moment is above 2^40 */
     RRCACHE_BAD_RULES = 6,        /* capacity, chapter, max_stale, the number of parts, the part or
-                                     how much is swept is not in its range */
+                                     how much is swept or trimmed is not in its range */
     RRCACHE_BAD_SEED = 7,         /* all octets of the seed are 0 */
     RRCACHE_BAD_LIMITS = 8,       /* a number of `struct rrcache_limits` is not in its range */
     RRCACHE_BAD_NAME = 9,         /* octets are not the wire form of a name, or no name was made */
     RRCACHE_BAD_MESSAGE = 10,     /* octets are no response that can be read: `rrcache_fault` tells
                                      why */
-    RRCACHE_BAD_CHOICE = 11,      /* no purpose, mode, kind or trust has this number */
+    RRCACHE_BAD_CHOICE = 11,      /* no purpose, mode, kind, trust, section or RCODE has this
+                                     number */
     RRCACHE_BAD_TYPE = 12,        /* of what is offered: data of this type are not kept in this
                                      class, as those of OPT and of questions alone. Of a question:
-                                     nothing is kept in its class, or its type is 0 */
+                                     nothing is kept in its class, or its type is 0. Of what was
+                                     parsed, and its query: a class or a type is 0 */
     RRCACHE_BAD_DATA = 13,        /* data do not fill the layout of their type, or their lengths do
                                      not fit */
     RRCACHE_WRONG_BODY = 14,      /* a set with no data, or a time to live above 2^31 - 1 */
     RRCACHE_WIDE = 15,            /* a datum of the reply has more than 65,535 octets, which no
                                      response brings, or all have 2^64 */
-    RRCACHE_SMALL = 16,           /* the buffer is too small: `told` says what it needs, and no
-                                     event was written */
+    RRCACHE_SMALL = 16,           /* the buffer is too small: `told` or `size` says what it needs,
+                                     and no event was written */
     RRCACHE_NULL = 17,            /* a pointer is null (told by the inline functions alone) */
     RRCACHE_NO_OFFERS = 18,       /* the handle holds no offers, or none with this number */
     RRCACHE_HAS_OFFERS = 19,      /* the handle holds offers already */
@@ -292,9 +305,39 @@ enum rrcache_trust {
                                              name that was asked for */
 };
 
+/* The sections of a response that have records (RFC 1035 section 4.1). */
+enum rrcache_section {
+    RRCACHE_ANSWER_SECTION = 1,
+    RRCACHE_AUTHORITY_SECTION = 2,
+    RRCACHE_ADDITIONAL_SECTION = 3
+};
+
 /* What became of an offer: it is kept; its ttl was 0, and the key holds nothing; the key holds what
    is trusted more. */
 enum rrcache_outcome { RRCACHE_KEPT = 1, RRCACHE_CLEARED = 2, RRCACHE_OUTRANKED = 3 };
+
+/* What a response comes to for its question (RFC 1034 section 5.3.3), when a zone's servers were
+   asked: of the name, or of the one that its CNAME records lead to within the zone, 16 of them at
+   most. */
+enum rrcache_response_kind {
+    RRCACHE_RESPONSE_ANSWER = 1,       /* it has data of the type */
+    RRCACHE_RESPONSE_UNEQUAL_TTLS = 2, /* it has, and they are left out: their TTLs differ, AA is
+                                          clear, and `lowest_ttl` was not chosen */
+    RRCACHE_RESPONSE_NODATA = 3,   /* the name has no data of the type (RFC 2308 section 2.2). No
+                                      negative answer is offered where no SOA record says so */
+    RRCACHE_RESPONSE_NXDOMAIN = 4, /* the name does not exist (RFC 2308 section 2.1). The same
+                                      is true of the SOA record */
+    RRCACHE_RESPONSE_REFERRAL = 5, /* AA is clear, and the servers of a zone below are named that
+                                      the name is in (RFC 1034 section 4.3.2) */
+    RRCACHE_RESPONSE_ALIAS = 6,    /* an alias leads on to a name of which the response has
+                                      nothing, or which is outside the zone: ask for that one */
+    RRCACHE_RESPONSE_FAILURE = 7,  /* RCODE is neither NOERROR nor NXDOMAIN */
+    RRCACHE_RESPONSE_UNUSABLE = 8 /* nothing: TC is set, the opcode is not QUERY, the question is of
+                                     a class that is not kept or outside the zone, the aliases do
+                                     not end, or the server knows neither data nor servers, as one
+                                     that does not serve the zone. Data of a type that is not kept
+                                     are read over, so they and their absence are this too */
+};
 
 /* Why octets are no response (`rrcache_fault`). */
 enum rrcache_message_fault {
@@ -403,6 +446,14 @@ struct rrcache_told {
     struct rrcache_entry entry; /* what gives the reply */
 };
 
+/* What a response says beside what it offers. */
+struct rrcache_summary {
+    uint32_t kind; /* enum rrcache_response_kind */
+    uint8_t rcode; /* of the header, 0 to 15: an OPT record's upper octet of RCODE is not read */
+    bool aa;
+    bool tc;
+};
+
 /* What is stored of a name and a class for a type. */
 struct rrcache_stored {
     struct rrcache_entry set;      /* a set of the type, or that the name has no such data */
@@ -448,12 +499,26 @@ struct rrcache_swept {
                          may be left */
 };
 
+/* To how many octets a shelf is trimmed, and how many keys go at most. */
+struct rrcache_trim_to {
+    uint64_t moment;
+    uint64_t line;
+    uint64_t limit; /* the most octets that are left, at least 1 */
+    uint64_t most;  /* at least 1 */
+};
+
+/* What a trim came to: how many keys went, and the octets that are left. */
+struct rrcache_trimmed {
+    uint64_t removed;
+    uint64_t octets;
+};
+
 /* How much a shelf holds (`rrcache_sizes`). */
 struct rrcache_usage {
     uint64_t keys;
     uint64_t events;
     uint64_t chapters;
-    uint64_t octets;
+    uint64_t octets; /* about those of memory that the keys take */
 };
 
 /* Which share of what was read is offered: that of a part, counted from 0. */
@@ -506,6 +571,36 @@ struct rrcache_response {
     size_t zone_size;
     uint64_t moment;
     struct rrcache_limits limits;
+    bool lowest_ttl;    /* whether an RRset whose TTLs differ is taken where AA is clear, with the
+                           lowest of them, as other resolvers do; else it is left out (RFC 2181
+                           section 5.2) */
+    bool clears_denied; /* whether an authoritative NXDOMAIN clears what is held of the name that it
+                           denies: A, AAAA and CNAME, and the type that was asked for. Else what was
+                           stored before it answers again, fresh or stale, once it is gone */
+};
+
+/* An RRset of a response that a resolver parsed itself. The data stand one behind another, each
+   behind its length of two octets, the high one first, with no name compressed. */
+struct rrcache_parsed_set {
+    const uint8_t *owner;
+    size_t owner_size;
+    uint16_t rtype;
+    uint16_t rclass;
+    uint32_t ttl;
+    enum rrcache_section section;
+    const uint8_t *data;
+    size_t data_size;
+};
+
+/* A response that a resolver parsed itself: the RCODE and the flags of its header (RFC 1035 section
+   4.1.1), and its RRsets. Of the flags `ra` is written alone: no rule looks at it. */
+struct rrcache_parsed_response {
+    uint8_t rcode; /* 0 to 15: the lower four bits, where an OPT record has more (RFC 6891) */
+    bool aa;
+    bool tc;
+    bool ra;
+    const struct rrcache_parsed_set *sets;
+    size_t count;
 };
 
 /* An RRset. The data stand one behind another, each behind its length of two octets, with no name
@@ -557,12 +652,23 @@ struct rrcache_failure {
    come. `state` is what the caller handed in beside it. */
 typedef int (*rrcache_sink)(void *state, const void *octets, size_t size);
 
-/* What each record of a set counts beside the octets of its data: the room that it takes of its
-   own. */
-enum { RRCACHE_RECORD_OCTETS = 48 };
+/* What `rrcache_sizes` counts of a key: the key itself, with its places in the order of touch, the
+   table and the queue of expiries; a name or a record's data, which has room in itself for some
+   octets; what a block of its own adds where there are more; and what a name, or the data of a key,
+   takes since several may own it. */
+enum {
+    RRCACHE_ENTRY_OCTETS = 160,
+    RRCACHE_VALUE_OCTETS = 48,
+    RRCACHE_INLINE_OCTETS = 32,
+    RRCACHE_BLOCK_OCTETS = 16,
+    RRCACHE_SHARED_OCTETS = 32
+};
 
 /* How many octets a sink is handed at most. */
 enum { RRCACHE_PIECE_OCTETS = 4096 };
+
+/* How many octets a message has at most (RFC 1035 section 4.2.2). */
+enum { RRCACHE_MESSAGE_OCTETS = 65535 };
 
 /* ---- The functions of the library proper, and what the inline functions hand to them. A size
    stands behind its pointer. What only looks takes a copy of a handle, `look`, which is the call's
@@ -578,6 +684,8 @@ struct rrc_response {
     uint16_t rtype;
     uint16_t rclass;
     bool with_case;
+    bool lowest_ttl;
+    bool clears_denied;
 };
 
 struct rrc_set {
@@ -634,6 +742,8 @@ uint32_t rrc_read_response(struct rrcache_offers *offers, const uint8_t *octets,
 uint32_t rrc_read_message_unchecked(struct rrcache_offers *offers, const uint8_t *octets,
                                     size_t size, const uint8_t *zone, size_t zone_size,
                                     const struct rrc_response *response, uint64_t *concerned);
+uint32_t rrc_tell_response(struct rrcache_offers *offers, struct rrcache_name *name,
+                           struct rrcache_summary *told);
 uint32_t rrc_tell_offer(struct rrcache_offers *offers, uint64_t index, struct rrcache_name *name,
                         struct rrcache_told *told, uint8_t *buffer, size_t buffer_size);
 uint32_t rrc_offer_read(struct rrcache_shelf *shelf, struct rrcache_offers *offers,
@@ -662,6 +772,8 @@ uint32_t rrc_sweep(struct rrcache_shelf *shelf, const struct rrcache_sweep_at *s
                    uint64_t *removed);
 uint32_t rrc_sweep_some(struct rrcache_shelf *shelf, const struct rrcache_sweep_at *sweep,
                         struct rrcache_swept *swept);
+uint32_t rrc_trim(struct rrcache_shelf *shelf, const struct rrcache_trim_to *trim,
+                  struct rrcache_trimmed *trimmed);
 uint32_t rrc_next_expiry(struct rrcache_shelf *look, uint64_t *moment);
 uint32_t rrc_sizes(struct rrcache_shelf *look, struct rrcache_usage *sizes);
 uint32_t rrc_drop_chapters(struct rrcache_shelf *shelf, uint64_t *dropped);
@@ -712,7 +824,7 @@ static inline const char *rrcache_status_text(enum rrcache_status status)
     case RRCACHE_BAD_MESSAGE:
         return "the octets are no response that can be read";
     case RRCACHE_BAD_CHOICE:
-        return "no purpose, mode, kind or trust has this number";
+        return "no purpose, mode, kind, trust, section or RCODE has this number";
     case RRCACHE_BAD_TYPE:
         return "nothing of this type or class is kept";
     case RRCACHE_BAD_DATA:
@@ -847,6 +959,251 @@ static inline enum rrcache_status rrcache_stop_and_drop(struct rrcache_shelf *sh
     return (enum rrcache_status)rrc_stop_and_drop(shelf);
 }
 
+/* Whether two lists of octets are the same. */
+static inline bool rrcache_are_same(const uint8_t *one, size_t one_size, const uint8_t *other,
+                                    size_t other_size)
+{
+    size_t at = 0;
+    while (at < one_size && at < other_size && one[at] == other[at])
+        at++;
+    return at == one_size && at == other_size;
+}
+
+/* Whether octets are one name in wire form, and nothing else. */
+static inline bool rrcache_is_name(const uint8_t *octets, size_t size)
+{
+    size_t at = 0;
+    while (at < size && octets[at] != 0 && octets[at] < 64)
+        at += (size_t)octets[at] + 1;
+    return size <= 255 && at + 1 == size && octets[at] == 0;
+}
+
+/* How many octets the datum at a place has, with those of its length: 0 at the end of the data, and
+   where it is cut off. */
+static inline size_t rrcache_datum_size(const struct rrcache_parsed_set *set, size_t at)
+{
+    size_t left = set->data_size - at, size;
+    if (left < 2)
+        return 0;
+    size = 2 + ((size_t)set->data[at] << 8 | set->data[at + 1]);
+    return size <= left ? size : 0;
+}
+
+/* Whether the data of a set are whole, also where it has none. */
+static inline bool rrcache_is_whole(const struct rrcache_parsed_set *set)
+{
+    size_t at = 0, size;
+    for (size = rrcache_datum_size(set, 0); size != 0; size = rrcache_datum_size(set, at))
+        at += size;
+    return at == set->data_size;
+}
+
+/* Whether what a response was parsed to is there: RRCACHE_NULL where some of it is not, and
+   RRCACHE_OVERLAP where what is written overlaps anything else. */
+static inline enum rrcache_status rrcache_can_compose(const struct rrcache_query *query,
+                                                      const struct rrcache_parsed_response *parsed,
+                                                      const uint8_t *buffer, size_t room,
+                                                      const size_t *size)
+{
+    bool overlap;
+    size_t n;
+    if (query == NULL || parsed == NULL || size == NULL || !rrcache_is_there(buffer, room)
+        || !rrcache_is_there(query->name, query->name_size)
+        || !rrcache_is_there(parsed->sets, parsed->count))
+        return RRCACHE_NULL;
+    overlap = rrcache_overlap(buffer, room, size, sizeof *size)
+              || rrcache_touch(buffer, room, size, sizeof *size, query->name, query->name_size)
+              || rrcache_touch(buffer, room, size, sizeof *size, parsed->sets,
+                               parsed->count * sizeof *parsed->sets);
+    for (n = 0; n < parsed->count; n++) {
+        const struct rrcache_parsed_set *set = &parsed->sets[n];
+        if (!rrcache_is_there(set->owner, set->owner_size)
+            || !rrcache_is_there(set->data, set->data_size))
+            return RRCACHE_NULL;
+        overlap = overlap
+                  || rrcache_touch(buffer, room, size, sizeof *size, set->owner, set->owner_size)
+                  || rrcache_touch(buffer, room, size, sizeof *size, set->data, set->data_size);
+    }
+    return overlap ? RRCACHE_OVERLAP : RRCACHE_DONE;
+}
+
+/* Whether a message can say what a response was parsed to: the first refusal that is due. */
+static inline enum rrcache_status rrcache_can_say(const struct rrcache_query *query,
+                                                  const struct rrcache_parsed_response *parsed)
+{
+    bool choices = parsed->rcode < 16, types = query->rtype != 0 && query->rclass != 0;
+    bool names = rrcache_is_name(query->name, query->name_size), data = true, bodies = true;
+    size_t n;
+    for (n = 0; n < parsed->count; n++) {
+        const struct rrcache_parsed_set *set = &parsed->sets[n];
+        choices = choices && set->section >= RRCACHE_ANSWER_SECTION
+                  && set->section <= RRCACHE_ADDITIONAL_SECTION;
+        types = types && set->rtype != 0 && set->rclass != 0;
+        names = names && rrcache_is_name(set->owner, set->owner_size);
+        data = data && rrcache_is_whole(set);
+        bodies = bodies && set->data_size != 0;
+    }
+    return !choices  ? RRCACHE_BAD_CHOICE
+           : !types  ? RRCACHE_BAD_TYPE
+           : !names  ? RRCACHE_BAD_NAME
+           : !data   ? RRCACHE_BAD_DATA
+           : !bodies ? RRCACHE_WRONG_BODY
+                     : RRCACHE_DONE;
+}
+
+/* How many octets a header has; the question's name stands behind them. */
+enum { RRCACHE_HEADER_OCTETS = 12 };
+
+/* A message that is written to the front of a buffer. What the buffer has no room for is counted
+   alone, and `size` is at most RRCACHE_MESSAGE_OCTETS + 1. */
+struct rrcache_draft {
+    uint8_t *octets;
+    size_t room;
+    size_t size;
+};
+
+/* Writes octets, at least one, behind what was written. */
+static inline void rrcache_put(struct rrcache_draft *draft, const uint8_t *octets, size_t size)
+{
+    size_t left = RRCACHE_MESSAGE_OCTETS + 1 - draft->size, at;
+    if (draft->size < draft->room && size <= draft->room - draft->size) {
+        uint8_t *to = draft->octets + draft->size;
+        for (at = 0; at < size; at++)
+            to[at] = octets[at];
+    }
+    draft->size += size < left ? size : left;
+}
+
+/* Writes an owner, by a pointer to the place where it stands already, if one can lead there (RFC
+   1035 section 4.1.4), else whole, as where it stands nowhere, which is the place 0. It tells where
+   it stands then. */
+static inline size_t rrcache_put_owner(struct rrcache_draft *draft,
+                                       const struct rrcache_parsed_set *set, size_t place)
+{
+    const uint8_t pointer[2] = {(uint8_t)(0xc0 | (place >> 8 & 0x3f)), (uint8_t)(place & 255)};
+    bool stands = place != 0 && place < 0x4000;
+    size_t here = draft->size;
+    if (stands)
+        rrcache_put(draft, pointer, sizeof pointer);
+    else
+        rrcache_put(draft, set->owner, set->owner_size);
+    return stands ? place : here;
+}
+
+/* Writes the records of a set, and tells how many they are. The owner of the first is written as
+   the name of the question where they are the same, letters in their case. */
+static inline size_t rrcache_put_set(struct rrcache_draft *draft, const struct rrcache_query *query,
+                                     const struct rrcache_parsed_set *set)
+{
+    bool is_asked = rrcache_are_same(set->owner, set->owner_size, query->name, query->name_size);
+    const uint8_t fields[8] = {(uint8_t)(set->rtype >> 8),     (uint8_t)(set->rtype & 255),
+                               (uint8_t)(set->rclass >> 8),    (uint8_t)(set->rclass & 255),
+                               (uint8_t)(set->ttl >> 24),      (uint8_t)(set->ttl >> 16 & 255),
+                               (uint8_t)(set->ttl >> 8 & 255), (uint8_t)(set->ttl & 255)};
+    size_t place = is_asked ? RRCACHE_HEADER_OCTETS : 0, at = 0, records = 0, size;
+    for (size = rrcache_datum_size(set, 0); size != 0; size = rrcache_datum_size(set, at)) {
+        place = rrcache_put_owner(draft, set, place);
+        rrcache_put(draft, fields, sizeof fields);
+        rrcache_put(draft, set->data + at, size); /* RDLENGTH and RDATA */
+        at += size;
+        records++;
+    }
+    return records;
+}
+
+/* Writes the sets of a section, and into the header how many records it has. */
+static inline void rrcache_put_section(struct rrcache_draft *draft,
+                                       const struct rrcache_query *query,
+                                       const struct rrcache_parsed_response *parsed,
+                                       enum rrcache_section section)
+{
+    size_t records = 0, n;
+    for (n = 0; n < parsed->count; n++) {
+        const struct rrcache_parsed_set *set = &parsed->sets[n];
+        if (set->section == section)
+            records += rrcache_put_set(draft, query, set);
+    }
+    if (draft->size <= draft->room) {
+        draft->octets[4 + 2 * (size_t)section] = (uint8_t)(records >> 8 & 255);
+        draft->octets[5 + 2 * (size_t)section] = (uint8_t)(records & 255);
+    }
+}
+
+/* Writes a message as far as there is room, and tells how many octets it has, at most
+   RRCACHE_MESSAGE_OCTETS + 1. */
+static inline size_t rrcache_put_response(const struct rrcache_query *query,
+                                          const struct rrcache_parsed_response *parsed,
+                                          uint8_t *octets, size_t room)
+{
+    struct rrcache_draft draft = {octets, room, 0};
+    const uint8_t header[RRCACHE_HEADER_OCTETS] = {
+        (uint8_t)(query->id >> 8),
+        (uint8_t)(query->id & 255),
+        (uint8_t)(0x80 | (parsed->aa ? 4 : 0) | (parsed->tc ? 2 : 0)),
+        (uint8_t)((parsed->ra ? 0x80 : 0) | parsed->rcode),
+        0,
+        1};
+    const uint8_t asked[4] = {(uint8_t)(query->rtype >> 8), (uint8_t)(query->rtype & 255),
+                              (uint8_t)(query->rclass >> 8), (uint8_t)(query->rclass & 255)};
+    rrcache_put(&draft, header, sizeof header);
+    rrcache_put(&draft, query->name, query->name_size);
+    rrcache_put(&draft, asked, sizeof asked);
+    rrcache_put_section(&draft, query, parsed, RRCACHE_ANSWER_SECTION);
+    rrcache_put_section(&draft, query, parsed, RRCACHE_AUTHORITY_SECTION);
+    rrcache_put_section(&draft, query, parsed, RRCACHE_ADDITIONAL_SECTION);
+    return draft.size;
+}
+
+/* Writes what a resolver parsed of a response itself to the front of a buffer, as a message of
+   `size` octets (RFC 1035 section 4), which is then handed to `rrcache_read_response` with the same
+   query like any response. So what is relevant, ranks, negative answers, referrals and failures are
+   those of the response that was parsed. It takes no memory, and a time that goes with the octets
+   that it is handed.
+
+   The caller compares the response with its query first (RFC 5452 section 9.1): QR, the opcode, the
+   identifier and the question, the letters of its name too where the query has `with_case`. The
+   message has QR, the opcode of a standard query, RD clear, and identifier and question from the
+   query, whatever the response had: so it is never RRCACHE_OTHER_QUERY.
+
+   The records of a section are written in the order of the array, and in a set in that of its data.
+   A set whose records have several TTLs is handed in as several sets, one for each record: what has
+   one owner, type and class is one RRset of its section when it is read. What offers nothing when
+   it is read, as an OPT record, may be left out. Data that do not fill the layout of their type are
+   found when it is read (RRCACHE_BAD_MESSAGE). No name in the data may have a pointer: it would
+   lead to another place of this message, and nothing tests that.
+
+   RRCACHE_BAD_CHOICE is returned of a section that there is not, and of an RCODE above 15;
+   RRCACHE_BAD_TYPE of a type or a class of 0, of a set or of the query (RFC 6895 reserves both);
+   RRCACHE_BAD_NAME of a name that is none; RRCACHE_BAD_DATA of data of which the last is cut off;
+   RRCACHE_WRONG_BODY of a set with no data. Where the buffer has no room RRCACHE_SMALL is returned,
+   the buffer is as it was, and `size` tells how many octets the message has:
+   RRCACHE_MESSAGE_OCTETS + 1 where they are more than any message has, which no room will do for.
+   That may be so of a response that had fewer, since of its names owners alone are compressed: then
+   leave out the additional section. */
+static inline enum rrcache_status
+rrcache_compose_response(const struct rrcache_query *query,
+                         const struct rrcache_parsed_response *parsed, uint8_t *buffer, size_t room,
+                         size_t *size)
+{
+    enum rrcache_status status = rrcache_can_compose(query, parsed, buffer, room, size);
+    struct rrcache_query asked;
+    struct rrcache_parsed_response response;
+    size_t wanted;
+    if (status == RRCACHE_DONE)
+        status = rrcache_can_say(query, parsed);
+    if (status != RRCACHE_DONE)
+        return status;
+    asked = *query;
+    response = *parsed;
+    wanted = rrcache_put_response(&asked, &response, NULL, 0);
+    if (wanted > room || wanted > RRCACHE_MESSAGE_OCTETS)
+        status = RRCACHE_SMALL;
+    else
+        rrcache_put_response(&asked, &response, buffer, room);
+    *size = wanted;
+    return status;
+}
+
 /* Whether the octets of a response are there, and RRCACHE_OVERLAP where one of two stretches of
    memory that the call writes overlaps them, or the other one. */
 static inline enum rrcache_status rrcache_can_read(const struct rrcache_response *response,
@@ -870,7 +1227,8 @@ static inline enum rrcache_status rrcache_can_read(const struct rrcache_response
    takes no shelf and writes no event. A handle that holds offers keeps them, and RRCACHE_HAS_OFFERS
    is returned, whatever else would be refused. Where a response offers nothing, as one with TC set,
    `concerned` is 0, and the handle is to be freed like any other. What the handle holds can be
-   offered, and told by `rrcache_tell_offer`.
+   offered, and told by `rrcache_tell_offer`. `rrcache_tell_response` tells what the response comes
+   to: an answer, a denial, a referral, an alias or a failure.
 
    The identifier and the question are compared first (RFC 5452 section 9.1), and what stands behind
    them is read only where they are the query's. So octets that are RRCACHE_OTHER_QUERY cost next to
@@ -928,6 +1286,8 @@ static inline enum rrcache_status rrcache_read_response(struct rrcache_offers *o
     terms.rtype = query->rtype;
     terms.rclass = query->rclass;
     terms.with_case = query->with_case;
+    terms.lowest_ttl = response->lowest_ttl;
+    terms.clears_denied = response->clears_denied;
     return (enum rrcache_status)rrc_read_response(
         offers, rrcache_octets(response->octets, response->size), response->size,
         rrcache_octets(response->zone, response->zone_size), response->zone_size,
@@ -977,6 +1337,23 @@ static inline enum rrcache_status rrcache_offer_read(struct rrcache_shelf *shelf
     return (enum rrcache_status)rrc_offer_read(shelf, offers, share, counts);
 }
 
+/* Tells what the response says that a handle was read from: its RCODE, AA and TC, and what it comes
+   to for the question that the zone's servers were asked, by `enum rrcache_response_kind`. `name`
+   is made, under the seed that the response was read with, of the zone that a referral leads to,
+   and of the name that an alias leads on to; with any other kind it is as it was. It takes no
+   memory, and is refused only where the handle holds no offers (RRCACHE_NO_OFFERS). */
+static inline enum rrcache_status rrcache_tell_response(struct rrcache_offers *offers,
+                                                        struct rrcache_name *name,
+                                                        struct rrcache_summary *summary)
+{
+    if (offers == NULL || name == NULL || summary == NULL)
+        return RRCACHE_NULL;
+    if (rrcache_touch(name, sizeof *name, summary, sizeof *summary, offers, sizeof *offers)
+        || rrcache_overlap(name, sizeof *name, summary, sizeof *summary))
+        return RRCACHE_OVERLAP;
+    return (enum rrcache_status)rrc_tell_response(offers, name, summary);
+}
+
 /* Tells one of the offers that a handle holds, by its number: they are counted from 0, in the order
    of the message, and RRCACHE_NO_OFFERS is returned where there is none with this number. It is
    told as the reply that it makes at the moment of the response, with its whole TTL left. So a
@@ -1005,6 +1382,47 @@ static inline enum rrcache_status rrcache_tell_offer(struct rrcache_offers *offe
         return RRCACHE_OVERLAP;
     return (enum rrcache_status)rrc_tell_offer(offers, index, name, told,
                                                buffer_size == 0 ? &none : buffer, buffer_size);
+}
+
+/* How many octets so many take that stand in a value, or in a block of its own. */
+static inline uint64_t rrcache_room(uint64_t size)
+{
+    return RRCACHE_VALUE_OCTETS + (size <= RRCACHE_INLINE_OCTETS ? 0 : RRCACHE_BLOCK_OCTETS + size);
+}
+
+/* How many octets the data take that stand behind an owner, each behind its length. */
+static inline uint64_t rrcache_data_room(const uint8_t *data, uint64_t size)
+{
+    uint64_t at = 0, count = 0, octets = RRCACHE_SHARED_OCTETS;
+    while (at + 2 <= size) {
+        uint64_t length = (uint64_t)data[at] << 8 | data[at + 1];
+        octets += rrcache_room(length);
+        at += 2 + length;
+        count += 1;
+    }
+    return octets + (count > 1 ? RRCACHE_VALUE_OCTETS + RRCACHE_BLOCK_OCTETS : 0);
+}
+
+/* Tells how many octets an offer takes that `rrcache_tell_offer` told, if it is kept as a key of
+   its own (`rrcache_sizes`), by its name and its buffer. One that takes more than a shelf is
+   trimmed to would drive all other keys out: `rrcache_offer_one` leaves such an offer out, and the
+   client that waits is answered by what was told. */
+static inline enum rrcache_status rrcache_tell_octets(const struct rrcache_name *name,
+                                                      const struct rrcache_told *told,
+                                                      const uint8_t *buffer, size_t buffer_size,
+                                                      uint64_t *octets)
+{
+    if (name == NULL || told == NULL || octets == NULL || !rrcache_is_there(buffer, buffer_size))
+        return RRCACHE_NULL;
+    if (told->owner_size > buffer_size || told->data_size > buffer_size - told->owner_size)
+        return RRCACHE_SMALL;
+    *octets = RRCACHE_ENTRY_OCTETS + RRCACHE_SHARED_OCTETS + rrcache_room(name->size);
+    if (told->kind == RRCACHE_FAILED)
+        return RRCACHE_DONE;
+    if (!rrcache_are_same(buffer, (size_t)told->owner_size, name->octets, name->size))
+        *octets += RRCACHE_SHARED_OCTETS + rrcache_room(told->owner_size);
+    *octets += rrcache_data_room(buffer + told->owner_size, told->data_size);
+    return RRCACHE_DONE;
 }
 
 /* Offers a shelf one of the offers that a handle holds, by its number, and tells what became of it,
@@ -1357,6 +1775,37 @@ static inline enum rrcache_status rrcache_sweep_some(struct rrcache_shelf *shelf
     return (enum rrcache_status)rrc_sweep_some(shelf, sweep, swept);
 }
 
+/* Bounds the memory of a shelf: removes keys, the one touched least recently first, until the keys
+   that are left take no more octets (`rrcache_sizes`) than `limit`, or `most` of them went, or none
+   is left. It tells how many went, and the octets that are left: where these are more than the
+   limit, call it again. Who calls it after each message that was offered has it remove about as
+   many octets as came, so that no call is long. A key that stays holds what it held.
+
+   Each key that goes is an event in the history, an offer of what it held with a TTL of 0 that
+   clears it. A failure takes two: one that lasts no second in its place, and a sweep at moment 0,
+   which removes what has no time and nothing else. Where the shelf holds such a failure before, or
+   held one since its last sweep, that sweep comes first, and what it removes is not counted.
+
+   Octets are not all memory. The first sweep of a shelf looks at all its keys, and from then on the
+   shelf keeps the times at which they expire, which are not counted. SECURITY.md tells how much
+   memory shelves took that were trimmed to a limit.
+
+   Where `limit` or `most` is 0 RRCACHE_BAD_RULES is returned, and for a moment above 2^40
+   RRCACHE_MOMENT_TOO_LARGE, and nothing is done. RRCACHE_MEMORY and RRCACHE_HISTORY_FULL may come
+   later: what went before stays gone, and `trimmed` is as it was. In a shelf that records nothing
+   only such a sweep asks for memory. */
+static inline enum rrcache_status rrcache_trim(struct rrcache_shelf *shelf,
+                                               const struct rrcache_trim_to *trim,
+                                               struct rrcache_trimmed *trimmed)
+{
+    if (shelf == NULL || trim == NULL || trimmed == NULL)
+        return RRCACHE_NULL;
+    if (rrcache_holds(shelf, trimmed, sizeof *trimmed) || rrcache_holds(shelf, trim, sizeof *trim)
+        || rrcache_overlap(trim, sizeof *trim, trimmed, sizeof *trimmed))
+        return RRCACHE_OVERLAP;
+    return (enum rrcache_status)rrc_trim(shelf, trim, trimmed);
+}
+
 /* Takes the closed chapters and drops them, and tells how many they were, which is 0 while nothing
    is recorded. No reply changes. Each event of these chapters is freed before the call returns. */
 static inline enum rrcache_status rrcache_drop_chapters(struct rrcache_shelf *shelf,
@@ -1498,19 +1947,21 @@ static inline enum rrcache_status rrcache_free_chapters(struct rrcache_chapters 
 
 /* Tells how many keys the shelf holds, those that are fully expired and not yet swept with them,
    how many events of the open chapter are recorded, how many chapters are closed, both 0 while
-   nothing is recorded, and how many octets the keys have. A key is a name and a class with a type,
+   nothing is recorded, and how many octets the keys take. A key is a name and a class with a type,
    with no type where the name does not exist, or with a type that asking failed for.
 
-   Its octets are those of its name, of a set those of its owner and of the data of its records, and
-   RRCACHE_RECORD_OCTETS for each record, of a negative answer those of the SOA record's owner and
-   data. They are counted as keys come and go, so to tell them takes no longer where there are more.
-   Each key takes room of its own beside. What events and chapters keep of keys that were evicted,
-   replaced or swept is not counted.
-
-   Of a shelf that is offered nothing but failures and what `rrcache_read_response` reads, they are
-   at most 302,830 for each of its keys: 510 for two names, 16,384 for data, and 48 for each 11
-   octets of a response, which has room for no more records. Where no response of more than 1,232
-   octets is read, that is 22,270. */
+   The octets are about those of memory. A key takes RRCACHE_ENTRY_OCTETS, and
+   - its name;
+   - of a set RRCACHE_SHARED_OCTETS and the data of each record, and where there are several records
+     RRCACHE_VALUE_OCTETS and RRCACHE_BLOCK_OCTETS beside;
+   - of a negative answer RRCACHE_SHARED_OCTETS and the data of its SOA record;
+   - the owner of these records, unless that is spelled as the key's name.
+   Data take RRCACHE_VALUE_OCTETS, and where they are more than RRCACHE_INLINE_OCTETS also
+   RRCACHE_BLOCK_OCTETS and as many as they are. A name takes RRCACHE_SHARED_OCTETS more than data
+   of its size. All are counted as keys come and go, so to tell them takes no longer where there are
+   more. What events and chapters keep of keys that were evicted, replaced or swept is not counted,
+   nor is what a shelf that is swept keeps of keys that were evicted: their names, and when they
+   would have expired, until that moment, of at most twice as many keys as are held and 64 more. */
 static inline enum rrcache_status rrcache_sizes(const struct rrcache_shelf *shelf,
                                                 struct rrcache_usage *sizes)
 {

@@ -17,13 +17,14 @@ HEADER = (TOP / "include" / "rrcache.h").read_text()
 GROUPS = {
     "make free": "make and free a shelf",
     "make_name": "make a name, for all that is asked of it",
-    "read_response tell_offer offer_read offer_one free_offers":
+    "compose_response read_response tell_response tell_offer tell_octets offer_read offer_one "
+    "free_offers":
         "read a response once, tell what it offers and offer it to several shelves",
     "offer_set offer_negative offer_failure": "offer a set, a negative answer or a failure",
     "read_message_unchecked offer_message_unchecked offer_part_unchecked":
         "offer what a response says, compared with no query",
     "ask ask_alias peek peek_alias tell_stored": "ask a shelf",
-    "sweep next_expiry sweep_some sizes": "sweep a shelf, tell its sizes",
+    "sweep next_expiry sweep_some trim sizes": "sweep or trim a shelf, tell its sizes",
     "record stop_and_drop drop_chapters": "record the history of a shelf, or not",
     "take_chapters stop_recording write_chapter write_line chapter_line free_chapters":
         "take the chapters of a shelf's history out and write them",

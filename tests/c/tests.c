@@ -96,6 +96,7 @@ static const uint8_t SOA_DATA[] = {0, 0, 0, 0, 0, 1, 0, 0, 0, 2, 0,
                                    0, 0, 3, 0, 0, 0, 4, 0, 0, 0, 60};
 
 #define SWEEP(moment, most)        (&(const struct rrcache_sweep_at){(moment), 1, (most)})
+#define TRIM(moment, limit, most)  (&(const struct rrcache_trim_to){(moment), 8, (limit), (most)})
 #define SHARE(part)                (&(const struct rrcache_share){(part), 1})
 #define PLACE(chapter, line, from) (&(const struct rrcache_place){(chapter), (line), (from)})
 #define RULES(capacity, chapter, life)                                                             \
@@ -520,6 +521,9 @@ static void test_layout(void)
            && offsetof(struct rrcache_told, entry) == 40);
     EXPECT(sizeof(struct rrcache_counts) == 24 && sizeof(struct rrcache_limits) == 12
            && sizeof(struct rrcache_sweep_at) == 24 && sizeof(struct rrcache_swept) == 16);
+    EXPECT(sizeof(struct rrcache_trim_to) == 32 && offsetof(struct rrcache_trim_to, limit) == 16
+           && offsetof(struct rrcache_trim_to, most) == 24 && sizeof(struct rrcache_trimmed) == 16
+           && offsetof(struct rrcache_trimmed, octets) == 8);
     EXPECT(sizeof(struct rrcache_usage) == 32 && sizeof(struct rrcache_share) == 16
            && sizeof(struct rrcache_place) == 24);
     EXPECT(rrcache_version() == RRCACHE_VERSION);
@@ -1706,9 +1710,19 @@ static void test_keys(void)
     EXPECT(rrcache_free(&shelf) == RRCACHE_DONE);
 }
 
-/* How many octets the keys have is told through all that changes them: by hand, since www.example
-   has 13, other.example and third.example 15 and example 9, an address 4 and 48 for its record, and
-   the SOA record's data 22. */
+/* What keys take by hand. All that they hold is short: www.example has 13 octets, other.example and
+   third.example 15, example 9, an address 4 and the SOA record's data 22. */
+enum {
+    OF_DATUM = RRCACHE_VALUE_OCTETS,
+    OF_NAME = RRCACHE_SHARED_OCTETS + RRCACHE_VALUE_OCTETS,
+    OF_DATA = RRCACHE_SHARED_OCTETS,
+    OF_KEY = RRCACHE_ENTRY_OCTETS + OF_NAME,
+    OF_ADDRESS = OF_KEY + OF_DATA + OF_DATUM,
+    OF_TWO = OF_KEY + OF_DATA + RRCACHE_VALUE_OCTETS + RRCACHE_BLOCK_OCTETS + 2 * OF_DATUM,
+    OF_DENIAL = OF_KEY + OF_NAME + OF_DATA + OF_DATUM
+};
+
+/* How many octets the keys take is told through all that changes them. */
 static void test_octets_of_keys(void)
 {
     struct rrcache_shelf shelf = {0};
@@ -1716,36 +1730,37 @@ static void test_octets_of_keys(void)
     uint64_t number = 9;
     EXPECT(make_by(&shelf, 2, 3, 0) == RRCACHE_DONE && octets_of_keys(&shelf) == 0);
 
-    /* A set of one address: 13 + 13 + 52. */
-    EXPECT(offer_address(&shelf, OF(NAME), 3, 60) == RRCACHE_KEPT && octets_of_keys(&shelf) == 78);
-    /* One of two takes its place: 13 + 13 + 2 * 52. What is outranked, and what is asked for,
-       changes nothing. */
-    EXPECT(offer_answer(&shelf, FIRST, &counts) == RRCACHE_DONE && octets_of_keys(&shelf) == 130);
+    EXPECT(offer_address(&shelf, OF(NAME), 3, 60) == RRCACHE_KEPT
+           && octets_of_keys(&shelf) == OF_ADDRESS);
+    /* A set of two addresses takes its place. What is outranked, and what is asked for, changes
+       nothing. */
+    EXPECT(offer_answer(&shelf, FIRST, &counts) == RRCACHE_DONE
+           && octets_of_keys(&shelf) == OF_TWO);
     EXPECT(offer_address(&shelf, OF(NAME), 1, 60) == RRCACHE_OUTRANKED
-           && octets_of_keys(&shelf) == 130);
-    /* That other.example has no address: 15 + 9 + 22. */
+           && octets_of_keys(&shelf) == OF_TWO);
+    /* That other.example has no address. */
     EXPECT(offer_denial(&shelf, OF(OTHER), RRCACHE_NODATA, 3, 60) == RRCACHE_KEPT
-           && octets_of_keys(&shelf) == 130 + 46);
+           && octets_of_keys(&shelf) == OF_TWO + OF_DENIAL);
     EXPECT(asked(&shelf, OF(NAME), question(A, FIRST)).told.kind == RRCACHE_FRESH
-           && octets_of_keys(&shelf) == 130 + 46);
+           && octets_of_keys(&shelf) == OF_TWO + OF_DENIAL);
     EXPECT(rrcache_drop_chapters(&shelf, &number) == RRCACHE_DONE && number == 1
-           && octets_of_keys(&shelf) == 130 + 46);
-    /* There is room for two: that asking for third.example failed, 15, evicts other.example. */
+           && octets_of_keys(&shelf) == OF_TWO + OF_DENIAL);
+    /* There is room for two: that asking for third.example failed evicts other.example. */
     EXPECT(offer_failure(&shelf, failure_of(OF(THIRD), A)) == RRCACHE_KEPT && keys(&shelf) == 2
-           && octets_of_keys(&shelf) == 130 + 15);
-    /* In the place of the two addresses: that there is none, 13 + 9 + 22, then one again, and none
-       by a ttl of 0. */
+           && octets_of_keys(&shelf) == OF_TWO + OF_KEY);
+    /* In the place of the two addresses: that there is none, then one again, whose owner is spelled
+       in capitals and so counts beside the key's name, and none by a ttl of 0. */
     EXPECT(offer_denial(&shelf, OF(NAME), RRCACHE_NODATA, 4, 60) == RRCACHE_KEPT
-           && octets_of_keys(&shelf) == 44 + 15);
+           && octets_of_keys(&shelf) == OF_DENIAL + OF_KEY);
     EXPECT(offer_address(&shelf, OF(UPPER), 4, 60) == RRCACHE_KEPT
-           && octets_of_keys(&shelf) == 78 + 15);
+           && octets_of_keys(&shelf) == OF_ADDRESS + OF_NAME + OF_KEY);
     EXPECT(offer_address(&shelf, OF(NAME), 4, 0) == RRCACHE_CLEARED
-           && octets_of_keys(&shelf) == 15);
+           && octets_of_keys(&shelf) == OF_KEY);
     EXPECT(offer_address(&shelf, OF(NAME), 4, 60) == RRCACHE_KEPT
-           && octets_of_keys(&shelf) == 78 + 15);
+           && octets_of_keys(&shelf) == OF_ADDRESS + OF_KEY);
 
     /* What is fully expired is counted until it is swept. */
-    EXPECT(sweep(&shelf, FIRST + 30) == 1 && octets_of_keys(&shelf) == 78);
+    EXPECT(sweep(&shelf, FIRST + 30) == 1 && octets_of_keys(&shelf) == OF_ADDRESS);
     EXPECT(sweep(&shelf, FIRST + 60) == 1 && keys(&shelf) == 0 && octets_of_keys(&shelf) == 0);
     EXPECT(rrcache_free(&shelf) == RRCACHE_DONE);
 }
@@ -1842,6 +1857,275 @@ static void test_sweep_some_to_the_end(void)
                && calls >= 22 / (most + 1));
         EXPECT(rrcache_free(&shelf) == RRCACHE_DONE);
     }
+}
+
+/* ---- Trims. */
+
+/* How many octets keys take whose names have up to 32, by hand: a name takes 32 + 48, and a key 160
+   beside it. A set of one record of up to 32 octets takes 32 + 48 more where its owner is spelled
+   as the key's name is, and so does the data of a denial, whose SOA record's owner takes a name's
+   room more. A failure takes no more than its key. */
+enum { A_FAILURE = 160 + 80, A_SET = A_FAILURE + 80, A_DENIAL = A_FAILURE + 80 + 80 };
+
+/* Whether a trim is done and tells this, with so many events. */
+static bool trims(struct rrcache_shelf *shelf, uint64_t limit, uint64_t most, uint64_t removed,
+                  uint64_t octets, uint64_t steps)
+{
+    struct rrcache_trimmed trimmed = {7, 7};
+    uint64_t before = events(shelf);
+    return rrcache_trim(shelf, TRIM(FIRST, limit, most), &trimmed) == RRCACHE_DONE
+           && trimmed.removed == removed && trimmed.octets == octets
+           && octets_of_keys(shelf) == octets && events(shelf) == before + steps;
+}
+
+/* Keys go by when they were touched last, and none while the octets are no more than the limit. A
+   key that stays holds what it held. */
+static void test_trim(void)
+{
+    struct rrcache_shelf shelf = {0};
+    struct rrcache_stored stored;
+    EXPECT(make_by(&shelf, 100, 100, MAX_STALE) == RRCACHE_DONE);
+    EXPECT(trims(&shelf, 1, 1, 0, 0, 0));
+    EXPECT(offer_address(&shelf, OF(NAME), RRCACHE_AUTHORITY, 60) == RRCACHE_KEPT
+           && offer_address(&shelf, OF(OTHER), 4, 60) == RRCACHE_KEPT
+           && offer_address(&shelf, OF(THIRD), 4, 60) == RRCACHE_KEPT);
+    EXPECT(asked(&shelf, OF(NAME), question(A, FIRST)).told.kind == RRCACHE_FRESH);
+    EXPECT(trims(&shelf, 3 * A_SET, 9, 0, 3 * A_SET, 0)
+           && trims(&shelf, UINT64_MAX, UINT64_MAX, 0, 3 * A_SET, 0) && have_ages(&shelf, 0, 2, 1));
+
+    /* The ask moved www.example to the front, so other.example goes, and then third.example. A peek
+       moves nothing. */
+    EXPECT(trims(&shelf, 3 * A_SET - 1, 9, 1, 2 * A_SET, 1));
+    EXPECT(kind_at(&shelf, OF(OTHER), A, FIRST) == RRCACHE_MISS
+           && kind_at(&shelf, OF(NAME), A, FIRST) == RRCACHE_FRESH
+           && kind_at(&shelf, OF(THIRD), A, FIRST) == RRCACHE_FRESH && keys(&shelf) == 2);
+    EXPECT(trims(&shelf, 2 * A_SET - 1, UINT64_MAX, 1, A_SET, 1) && keys(&shelf) == 1);
+    stored = stored_of(&shelf, OF(NAME), A);
+    EXPECT(is_entry(&stored.set, RRCACHE_FRESH, RRCACHE_AUTHORITY, 60, FIRST, 0, 0));
+    EXPECT(trims(&shelf, A_SET - 1, 9, 1, 0, 1) && keys(&shelf) == 0
+           && kind_at(&shelf, OF(NAME), A, FIRST) == RRCACHE_MISS);
+    EXPECT(trims(&shelf, 1, UINT64_MAX, 0, 0, 0) && trims(&shelf, UINT64_MAX, 1, 0, 0, 0));
+    EXPECT(rrcache_free(&shelf) == RRCACHE_DONE);
+}
+
+/* It ends at as many keys as are to go, and is gone on with. What goes is held no more in a shelf
+   that records nothing either. */
+static void test_trim_by_steps(void)
+{
+    enum { KEYS = 10 };
+    struct rrcache_shelf shelf = {0};
+    uint8_t name[] = "\1a\7example";
+    EXPECT(rrcache_make(&shelf, RULES(100, 4, 0)) == RRCACHE_DONE);
+    for (int n = 0; n < KEYS; n++) {
+        name[1] = (uint8_t)('a' + n);
+        EXPECT(offer_address(&shelf, OF(name), 4, 60) == RRCACHE_KEPT);
+    }
+    EXPECT(trims(&shelf, 1, 3, 3, 7 * A_SET, 0) && trims(&shelf, 1, 1, 1, 6 * A_SET, 0));
+    EXPECT(trims(&shelf, 4 * A_SET, 2, 2, 4 * A_SET, 0)
+           && trims(&shelf, 4 * A_SET - 1, 2, 1, 3 * A_SET, 0));
+    for (int n = 0; n < KEYS; n++) {
+        name[1] = (uint8_t)('a' + n);
+        EXPECT(kind_at(&shelf, OF(name), A, FIRST) == (n < 7 ? RRCACHE_MISS : RRCACHE_FRESH));
+    }
+    EXPECT(trims(&shelf, 1, UINT64_MAX, 3, 0, 0) && keys(&shelf) == 0);
+    EXPECT(rrcache_free(&shelf) == RRCACHE_DONE);
+}
+
+/* What goes may be anything that a key holds, past its time or not: a failure by two events. A set
+   whose owner is spelled in another way than its key's name takes that name's room more, one of two
+   records 48 + 16 for the list of them, and a datum of 33 octets 16 + 33 more than one of 32. */
+static void test_trim_of_each_kind(void)
+{
+    static const uint8_t long_data[2 + 33] = {0, 33, 32};
+    struct rrcache_shelf shelf = {0};
+    struct rrcache_counts counts;
+    uint64_t octets = A_FAILURE + A_DENIAL + A_SET + 48 + 48 + 16;
+    EXPECT(make_by(&shelf, 100, 100, MAX_STALE) == RRCACHE_DONE);
+    EXPECT(offer_failure(&shelf, failure_of(OF(THIRD), A)) == RRCACHE_KEPT
+           && offer_denial(&shelf, OF(OTHER), RRCACHE_NXDOMAIN, 3, 60) == RRCACHE_KEPT);
+    EXPECT(offer_answer(&shelf, FIRST, &counts) == RRCACHE_DONE && counts.kept == 1);
+    EXPECT(trims(&shelf, octets, 9, 0, octets, 0));
+    EXPECT(trims(&shelf, octets - 1, 9, 1, octets - A_FAILURE, 2)
+           && kind_at(&shelf, OF(THIRD), A, FIRST) == RRCACHE_MISS);
+    octets -= A_FAILURE;
+    EXPECT(trims(&shelf, octets - 1, 9, 1, octets - A_DENIAL, 1)
+           && kind_at(&shelf, OF(OTHER), A, FIRST) == RRCACHE_MISS
+           && kind_at(&shelf, OF(NAME), A, FIRST) == RRCACHE_FRESH);
+    octets -= A_DENIAL;
+
+    /* Those that are past their time go no sooner: that of 30 seconds is in front. */
+    EXPECT(offer_address(&shelf, OF(UPPER), 4, 60) == RRCACHE_KEPT
+           && offer_set(&shelf, set_of(OF(OTHER), TXT, OF(long_data))) == RRCACHE_KEPT
+           && offer_failure(&shelf, failure_of(OF(THIRD), A)) == RRCACHE_KEPT);
+    octets = A_SET + 80 + A_SET + 16 + 33 + A_FAILURE;
+    EXPECT(octets_of_keys(&shelf) == octets);
+    EXPECT(trims(&shelf, octets - 1, 1, 1, octets - A_SET - 80, 1)
+           && trims(&shelf, A_FAILURE, 9, 1, A_FAILURE, 1)
+           && kind_at(&shelf, OF(THIRD), A, FIRST) == RRCACHE_FAILED);
+    EXPECT(trims(&shelf, A_FAILURE - 1, 1, 1, 0, 2) && keys(&shelf) == 0);
+    EXPECT(rrcache_free(&shelf) == RRCACHE_DONE);
+}
+
+/* Many failures, more of which are held at once than go in one call: two events for each. */
+static void test_trim_of_failures(void)
+{
+    enum { KEYS = 20 };
+    struct rrcache_shelf shelf = {0};
+    uint8_t name[] = "\1a\7example";
+    EXPECT(make_by(&shelf, 100, 1000, 0) == RRCACHE_DONE);
+    for (int n = 0; n < KEYS; n++) {
+        name[1] = (uint8_t)('a' + n);
+        EXPECT(offer_failure(&shelf, failure_of(OF(name), A)) == RRCACHE_KEPT);
+    }
+    EXPECT(trims(&shelf, 17 * A_FAILURE, 9, 3, 17 * A_FAILURE, 6)
+           && trims(&shelf, 1, 8, 8, 9 * A_FAILURE, 16));
+    for (int n = 0; n < KEYS; n++) {
+        name[1] = (uint8_t)('a' + n);
+        EXPECT(kind_at(&shelf, OF(name), A, FIRST) == (n < 11 ? RRCACHE_MISS : RRCACHE_FAILED));
+    }
+    EXPECT(trims(&shelf, 1, KEYS, 9, 0, 18) && keys(&shelf) == 0);
+    EXPECT(rrcache_free(&shelf) == RRCACHE_DONE);
+}
+
+/* What has no time goes first, by one sweep, wherever it stands, and is not counted. */
+static void test_trim_of_no_time(void)
+{
+    struct rrcache_shelf shelf = {0};
+    struct rrcache_failure none = failure_of(OF(OTHER), A), other = failure_of(OF(THIRD), A);
+    none.ttl = other.ttl = 0;
+    EXPECT(make_by(&shelf, 100, 100, MAX_STALE) == RRCACHE_DONE);
+    EXPECT(offer_address(&shelf, OF(NAME), 4, 60) == RRCACHE_KEPT
+           && offer_failure(&shelf, none) == RRCACHE_KEPT);
+    EXPECT(trims(&shelf, A_SET + A_FAILURE, 1, 0, A_SET, 1) && keys(&shelf) == 1);
+    EXPECT(offer_failure(&shelf, other) == RRCACHE_KEPT
+           && offer_failure(&shelf, none) == RRCACHE_KEPT && keys(&shelf) == 3);
+    EXPECT(trims(&shelf, A_SET, 1, 0, A_SET, 1)
+           && kind_at(&shelf, OF(NAME), A, FIRST) == RRCACHE_FRESH);
+    /* So it is where one was held since the last sweep, whatever is there now. */
+    EXPECT(offer_failure(&shelf, none) == RRCACHE_KEPT
+           && offer_failure(&shelf, failure_of(OF(OTHER), A)) == RRCACHE_KEPT);
+    EXPECT(trims(&shelf, A_SET + A_FAILURE, 1, 0, A_SET + A_FAILURE, 1)
+           && trims(&shelf, A_SET + A_FAILURE, 1, 0, A_SET + A_FAILURE, 0));
+    /* A set is counted that goes after them. */
+    EXPECT(offer_failure(&shelf, none) == RRCACHE_KEPT && trims(&shelf, 1, 1, 1, 0, 2)
+           && keys(&shelf) == 0);
+    EXPECT(rrcache_free(&shelf) == RRCACHE_DONE);
+}
+
+/* Whether a trim is refused with this, and nothing done or told. */
+static bool refuses_trim(struct rrcache_shelf *shelf, uint64_t moment, uint64_t limit,
+                         uint64_t most, uint32_t status)
+{
+    struct rrcache_trimmed trimmed = {7, 7};
+    return rrcache_trim(shelf, TRIM(moment, limit, most), &trimmed) == status
+           && trimmed.removed == 7 && trimmed.octets == 7;
+}
+
+static void test_trim_refused(void)
+{
+    struct rrcache_shelf shelf = {0};
+    struct rrcache_failure none = failure_of(OF(OTHER), A);
+    struct rrcache_trimmed trimmed;
+    none.ttl = 0;
+    EXPECT(refuses_trim(&shelf, FIRST, 1, 1, RRCACHE_NO_SHELF)
+           && refuses_trim(&shelf, LATE, 0, 0, RRCACHE_NO_SHELF));
+    EXPECT(make(&shelf) == RRCACHE_DONE && offer_address(&shelf, OF(NAME), 4, 60) == RRCACHE_KEPT
+           && offer_failure(&shelf, none) == RRCACHE_KEPT);
+    EXPECT(refuses_trim(&shelf, FIRST, 0, 1, RRCACHE_BAD_RULES)
+           && refuses_trim(&shelf, FIRST, 1, 0, RRCACHE_BAD_RULES)
+           && refuses_trim(&shelf, LATE, 0, 1, RRCACHE_BAD_RULES)
+           && refuses_trim(&shelf, LATE, 1, 0, RRCACHE_BAD_RULES));
+    /* Also where there is nothing to be done. */
+    EXPECT(refuses_trim(&shelf, LATE, 1, 1, RRCACHE_MOMENT_TOO_LARGE)
+           && refuses_trim(&shelf, LATE, UINT64_MAX, 1, RRCACHE_MOMENT_TOO_LARGE)
+           && refuses_trim(&shelf, UINT64_MAX, 1, 1, RRCACHE_MOMENT_TOO_LARGE));
+    EXPECT(keys(&shelf) == 2 && events(&shelf) == 2);
+    EXPECT(rrcache_trim(&shelf, TRIM(LAST, 1, 1), &trimmed) == RRCACHE_DONE && trimmed.removed == 1
+           && trimmed.octets == 0 && events(&shelf) == 4);
+    EXPECT(rrcache_free(&shelf) == RRCACHE_DONE);
+}
+
+/* What is recorded of trims, by docs/FORMATS.md, in chapters of four events. Each event has the
+   line and the moment of the trim but for a sweep, whose moment is 0; what clears a key is of the
+   highest rank. The failure with a TTL of 0 is swept first. */
+static const char FIRST_OF_TRIMS[] =
+    "chapter 2 0 100 4 3600\n"
+    "offer 1 0 1000 www.example. 1 set 3 60 WWW.Example. c0000209 kept\n"
+    "offer 1 0 1000 other.example. nx negative 3 60 example. "
+    "0000000000010000000200000003000000040000003c kept\n"
+    "offer 1 0 1000 third.example. failed16 failure 30 kept\n"
+    "offer 1 0 1000 www.example. failed16 failure 0 kept\n";
+static const char SECOND_OF_TRIMS[] =
+    "chapter 3 4 100 4 3600\n"
+    "entry 3 1000 www.example. failed16 failure 0\n"
+    "entry 2 1000 third.example. failed16 failure 30\n"
+    "entry 1 1000 other.example. nx negative 3 60 example. "
+    "0000000000010000000200000003000000040000003c\n"
+    "entry 0 1000 www.example. 1 set 3 60 WWW.Example. c0000209\n"
+    "sweep 8 0 0 www.example. failed16\n"
+    "offer 8 0 2000 www.example. 1 set 4 0 WWW.Example. c0000209 cleared\n"
+    "offer 8 0 2000 other.example. nx negative 4 0 example. "
+    "0000000000010000000200000003000000040000003c cleared\n"
+    "offer 8 0 2000 third.example. failed16 failure 0 kept\n";
+static const char THIRD_OF_TRIMS[] = "chapter 4 8 100 4 3600\n"
+                                     "entry 7 2000 third.example. failed16 failure 0\n"
+                                     "sweep 8 0 0 third.example. failed16\n";
+
+static void test_recorded_trims(void)
+{
+    struct rrcache_shelf shelf = {0};
+    struct rrcache_chapters chapters = {0};
+    struct rrcache_trimmed trimmed;
+    struct rrcache_failure none = failure_of(OF(NAME), TXT);
+    uint64_t count = 0;
+    none.ttl = 0;
+    EXPECT(make(&shelf) == RRCACHE_DONE);
+    EXPECT(offer_address(&shelf, OF(UPPER), RRCACHE_AUTHORITY, 60) == RRCACHE_KEPT
+           && offer_negative(&shelf, negative_of(OF(OTHER), A, RRCACHE_NXDOMAIN)) == RRCACHE_KEPT
+           && offer_failure(&shelf, failure_of(OF(THIRD), TXT)) == RRCACHE_KEPT
+           && offer_failure(&shelf, none) == RRCACHE_KEPT);
+    EXPECT(rrcache_trim(&shelf, TRIM(FIRST + 1000, 1, 1), &trimmed) == RRCACHE_DONE
+           && trimmed.removed == 1 && trimmed.octets == A_DENIAL + A_FAILURE
+           && events(&shelf) == 1002);
+    EXPECT(rrcache_trim(&shelf, TRIM(FIRST + 1000, 1, 9), &trimmed) == RRCACHE_DONE
+           && trimmed.removed == 2 && trimmed.octets == 0 && events(&shelf) == 2001);
+    EXPECT(rrcache_stop_recording(&shelf, &chapters, &count) == RRCACHE_DONE && count == 3);
+    EXPECT(is_chapter(&chapters, 0, FIRST_OF_TRIMS) && is_chapter(&chapters, 1, SECOND_OF_TRIMS)
+           && is_chapter(&chapters, 2, THIRD_OF_TRIMS));
+    EXPECT(rrcache_free_chapters(&chapters) == RRCACHE_DONE
+           && rrcache_free(&shelf) == RRCACHE_DONE);
+}
+
+/* In chapters of one event each event of a trim closes the one before it, and those of a failure
+   stand in two. */
+static void test_trims_in_small_chapters(void)
+{
+    struct rrcache_shelf shelf = {0};
+    struct rrcache_chapters chapters = {0};
+    struct rrcache_trimmed trimmed;
+    uint64_t count = 0;
+    EXPECT(make_by(&shelf, 100, 1, 0) == RRCACHE_DONE);
+    EXPECT(offer_failure(&shelf, failure_of(OF(OTHER), A)) == RRCACHE_KEPT
+           && offer_address(&shelf, OF(NAME), 4, 60) == RRCACHE_KEPT && events(&shelf) == 1001);
+    EXPECT(rrcache_trim(&shelf, TRIM(FIRST, 1, 2), &trimmed) == RRCACHE_DONE && trimmed.removed == 2
+           && trimmed.octets == 0 && events(&shelf) == 4001);
+    EXPECT(rrcache_stop_recording(&shelf, &chapters, &count) == RRCACHE_DONE && count == 5);
+    EXPECT(is_chapter(&chapters, 2,
+                      "chapter 4 2 100 1 0\n"
+                      "entry 1 1000 www.example. 1 set 4 60 www.example. c0000209\n"
+                      "entry 0 1000 other.example. failed1 failure 30\n"
+                      "offer 8 0 1000 other.example. failed1 failure 0 kept\n"));
+    EXPECT(is_chapter(&chapters, 3,
+                      "chapter 5 3 100 1 0\n"
+                      "entry 2 1000 other.example. failed1 failure 0\n"
+                      "entry 1 1000 www.example. 1 set 4 60 www.example. c0000209\n"
+                      "sweep 8 0 0 other.example. failed1\n"));
+    EXPECT(is_chapter(&chapters, 4,
+                      "chapter 6 4 100 1 0\n"
+                      "entry 1 1000 www.example. 1 set 4 60 www.example. c0000209\n"
+                      "offer 8 0 1000 www.example. 1 set 4 0 www.example. c0000209 cleared\n"));
+    EXPECT(rrcache_free_chapters(&chapters) == RRCACHE_DONE
+           && rrcache_free(&shelf) == RRCACHE_DONE);
 }
 
 /* ---- Messages of more than one name, and what of them is relevant. */
@@ -1991,6 +2275,144 @@ static void test_told_offers(void)
            && rrcache_tell_offer(&offers, 0, &name, &told, (uint8_t *)&offers, 1)
                   == RRCACHE_OVERLAP);
     EXPECT(rrcache_free_offers(&offers) == RRCACHE_DONE);
+}
+
+/* ---- What a response comes to. */
+
+/* Records of www.example. in a message that begins with a question about it: addresses for 300 and
+   60 seconds, an alias, its own servers, and the SOA record of example. */
+/* clang-format off */
+#define ADDRESS_300 0xc0, 12, 0, 1, 0, 1, 0, 0, 1, 44, 0, 4, 192, 0, 2, 1
+#define ADDRESS_60 0xc0, 12, 0, 1, 0, 1, 0, 0, 0, 60, 0, 4, 192, 0, 2, 2
+#define TO_OTHER 0xc0, 12, 0, 5, 0, 1, 0, 0, 1, 44, 0, 8, 5, 'o', 't', 'h', 'e', 'r', 0xc0, 16
+#define SERVERS 0xc0, 12, 0, 2, 0, 1, 0, 0, 1, 44, 0, 2, 0xc0, 12
+#define SOA_RECORD                                                                                 \
+    0xc0, 16, 0, 6, 0, 1, 0, 0, 1, 44, 0, 22, 0, 0, 0, 0, 0, 1, 0, 0, 0, 2, 0, 0, 0, 3, 0, 0, 0, 4, \
+    0, 0, 1, 44
+/* clang-format on */
+
+enum { QR_BIT = 0x80, AA_BIT = 4, TC_BIT = 2, RECORDS = 29 };
+
+static const struct said {
+    const char *what;
+    uint8_t flags, rcode, answers, authorities;
+    uint8_t records[48];
+    size_t size;
+    enum rrcache_response_kind kind;
+    const uint8_t *name; /* that it leads to */
+} SAID[] = {
+    {"an address", AA_BIT, 0, 1, 0, {ADDRESS_300}, 16, RRCACHE_RESPONSE_ANSWER, NULL},
+    {"unequal TTLs",
+     0,
+     0,
+     2,
+     0,
+     {ADDRESS_300, ADDRESS_60},
+     32,
+     RRCACHE_RESPONSE_UNEQUAL_TTLS,
+     NULL},
+    {"no data", AA_BIT, 0, 0, 1, {SOA_RECORD}, 34, RRCACHE_RESPONSE_NODATA, NULL},
+    {"no such name", AA_BIT, 3, 0, 1, {SOA_RECORD}, 34, RRCACHE_RESPONSE_NXDOMAIN, NULL},
+    {"a referral", 0, 0, 0, 1, {SERVERS}, 14, RRCACHE_RESPONSE_REFERRAL, NAME},
+    {"an alias", AA_BIT, 0, 1, 0, {TO_OTHER}, 20, RRCACHE_RESPONSE_ALIAS, OTHER},
+    {"a failure", 0, 2, 0, 0, {0}, 0, RRCACHE_RESPONSE_FAILURE, NULL},
+    {"truncated", AA_BIT | TC_BIT, 0, 1, 0, {ADDRESS_300}, 16, RRCACHE_RESPONSE_UNUSABLE, NULL},
+    {"nothing", 0, 0, 0, 0, {0}, 0, RRCACHE_RESPONSE_UNUSABLE, NULL},
+};
+
+/* Reads such a response, by what is chosen. */
+static void read_said(const struct said *said, bool lowest_ttl, bool clears_denied,
+                      struct rrcache_offers *offers)
+{
+    uint8_t octets[RECORDS + sizeof said->records];
+    struct rrcache_response response = response_of(octets, RECORDS + said->size);
+    struct rrcache_query query = query_of(OF(NAME));
+    uint64_t concerned;
+    memcpy(octets, ANSWER, RECORDS);
+    memcpy(octets + RECORDS, said->records, said->size);
+    octets[2] = QR_BIT | said->flags;
+    octets[3] = said->rcode;
+    octets[7] = said->answers;
+    octets[9] = said->authorities;
+    response.lowest_ttl = lowest_ttl;
+    response.clears_denied = clears_denied;
+    EXPECT(rrcache_read_response(offers, &response, &query, PARTED(PARTS), &concerned)
+           == RRCACHE_DONE);
+}
+
+/* The kind, RCODE, AA and TC of each are told, and the name that it leads to, which is then asked
+   for: else the caller's name is as it was. */
+static void test_told_responses(void)
+{
+    for (size_t i = 0; i < sizeof SAID / sizeof *SAID; i++) {
+        const struct said *said = &SAID[i];
+        struct rrcache_offers offers = {0};
+        struct rrcache_summary summary = {0};
+        struct rrcache_name name = {.part = 7}, made = {.part = 7};
+        if (said->name != NULL)
+            made = name_of(said->name, strlen((const char *)said->name) + 1);
+        read_said(said, false, false, &offers);
+        EXPECT(rrcache_tell_response(&offers, &name, &summary) == RRCACHE_DONE);
+        EXPECT(summary.kind == (uint32_t)said->kind && summary.rcode == said->rcode
+               && summary.aa == ((said->flags & AA_BIT) != 0)
+               && summary.tc == ((said->flags & TC_BIT) != 0));
+        EXPECT(name.size == made.size && name.hash == made.hash && name.part == made.part
+               && memcmp(name.octets, made.octets, sizeof name.octets) == 0);
+        EXPECT(rrcache_free_offers(&offers) == RRCACHE_DONE);
+    }
+}
+
+static void test_refusals_of_told_responses(void)
+{
+    struct rrcache_offers offers = {0};
+    struct rrcache_summary summary = {.kind = 9, .rcode = 9};
+    struct rrcache_name name = {.part = 7};
+    union {
+        struct rrcache_name name;
+        struct rrcache_summary summary;
+        struct rrcache_offers offers;
+    } shared = {.name = {0}};
+    EXPECT(rrcache_tell_response(&offers, &name, &summary) == RRCACHE_NO_OFFERS && summary.kind == 9
+           && summary.rcode == 9 && name.size == 0 && name.part == 7);
+    EXPECT(rrcache_tell_response(NULL, &name, &summary) == RRCACHE_NULL
+           && rrcache_tell_response(&offers, NULL, &summary) == RRCACHE_NULL
+           && rrcache_tell_response(&offers, &name, NULL) == RRCACHE_NULL);
+    EXPECT(rrcache_tell_response(&offers, &shared.name, &shared.summary) == RRCACHE_OVERLAP
+           && rrcache_tell_response(&shared.offers, &shared.name, &summary) == RRCACHE_OVERLAP
+           && rrcache_tell_response(&shared.offers, &name, &shared.summary) == RRCACHE_OVERLAP);
+}
+
+/* How many offers a handle holds, whose last one is told. */
+static uint64_t count_offers(struct rrcache_offers *offers, struct rrcache_told *told)
+{
+    struct rrcache_name name = {0};
+    uint8_t buffer[128];
+    uint64_t count = 0;
+    while (rrcache_tell_offer(offers, count, &name, told, buffer, sizeof buffer) == RRCACHE_DONE)
+        count++;
+    return count;
+}
+
+/* With `lowest_ttl` unequal TTLs are taken, and with `clears_denied` a denial comes with what it
+   clears. */
+static void test_choices_of_responses(void)
+{
+    struct rrcache_offers offers = {0};
+    struct rrcache_summary summary = {0};
+    struct rrcache_name name = {0};
+    struct rrcache_told told = {0};
+    read_said(&SAID[1], false, false, &offers);
+    EXPECT(count_offers(&offers, &told) == 0 && rrcache_free_offers(&offers) == RRCACHE_DONE);
+    read_said(&SAID[1], true, false, &offers);
+    EXPECT(rrcache_tell_response(&offers, &name, &summary) == RRCACHE_DONE
+           && summary.kind == RRCACHE_RESPONSE_ANSWER && count_offers(&offers, &told) == 1
+           && told.left == 60 && rrcache_free_offers(&offers) == RRCACHE_DONE);
+    read_said(&SAID[3], false, false, &offers);
+    EXPECT(count_offers(&offers, &told) == 2 && told.kind == RRCACHE_NXDOMAIN
+           && rrcache_free_offers(&offers) == RRCACHE_DONE);
+    read_said(&SAID[3], false, true, &offers);
+    EXPECT(count_offers(&offers, &told) == 5 && told.kind == RRCACHE_NODATA && told.rtype == CNAME
+           && told.left == 0 && rrcache_free_offers(&offers) == RRCACHE_DONE);
 }
 
 /* One offer of those that were read is offered by its number. */
@@ -2196,6 +2618,455 @@ static void test_forgotten_responses(void)
     EXPECT(read_response(&offers, response_of(OF(ANSWER)), no_query, &concerned)
            == RRCACHE_BAD_NAME);
     EXPECT(!offers.is_live && events(&shelf) == 0 && rrcache_free(&shelf) == RRCACHE_DONE);
+}
+
+/* ---- A response that the caller parsed itself. */
+
+/* clang-format off */
+/* What a response to www.example A is written as: that name is an alias of other.example, which has
+   two addresses; the servers of the zone; the address of one of them. AA and RA are set. */
+static const uint8_t COMPOSED[] = {
+    0x12, 0x34, 0x84, 0x80, 0, 1, 0, 3, 0, 1, 0, 1,
+    3, 'w', 'w', 'w', 7, 'e', 'x', 'a', 'm', 'p', 'l', 'e', 0, 0, 1, 0, 1,
+    0xc0, 12, 0, 5, 0, 1, 0, 0, 1, 44,
+    0, 15, 5, 'o', 't', 'h', 'e', 'r', 7, 'e', 'x', 'a', 'm', 'p', 'l', 'e', 0,
+    5, 'o', 't', 'h', 'e', 'r', 7, 'e', 'x', 'a', 'm', 'p', 'l', 'e', 0, 0, 1, 0, 1, 0, 0, 1, 44,
+    0, 4, 192, 0, 2, 1,
+    0xc0, 56, 0, 1, 0, 1, 0, 0, 1, 44, 0, 4, 192, 0, 2, 2,
+    7, 'e', 'x', 'a', 'm', 'p', 'l', 'e', 0, 0, 2, 0, 1, 0, 0, 1, 44,
+    0, 15, 5, 't', 'h', 'i', 'r', 'd', 7, 'e', 'x', 'a', 'm', 'p', 'l', 'e', 0,
+    5, 't', 'h', 'i', 'r', 'd', 7, 'e', 'x', 'a', 'm', 'p', 'l', 'e', 0, 0, 1, 0, 1, 0, 0, 1, 44,
+    0, 4, 192, 0, 2, 9,
+};
+/* clang-format on */
+static const uint8_t TWO_ADDRESSES[] = {0, 4, 192, 0, 2, 1, 0, 4, 192, 0, 2, 2};
+static const uint8_t SERVER[] = {0,   15,  5,   't', 'h', 'i', 'r', 'd', 7,
+                                 'e', 'x', 'a', 'm', 'p', 'l', 'e', 0};
+/* The data of a SOA record behind their length. */
+static const uint8_t SOA_ITEM[] = {0, 22, 0, 0, 0, 0, 0, 1, 0, 0, 0, 2,
+                                   0, 0,  0, 3, 0, 0, 0, 4, 0, 0, 0, 60};
+
+enum { NS = 2 };
+
+static struct rrcache_parsed_set parsed_set(enum rrcache_section section, const uint8_t *owner,
+                                            size_t owner_size, uint16_t rtype, const uint8_t *data,
+                                            size_t data_size)
+{
+    struct rrcache_parsed_set set = {.owner = owner,
+                                     .owner_size = owner_size,
+                                     .rtype = rtype,
+                                     .rclass = RRCACHE_IN,
+                                     .ttl = 300,
+                                     .section = section,
+                                     .data = data,
+                                     .data_size = data_size};
+    return set;
+}
+
+/* An authoritative response without an error. */
+static struct rrcache_parsed_response parsed_of(const struct rrcache_parsed_set *sets, size_t count)
+{
+    struct rrcache_parsed_response parsed = {.aa = true, .sets = sets, .count = count};
+    return parsed;
+}
+
+/* What is written of a response to the query for NAME, into a buffer of just this room, which a
+   refusal leaves as it was. The caller frees it. */
+static uint8_t *composed(struct rrcache_parsed_response parsed, size_t room, uint32_t status,
+                         size_t *size)
+{
+    struct rrcache_query query = query_of(OF(NAME));
+    uint8_t *buffer = malloc(room + (room == 0));
+    bool is_left = true;
+    if (buffer == NULL)
+        exit(2);
+    memset(buffer, 7, room);
+    *size = 77777;
+    EXPECT(rrcache_compose_response(&query, &parsed, buffer, room, size) == status);
+    for (size_t at = 0; at < room; at++)
+        is_left = is_left && buffer[at] == 7;
+    EXPECT((status == RRCACHE_DONE || is_left)
+           && (*size == 77777) == (status != RRCACHE_DONE && status != RRCACHE_SMALL));
+    return buffer;
+}
+
+static bool is_composed(struct rrcache_parsed_response parsed, const uint8_t *wanted, size_t size)
+{
+    size_t told;
+    uint8_t *octets = composed(parsed, size, RRCACHE_DONE, &told);
+    bool right = told == size && memcmp(octets, wanted, size) == 0;
+    free(octets);
+    return right;
+}
+
+/* The records of each section stand in the order of the array, whatever sections stand between. */
+static void test_composed(void)
+{
+    struct rrcache_parsed_set sets[] = {
+        parsed_set(RRCACHE_ADDITIONAL_SECTION, OF(THIRD), A, OF(ADDRESS)),
+        parsed_set(RRCACHE_AUTHORITY_SECTION, OF(ZONE), NS, OF(SERVER)),
+        parsed_set(RRCACHE_ANSWER_SECTION, OF(NAME), CNAME, OF(TARGET)),
+        parsed_set(RRCACHE_ANSWER_SECTION, OF(OTHER), A, OF(TWO_ADDRESSES)),
+    };
+    struct rrcache_parsed_set set =
+        parsed_set(RRCACHE_ANSWER_SECTION, OF(NAME), A, OF(TWO_ADDRESSES));
+    struct rrcache_parsed_response parsed = parsed_of(sets, 4);
+    uint8_t wanted[29];
+    parsed.ra = true;
+    EXPECT(is_composed(parsed, OF(COMPOSED)));
+    EXPECT(is_composed(parsed_of(&set, 1), OF(ANSWER)));
+    /* The owner in other letters than the question's is written as it is. */
+    set.owner = UPPER;
+    size_t size;
+    uint8_t *octets = composed(parsed_of(&set, 1), 512, RRCACHE_DONE, &size);
+    EXPECT(size == sizeof ANSWER + sizeof UPPER - 2 && memcmp(octets + 29, OF(UPPER)) == 0
+           && octets[29 + size - sizeof ANSWER + 2 + 14] == 0xc0
+           && octets[29 + size - sizeof ANSWER + 2 + 15] == 29);
+    free(octets);
+    /* A header and the question alone, with each flag and RCODE. */
+    for (uint8_t bits = 0; bits < 128; bits++) {
+        struct rrcache_parsed_response empty = {.rcode = bits & 15,
+                                                .aa = (bits & 16) != 0,
+                                                .tc = (bits & 32) != 0,
+                                                .ra = (bits & 64) != 0};
+        memcpy(wanted, ANSWER, sizeof wanted);
+        wanted[2] = (uint8_t)(0x80 | (empty.aa ? 4 : 0) | (empty.tc ? 2 : 0));
+        wanted[3] = (uint8_t)((empty.ra ? 0x80 : 0) | empty.rcode);
+        wanted[7] = 0;
+        EXPECT(is_composed(empty, OF(wanted)));
+    }
+}
+
+/* Numbers whose octets differ, and as many records. */
+static void test_composed_numbers(void)
+{
+    enum { RECORDS = 300 };
+    static const uint8_t empty_data[2 * RECORDS];
+    static const uint8_t record[] = {0xc0, 12, 3, 4, 5, 6, 0x12, 0x34, 0x56, 0x78, 0, 0};
+    struct rrcache_parsed_set set =
+        parsed_set(RRCACHE_ADDITIONAL_SECTION, OF(NAME), 0x0304, OF(empty_data));
+    size_t size;
+    set.rclass = 0x0506;
+    set.ttl = 0x12345678;
+    uint8_t *octets = composed(parsed_of(&set, 1), 4096, RRCACHE_DONE, &size);
+    EXPECT(size == 29 + RECORDS * sizeof record && octets[10] == RECORDS >> 8
+           && octets[11] == (RECORDS & 255)
+           && memcmp(octets + size - sizeof record, OF(record)) == 0);
+    free(octets);
+}
+
+/* What is told of an offer, with its name. */
+struct told_offer {
+    struct rrcache_name name;
+    struct rrcache_told told;
+    uint8_t octets[64];
+};
+
+/* What is read of a response once it is written: how many offers, which are told. */
+static unsigned offers_of(struct rrcache_parsed_response parsed, struct told_offer *told,
+                          unsigned most)
+{
+    struct rrcache_offers offers = {0};
+    uint64_t concerned;
+    unsigned count = 0;
+    size_t size;
+    uint8_t *octets = composed(parsed, 512, RRCACHE_DONE, &size);
+    EXPECT(read_response(&offers, response_of(octets, size), query_of(OF(NAME)), &concerned)
+           == RRCACHE_DONE);
+    free(octets);
+    while (count < most
+           && rrcache_tell_offer(&offers, count, &told[count].name, &told[count].told,
+                                 OF(told[count].octets))
+                  == RRCACHE_DONE)
+        count++;
+    EXPECT(rrcache_free_offers(&offers) == RRCACHE_DONE);
+    return count;
+}
+
+static bool is_offer(const struct told_offer *offer, const uint8_t *name, size_t size,
+                     uint32_t rtype, uint32_t kind, uint32_t trust)
+{
+    return offer->name.size == size && memcmp(offer->name.octets, name, size) == 0
+           && offer->told.rtype == rtype && offer->told.kind == kind
+           && offer->told.entry.trust == trust;
+}
+
+/* The octets that an offer takes once it is kept, as it was told and as a shelf counts them: of an
+   alias, of an address under an owner in capitals, and of a denial. */
+static void test_octets_of_told_offers(void)
+{
+    struct rrcache_parsed_set alias[] = {
+        parsed_set(RRCACHE_ANSWER_SECTION, OF(NAME), CNAME, OF(TARGET)),
+        parsed_set(RRCACHE_ANSWER_SECTION, OF(OTHER), A, OF(TWO_ADDRESSES)),
+    };
+    struct rrcache_parsed_set shouted =
+        parsed_set(RRCACHE_ANSWER_SECTION, OF(UPPER), A, OF(ADDRESS));
+    struct told_offer told[2];
+    uint64_t octets = 7;
+#define OCTETS(of) rrcache_tell_octets(&told[of].name, &told[of].told, OF(told[of].octets), &octets)
+    /* 160 for the key, 80 for each name of up to 32 octets, 80 for one datum of as few, and for two
+       data 32, 64 and 48 each. */
+    EXPECT(offers_of(parsed_of(alias, 2), told, 2) == 2);
+    EXPECT(OCTETS(0) == RRCACHE_DONE && octets == 160 + 80 + 80);
+    EXPECT(OCTETS(1) == RRCACHE_DONE && octets == 160 + 80 + 32 + 64 + 48 + 48);
+    EXPECT(offers_of(parsed_of(&shouted, 1), told, 1) == 1);
+    EXPECT(OCTETS(0) == RRCACHE_DONE && octets == 160 + 80 + 80 + 80);
+    /* A failure has a name alone, and more than 32 octets have a block of their own. */
+    told[0].told.kind = RRCACHE_FAILED;
+    told[0].told.owner_size = told[0].told.data_size = 0;
+    EXPECT(OCTETS(0) == RRCACHE_DONE && octets == 160 + 80);
+    told[0].name.size = 40;
+    EXPECT(OCTETS(0) == RRCACHE_DONE && octets == 160 + 80 + 16 + 40);
+    octets = 7;
+    told[0].told.data_size = sizeof told[0].octets + 1;
+    EXPECT(OCTETS(0) == RRCACHE_SMALL && octets == 7);
+    told[0].told.owner_size = UINT64_MAX;
+    EXPECT(OCTETS(0) == RRCACHE_SMALL && octets == 7);
+    EXPECT(rrcache_tell_octets(NULL, &told[0].told, NULL, 0, &octets) == RRCACHE_NULL
+           && rrcache_tell_octets(&told[0].name, NULL, NULL, 0, &octets) == RRCACHE_NULL
+           && rrcache_tell_octets(&told[0].name, &told[0].told, NULL, 0, NULL) == RRCACHE_NULL
+           && rrcache_tell_octets(&told[0].name, &told[0].told, NULL, 1, &octets) == RRCACHE_NULL);
+#undef OCTETS
+}
+
+/* What is told of each offer of a response is what an empty shelf counts that keeps it. */
+static void test_octets_of_kept_offers(void)
+{
+    for (size_t at = 0; at < sizeof SAID / sizeof SAID[0]; at++) {
+        struct rrcache_offers offers = {0};
+        struct rrcache_name name = {0};
+        struct rrcache_told told = {0};
+        struct rrcache_offer_pick pick = {.index = 0, .line = 1};
+        uint8_t buffer[512];
+        uint64_t octets;
+        uint32_t outcome;
+        read_said(&SAID[at], true, false, &offers);
+        while (rrcache_tell_offer(&offers, pick.index, &name, &told, OF(buffer)) == RRCACHE_DONE) {
+            struct rrcache_shelf shelf = {0};
+            EXPECT(make(&shelf) == RRCACHE_DONE
+                   && rrcache_offer_one(&shelf, &offers, &pick, &outcome) == RRCACHE_DONE);
+            EXPECT(rrcache_tell_octets(&name, &told, OF(buffer), &octets) == RRCACHE_DONE
+                   && octets_of_keys(&shelf) == (outcome == RRCACHE_KEPT ? octets : 0));
+            EXPECT(rrcache_free(&shelf) == RRCACHE_DONE);
+            pick.index++;
+        }
+        EXPECT(rrcache_free_offers(&offers) == RRCACHE_DONE);
+    }
+}
+
+/* An answer, a negative answer, a referral, a failure and a truncated response, by what is read of
+   them. */
+static void test_composed_is_read(void)
+{
+    struct rrcache_parsed_set answer[] = {
+        parsed_set(RRCACHE_ANSWER_SECTION, OF(NAME), CNAME, OF(TARGET)),
+        parsed_set(RRCACHE_ANSWER_SECTION, OF(OTHER), A, OF(TWO_ADDRESSES)),
+        parsed_set(RRCACHE_ADDITIONAL_SECTION, OF(THIRD), A, OF(ADDRESS)),
+    };
+    struct rrcache_parsed_set soa =
+        parsed_set(RRCACHE_AUTHORITY_SECTION, OF(ZONE), SOA, OF(SOA_ITEM));
+    struct rrcache_parsed_set referral[] = {
+        parsed_set(RRCACHE_AUTHORITY_SECTION, OF(NAME), NS, OF(SERVER)),
+        parsed_set(RRCACHE_ADDITIONAL_SECTION, OF(THIRD), A, OF(ADDRESS)),
+    };
+    struct rrcache_parsed_response denial = parsed_of(&soa, 1), truncated = parsed_of(answer, 3),
+                                   referring = parsed_of(referral, 2), failure = {.rcode = 2};
+    struct told_offer told[4];
+    EXPECT(offers_of(parsed_of(answer, 3), told, 4) == 2);
+    EXPECT(is_offer(&told[0], OF(NAME), CNAME, RRCACHE_FRESH, RRCACHE_AUTHORITATIVE_ANSWER)
+           && is_offer(&told[1], OF(OTHER), A, RRCACHE_FRESH, RRCACHE_NON_AUTHORITATIVE_ANSWER)
+           && told[1].told.data_size == sizeof TWO_ADDRESSES && told[1].told.left == 300
+           && memcmp(told[1].octets + sizeof OTHER, OF(TWO_ADDRESSES)) == 0);
+    denial.rcode = 3;
+    EXPECT(offers_of(denial, told, 4) == 2);
+    EXPECT(is_offer(&told[0], OF(ZONE), SOA, RRCACHE_FRESH, RRCACHE_AUTHORITY)
+           && is_offer(&told[1], OF(NAME), 0, RRCACHE_NXDOMAIN, RRCACHE_AUTHORITATIVE_ANSWER)
+           && told[1].told.left == 60);
+    referring.aa = false;
+    EXPECT(offers_of(referring, told, 4) == 2);
+    EXPECT(is_offer(&told[0], OF(NAME), NS, RRCACHE_FRESH, RRCACHE_ADDITIONAL)
+           && is_offer(&told[1], OF(THIRD), A, RRCACHE_FRESH, RRCACHE_ADDITIONAL));
+    EXPECT(offers_of(failure, told, 4) == 1 && is_offer(&told[0], OF(NAME), A, RRCACHE_FAILED, 0));
+    truncated.tc = true;
+    EXPECT(offers_of(truncated, told, 4) == 0);
+}
+
+/* Each room that is too small, and each field of a set that is wrong. */
+static void test_composing_refused(void)
+{
+    struct rrcache_parsed_set good = parsed_set(RRCACHE_ANSWER_SECTION, OF(NAME), A, OF(ADDRESS)),
+                              sets[] = {good, good};
+    struct rrcache_parsed_response parsed = parsed_of(sets, 2);
+    size_t size;
+    for (size_t room = 0; room < 61; room++) {
+        free(composed(parsed, room, RRCACHE_SMALL, &size));
+        EXPECT(size == 61);
+    }
+    free(composed(parsed, 61, RRCACHE_DONE, &size));
+#define REFUSED(field, value, status)                                                              \
+    (sets[1] = good, sets[1].field = (value), free(composed(parsed, 512, (status), &size)))
+    REFUSED(section, (enum rrcache_section)0, RRCACHE_BAD_CHOICE);
+    REFUSED(section, (enum rrcache_section)4, RRCACHE_BAD_CHOICE);
+    REFUSED(rtype, 0, RRCACHE_BAD_TYPE);
+    REFUSED(rclass, 0, RRCACHE_BAD_TYPE);
+    REFUSED(owner_size, 0, RRCACHE_BAD_NAME);
+    REFUSED(owner_size, sizeof NAME - 1, RRCACHE_BAD_NAME);
+    REFUSED(data_size, 0, RRCACHE_WRONG_BODY);
+    for (size_t cut = 1; cut < sizeof ADDRESS; cut++)
+        REFUSED(data_size, cut, RRCACHE_BAD_DATA);
+#undef REFUSED
+    for (unsigned rcode = 16; rcode < 256; rcode++) {
+        struct rrcache_parsed_response wrong = {.rcode = (uint8_t)rcode};
+        free(composed(wrong, 512, RRCACHE_BAD_CHOICE, &size));
+    }
+}
+
+/* Whether a response with one set is told to be so, of these octets as its owner and its data. */
+static bool is_set(const uint8_t *owner, size_t owner_size, const uint8_t *data, size_t data_size,
+                   uint32_t status)
+{
+    struct rrcache_parsed_set set =
+        parsed_set(RRCACHE_ANSWER_SECTION, owner, owner_size, TXT, data, data_size);
+    unsigned before = failed;
+    size_t size;
+    free(composed(parsed_of(&set, 1), 512, status, &size));
+    return failed == before;
+}
+
+/* Owners that are no name, and data that are cut off. */
+static void test_composed_octets(void)
+{
+    static const uint8_t no_names[][4] = {{3, 'w', 'w'}, {1, 'w', 1}, {1, 'w', 0, 0},
+                                          {0xc0, 12},    {64},        {0, 0}};
+    static const uint8_t sizes[] = {3, 3, 4, 2, 1, 2};
+    static const uint8_t data[] = {0, 2, 1, 1, 0, 3, 1, 1};
+    uint8_t label[66] = {64}, name[257];
+    for (size_t n = 0; n < sizeof sizes; n++)
+        EXPECT(is_set(no_names[n], sizes[n], OF(ADDRESS), RRCACHE_BAD_NAME));
+    EXPECT(is_set(OF(label), OF(ADDRESS), RRCACHE_BAD_NAME)); /* 64 octets of a label are there */
+    for (size_t cut = 1; cut <= sizeof data; cut++)
+        EXPECT(is_set(OF(NAME), data, cut, cut == 4 ? RRCACHE_DONE : RRCACHE_BAD_DATA));
+    /* Labels of one octet, behind one of two where the octets of the name are even. */
+    for (size_t size = 254; size <= 256; size++) {
+        memset(name, 1, sizeof name);
+        name[0] = (uint8_t)(2 - (size & 1));
+        name[size - 1] = 0;
+        EXPECT(is_set(name, size, OF(ADDRESS), size < 256 ? RRCACHE_DONE : RRCACHE_BAD_NAME));
+    }
+}
+
+/* Where more than one refusal is due, the first is told: what is wrong is put right one by one. The
+   sets are wrong from the last to the first, so that the order of these does not matter. */
+static void test_order_of_composing_refusals(void)
+{
+    struct rrcache_parsed_set good = parsed_set(RRCACHE_ANSWER_SECTION, OF(NAME), A, OF(ADDRESS)),
+                              sets[] = {good, good, good, good};
+    struct rrcache_parsed_response parsed = parsed_of(sets, 4);
+    struct rrcache_query query = {.name = NO_NAME, .name_size = sizeof NO_NAME, .rclass = 1};
+    uint8_t buffer[512];
+    size_t size = 7;
+#define RETURNS(room, status)                                                                      \
+    EXPECT(rrcache_compose_response(&query, &parsed, buffer, (room), &size) == (status))
+    sets[0].data_size = 5;
+    sets[1].owner_size = 1;
+    sets[2].rtype = 0;
+    sets[3].section = (enum rrcache_section)0;
+    parsed.rcode = 16;
+    RETURNS(0, RRCACHE_BAD_CHOICE);
+    parsed.rcode = 0;
+    RETURNS(0, RRCACHE_BAD_CHOICE);
+    sets[3] = good;
+    RETURNS(0, RRCACHE_BAD_TYPE);
+    sets[2] = good;
+    RETURNS(0, RRCACHE_BAD_TYPE);
+    query.rtype = A;
+    query.rclass = 0;
+    RETURNS(0, RRCACHE_BAD_TYPE);
+    query.rclass = RRCACHE_IN;
+    RETURNS(0, RRCACHE_BAD_NAME);
+    sets[1] = good;
+    RETURNS(0, RRCACHE_BAD_NAME);
+    query = query_of(OF(NAME));
+    RETURNS(0, RRCACHE_BAD_DATA);
+    sets[0].data_size = 0;
+    RETURNS(0, RRCACHE_WRONG_BODY);
+    EXPECT(size == 7);
+    sets[0] = good;
+    RETURNS(0, RRCACHE_SMALL);
+    RETURNS(size, RRCACHE_DONE);
+#undef RETURNS
+}
+
+/* A response of two sets: a text of so many octets, in data of 1,000 octets and one that is the
+   rest, and two addresses of other.example. Of its records those behind the first of a set have an
+   owner by a pointer. */
+enum { DATUM = 1002, TEXT_MOST = 70000, FRONT = 29, FIXED = 10 };
+static uint8_t texts[TEXT_MOST];
+
+static struct rrcache_parsed_response with_text(struct rrcache_parsed_set sets[2], size_t size)
+{
+    for (size_t at = 0; at < size; at += DATUM) {
+        size_t octets = (size - at < DATUM ? size - at : DATUM) - 2;
+        texts[at] = (uint8_t)(octets >> 8);
+        texts[at + 1] = (uint8_t)(octets & 255);
+    }
+    sets[0] = parsed_set(RRCACHE_ANSWER_SECTION, OF(NAME), TXT, texts, size);
+    sets[1] = parsed_set(RRCACHE_ANSWER_SECTION, OF(OTHER), A, OF(TWO_ADDRESSES));
+    return parsed_of(sets, 2);
+}
+
+/* How many octets of data make a text end at a place of the message: each datum has a pointer and
+   eight octets before it. */
+static size_t text_to(size_t place)
+{
+    size_t records = (place - FRONT + DATUM + FIXED - 1) / (DATUM + FIXED);
+    return place - FRONT - records * FIXED;
+}
+
+/* The second address has a pointer to the owner of the first where that stands below 0x4000. */
+static void test_far_owners(void)
+{
+    static const uint8_t whole[] = {5, 'o', 't', 'h', 'e', 'r'};
+    struct rrcache_parsed_set sets[2];
+    for (size_t place = 0x3ffd; place < 0x4004; place++) {
+        struct rrcache_parsed_response parsed = with_text(sets, text_to(place));
+        bool is_far = place >= 0x4000;
+        size_t size, second = place + sizeof OTHER + 14;
+        uint32_t fault = 7;
+        uint8_t *octets = composed(parsed, 20000, RRCACHE_DONE, &size);
+        EXPECT(size == second + (is_far ? sizeof OTHER : 2) + 14
+               && memcmp(octets + place, OF(OTHER)) == 0
+               && rrcache_fault(octets, size, &fault) == RRCACHE_DONE && fault == RRCACHE_NO_FAULT);
+        if (is_far)
+            EXPECT(memcmp(octets + second, OF(whole)) == 0);
+        else
+            EXPECT(octets[second] == (0xc0 | place >> 8) && octets[second + 1] == (place & 255));
+        free(octets);
+    }
+}
+
+/* The longest message, and longer ones: these are told as 65,536 octets, however long they are. */
+static void test_long_composed(void)
+{
+    enum { SETS = 300, REST = 2 * sizeof OTHER + 28 };
+    static struct rrcache_parsed_set many[SETS];
+    struct rrcache_parsed_set sets[2];
+    for (size_t place = 65533 - REST; place <= 65540 - REST; place++) {
+        struct rrcache_parsed_response parsed = with_text(sets, text_to(place));
+        bool is_long = place + REST > RRCACHE_MESSAGE_OCTETS;
+        size_t size, wanted = is_long ? RRCACHE_MESSAGE_OCTETS + 1 : place + REST;
+        free(composed(parsed, 70000, is_long ? RRCACHE_SMALL : RRCACHE_DONE, &size));
+        EXPECT(size == wanted);
+        free(composed(parsed, place + REST - 1, RRCACHE_SMALL, &size));
+        EXPECT(size == wanted);
+    }
+    /* Sets may have the same data. */
+    with_text(sets, 65000);
+    for (size_t n = 0; n < SETS; n++)
+        many[n] = sets[0];
+    size_t size;
+    free(composed(parsed_of(many, SETS), 70000, RRCACHE_SMALL, &size));
+    EXPECT(size == RRCACHE_MESSAGE_OCTETS + 1);
 }
 
 /* Whether two shelves tell the same of a name's addresses and alias. */
@@ -3209,6 +4080,35 @@ static void test_null_readings(void)
     EXPECT(!offers.is_live);
 }
 
+/* A pointer that may not be null, of a response that the caller parsed. */
+static void test_null_composing(void)
+{
+    struct rrcache_query query = query_of(OF(NAME)), no_name = query_of(NULL, 1);
+    struct rrcache_parsed_set good = parsed_set(RRCACHE_ANSWER_SECTION, OF(NAME), A, OF(ADDRESS)),
+                              sets[] = {good, good};
+    struct rrcache_parsed_response parsed = parsed_of(sets, 2), no_sets = parsed_of(NULL, 1);
+    uint8_t buffer[64];
+    size_t size = 7;
+    IS_NULL(rrcache_compose_response(NULL, &parsed, OF(buffer), &size));
+    IS_NULL(rrcache_compose_response(&no_name, &parsed, OF(buffer), &size));
+    IS_NULL(rrcache_compose_response(&query, NULL, OF(buffer), &size));
+    IS_NULL(rrcache_compose_response(&query, &no_sets, OF(buffer), &size));
+    IS_NULL(rrcache_compose_response(&query, &parsed, NULL, 1, &size));
+    IS_NULL(rrcache_compose_response(&query, &parsed, OF(buffer), NULL));
+    sets[1].owner = NULL;
+    IS_NULL(rrcache_compose_response(&query, &parsed, OF(buffer), &size));
+    /* It is told before an overlap and before what the sets are refused for. */
+    sets[0] = parsed_set((enum rrcache_section)0, buffer, 1, 0, NULL, 0);
+    IS_NULL(rrcache_compose_response(&query, &parsed, OF(buffer), &size));
+    sets[1] = good;
+    sets[1].data = NULL;
+    IS_NULL(rrcache_compose_response(&query, &parsed, OF(buffer), &size));
+    EXPECT(size == 7);
+    sets[0] = sets[1] = good;
+    EXPECT(rrcache_compose_response(&query, &parsed, NULL, 0, &size) == RRCACHE_SMALL
+           && size == 61);
+}
+
 static void test_null_messages(struct rrcache_shelf *shelf)
 {
     struct rrcache_offers offers = {0};
@@ -3263,6 +4163,7 @@ static void test_null_offers(struct rrcache_shelf *shelf)
 static void test_null_upkeep(struct rrcache_shelf *shelf)
 {
     struct rrcache_swept swept;
+    struct rrcache_trimmed trimmed;
     struct rrcache_usage sizes;
     uint64_t number;
     uint32_t fault;
@@ -3277,6 +4178,9 @@ static void test_null_upkeep(struct rrcache_shelf *shelf)
     IS_NULL(rrcache_sweep_some(NULL, SWEEP(FIRST, 1), &swept));
     IS_NULL(rrcache_sweep_some(shelf, NULL, &swept));
     IS_NULL(rrcache_sweep_some(shelf, SWEEP(FIRST, 1), NULL));
+    IS_NULL(rrcache_trim(NULL, TRIM(FIRST, 1, 1), &trimmed));
+    IS_NULL(rrcache_trim(shelf, NULL, &trimmed));
+    IS_NULL(rrcache_trim(shelf, TRIM(FIRST, 1, 1), NULL));
     IS_NULL(rrcache_next_expiry(NULL, &number));
     IS_NULL(rrcache_next_expiry(shelf, NULL));
     IS_NULL(rrcache_drop_chapters(NULL, &number));
@@ -3318,6 +4222,7 @@ static void test_null(void)
     EXPECT(make(&shelf) == RRCACHE_DONE);
     test_null_asks(&shelf);
     test_null_readings();
+    test_null_composing();
     test_null_messages(&shelf);
     test_null_offers(&shelf);
     test_null_upkeep(&shelf);
@@ -3471,6 +4376,47 @@ static void test_overlaps_of_messages(struct rrcache_shelf *shelf)
     OVERLAPS(rrcache_offer_read(shelf, offers, AT(struct rrcache_share, 80), counts));
 }
 
+/* What is composed lies at BUFFER, and how many octets it has at 64. The query and what a response
+   was parsed to are read before anything is written, but for its array of sets. */
+static void test_overlaps_of_composing(void)
+{
+    uint8_t *const buffer = memory + BUFFER, *const places[] = {buffer - 7, buffer + 63,
+                                                                memory + 57, memory + 71};
+    struct rrcache_query query = query_of(OF(NAME));
+    struct rrcache_parsed_set good = parsed_set(RRCACHE_ANSWER_SECTION, OF(NAME), A, OF(ADDRESS)),
+                              sets[] = {good, good};
+    struct rrcache_parsed_response parsed = parsed_of(sets, 2);
+    size_t *size = AT(size_t, 64);
+#define COMPOSING rrcache_compose_response(&query, &parsed, buffer, 64, size)
+    OVERLAPS(rrcache_compose_response(&query, &parsed, buffer, 64, AT(size_t, BUFFER)));
+    OVERLAPS(rrcache_compose_response(&query, &parsed, buffer, 64, AT(size_t, BUFFER + 56)));
+    for (int n = 0; n < 4; n++) {
+        query = query_of(places[n], 8);
+        OVERLAPS(COMPOSING);
+        query = query_of(OF(NAME));
+        sets[1] = parsed_set((enum rrcache_section)0, places[n], 8, 0, OF(ADDRESS));
+        OVERLAPS(COMPOSING);
+        sets[1] = parsed_set((enum rrcache_section)0, OF(NAME), 0, places[n], 8);
+        OVERLAPS(COMPOSING);
+        sets[1] = good;
+    }
+    parsed.sets = AT(struct rrcache_parsed_set, BUFFER + 56);
+    memcpy(memory + BUFFER + 56, sets, sizeof *sets);
+    parsed.count = 1;
+    OVERLAPS(COMPOSING);
+    parsed.sets = AT(struct rrcache_parsed_set, 64);
+    memcpy(memory + 64, sets, sizeof *sets);
+    OVERLAPS(COMPOSING);
+    parsed = parsed_of(sets, 2);
+#undef COMPOSING
+    memcpy(buffer, &query, sizeof query);
+    memcpy(memory + 64, &parsed, sizeof parsed);
+    EXPECT(rrcache_compose_response(AT(struct rrcache_query, BUFFER),
+                                    AT(struct rrcache_parsed_response, 64), buffer, 64, size)
+               == RRCACHE_DONE
+           && *size == 61 && buffer[0] == 0x12 && buffer[7] == 2);
+}
+
 /* A negative answer of which one list of octets lies elsewhere: its name, its SOA record's owner or
    that record's data. */
 static struct rrcache_negative negative_at(int which, const uint8_t *octets, size_t size)
@@ -3527,6 +4473,10 @@ static void test_overlaps_of_upkeep(struct rrcache_shelf *shelf)
                                 AT(struct rrcache_swept, 0)));
     OVERLAPS(
         rrcache_sweep_some(shelf, AT(struct rrcache_sweep_at, 64), AT(struct rrcache_swept, 80)));
+    OVERLAPS(rrcache_trim(shelf, TRIM(FIRST, 1, 1), AT(struct rrcache_trimmed, END - 8)));
+    OVERLAPS(
+        rrcache_trim(shelf, AT(struct rrcache_trim_to, END - 8), AT(struct rrcache_trimmed, 0)));
+    OVERLAPS(rrcache_trim(shelf, AT(struct rrcache_trim_to, 64), AT(struct rrcache_trimmed, 88)));
     OVERLAPS(rrcache_next_expiry(shelf, AT(uint64_t, END - 8)));
     OVERLAPS(rrcache_drop_chapters(shelf, AT(uint64_t, END - 8)));
     OVERLAPS(rrcache_sizes(shelf, AT(struct rrcache_usage, END - 8)));
@@ -3590,6 +4540,7 @@ static void test_overlaps(void)
     memcpy(&held, shelf, sizeof held);
     test_overlaps_of_asks(shelf);
     test_overlaps_of_messages(shelf);
+    test_overlaps_of_composing();
     test_overlaps_of_offers(shelf);
     test_overlaps_of_upkeep(shelf);
     test_overlaps_of_chapters(shelf);
@@ -3717,6 +4668,17 @@ static uint32_t call_set(struct rrcache_shelf *shelf)
     return set_status(shelf, set_of(OF(OTHER), A, OF(ADDRESS)));
 }
 
+/* One key goes, that of www.example, whose set has two addresses. Its event is the first of a
+   chapter, since it is the fifth. */
+static uint32_t call_trim(struct rrcache_shelf *shelf)
+{
+    struct rrcache_trimmed trimmed = {7, 7};
+    uint32_t status = rrcache_trim(shelf, TRIM(FIRST, 2 * A_SET, 9), &trimmed);
+    bool is_done = status == RRCACHE_DONE;
+    EXPECT(trimmed.removed == (is_done ? 1 : 7) && trimmed.octets == (is_done ? A_SET : 7));
+    return status;
+}
+
 static uint32_t call_negative(struct rrcache_shelf *shelf)
 {
     return negative_status(shelf, negative_of(OF(OTHER), TXT, RRCACHE_NODATA));
@@ -3838,18 +4800,19 @@ static const struct {
     uint32_t (*make)(struct rrcache_shelf *shelf);
     bool takes_memory;
 } CALLED[] = {
-    {call_answer, true},         {call_ask, true},
-    {call_ask_alias, true},      {call_set, true},
-    {call_negative, true},       {call_failure, true},
-    {call_sweep_some, true},     {call_sweep, true},
-    {call_fault, true},          {call_peek, false},
-    {call_peek_alias, false},    {call_stored, false},
-    {call_part, true},           {call_read, true},
-    {call_offer_read, true},     {call_free_offers, false},
-    {call_read_response, true},  {call_free_offers, false},
-    {call_take, true},           {call_line, true},
-    {call_free_chapters, false}, {call_stop, true},
-    {call_free_chapters, false}, {call_make_name, false},
+    {call_answer, true},       {call_ask, true},
+    {call_ask_alias, true},    {call_set, true},
+    {call_trim, true},         {call_negative, true},
+    {call_failure, true},      {call_sweep_some, true},
+    {call_sweep, true},        {call_fault, true},
+    {call_peek, false},        {call_peek_alias, false},
+    {call_stored, false},      {call_part, true},
+    {call_read, true},         {call_offer_read, true},
+    {call_free_offers, false}, {call_read_response, true},
+    {call_free_offers, false}, {call_take, true},
+    {call_line, true},         {call_free_chapters, false},
+    {call_stop, true},         {call_free_chapters, false},
+    {call_make_name, false},
 };
 
 enum { CALLS = sizeof CALLED / sizeof *CALLED };
@@ -3999,6 +4962,87 @@ static void test_looks_take_no_memory(void)
         EXPECT(rrcache_free(&shelf) == RRCACHE_DONE);
     }
 }
+
+/* A shelf with data of each kind, of names of three lengths, and so many failures behind them. */
+static void fill_for_trims(struct rrcache_shelf *shelf, int failures)
+{
+    static const size_t SIZES[] = {3, 40, LONGEST};
+    static const uint8_t texts[] = {0, 2, 1, 'A', 0, 2, 1, 'B'};
+    uint8_t name[LONGEST];
+    for (int n = 0; n < 3; n++) {
+        fill_name(name, SIZES[n], 'D');
+        EXPECT(offer_address(shelf, name, SIZES[n], 4, 60) == RRCACHE_KEPT
+               && offer_set(shelf, set_of(name, SIZES[n], TXT, OF(texts))) == RRCACHE_KEPT
+               && offer_denial(shelf, name, SIZES[n], RRCACHE_NXDOMAIN, 3, 60) == RRCACHE_KEPT
+               && offer_negative(shelf, negative_of(name, SIZES[n], SOA, RRCACHE_NODATA))
+                      == RRCACHE_KEPT);
+    }
+    for (int n = 0; n < failures; n++) {
+        fill_name(name, SIZES[n], 'F');
+        EXPECT(offer_failure(shelf, failure_of(name, SIZES[n], A)) == RRCACHE_KEPT);
+    }
+}
+
+enum { DATA_KEYS = 12, FAILURE_KEYS = 3 };
+
+/* From a shelf that records nothing keys go with no memory asked for. */
+static void test_trims_take_no_memory(void)
+{
+    struct rrcache_shelf shelf = {0};
+    struct rrcache_trimmed trimmed;
+    EXPECT(rrcache_make(&shelf, RULES(100, 4, MAX_STALE)) == RRCACHE_DONE);
+    fill_for_trims(&shelf, FAILURE_KEYS);
+    wanted = 0;
+    EXPECT(rrcache_trim(&shelf, TRIM(FIRST, 1, 5), &trimmed) == RRCACHE_DONE && trimmed.removed == 5
+           && wanted == 0);
+    EXPECT(rrcache_trim(&shelf, TRIM(FIRST, 1, 100), &trimmed) == RRCACHE_DONE
+           && trimmed.removed == DATA_KEYS + FAILURE_KEYS - 5 && trimmed.octets == 0
+           && wanted == 0);
+    EXPECT(rrcache_free(&shelf) == RRCACHE_DONE);
+}
+
+/* Trims a shelf to nothing with one allocation refused, and answers whether none was. What went
+   before stays gone, and nothing of it is told; the next trim goes on. A failure that lasts no
+   second is swept first, which asks for memory in each shelf. */
+static bool trim_refused(long refused, bool records)
+{
+    struct rrcache_shelf shelf = {0};
+    struct rrcache_trimmed trimmed = {7, 7};
+    struct rrcache_failure no_second = failure_of(OF(OTHER), A);
+    no_second.ttl = 0;
+    EXPECT(rrcache_make(&shelf, RULES(100, 4, MAX_STALE)) == RRCACHE_DONE
+           && (!records || rrcache_record(&shelf) == RRCACHE_DONE));
+    fill_for_trims(&shelf, FAILURE_KEYS);
+    EXPECT(offer_failure(&shelf, no_second) == RRCACHE_KEPT);
+    granted = refused;
+    uint32_t status = rrcache_trim(&shelf, TRIM(FIRST, 1, 100), &trimmed);
+    bool is_whole = granted >= 0;
+    granted = -1;
+    EXPECT(status == RRCACHE_DONE || (status == RRCACHE_MEMORY && !is_whole));
+    if (status == RRCACHE_MEMORY) {
+        uint64_t left = keys(&shelf);
+        EXPECT(trimmed.removed == 7 && trimmed.octets == 7 && left >= 1
+               && left <= DATA_KEYS + FAILURE_KEYS + 1);
+        EXPECT(rrcache_trim(&shelf, TRIM(FIRST, 1, 100), &trimmed) == RRCACHE_DONE
+               && trimmed.removed <= left);
+    } else {
+        EXPECT(trimmed.removed == DATA_KEYS + FAILURE_KEYS);
+    }
+    EXPECT(trimmed.octets == 0 && keys(&shelf) == 0 && rrcache_free(&shelf) == RRCACHE_DONE);
+    return is_whole;
+}
+
+static void test_refused_trims(void)
+{
+    for (int records = 0; records < 2; records++) {
+        long refused = 0;
+        while (refused < 1000 && !trim_refused(refused, records))
+            refused++;
+        EXPECT(refused > 0 && refused < 1000);
+        printf("refused each of %ld allocations of a trim in turn%s\n", refused,
+               records ? "" : " while nothing is recorded");
+    }
+}
 #endif
 
 static void (*const TESTS[])(void) = {
@@ -4043,16 +5087,37 @@ static void (*const TESTS[])(void) = {
     test_sweep_some,
     test_sweep_some_by_steps,
     test_sweep_some_to_the_end,
+    test_trim,
+    test_trim_by_steps,
+    test_trim_of_each_kind,
+    test_trim_of_failures,
+    test_trim_of_no_time,
+    test_trim_refused,
+    test_recorded_trims,
+    test_trims_in_small_chapters,
     test_parts,
     test_whole_message,
     test_relevant,
     test_told_offers,
+    test_told_responses,
+    test_refusals_of_told_responses,
+    test_choices_of_responses,
     test_picked_offers,
     test_refused_responses,
     test_other_queries,
     test_octets_by_their_front,
     test_headers_alone,
     test_forgotten_responses,
+    test_composed,
+    test_composed_numbers,
+    test_composed_is_read,
+    test_octets_of_told_offers,
+    test_octets_of_kept_offers,
+    test_composing_refused,
+    test_composed_octets,
+    test_order_of_composing_refusals,
+    test_far_owners,
+    test_long_composed,
     test_one_reading,
     test_refused_readings,
     test_refused_shares,
@@ -4077,6 +5142,8 @@ static void (*const TESTS[])(void) = {
 #ifdef REFUSE
     test_refused_memory,
     test_looks_take_no_memory,
+    test_trims_take_no_memory,
+    test_refused_trims,
 #endif
 };
 

@@ -9,9 +9,6 @@ pub mod Refusing
 pub mod Querying
 pub mod SetFits
 pub mod Sharing
-pub mod Bounding
-pub mod Holding
-pub mod Feeding
 pub mod Loan
 pub mod Looking
 pub mod Lending

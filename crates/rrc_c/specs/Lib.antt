@@ -13,14 +13,14 @@ pub mod Intake
 pub mod PartIntake
 pub mod Readings
 pub mod Offered
+pub mod Summaries
 pub mod Upkeep
 pub mod Stored
 pub mod Responses
-pub mod Bounds
 pub mod Chapters
-pub mod Fed
 pub mod Looked
 pub mod Names
 pub mod Folding
 pub mod Aliases
 pub mod SweepSteps
+pub mod Trims

@@ -3,12 +3,14 @@
 use Rattle.std.specs.Prelude.{◌≡◌, ℕ, zero, suc, ◌+◌, ◌^◌, ◌<◌, ◌≤◌, ◌⊎◌, ◌==◌, List, Bool, Option, None, Some, map, filter, if◌then◌else◌}
 use Rattle.std.specs.List.{list_any}
 use Rattle.rrc_history.specs.Fits.{OfferOf}
+use Rattle.rrc_sets.specs.declared.relevance.RelevanceLimits.{RelevanceLimits}
 use Rattle.rrc_share.specs.CacheShelf.{CacheShelfOf}
 use Rattle.rrc_c.specs.Handles.{BothHold}
 use Rattle.rrc_c.specs.Intake.{AreAt, AreOffered, TakesAll, TakesFirst, TakesNone}
 use Rattle.rrc_c.specs.PartIntake.{TakesPart, TakesSomeOfPart}
 use Rattle.rrc_c.specs.Parts.{keyed_part_of}
 use Rattle.rrc_c.specs.Refusals.{AreLimits, Because, DivisionRefused, IsDivision, OffersRefused, OutOfMemory, Then}
+use Rattle.rrc_c.specs.Summaries.{AreChosen, summary_of}
 use Rattle.rrc_c.specs.declared.counts.Counts.{Counts}
 use Rattle.rrc_c.specs.declared.reading.Placed.{Placed}
 use Rattle.rrc_c.specs.declared.reading.Reading.{Reading}
@@ -33,11 +35,14 @@ pub record HoldsOffers (terms : ResponseTerms) (offers : List OfferOf) (reading 
   pub moment : AreAt terms.moment offers
   pub placed : reading.placed.items ≡ map (placed_in terms.parts) offers
 
--- a reading of a message: all that it offers
+-- a reading of a message: all that it offers, and what it says
 pub record IsReading (octets zone : List ℕ) (terms : ResponseTerms) (reading : Reading) : Type 0 where
   pub offers : List OfferOf
   pub offered : AreOffered octets zone terms offers
   pub holds : HoldsOffers terms offers reading
+  pub relevance : RelevanceLimits
+  pub are_chosen : AreChosen terms relevance
+  pub says : reading.summary ≡ summary_of relevance offered.brought.message zone
 
 -- a message is not read into offers for so many parts
 abbrev pub ReadingRefused : List ℕ → List ℕ → ResponseTerms → ℕ → Type 0
@@ -131,6 +136,8 @@ terms_of_share terms share = record {
   rtype = terms.rtype;
   rclass = terms.rclass;
   with_case = terms.with_case;
+  lowest_ttl = terms.lowest_ttl;
+  clears_denied = terms.clears_denied;
 }
 
 -- what a reading of a message offers by a part is what the message offers under names of that part

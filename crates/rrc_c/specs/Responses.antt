@@ -2,16 +2,17 @@
 -- What of a response to a query is read: what is relevant to it.
 use Rattle.std.specs.Prelude.{◌≡◌, ℕ, ◌⊎◌, List, Bool, true, false, Option, None, Some}
 use Rattle.rrc_name.specs.Wire.{IsWireForm}
-use Rattle.rrc_history.specs.Fits.{OfferOf}
+use Rattle.rrc_wire.specs.declared.message.Message.{Message}
 use Rattle.rrc_sets.specs.Limits.{LimitsAre}
-use Rattle.rrc_sets.specs.Relevance.{AreDefault}
-use Rattle.rrc_sets.specs.RelevantMessage.{BringsRelevant, IsNoResponse, IsOfOtherQuery}
+use Rattle.rrc_sets.specs.Relevant.{relevant_of}
+use Rattle.rrc_sets.specs.RelevantMessage.{Answers, IsNoResponse, IsOfOtherQuery}
 use Rattle.rrc_sets.specs.declared.limits.Limits.{Limits}
 use Rattle.rrc_sets.specs.declared.query.Query.{Query}
 use Rattle.rrc_sets.specs.declared.query.QueryFault.{QueryFault}
 use Rattle.rrc_sets.specs.declared.query.QueryFault.TheVariants.{NoQuestion}
 use Rattle.rrc_sets.specs.declared.relevance.RelevanceLimits.{RelevanceLimits}
 use Rattle.rrc_c.specs.Readings.{HoldsOffers}
+use Rattle.rrc_c.specs.Summaries.{AreChosen, summary_of}
 use Rattle.rrc_c.specs.Refusals.{AreLimits, Because, DivisionRefused, IsDivision, NameRefused, OutOfMemory, Then}
 use Rattle.rrc_c.specs.declared.reading.Reading.{Reading}
 use Rattle.rrc_c.specs.declared.status.Status.TheVariants as statuses
@@ -22,24 +23,21 @@ abbrev pub query_of : List ℕ → ResponseTerms → Query
 query_of name terms =
     record { id = terms.id; question = record { name = name; qtype = terms.rtype; qclass = terms.rclass }; with_case = terms.with_case }
 
--- octets are a response to a query, and this of what it offers is relevant, by the limits that are set by default
-pub record BringsByDefault (query : Query) (limits : Limits) (octets zone : List ℕ) (at : ℕ) (offers : List OfferOf) : Type 0 where
+-- a reading of a message: what of it is relevant by the limits of the call, and what it says
+pub record ReadsRelevant (terms : ResponseTerms) (message : Message) (zone : List ℕ) (limits : Limits) (reading : Reading) : Type 0 where
   pub relevance : RelevanceLimits
-  pub are_default : AreDefault relevance
-  pub brought : BringsRelevant query limits relevance octets zone at offers
+  pub are_chosen : AreChosen terms relevance
+  pub holds : HoldsOffers terms (relevant_of message zone terms.moment limits relevance) reading
+  pub says : reading.summary ≡ summary_of relevance message zone
 
--- what of a response that was received from a zone is relevant
-pub record AreRelevant (octets zone name : List ℕ) (terms : ResponseTerms) (offers : List OfferOf) : Type 0 where
+-- a reading of a response that was received from a zone, of octets that answer the query
+pub record IsResponseReading (octets zone name : List ℕ) (terms : ResponseTerms) (reading : Reading) : Type 0 where
   pub zone_is : IsWireForm zone
   pub limits : Limits
   pub are_limits : LimitsAre limits terms.limits.cap terms.limits.negative_cap terms.limits.recheck
-  pub relevant : BringsByDefault (query_of name terms) limits octets zone terms.moment offers
-
--- a reading of a response: what of it is relevant
-pub record IsResponseReading (octets zone name : List ℕ) (terms : ResponseTerms) (reading : Reading) : Type 0 where
-  pub offers : List OfferOf
-  pub offered : AreRelevant octets zone name terms offers
-  pub holds : HoldsOffers terms offers reading
+  pub message : Message
+  pub answers : Answers (query_of name terms) octets message
+  pub reads : ReadsRelevant terms message zone limits reading
 
 -- whether a fault is that of a header without a question
 abbrev pub is_header_alone : QueryFault → Bool

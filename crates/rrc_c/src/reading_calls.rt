@@ -5,6 +5,7 @@ ghost use Rattle.rrc_c.specs.Handles.{IsKept, TellsNone};
 ghost use Rattle.rrc_c.specs.Readings.{parts_below, AllHold, HoldsReading, IfRead, IsReading, OneLacks, ReadingDue, TakesShare, TakesSomeOfShare, TellsNoOffers};
 ghost use Rattle.rrc_c.specs.Refusals.{IfHeld};
 ghost use Rattle.rrc_c.specs.Responses.{IsResponseReading, ResponseDue};
+ghost use Rattle.rrc_c.specs.Summaries.{SummaryDue, TellsSummary};
 ghost use Rattle.rrc_c.specs.Statuses.{OnDone, OnNoOffers, OnNoShelf, OnRefused, OnSmall, OnUntold};
 
 use crate::counts::Counts;
@@ -18,6 +19,7 @@ use crate::response::read_response;
 use crate::shares::{offer_share, parts_concerned};
 use crate::shelf_handle::ShelfHandle;
 use crate::status::{HAS_OFFERS, NO_OFFERS, NO_SHELF, OTHER_QUERY};
+use crate::summary::{SummaryRecord, tell_summary};
 use crate::terms::{OfferPick, ResponseTerms, Share};
 use std::alloc::Global;
 
@@ -82,6 +84,28 @@ pub extern "C" fn rrc_read_response(
             0
         }
     }
+}
+
+/// Tells what the message that was read says, and makes the name of its kind, where that has one,
+/// under the seed of the reading.
+#[unsafe(no_mangle)]
+pub extern "C" fn rrc_tell_response(
+    offers: &mut Offers,
+    name: &mut FoldedName,
+    told: &mut SummaryRecord,
+) -> u32
+    ensures none { TellsNoOffers offers.old.seal.reading result }
+    ensures done { OnDone result (HoldsReading offers.old.seal.reading (λ reading. TellsSummary reading told.new name.old name.new)) }
+    ensures name { OnRefused result (name.new ≡ name.old) }
+    ensures behind { drop name.new.size name.new.octets ≡ drop name.new.size name.old.octets }
+    ensures told { OnRefused result (told.new ≡ told.old) }
+    ensures kept { offers.new.seal.reading ≡ offers.old.seal.reading }
+    ensures due { IfRead offers.old.seal.reading (λ reading. SummaryDue reading result) }
+{
+    let Some(reading) = offers.get_mut() else {
+        return NO_OFFERS;
+    };
+    number_of_call(tell_summary(reading, name, told))
 }
 
 /// Tells one of the offers that were read, by its number, and makes the name that it is of, under

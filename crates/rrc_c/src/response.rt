@@ -1,10 +1,11 @@
 // SPDX-License-Identifier: MIT
-ghost use Rattle.std.specs.Prelude.{◌≡◌, IfOk, IfErr, IfSome, IfNone, OnOk};
-ghost use Rattle.rrc_c.specs.Intake.{AreAt};
-ghost use Rattle.rrc_c.specs.Refusals.{NameRefused};
-ghost use Rattle.rrc_c.specs.Responses.{query_of, AnswerRefused, BringsByDefault, IsOther, IsOtherAtLast, IsResponseReading, ResponseRefused};
+ghost use Rattle.std.specs.Prelude.{◌≡◌, IfOk, IfErr, IfSome, IfNone, None, OnOk};
+ghost use Rattle.rrc_c.specs.Refusals.{AreLimits, IsDivision, NameRefused, OutOfMemory};
+ghost use Rattle.rrc_c.specs.Responses.{query_of, AnswerRefused, IsOther, IsOtherAtLast, IsResponseReading, ReadsRelevant, ResponseRefused};
 ghost use Rattle.rrc_c.specs.Statuses.{number_of};
 ghost use Rattle.rrc_name.specs.Wire.{IsWireForm};
+ghost use Rattle.rrc_sets.specs.Queries.{mismatch};
+ghost use Rattle.rrc_sets.specs.RelevantMessage.{Answers};
 
 use crate::division::check_division;
 use crate::intake::limits_of;
@@ -12,11 +13,11 @@ use crate::message::reading_of;
 use crate::names::name_of;
 use crate::reading::Reading;
 use crate::status::Status;
+use crate::summary::{relevance_of, summary_of};
 use crate::terms::ResponseTerms;
-use rrc_history::Offer;
 use rrc_name::Name;
-use rrc_sets::{Limits, Query, QueryFault, RelevanceLimits, relevant_offers_in};
-use rrc_wire::Question;
+use rrc_sets::{Limits, Query, QueryFault, answer_in, relevant_offers};
+use rrc_wire::{Message, Question};
 use std::alloc::Global;
 
 /// The query that was sent.
@@ -38,29 +39,47 @@ fn query_of(alloc: Global, name: &[u8], terms: &ResponseTerms) -> Result<Query, 
     })
 }
 
-/// What of octets is relevant to a query, or `None` where they answer none, or another one.
-fn relevant_in(
-    alloc: Global,
-    octets: &[u8],
-    query: &Query,
-    zone: &Name,
-    moment: u64,
-    limits: &Limits,
-) -> Result<Option<Vec<Offer>>, Status>
-    ensures some { IfOk result (λ found. IfSome found (λ made. BringsByDefault query.now limits.now octets.now zone.now moment made.items)) }
-    ensures moments { IfOk result (λ found. IfSome found (λ made. AreAt moment made.items)) }
+/// The message that octets begin with which answer a query, or `None` where they answer none, or
+/// another one.
+fn answer_to(alloc: Global, octets: &[u8], query: &Query) -> Result<Option<Message>, Status>
+    ensures some { IfOk result (λ found. IfSome found (Answers query.now octets.now)) }
     ensures none { IfOk result (λ found. IfNone found (IsOther query.now octets.now)) }
     ensures refused { IfErr result (λ status. AnswerRefused query.now octets.now (number_of status)) }
 {
-    let relevance = RelevanceLimits::default();
-    match relevant_offers_in(alloc, octets, query, zone, moment, limits, &relevance) {
-        Ok(made) => Ok(Some(made)),
+    match answer_in(alloc, octets, query) {
+        Ok(message) => Ok(Some(message)),
         Err(QueryFault::Memory) => Err(Status::Memory),
         Err(QueryFault::NoResponse(_)) => Err(Status::BadMessage),
         Err(QueryFault::NoQuestion(_)) => Err(Status::NoQuestion),
         Err(QueryFault::OtherIdentifier) => Ok(None),
         Err(QueryFault::IsQuery) => Ok(None),
         Err(QueryFault::OtherQuestion) => Ok(None),
+    }
+}
+
+/// A reading of the message that answers a query: what of it is relevant, and what it says.
+fn reading_in(
+    alloc: Global,
+    message: &Message,
+    query: &Query,
+    zone: &Name,
+    terms: &ResponseTerms,
+    limits: &Limits,
+) -> Result<Box<Reading>, Status>
+    requires response { mismatch query.now message.now ≡ None }
+    requires division { IsDivision terms.now.parts }
+    requires limits { AreLimits terms.now.limits }
+    ensures reading { IfOk result (λ reading. ReadsRelevant terms.now message.now zone.now limits.now reading.value) }
+    ensures memory { IfErr result (λ status. OutOfMemory (number_of status)) }
+{
+    let relevance = relevance_of(terms);
+    let moment = terms.moment;
+    match relevant_offers(alloc, message, query, zone, moment, limits, &relevance) {
+        Ok(offers) => {
+            let summary = summary_of(alloc, message, zone, &relevance)?;
+            reading_of(alloc, offers, summary, terms)
+        }
+        Err(_) => Err(Status::Memory),
     }
 }
 
@@ -81,9 +100,9 @@ pub(crate) fn read_response(
     let limits = limits_of(&terms.limits)?;
     let zone = name_of(alloc, zone)?;
     let query = query_of(alloc, name, terms)?;
-    let Some(offers) = relevant_in(alloc, octets, &query, &zone, terms.moment, &limits)? else {
+    let Some(message) = answer_to(alloc, octets, &query)? else {
         return Ok(None);
     };
-    let reading = reading_of(alloc, offers, terms)?;
+    let reading = reading_in(alloc, &message, &query, &zone, terms, &limits)?;
     Ok(Some(reading))
 }

@@ -62,6 +62,10 @@ pub struct ResponseTerms {
     pub rclass: u16,
     /// Whether the response has to repeat the query's letters in their case.
     pub with_case: bool,
+    /// Whether RRsets whose TTLs differ where AA is clear are relevant, with the lowest one.
+    pub lowest_ttl: bool,
+    /// Whether an authoritative denial of a name clears what is held of it.
+    pub clears_denied: bool,
 }
 
 /// Which share of what was read is offered.
@@ -138,6 +142,20 @@ pub struct SweepTerms {
     /// A number of the caller's own that the events are kept with.
     pub line: u64,
     /// After so many keys, or so many sweeps, a sweep in steps ends.
+    pub most: u64,
+}
+
+/// To how many octets a shelf is trimmed, when, and how many keys go at most.
+#[repr(C)]
+#[derive(Clone, Copy, Debug)]
+pub struct TrimTerms {
+    /// In seconds.
+    pub moment: u64,
+    /// A number of the caller's own that the events are kept with.
+    pub line: u64,
+    /// The most octets that the keys take which are left, at least 1.
+    pub limit: u64,
+    /// After so many keys it ends, at least 1.
     pub most: u64,
 }
 

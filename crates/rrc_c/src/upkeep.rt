@@ -1,7 +1,5 @@
 // SPDX-License-Identifier: MIT
 ghost use Rattle.std.specs.Prelude.{◌≡◌, IfOk, IfErr, OnOk, OnErr};
-ghost use Rattle.rrc_c.specs.Bounds.{AreBounded};
-ghost use Rattle.rrc_c.specs.Fed.{AreBoundedAtAnySize, FedAreBounded};
 ghost use Rattle.rrc_c.specs.Upkeep.{DropsChapters, IsNextExpiry, TellsFault, TellsSizes};
 ghost use Rattle.rrc_c.specs.Refusals.{OutOfMemory, RecordDue};
 ghost use Rattle.rrc_c.specs.Shelves.{DropsRecord, StartsRecord, recorded_chapters, recorded_events};
@@ -112,18 +110,3 @@ pub(crate) fn fault_in(alloc: Global, octets: &[u8]) -> Result<u32, Status>
         Err(fault) => Ok(u32::from(fault.number())),
     }
 }
-
-/// The law of the octets that `rrc_sizes` tells: where no entry has more than some number, they are
-/// at most that times the keys. The function does nothing; its contract is the law.
-pub fn keys_times_the_most_bound_the_octets()
-    ensures { AreBounded }
-{}
-
-/// The law of the octets that `rrc_sizes` tells of a shelf that was offered failures and what is
-/// relevant of responses alone (`rrc_read_response`): they are at most the keys times a number, by
-/// the octets of the largest response, and at most the keys times 302,830. The function does
-/// nothing; its contract is the law.
-pub fn responses_bound_the_octets()
-    ensures bounded { FedAreBounded }
-    ensures at_any_size { AreBoundedAtAnySize }
-{}

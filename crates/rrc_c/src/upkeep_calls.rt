@@ -6,6 +6,7 @@ ghost use Rattle.rrc_c.specs.Handles.{BothHold, HoldsNone, IsKept, TellsNone};
 ghost use Rattle.rrc_c.specs.Refusals.{IfHeld, OutOfMemory, RecordDue, WriteDue};
 ghost use Rattle.rrc_c.specs.Shelves.{DropsRecord, MakesSweep, StartsRecord};
 ghost use Rattle.rrc_c.specs.SweepSteps.{SweepsSome, SweepsUntil};
+ghost use Rattle.rrc_c.specs.Trims.{TrimsShelf, TrimsUntil};
 ghost use Rattle.rrc_c.specs.Upkeep.{DropsChapters, TellsExpiry, TellsFault, TellsSizes};
 
 use crate::folded_name::FoldedName;
@@ -16,7 +17,8 @@ use crate::shelf_handle::ShelfHandle;
 use crate::sizes::Sizes;
 use crate::status::NO_SHELF;
 use crate::sweeps::{Swept, sweep, sweep_some};
-use crate::terms::{Division, SweepTerms};
+use crate::terms::{Division, SweepTerms, TrimTerms};
+use crate::trims::{Trimmed, trim};
 use crate::upkeep::{drop_chapters, expiry_of, fault_in, record, sizes_of, stop_and_drop};
 use std::alloc::Global;
 
@@ -57,6 +59,33 @@ pub extern "C" fn rrc_sweep_some(
     };
     let done = sweep_some(shelf, terms, swept);
     number_of_call(done)
+}
+
+/// Removes keys, the one touched least recently first, until the keys that are left take no more
+/// octets than the limit, or as many went as are to go at most. Each is one event, and of a failure
+/// two.
+#[unsafe(no_mangle)]
+pub extern "C" fn rrc_trim(
+    handle: &mut ShelfHandle,
+    terms: &TrimTerms,
+    trimmed: &mut Trimmed,
+) -> u32
+    ensures none { TellsNone handle.old.held.seal.shelf result }
+    ensures done { OnDone result (BothHold handle.old.held.seal.shelf handle.new.held.seal.shelf (TrimsShelf terms.now trimmed.new)) }
+    ensures refused { OnRefused result (HoldsNone handle.old.held.seal.shelf handle.new.held.seal.shelf ⊎ BothHold handle.old.held.seal.shelf handle.new.held.seal.shelf (TrimsUntil result terms.now)) }
+    ensures trimmed { OnRefused result (trimmed.new ≡ trimmed.old) }
+    ensures seed { handle.new.seed ≡ handle.old.seed }
+{
+    let Some(shelf) = handle.held.get_mut() else {
+        return NO_SHELF;
+    };
+    match trim(shelf, terms) {
+        Ok(told) => {
+            *trimmed = told;
+            0
+        }
+        Err(status) => status.number(),
+    }
 }
 
 /// Records the history of a shelf from here on, with no chapter closed. Where it is recorded

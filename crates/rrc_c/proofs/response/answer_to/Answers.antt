@@ -2,7 +2,7 @@
 use Rattle.std.proofs.Common.{refl}
 use Rattle.rrc_sets.specs.declared.query.QueryFault.TheVariants.{OtherIdentifier, IsQuery, OtherQuestion}
 use Rattle.rrc_c.proofs.Querying.{other_told, unread_refused}
-use Rattle.rrc_c.proofs.response.relevant_in.Goals as goal
+use Rattle.rrc_c.proofs.response.answer_to.Goals as goal
 
 pub returns-in-Err-NoResponse-clause-refused : goal.returns-in-Err-NoResponse-clause-refused
 returns-in-Err-NoResponse-clause-refused c =
