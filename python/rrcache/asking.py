@@ -2,6 +2,8 @@
 """How a shelf is asked: what a call is handed, and what it writes as objects of Python."""
 from __future__ import annotations
 
+import itertools
+import struct
 from ctypes import create_string_buffer, sizeof
 from typing import Any
 
@@ -16,18 +18,17 @@ from .replies import Reply, Stored, StoredEntry
 ROOM = 28_551
 KINDS = {int(it): it for it in Kind}
 TRUSTS = {int(it): it for it in Trust}
-# The numbers of an entry.
-ENTRY_NUMBERS = len(structs.Entry._fields_)
-TOLD = structs.packer(structs.Told)
+QUESTION, TOLD, ENTRY = map(structs.packer, (structs.Question, structs.Told, structs.Entry))
 
 
 class Work:
     """What one call that asks is handed beside the shelf and the name."""
 
-    __slots__ = ("question", "told", "buffer")
+    __slots__ = ("question", "told", "stored", "buffer")
 
     def __init__(self) -> None:
         self.question, self.told = structs.Question(), structs.Told()
+        self.stored = structs.Stored()
         self.buffer: Any = create_string_buffer(ROOM)
 
 
@@ -44,14 +45,19 @@ def taken() -> Work:
         return Work()
 
 
-def data_of(octets: bytes) -> tuple[bytes, ...]:
-    """Data that stand one behind another, each behind its length of two octets."""
-    data, at = [], 0
-    while at < len(octets):
+def data_of(octets: bytes, at: int) -> tuple[bytes, ...]:
+    """Data that stand one behind another from a place on, each behind its length of two octets."""
+    data, end = [], len(octets)
+    while at < end:
         behind = at + 2 + (octets[at] << 8 | octets[at + 1])
         data.append(octets[at + 2:behind])
         at = behind
     return tuple(data)
+
+
+# A frozen dataclass is made of all of its fields by its dictionary: its own constructor calls a
+# function for each, and takes three times as long.
+new = object.__new__
 
 
 def entry_of(kind: int, trust: int, ttl: int, moment: int, number: int,
@@ -59,21 +65,25 @@ def entry_of(kind: int, trust: int, ttl: int, moment: int, number: int,
     """An entry of its numbers, None where nothing is stored."""
     if not kind:
         return None
-    return StoredEntry(KINDS[kind], TRUSTS.get(trust), ttl, moment, number, age)
+    entry = new(StoredEntry)
+    fields = entry.__dict__
+    fields["kind"], fields["trust"], fields["ttl"] = KINDS[kind], TRUSTS.get(trust), ttl
+    fields["moment"], fields["number"], fields["age"] = moment, number, age
+    return entry
 
 
 def reply_of(told: structs.Told, buffer: Any) -> Reply:
     """The reply that was told and written to a buffer."""
-    kind, rtype, left, retry_from, owner_size, data_size, *entry = TOLD.unpack_from(told)
-    owner, data = buffer[:owner_size], data_of(buffer[owner_size:owner_size + data_size])
-    return Reply(KINDS[kind], left, owner, data, retry_from, rtype, entry_of(*entry))
-
-
-def stored_of(stored: structs.Stored) -> Stored:
-    """The three entries that were told."""
-    numbers = structs.numbers_in(stored)
-    return Stored(*(entry_of(*numbers[at:at + ENTRY_NUMBERS])
-                    for at in range(0, len(numbers), ENTRY_NUMBERS)))
+    (kind, rtype, left, retry_from, owner_size, data_size, stored, trust, ttl, moment, number,
+     age) = TOLD.unpack_from(told)
+    octets = buffer[:owner_size + data_size]
+    reply = new(Reply)
+    fields = reply.__dict__
+    fields["kind"], fields["left"] = KINDS[kind], left
+    fields["owner"], fields["data"] = octets[:owner_size], data_of(octets, owner_size)
+    fields["retry_from"], fields["rtype"] = retry_from, rtype
+    fields["entry"] = entry_of(stored, trust, ttl, moment, number, age)
+    return reply
 
 
 def room_for(told: structs.Told) -> Any:
@@ -98,17 +108,35 @@ def told_offer(handle: structs.Offers, index: int) -> tuple[Name, Reply] | None:
         _idle.append(work)
 
 
-def answered(export: str, handle: structs.Shelf, name: Name, *question: int) -> Reply:
-    """The reply to a question, whose numbers are those of `struct rrcache_question`, of a call that
-    asks. A reply that has no room is asked for again, since no event was written."""
+def answered(export: str, handle: structs.Shelf, name: Name, moment: int, line: int, rtype: int,
+             rclass: int, purpose: int, mode: int) -> Reply:
+    """The reply to a question of a call that asks. A reply that has no room is asked for again,
+    since no event was written."""
     work = taken()
     try:
-        structs.fill(work.question, *question)
-        ask, buffer = getattr(library(), export), work.buffer
-        while status := ask(handle, name._made, work.question, work.told, buffer, sizeof(buffer)):
+        QUESTION.pack_into(work.question, 0, moment, line, rtype, rclass, purpose, mode)
+        ask, told, buffer, room = getattr(library(), export), work.told, work.buffer, ROOM
+        while status := ask(handle, name._made, work.question, told, buffer, room):
             if status != Status.SMALL:
                 raise refusal(status)
-            buffer = room_for(work.told)
-        return reply_of(work.told, buffer)
+            buffer = room_for(told)
+            room = sizeof(buffer)
+        return reply_of(told, buffer)
+    except struct.error as fault:
+        raise structs.out_of_range(fault) from fault
+    finally:
+        _idle.append(work)
+
+
+def stored_under(handle: structs.Shelf, name: Name, rtype: int, rclass: int) -> Stored:
+    """The three entries that are held of a name and a class for a type."""
+    work = taken()
+    try:
+        QUESTION.pack_into(work.question, 0, 0, 0, rtype, rclass, 0, 0)
+        if status := library().rrc_stored(handle, name._made, work.question, work.stored):
+            raise refusal(status)
+        return Stored(*itertools.starmap(entry_of, ENTRY.iter_unpack(work.stored)))
+    except struct.error as fault:
+        raise structs.out_of_range(fault) from fault
     finally:
         _idle.append(work)

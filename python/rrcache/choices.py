@@ -61,6 +61,24 @@ class Kind(IntEnum):
     FAILED = 6
 
 
+class ResponseKind(IntEnum):
+    """What a response comes to for its question (RFC 1034 section 5.3.3), when a zone's servers
+    were asked: it has data of the type; it has, and they are left out, since their TTLs differ and
+    AA is clear; the name has no data of the type (RFC 2308 section 2.2), or does not exist (section
+    2.1); the servers of a zone below are named; an alias leads on to a name of which the response
+    has nothing, or which is outside the zone; RCODE is neither NOERROR nor NXDOMAIN; nothing that
+    can be used, as where TC is set."""
+
+    ANSWER = 1
+    UNEQUAL_TTLS = 2
+    NODATA = 3
+    NXDOMAIN = 4
+    REFERRAL = 5
+    ALIAS = 6
+    FAILURE = 7
+    UNUSABLE = 8
+
+
 class MessageFault(IntEnum):
     """Why octets are no response: they end too soon; a length octet has reserved bits; a pointer
     leads to no lower place; a name has more than 255 octets; data do not fill their layout; QR is

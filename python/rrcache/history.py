@@ -348,7 +348,9 @@ class _Draft:
 
     def chapter(self) -> Chapter:
         text = "".join(f"{it}\n" for it in self.texts)
-        return Chapter(*self.numbers, tuple(self.entries), tuple(self.events), text)
+        number, first, capacity, chapter, max_stale = self.numbers
+        return Chapter(number, first, capacity, chapter, max_stale, tuple(self.entries),
+                       tuple(self.events), text)
 
 
 def _add(drafts: list[_Draft], text: str) -> None:

@@ -18,8 +18,8 @@ MAJOR, MINOR, SONAME = 2, 0, "librrcache.so.2"
 # What calls take beside structs: octets and how many they are, and the numbers that they write.
 OCTETS: list[Any] = [c_char_p, c_size_t]
 NUMBER, WIDE_NUMBER = POINTER(c_uint32), POINTER(c_uint64)
-SHELF, OFFERS, CHAPTERS, NAME = map(POINTER, (structs.Shelf, structs.Offers, structs.Chapters,
-                                              structs.Name))
+SHELF, OFFERS = POINTER(structs.Shelf), POINTER(structs.Offers)
+CHAPTERS, NAME = POINTER(structs.Chapters), POINTER(structs.Name)
 RESPONSE, COUNTS = POINTER(structs.ResponseTerms), POINTER(structs.Counts)
 TELLS = [SHELF, NAME, POINTER(structs.Question), POINTER(structs.Told), *OCTETS]
 CALLS: dict[str, list[Any]] = {
@@ -35,6 +35,7 @@ CALLS: dict[str, list[Any]] = {
     "rrc_stored": [SHELF, NAME, POINTER(structs.Question), POINTER(structs.Stored)],
     "rrc_read_response": [OFFERS, *OCTETS, *OCTETS, *OCTETS, RESPONSE, WIDE_NUMBER],
     "rrc_read_message_unchecked": [OFFERS, *OCTETS, *OCTETS, RESPONSE, WIDE_NUMBER],
+    "rrc_tell_response": [OFFERS, NAME, POINTER(structs.Summary)],
     "rrc_tell_offer": [OFFERS, c_uint64, NAME, POINTER(structs.Told), *OCTETS],
     "rrc_offer_read": [SHELF, OFFERS, POINTER(structs.Share), COUNTS],
     "rrc_offer_one": [SHELF, OFFERS, POINTER(structs.OfferPick), NUMBER],
@@ -47,6 +48,7 @@ CALLS: dict[str, list[Any]] = {
     "rrc_offer_failure": [SHELF, *OCTETS, POINTER(structs.FailureTerms), NUMBER],
     "rrc_sweep": [SHELF, POINTER(structs.SweepAt), WIDE_NUMBER],
     "rrc_sweep_some": [SHELF, POINTER(structs.SweepAt), POINTER(structs.Swept)],
+    "rrc_trim": [SHELF, POINTER(structs.TrimTo), POINTER(structs.Trimmed)],
     "rrc_next_expiry": [SHELF, WIDE_NUMBER],
     "rrc_sizes": [SHELF, POINTER(structs.Usage)],
     "rrc_drop_chapters": [SHELF, WIDE_NUMBER],
@@ -60,9 +62,12 @@ CALLS: dict[str, list[Any]] = {
 
 
 def path() -> str:
-    """Where the library is."""
-    beside = Path(__file__).resolve().parents[2] / "build" / "librrcache.so"
-    return os.environ.get("RRCACHE_LIBRARY") or (str(beside) if beside.exists() else SONAME)
+    """Where the library is: where the environment says, beside these modules if they are installed,
+    in the repository that they lie in, or where the system's loader looks."""
+    folder = Path(__file__).resolve().parent
+    places = folder / "librrcache.so", folder.parents[1] / "build" / "librrcache.so"
+    found = next((str(it) for it in places if it.exists()), SONAME)
+    return os.environ.get("RRCACHE_LIBRARY") or found
 
 
 def parts_of_version(number: int) -> tuple[int, int, int]:
@@ -75,8 +80,8 @@ def loaded_from(place: str) -> CDLL:
     try:
         loaded = CDLL(place)
     except OSError as fault:
-        raise ImportError(f"{place} cannot be loaded ({fault}): install the library by "
-                          "bin/install-c, or name it in RRCACHE_LIBRARY") from fault
+        raise ImportError(f"{place} cannot be loaded ({fault}): build the library by bin/build-c, "
+                          "install it by bin/install-c, or name it in RRCACHE_LIBRARY") from fault
     major, minor, _ = parts_of_version(loaded.rrc_version())
     if major != MAJOR or minor < MINOR:
         raise ImportError(f"{place} has version {major}.{minor}, and this package is for "
@@ -165,5 +170,9 @@ def fault(message: bytes) -> MessageFault:
 
 
 def library_version() -> tuple[int, int, int]:
-    """The version of the library: major, minor and patch."""
+    """The version of the library: major, minor and patch.
+
+    >>> library_version() >= (2, 0, 0)
+    True
+    """
     return parts_of_version(library().rrc_version())

@@ -12,7 +12,14 @@ ESCAPE = re.compile(rb"\\([0-9]{3}|.)", re.S)
 
 
 class NameFault(ValueError):
-    """A text is the text of no name."""
+    """A text is the text of no name.
+
+    >>> try:
+    ...     to_wire("www..example.")
+    ... except NameFault as fault:
+    ...     print(fault)
+    a label is empty, or a backslash escapes nothing
+    """
 
 
 def octet_of(escape: re.Match[bytes]) -> bytes:

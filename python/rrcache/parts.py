@@ -10,6 +10,8 @@ from . import structs
 from .library import call, seed_of, sized
 from .names import to_text, to_wire
 
+# Where a name's octets begin in `struct rrcache_name`.
+OCTETS_AT = structs.Name.octets.offset
 # How many names a shelf or a cache remembers, of some 500 octets each.
 NAMES_MOST = 4096
 
@@ -18,7 +20,7 @@ class Parts(NamedTuple):
     """How names are divided among shelves: how many shelves there are, 1 to 64, and the seed, which
     all of them have: 16 random octets that nobody else knows, not all 0."""
 
-    count: int
+    count: int  # type: ignore[assignment]  # for which the method of tuples goes
     seed: bytes
 
     def struct(self) -> structs.Parts:
@@ -39,8 +41,12 @@ class Name:
 
     @property
     def octets(self) -> bytes:
-        """Its wire form, in lower case."""
-        return bytes(self._made.octets[:self._made.size])
+        """Its wire form, in lower case.
+
+        >>> make_name("WWW.example.", Parts(1, seed=bytes(range(16)))).octets
+        b'\\x03www\\x07example\\x00'
+        """
+        return bytes(self._made)[OCTETS_AT:OCTETS_AT + self._made.size]
 
     def __repr__(self) -> str:
         return f"Name({to_text(self.octets)!r})"

@@ -86,7 +86,7 @@ class MomentTooLarge(Refused):
 
 class BadRules(Refused):
     """A capacity, a chapter, a maximum stale time, a number of parts, a part or how much is swept
-    is out of its range."""
+    or trimmed is out of its range."""
 
     status, reason = Status.BAD_RULES, "a number of the rules is not in its range"
 
@@ -116,9 +116,10 @@ class BadMessage(Refused):
 
 
 class BadChoice(Refused):
-    """No purpose, mode, denial or trust has this number."""
+    """No purpose, mode, denial, trust or RCODE of a header has this number."""
 
-    status, reason = Status.BAD_CHOICE, "no purpose, mode, kind or trust has this number"
+    status = Status.BAD_CHOICE
+    reason = "no purpose, mode, kind, trust, section or RCODE has this number"
 
 
 class BadType(Refused):

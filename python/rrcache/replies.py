@@ -18,20 +18,39 @@ class Counts(NamedTuple):
     outranked: int
 
     def plus(self, other: Counts) -> Counts:
-        """Both together."""
+        """Both together.
+
+        >>> Counts(2, 0, 1).plus(Counts(1, 1, 0))
+        Counts(kept=3, cleared=1, outranked=1)
+        """
         return Counts(self.kept + other.kept, self.cleared + other.cleared,
                       self.outranked + other.outranked)
 
 
-# What each record of an RRset counts beside the octets of its rdata.
-RECORD_OCTETS = 48
+# What `Sizes.octets` counts of a key: the key itself, with its places in the order of touch, the
+# table and the queue of expiries; a name or rdata, which have room in themselves for some octets;
+# what a block of its own adds where there are more; and what a name, or the data of a key, takes
+# since several may own it.
+ENTRY_OCTETS = 160
+VALUE_OCTETS = 48
+INLINE_OCTETS = 32
+BLOCK_OCTETS = 16
+SHARED_OCTETS = 32
 
 
 class Sizes(NamedTuple):
     """How many keys a shelf holds, how many events of its open chapter are recorded, how many
-    chapters are closed, both 0 where nothing is recorded, and how many octets the keys have: of
-    each its name, of an RRset its owner and its rdata, and `RECORD_OCTETS` for each record, of a
-    negative answer its SOA record's owner and rdata."""
+    chapters are closed, both 0 where nothing is recorded, and how many octets the keys take, about
+    those of memory. A key takes `ENTRY_OCTETS`, and
+
+    - its name;
+    - of an RRset `SHARED_OCTETS` and the rdata of each record, and where there are several records
+      `VALUE_OCTETS` and `BLOCK_OCTETS` beside;
+    - of a negative answer `SHARED_OCTETS` and its SOA record's rdata;
+    - the owner of these records, unless that is spelled as the key's name.
+
+    Rdata take `VALUE_OCTETS`, and where they are more than `INLINE_OCTETS` also `BLOCK_OCTETS` and
+    as many as they are. A name takes `SHARED_OCTETS` more than rdata of its size."""
 
     keys: int
     events: int
@@ -45,6 +64,14 @@ class Swept(NamedTuple):
 
     removed: int
     is_done: bool
+
+
+class Trimmed(NamedTuple):
+    """How many keys a trim removed, and how many octets (`Sizes.octets`) those take that are
+    left."""
+
+    removed: int
+    octets: int
 
 
 @dataclass(frozen=True)
@@ -80,7 +107,11 @@ class Stored(NamedTuple):
 
 class Query(NamedTuple):
     """A query that was sent: the name and type that it asks for, its identifier, its class, and
-    whether the response has to repeat the letters of the name in their case."""
+    whether the response has to repeat the letters of the name in their case.
+
+    >>> Query("wWw.eXample.", 1, id=0x1234, with_case=True).rclass.name
+    'IN'
+    """
 
     name: str | bytes
     rtype: int
@@ -92,7 +123,11 @@ class Query(NamedTuple):
 class Limits(NamedTuple):
     """How long what a response says may be kept, in seconds: data (1 to 604,800, RFC 8767 section
     4), negative answers (1 to 604,800, RFC 2308 section 5) and failures (1 to 300, RFC 9520 section
-    3.2)."""
+    3.2).
+
+    >>> Limits(cap=86_400).negative_cap
+    10800
+    """
 
     cap: int = 604_800
     negative_cap: int = 10_800
@@ -106,7 +141,12 @@ class Reply:
     moment from which asking may be tried again, and else 0; the type that is answered, which is
     that of the question, or CNAME (5) where `Shelf.ask_alias` tells the name's CNAME record; and
     the entry that gives it, None with a miss and in an archive. Replies are equal where they are
-    but for their entries."""
+    but for their entries.
+
+    >>> reply = Reply(Kind.FRESH, 50, b"\\3www\\7example\\0", (bytes([192, 0, 2, 1]),), rtype=1)
+    >>> reply.owner_text, reply.is_miss, reply.is_negative
+    ('www.example.', False, False)
+    """
 
     kind: Kind
     left: int = 0

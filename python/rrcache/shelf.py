@@ -9,7 +9,7 @@ from ctypes import c_uint32, c_uint64, create_string_buffer
 from typing import Any
 
 from . import structs
-from .asking import answered, stored_of
+from .asking import answered, stored_under
 from .choices import Class, Kind, Mode, Outcome, Purpose, Trust
 from .history import Chapter, read_archive
 from .library import Held, call, library, seed_of, sized, told
@@ -17,10 +17,12 @@ from .names import to_wire
 from .offers import Offers, terms
 from .parts import AnyName, Name, Parts, names_under
 from .refusals import Status, refusal
-from .replies import Counts, Limits, Reply, Sizes, Stored, Swept
+from .replies import Counts, Limits, Reply, Sizes, Stored, Swept, Trimmed
 
 # The octets that most lines of a chapter have at most.
 LINE_ROOM = 4096
+# The most keys that a shelf may hold.
+KEYS_MOST = 65_536
 
 
 def line_at(chapters: structs.Chapters, chapter: int, line: int, room: int = LINE_ROOM) -> bytes:
@@ -108,28 +110,68 @@ class Shelf(Held):
                                 limits: Limits = Limits(), line: int = 0) -> Counts:
         """Offers all that a response from servers of a zone says within that zone. It compares the
         response with no query: that is the caller's to do. `read_response` does it. `BadMessage`,
-        `BadName` (the zone), `BadLimits` or `MomentTooLarge` is raised."""
+        `BadName` (the zone), `BadLimits` or `MomentTooLarge` is raised.
+
+        >>> from rrcache import ParsedSet, Query, compose_response
+        >>> answer = [ParsedSet("www.example.", 1, 60, [bytes(4)])]
+        >>> response = compose_response(Query("www.example.", 1, id=0), answer)
+        >>> with Shelf() as shelf:
+        ...     shelf.offer_message_unchecked(response, "example.", moment=1000)
+        Counts(kept=1, cleared=0, outranked=0)
+        """
         return self._offer("rrc_offer_message_unchecked", *sized(message), *sized(to_wire(zone)),
                            terms(moment, limits, line))
 
     def offer_part_unchecked(self, message: bytes, zone: str | bytes, parts: Parts, part: int,
                              moment: int, limits: Limits = Limits(), line: int = 0) -> Counts:
         """The same of what it says of the names that lie in one of these parts, counted from 0.
-        `BadRules` is raised where there is no such part."""
+        `BadRules` is raised where there is no such part.
+
+        >>> from rrcache import ParsedSet, Query, compose_response, make_name
+        >>> answer = [ParsedSet("www.example.", 1, 60, [bytes(4)])]
+        >>> response = compose_response(Query("www.example.", 1, id=0), answer)
+        >>> parts = Parts(2, seed=bytes(range(16)))
+        >>> with Shelf(seed=parts.seed) as shelf:
+        ...     for part in range(parts.count):
+        ...         counts = shelf.offer_part_unchecked(response, "example.", parts, part, 1000)
+        ...         assert counts.kept == (part == make_name("www.example.", parts).part)
+        """
         return self._offer("rrc_offer_part_unchecked", *sized(message), *sized(to_wire(zone)),
                            terms(moment, limits, line, parts, part))
 
     def offer_read(self, offers: Offers, part: int, line: int = 0) -> Counts:
         """Offers what was read of the names that lie in a part, counted from 0 and below the number
         of parts that the message was read for, at the moment of the response. `BadRules` or
-        `NoOffers` is raised."""
+        `NoOffers` is raised.
+
+        >>> from rrcache import ParsedSet, Query, compose_response, read_response
+        >>> query, parts = Query("www.example.", 1, id=0x1234), Parts(4, seed=bytes(range(16)))
+        >>> answer = [ParsedSet("www.example.", 1, 60, [bytes(4)])]
+        >>> response = compose_response(query, answer)
+        >>> with read_response(response, "example.", query, parts, moment=1000) as offers:
+        ...     [part] = offers.concerned
+        ...     with Shelf(seed=parts.seed) as shelf:
+        ...         shelf.offer_read(offers, part)
+        Counts(kept=1, cleared=0, outranked=0)
+        """
         return self._offer("rrc_offer_read", offers._handle,
                            structs.fill(structs.Share(), part, line))
 
     def offer_one(self, offers: Offers, index: int, line: int = 0) -> Outcome:
         """Offers one of the offers that were read, counted from 0 as they are gone through, so that
         a caller may judge each for itself. The shelf is to be that of its name's part. `NoOffers`
-        is raised where there is none with this number, `OtherSeed` or `MomentTooLarge`."""
+        is raised where there is none with this number, `OtherSeed` or `MomentTooLarge`.
+
+        >>> from rrcache import ParsedSet, Query, compose_response, read_response
+        >>> query, parts = Query("www.example.", 1, id=0x1234), Parts(1, seed=bytes(range(16)))
+        >>> answer = [ParsedSet("www.example.", 1, 60, [bytes(4)])]
+        >>> response = compose_response(query, answer)
+        >>> with (read_response(response, "example.", query, parts, moment=1000) as offers,
+        ...       Shelf(seed=parts.seed) as shelf):
+        ...     for index, (name, reply) in enumerate(offers):
+        ...         print(name, reply.left, shelf.offer_one(offers, index).name)
+        Name('www.example.') 60 KEPT
+        """
         pick = structs.fill(structs.OfferPick(), index, line)
         return Outcome(told("rrc_offer_one", c_uint32, self._handle, offers._handle, pick))
 
@@ -138,7 +180,15 @@ class Shelf(Held):
                   rclass: Class | int = Class.IN) -> Outcome:
         """Offers one RRset, whose data are octets with no name compressed. With the highest trust
         and a TTL of 0 it clears what the shelf holds of the name and type. `BadName`, `BadType`,
-        `BadChoice` (the trust), `BadData` or `WrongBody` is raised."""
+        `BadChoice` (the trust), `BadData` or `WrongBody` is raised.
+
+        >>> trust, data = Trust.AUTHORITATIVE_ANSWER, [bytes([192, 0, 2, 1])]
+        >>> with Shelf() as shelf:
+        ...     shelf.offer_set("www.example.", 1, trust, 60, data, moment=1000).name
+        ...     shelf.offer_set("www.example.", 1, Trust.ADDITIONAL, 60, data, moment=1010).name
+        'KEPT'
+        'OUTRANKED'
+        """
         octets = with_lengths(data)
         numbers = structs.fill(structs.SetTerms(), moment, line, ttl, trust, rtype, rclass)
         return Outcome(told("rrc_offer_set", c_uint32, self._handle, *sized(to_wire(owner)),
@@ -149,7 +199,16 @@ class Shelf(Held):
                        rclass: Class | int = Class.IN) -> Outcome:
         """Offers that a name has no data of a type (`kind` NODATA) or does not exist (NXDOMAIN, for
         which `rtype` is not looked at), with the SOA record that says so (RFC 2308). `BadName`,
-        `BadType`, `BadChoice` (the kind or the trust), `BadData` or `WrongBody` is raised."""
+        `BadType`, `BadChoice` (the kind or the trust), `BadData` or `WrongBody` is raised.
+
+        >>> soa = b"\\0\\0" + bytes(20)
+        >>> with Shelf() as shelf:
+        ...     _ = shelf.offer_negative("gone.example.", 0, Kind.NXDOMAIN,
+        ...                              Trust.AUTHORITATIVE_ANSWER, 60, "example.", soa, 1000)
+        ...     reply = shelf.ask("gone.example.", 28, moment=1010)
+        >>> reply.kind.name, reply.left, reply.owner_text
+        ('NXDOMAIN', 50, 'example.')
+        """
         numbers = structs.fill(structs.NegativeTerms(), moment, line, ttl, trust, kind, rtype,
                                rclass)
         return Outcome(told("rrc_offer_negative", c_uint32, self._handle, *sized(to_wire(name)),
@@ -158,7 +217,14 @@ class Shelf(Held):
     def offer_failure(self, name: str | bytes, rtype: int, ttl: int, moment: int, line: int = 0,
                       rclass: Class | int = Class.IN) -> Outcome:
         """Offers that asking for data of a type failed, for `ttl` seconds (RFC 9520). With a TTL of
-        0 it ends the failure that is held. `BadName`, `BadType` or `WrongBody` is raised."""
+        0 it ends the failure that is held. `BadName`, `BadType` or `WrongBody` is raised.
+
+        >>> with Shelf() as shelf:
+        ...     _ = shelf.offer_failure("www.example.", 1, 30, moment=1000)
+        ...     reply = shelf.ask("www.example.", 1, moment=1010)
+        >>> reply.kind.name, reply.retry_from
+        ('FAILED', 1030)
+        """
         numbers = structs.fill(structs.FailureTerms(), moment, line, ttl, rtype, rclass)
         return Outcome(told("rrc_offer_failure", c_uint32, self._handle, *sized(to_wire(name)),
                             numbers))
@@ -178,7 +244,15 @@ class Shelf(Held):
             line: int = 0, rclass: Class | int = Class.IN) -> Reply:
         """Asks, which is one event. It follows no alias: `ask_alias` tells of one. `BadChoice` (the
         purpose or the mode), `BadType` (the type is 0, or nothing is kept in the class), `BadName`,
-        `OtherSeed` or `MomentTooLarge` is raised."""
+        `OtherSeed` or `MomentTooLarge` is raised.
+
+        >>> with Shelf() as shelf:
+        ...     _ = shelf.offer_set("www.example.", 1, Trust.AUTHORITY, 60, [bytes(4)], moment=1000)
+        ...     shelf.ask("www.example.", 1, moment=1060).kind.name
+        ...     shelf.ask("www.example.", 1, moment=1060, mode=Mode.STALE_NOW).kind.name
+        'MISS'
+        'STALE'
+        """
         return answered("rrc_ask", self._handle, self._name(name), moment, line, rtype, rclass,
                         purpose, mode)
 
@@ -189,45 +263,81 @@ class Shelf(Held):
         the reply is CNAME (5) where it is the record. That is told where it is fresh, or stale and
         that will do, and what would be told of the type is a miss, or was stored earlier, unless
         what answers for the type is not past its TTL and trusted more (RFC 8767 section 7). For the
-        types CNAME and ANY the reply is `ask`'s. It raises what `ask` does."""
+        types CNAME and ANY the reply is `ask`'s. It raises what `ask` does.
+
+        >>> with Shelf() as shelf:
+        ...     _ = shelf.offer_set("www.example.", 5, Trust.AUTHORITATIVE_ANSWER, 60,
+        ...                         [to_wire("a.example.")], moment=1000)
+        ...     reply = shelf.ask_alias("www.example.", 1, moment=1010)
+        >>> reply.rtype, reply.data
+        (5, (b'\\x01a\\x07example\\x00',))
+        """
         return answered("rrc_ask_alias", self._handle, self._name(name), moment, line, rtype,
                         rclass, purpose, mode)
 
     def peek(self, name: AnyName, rtype: int, moment: int,
              purpose: Purpose | int = Purpose.QUESTION, mode: Mode | int = Mode.NO_STALE,
              rclass: Class | int = Class.IN) -> Reply:
-        """What `ask` would answer; no event is written, and no moment is too large."""
+        """What `ask` would answer; no event is written, and no moment is too large.
+
+        >>> with Shelf(record=True) as shelf:
+        ...     shelf.peek("www.example.", 1, moment=1000).kind.name, shelf.sizes().events
+        ('MISS', 0)
+        """
         return answered("rrc_peek", self._look(), self._name(name), moment, 0, rtype, rclass,
                         purpose, mode)
 
     def peek_alias(self, name: AnyName, rtype: int, moment: int,
                    purpose: Purpose | int = Purpose.QUESTION, mode: Mode | int = Mode.NO_STALE,
                    rclass: Class | int = Class.IN) -> Reply:
-        """What `ask_alias` would answer, as `peek` tells what `ask` would."""
+        """What `ask_alias` would answer, as `peek` tells what `ask` would.
+
+        >>> with Shelf() as shelf:
+        ...     shelf.peek_alias("www.example.", 1, moment=1000).kind.name
+        'MISS'
+        """
         return answered("rrc_peek_alias", self._look(), self._name(name), moment, 0, rtype, rclass,
                         purpose, mode)
 
     def stored(self, name: AnyName, rtype: int, rclass: Class | int = Class.IN) -> Stored:
         """What the shelf holds of a name for a type, whether it is past its time or not and
         whatever answers a question: an RRset or that there is none, that the name does not exist,
-        that asking for the type failed. `BadType`, `BadName` or `OtherSeed` is raised."""
-        question = structs.fill(structs.Question(), 0, 0, rtype, rclass, 0, 0)
-        held = structs.Stored()
-        call("rrc_stored", self._look(), self._name(name)._made, question, held)
-        return stored_of(held)
+        that asking for the type failed. `BadType`, `BadName` or `OtherSeed` is raised.
+
+        >>> with Shelf() as shelf:
+        ...     _ = shelf.offer_failure("www.example.", 1, 30, moment=1000)
+        ...     stored = shelf.stored("www.example.", 1)
+        >>> stored.set is None, stored.failure.ttl, stored.failure.moment
+        (True, 30, 1000)
+        """
+        return stored_under(self._look(), self._name(name), rtype, rclass)
 
     # ---- housekeeping
 
     def sweep(self, moment: int, line: int = 0) -> int:
         """Removes the keys that can answer no more, and tells how many. A key by which a name does
-        not exist keeps an older set of the name from being told until it is removed."""
+        not exist keeps an older set of the name from being told until it is removed.
+
+        >>> with Shelf(max_stale=0) as shelf:
+        ...     _ = shelf.offer_set("www.example.", 1, Trust.AUTHORITY, 60, [bytes(4)], moment=1000)
+        ...     shelf.sweep(moment=1059), shelf.sweep(moment=1060)
+        (0, 1)
+        """
         return told("rrc_sweep", c_uint64, self._handle,
                     structs.fill(structs.SweepAt(), moment, line, 0))
 
     def next_expiry(self) -> int | None:
         """A moment before which no key is fully expired, so that no sweep before it removes one; a
         sweep at it may remove none. After a sweep, with no offer since and no chapter closed since,
-        it is later than the sweep's. It is None exactly where the shelf holds no key."""
+        it is later than the sweep's. It is None exactly where the shelf holds no key.
+
+        >>> with Shelf(max_stale=0) as shelf:
+        ...     shelf.next_expiry() is None
+        ...     _ = shelf.offer_set("www.example.", 1, Trust.AUTHORITY, 60, [bytes(4)], moment=1000)
+        ...     shelf.next_expiry()
+        True
+        1060
+        """
         moment = told("rrc_next_expiry", c_uint64, self._look())
         return None if moment == 2 ** 64 - 1 else moment
 
@@ -237,7 +347,16 @@ class Shelf(Held):
         sweeps made, where `most` is at least 1. Each step is one event. It tells how many keys were
         removed, and whether it came to its end: then no key is left that is fully expired. Where a
         step is refused, what those before it removed stays removed, and `swept` of the exception
-        tells it. `BadRules` (`most` is 0) or `MomentTooLarge` is raised before the first step."""
+        tells it. `BadRules` (`most` is 0) or `MomentTooLarge` is raised before the first step.
+
+        >>> with Shelf(max_stale=0) as shelf:
+        ...     for ttl in 10, 20, 30:
+        ...         _ = shelf.offer_failure(f"{ttl}.example.", 1, ttl, moment=1000)
+        ...     shelf.sweep_some(moment=2000, most=2)
+        ...     shelf.sweep_some(moment=2000, most=2)
+        Swept(removed=2, is_done=False)
+        Swept(removed=1, is_done=True)
+        """
         swept = structs.Swept()
         status = library().rrc_sweep_some(
             self._handle, structs.fill(structs.SweepAt(), moment, line, most), swept)
@@ -245,6 +364,28 @@ class Shelf(Held):
         if status:
             raise refusal(status, swept=result)
         return result
+
+    def trim(self, moment: int, limit: int, most: int = KEYS_MOST, line: int = 0) -> Trimmed:
+        """Bounds the memory of the shelf: removes keys, the one touched least recently first, until
+        those that are left take no more octets (`Sizes.octets`) than `limit`, or `most` of them
+        went, or none is left. It tells how many went, and the octets that are left. Each is one
+        event, and of a failure two. A failure with a TTL of 0 goes before all others, and is not
+        counted. `BadRules` (`limit` or `most` is 0) or `MomentTooLarge` is raised before a key
+        goes. Where `Memory` is raised, what went before stays gone.
+
+        >>> with Shelf() as shelf:
+        ...     for name in "a.example.", "b.example.", "c.example.":
+        ...         _ = shelf.offer_failure(name, 1, 30, moment=1000)
+        ...     octets = shelf.sizes().octets
+        ...     shelf.trim(moment=1000, limit=octets - 1).removed
+        ...     shelf.stored("a.example.", 1).failure is None
+        1
+        True
+        """
+        trimmed = structs.Trimmed()
+        call("rrc_trim", self._handle, structs.fill(structs.TrimTo(), moment, line, limit, most),
+             trimmed)
+        return Trimmed(*structs.numbers_in(trimmed))
 
     def record(self) -> None:
         """Records the history from here on. No reply depends on it. Where it is recorded already
@@ -261,12 +402,26 @@ class Shelf(Held):
 
     def stop_and_drop(self) -> None:
         """Records nothing from here on, and drops what was recorded. No reply depends on it. Where
-        nothing is recorded nothing is done."""
+        nothing is recorded nothing is done.
+
+        >>> with Shelf(record=True) as shelf:
+        ...     _ = shelf.ask("www.example.", 1, moment=1000)
+        ...     shelf.stop_and_drop()
+        ...     shelf.sizes().events
+        0
+        """
         call("rrc_stop_and_drop", self._handle)
 
     def drop_chapters(self) -> int:
         """Drops the closed chapters of the history, and tells how many: none where nothing is
-        recorded."""
+        recorded.
+
+        >>> with Shelf(chapter=1, record=True) as shelf:
+        ...     for moment in 1000, 1001:
+        ...         _ = shelf.ask("www.example.", 1, moment)
+        ...     shelf.drop_chapters(), shelf.drop_chapters()
+        (1, 0)
+        """
         return told("rrc_drop_chapters", c_uint64, self._handle)
 
     def _chapters(self, export: str) -> list[Chapter]:
@@ -305,7 +460,13 @@ class Shelf(Held):
         return self._chapters("rrc_stop_recording")
 
     def sizes(self) -> Sizes:
-        """How large the shelf is."""
+        """How large the shelf is.
+
+        >>> with Shelf() as shelf:
+        ...     _ = shelf.offer_failure("www.example.", 1, 30, moment=1000)
+        ...     shelf.sizes()
+        Sizes(keys=1, events=0, chapters=0, octets=240)
+        """
         sizes = structs.Usage()
         call("rrc_sizes", self._look(), sizes)
         return Sizes(*structs.numbers_in(sizes))

@@ -102,6 +102,18 @@ class Swept(Structure):
     _fields_ = [("removed", c_uint64), ("is_done", c_uint32)]
 
 
+class TrimTo(Structure):
+    """To how many octets a shelf is trimmed, when, and how many keys go at most."""
+
+    _fields_ = [("moment", c_uint64), ("line", c_uint64), ("limit", c_uint64), ("most", c_uint64)]
+
+
+class Trimmed(Structure):
+    """What a trim came to."""
+
+    _fields_ = [("removed", c_uint64), ("octets", c_uint64)]
+
+
 class Usage(Structure):
     """How much a shelf holds."""
 
@@ -121,6 +133,12 @@ class OfferPick(Structure):
     _fields_ = [("index", c_uint64), ("line", c_uint64)]
 
 
+class Summary(Structure):
+    """What a response says beside what it offers."""
+
+    _fields_ = [("kind", c_uint32), ("rcode", c_uint8), ("aa", c_bool), ("tc", c_bool)]
+
+
 class Place(Structure):
     """A place in chapters."""
 
@@ -138,7 +156,7 @@ class ResponseTerms(Structure):
 
     _fields_ = [("moment", c_uint64), ("line", c_uint64), ("parts", Parts), ("part", c_uint64),
                 ("limits", Limits), ("id", c_uint16), ("rtype", c_uint16), ("rclass", c_uint16),
-                ("with_case", c_bool)]
+                ("with_case", c_bool), ("lowest_ttl", c_bool), ("clears_denied", c_bool)]
 
 
 class SetTerms(Structure):
@@ -165,7 +183,8 @@ class FailureTerms(Structure):
 # ---- Numbers of a struct, all at once: that takes a third of the time of one after another, and
 # one that its field has no room for is refused, of which ctypes would keep the lower bits.
 
-LETTERS = {c_bool: "?", c_uint16: "H", c_uint32: "I", c_uint64: "Q", Seed: f"{SEED_OCTETS}s"}
+LETTERS = {c_bool: "?", c_uint8: "B", c_uint16: "H", c_uint32: "I", c_uint64: "Q",
+           Seed: f"{SEED_OCTETS}s"}
 
 
 def letters_of(kind: Any) -> str:
@@ -182,13 +201,18 @@ def packer(kind: type[Structure]) -> struct.Struct:
 T = TypeVar("T", bound=Structure)
 
 
+def out_of_range(fault: struct.error) -> ValueError:
+    """What is raised of a number that its field has no room for."""
+    return ValueError(f"a number is out of its range: {fault}")
+
+
 def fill(target: T, *numbers: Any) -> T:
     """Sets the numbers of a struct, in the order of its fields. ValueError is raised where one is
     none, or its field has no room for it."""
     try:
         packer(type(target)).pack_into(target, 0, *numbers)
     except struct.error as fault:
-        raise ValueError(f"a number is out of its range: {fault}") from fault
+        raise out_of_range(fault) from fault
     return target
 
 

@@ -13,15 +13,18 @@ import pytest
 import rrcache
 from rrcache import library, refusals, structs
 from tests.forwarder.harness import BUILD
+from tools.captures import memory
 
 INCLUDE = BUILD.parent / "include"
 HEADER = re.sub(r"/\*.*?\*/", " ", (INCLUDE / "rrcache.h").read_text(), flags=re.S)
 # The classes of the package that are enumerations of the header.
 ENUMS = {"status": rrcache.Status, "kind": rrcache.Kind, "class": rrcache.Class,
          "purpose": rrcache.Purpose, "mode": rrcache.Mode, "trust": rrcache.Trust,
-         "outcome": rrcache.Outcome, "message_fault": rrcache.MessageFault}
+         "outcome": rrcache.Outcome, "response_kind": rrcache.ResponseKind,
+         "message_fault": rrcache.MessageFault}
 # Those that are read by the header's inline functions alone, of which the package has none.
-INLINE = {f"rrcache_{it}" for it in ("query", "response", "set", "negative", "failure")}
+INLINE = {f"rrcache_{it}" for it in ("query", "response", "set", "negative", "failure",
+                                     "parsed_set", "parsed_response", "draft")}
 TOLD_INLINE = {rrcache.Status.NULL, rrcache.Status.SINK, rrcache.Status.OVERLAP}
 TYPES = {"void *": c_void_p, "bool": c_bool, "uint8_t": c_uint8, "uint16_t": c_uint16,
          "uint32_t": c_uint32, "uint64_t": c_uint64, "size_t": c_size_t, "uint8_t *": c_char_p,
@@ -51,8 +54,9 @@ def type_of(text):
 def enums():
     """The enumerations of the header: their numbers by name."""
     found = re.findall(r"enum rrcache_(\w+) \{(.*?)\};", HEADER, re.S)
-    return {name: {word: int(number) for word, number in
-                   re.findall(r"RRCACHE_(\w+) = (\d+)", text)} for name, text in found}
+    numbers = r"RRCACHE_(?:RESPONSE_)?(\w+) = (\d+)"
+    return {name: {word: int(number) for word, number in re.findall(numbers, text)}
+            for name, text in found}
 
 
 def fields_of(text):
@@ -76,6 +80,7 @@ def calls_of_header():
 
 def test_enumerations():
     found = enums()
+    del found["section"]  # `compose_response` has an argument for each
     assert set(found) == set(ENUMS)
     for name, numbers in found.items():
         assert numbers == {word: int(it) for word, it in ENUMS[name].__members__.items()}, name
@@ -134,9 +139,15 @@ def test_numbers():
                for it in ("MAJOR", "MINOR")]
     assert version == [library.MAJOR, library.MINOR]
     assert library.SONAME == f"librrcache.so.{library.MAJOR}"
-    assert f"RRCACHE_RECORD_OCTETS = {rrcache.RECORD_OCTETS} " in HEADER
     limits = re.search(r"define RRCACHE_LIMITS[\s\\]+\{[\s\\]+([\d, ]+)", HEADER)[1]
     assert tuple(map(int, limits.split(","))) == rrcache.Limits()
+
+
+@pytest.mark.parametrize("name", ["ENTRY", "VALUE", "INLINE", "BLOCK", "SHARED"])
+def test_octets(name):
+    """The package and what bin/what-if counts by have the header's numbers."""
+    told = int(re.search(rf"RRCACHE_{name}_OCTETS = (\d+)", HEADER)[1])
+    assert [getattr(it, f"{name}_OCTETS") for it in (rrcache, memory)] == [told, told]
 
 
 def test_refusals_say_what_statuses_do():

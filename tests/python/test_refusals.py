@@ -49,8 +49,12 @@ REFUSED_ALONE = ID.to_bytes(2, "big") + bytes([0x80, 5, *bytes(8)])
 @pytest.mark.parametrize("status, call", [
     (5, lambda it: it.sweep(2 ** 40 + 1)),
     (5, lambda it: it.sweep_some(2 ** 40 + 1, 1)),
+    (5, lambda it: it.trim(2 ** 40 + 1, 1)),
     (5, lambda it: it.ask(".", A, 2 ** 40 + 1)),
     (6, lambda it: it.sweep_some(1, 0)),
+    (6, lambda it: it.trim(1, 0)),
+    (6, lambda it: it.trim(1, 1, 0)),
+    (6, lambda it: rrcache.Cache(4).trim(1, 3)),
     (9, lambda it: it.ask(b"\1", A, 1)),
     (9, lambda it: it.stored(b"\1", A)),
     (10, lambda it: it.offer_message_unchecked(b"x", b"\0", 1)),
@@ -109,6 +113,7 @@ def test_refusals(status, call):
     lambda it: it.peek(".", A, 2 ** 64), lambda it: it.ask(".", A, -1),
     lambda it: it.ask(".", A, 1.5), lambda it: it.ask(".", A, 1, rclass=65_537),
     lambda it: it.stored(".", 65_537), lambda it: it.sweep(2 ** 64),
+    lambda it: it.trim(1, 2 ** 64), lambda it: it.trim(1, 1, -1), lambda it: it.trim(1, 1.5),
     lambda it: it.offer_set(".", A, 4, 2 ** 32 + 1, [b"1234"], 1),
     lambda it: it.offer_set(".", TXT, 4, 1, [bytes(65_536)], 1),
     lambda it: it.offer_failure(".", A, 1, 1, line=2 ** 64),
@@ -126,7 +131,7 @@ def test_numbers_that_their_fields_have_no_room_for(call):
     rrcache.Shelf.sizes, rrcache.Shelf.record, rrcache.Shelf.stop_and_drop,
     rrcache.Shelf.take_chapters, rrcache.Shelf.stop_recording, rrcache.Shelf.next_expiry,
     lambda it: it.ask(".", A, 1), lambda it: it.peek_alias(".", A, 1),
-    lambda it: it.stored(".", A), lambda it: it.sweep_some(1, 1)])
+    lambda it: it.stored(".", A), lambda it: it.sweep_some(1, 1), lambda it: it.trim(1, 1)])
 def test_a_shelf_that_was_closed(call):
     with rrcache.Shelf() as shelf:
         pass

@@ -1,16 +1,26 @@
 # SPDX-License-Identifier: MIT
 """What a shelf keeps and answers, and what it tells of it."""
+import copy
+import dataclasses
+import pickle
+
 import pytest
 from dns.rdatatype import A, AAAA, ANY, CNAME, OPT, TXT
 
 import rrcache
 from rrcache import Class, Kind, Mode, Purpose, StoredEntry, Trust
 from tests.forwarder.harness import SOA, record, wire_name
+from tools.audits import first_fault
 
 ADDRESS = b"\xc0\0\2\1"
 LOW, HIGH = Trust.NON_AUTHORITATIVE_ANSWER, Trust.AUTHORITATIVE_ANSWER
 SEED = bytes(range(16))
 ROOT_SOA = (".", bytes(22))
+# What octets take that have room in a value, and those that have a block too, beside as many as
+# they are; and a key with its name.
+SHARED, SHORT = rrcache.SHARED_OCTETS, rrcache.VALUE_OCTETS
+LONG = rrcache.VALUE_OCTETS + rrcache.BLOCK_OCTETS
+KEY, LONG_KEY = (rrcache.ENTRY_OCTETS + SHARED + it for it in (SHORT, LONG))
 
 
 def test_classes():
@@ -42,6 +52,20 @@ def test_questions_of_which_nothing_is_ever_known(call):
             call(shelf, rtype, rclass)
 
 
+def test_replies_are_what_their_classes_make():
+    """They are made in another way, with each field; none can be set."""
+    with rrcache.Shelf() as shelf:
+        shelf.offer_set("a", A, HIGH, 60, [ADDRESS], 100)
+        found = shelf.ask("a", A, 110), shelf.ask("b", A, 110), shelf.ask("a", A, 110).entry
+    for it in found:
+        values = {field.name: getattr(it, field.name) for field in dataclasses.fields(it)}
+        made = type(it)(**values)
+        assert [*vars(it).items()] == [*values.items()] and pickle.loads(pickle.dumps(it)) == it
+        assert it == made == copy.copy(it) and hash(it) == hash(made) and repr(it) == repr(made)
+        with pytest.raises(dataclasses.FrozenInstanceError):
+            it.kind = Kind.STALE
+
+
 def test_questions_of_types_that_are_not_kept():
     """A miss, or that the name does not exist; of ANY also where an RRset is trusted more."""
     with rrcache.Shelf() as shelf:
@@ -65,10 +89,53 @@ def test_negative_and_large_data():
         large = bytes(60000)
         assert shelf.offer_set("b.example", TXT, 4, 60, [large], 100) == rrcache.Outcome.KEPT
         assert shelf.ask("b.example", TXT, 110).data == (large,)
-        # Of a.example 11, of the SOA record's owner 9 and of its data 12, 14 and 20; twice
-        # b.example, a record and its datum.
-        octets = 11 + 9 + 46 + 11 + 11 + rrcache.RECORD_OCTETS + 60000
+        # The names of the two keys and that of the SOA record's owner are short; of its data there
+        # are 12, 14 and 20 octets.
+        octets = 2 * KEY + SHARED + SHORT + SHARED + LONG + 46 + SHARED + LONG + 60000
         assert shelf.sizes() == (2, 4, 0, octets)
+
+
+@pytest.mark.parametrize("owner, data, octets", [
+    ("a.", [ADDRESS], KEY + SHARED + SHORT),
+    ("a.", [ADDRESS, SEED[:4]], KEY + SHARED + LONG + 2 * SHORT),
+    ("A.", [ADDRESS], KEY + SHARED + SHORT + SHARED + SHORT),
+    ("a.", [bytes(32)], KEY + SHARED + SHORT),
+    ("a.", [bytes(33)], KEY + SHARED + LONG + 33),
+    ("a.", [bytes(33), ADDRESS, bytes(34)],
+     KEY + SHARED + LONG + (LONG + 33) + SHORT + (LONG + 34)),
+    # Names of 32 and 33 octets: a label has its length before it, and the root has an octet.
+    (30 * "a", [ADDRESS], KEY + SHARED + SHORT),
+    (31 * "a", [ADDRESS], LONG_KEY + 33 + SHARED + SHORT),
+    (31 * "A", [ADDRESS], LONG_KEY + 33 + SHARED + LONG + 33 + SHARED + SHORT)])
+def test_octets_of_a_set(owner, data, octets):
+    """The key's name is in lower case, whatever the owner is. Several records have a block too."""
+    with rrcache.Shelf() as shelf:
+        shelf.offer_set(owner, TXT, HIGH, 60, data, 100)
+        assert shelf.sizes() == (1, 0, 0, octets)
+
+
+@pytest.mark.parametrize("name, owner, soa, octets", [
+    ("a.", ".", bytes(22), KEY + SHARED + SHORT + SHARED + SHORT),
+    (31 * "a", ".", bytes(22), LONG_KEY + 33 + SHARED + SHORT + SHARED + SHORT),
+    ("a.", ".", bytes([1, 97, 0, 10, *10 * b"a", 0]) + bytes(20),
+     KEY + SHARED + SHORT + SHARED + LONG + 35),
+    ("a." + 31 * "b", 31 * "b", bytes(22), LONG_KEY + 35 + SHARED + LONG + 33 + SHARED + SHORT),
+    (31 * "b", 31 * "b", bytes(22), LONG_KEY + 33 + SHARED + SHORT),
+    (31 * "b", 31 * "B", bytes(22), LONG_KEY + 33 + SHARED + LONG + 33 + SHARED + SHORT)])
+def test_octets_of_a_denial(name, owner, soa, octets):
+    """An owner that is spelled as the key's name is that."""
+    with rrcache.Shelf() as shelf:
+        for kind in Kind.NODATA, Kind.NXDOMAIN:
+            shelf.offer_negative(name, A, kind, HIGH, 60, owner, soa, 100)
+        assert shelf.sizes() == (2, 0, 0, 2 * octets)
+
+
+def test_octets_of_a_failure():
+    with rrcache.Shelf() as shelf:
+        shelf.offer_failure("A.", A, 30, 100)
+        assert shelf.sizes().octets == KEY
+        shelf.offer_failure(31 * "A", A, 30, 100)
+        assert shelf.sizes() == (2, 0, 0, KEY + LONG_KEY + 33)
 
 
 def test_outcomes():
@@ -125,6 +192,55 @@ def test_steps_are_events():
         # A step may remove no key.
         steps = [(it.line, it.moment, len(it.removed)) for it in chapter.events if it.removed]
         assert steps == [(7, 160, 2), (7, 190, 1)]
+
+
+# By hand, of names and data of up to 32 octets: a key takes 160 and its name 32 + 48, a set of one
+# record 32 + 48 more, and that a name does not exist another name's 80 beside that.
+OF_A_FAILURE, OF_A_SET, OF_A_DENIAL = 240, 320, 400
+
+
+def filled_for_trims(**rules):
+    """A set, that a name does not exist, a failure and a set, the last one touched last."""
+    shelf = rrcache.Shelf(capacity=8, max_stale=0, **rules)
+    shelf.offer_set("a", A, Trust.AUTHORITY, 60, [ADDRESS], 100)
+    shelf.offer_negative("b", 0, Kind.NXDOMAIN, LOW, 60, *ROOT_SOA, 100)
+    shelf.offer_failure("c", A, 30, 100)
+    shelf.offer_set("d", A, HIGH, 60, [ADDRESS], 100)
+    return shelf
+
+
+def test_trims():
+    whole = OF_A_SET + OF_A_DENIAL + OF_A_FAILURE + OF_A_SET
+    with filled_for_trims() as shelf:
+        assert shelf.trim(200, whole) == (0, whole)
+        assert shelf.ask("a", A, 110).left == 50
+        assert shelf.trim(200, whole - 1) == (1, whole - OF_A_DENIAL)
+        assert shelf.trim(200, OF_A_SET, 1) == (1, OF_A_SET * 2)
+        assert [shelf.peek(it, A, 110).kind for it in "abcd"] == [
+            Kind.FRESH, Kind.MISS, Kind.MISS, Kind.FRESH]
+        assert shelf.trim(200, OF_A_SET) == (1, OF_A_SET)
+        assert shelf.peek("a", A, 110).left == 50 and shelf.sizes().keys == 1
+        assert shelf.trim(200, 1) == (1, 0) and shelf.trim(2 ** 40, 1) == (0, 0)
+
+
+def test_failures_of_no_time_are_not_counted():
+    with filled_for_trims() as shelf:
+        shelf.offer_failure("d", A, 0, 100)
+        assert shelf.trim(200, 1, 1) == (1, OF_A_DENIAL + OF_A_FAILURE + OF_A_SET)
+
+
+@pytest.mark.parametrize("chapter", [1, 2, 3, 64])
+def test_trims_are_events(chapter):
+    """What they write is legal by the model of the rules, wherever chapters end."""
+    with filled_for_trims(chapter=chapter, record=True) as shelf:
+        assert shelf.trim(200, OF_A_SET, line=7) == (3, OF_A_SET)
+        chapters = shelf.stop_recording()
+    assert not first_fault(chapters)
+    *offers, swept = [event for it in chapters for event in it.events][4:]
+    assert [(it.line, it.moment, it.key.name, it.outcome.name, it.body.ttl) for it in offers] == [
+        (7, 200, "a.", "CLEARED", 0), (7, 200, "b.", "CLEARED", 0), (7, 200, "c.", "KEPT", 0)]
+    assert [it.body.trust for it in offers[:2]] == [HIGH, HIGH]
+    assert (swept.line, swept.moment, [it.name for it in swept.removed]) == (7, 0, ["c."])
 
 
 def test_records_begin_and_end():

@@ -20,8 +20,8 @@ SEED = bytes(range(16))
 IN_FOUR = rrcache.Parts(4, SEED)
 NAMES = [f"x{n}.example" for n in range(8)]
 PARTS = [rrcache.make_name(it, IN_FOUR).part for it in NAMES]
-# Twice the name, a record, and its datum's octets.
-HELD = 2 * 12 + rrcache.RECORD_OCTETS
+# A key, its name of 12 octets, with which the owner is spelled alike, and a record of 4 or 12.
+HELD = rrcache.ENTRY_OCTETS + 2 * (rrcache.SHARED_OCTETS + rrcache.VALUE_OCTETS)
 
 
 def test_a_cache_of_many_threads():
@@ -35,6 +35,28 @@ def test_a_cache_of_many_threads():
         found = pool.map(lambda place: list(work(place)), range(4))
         assert sum(found, []) == [50] * 40
         assert cache.sweep(2 ** 40) == 40
+
+
+def test_a_cache_that_is_trimmed():
+    """Each part to the same share of the octets, whatever it holds: a set of one address takes 160,
+    the 80 of its name and 80 more."""
+    names = [f"n{it}.example" for it in range(60)]
+    parts = [rrcache.make_name(it, IN_FOUR).part for it in names]
+    assert 8 <= min(parts.count(it) for it in range(4))
+    with rrcache.Cache(4, seed=SEED, record=True, chapter=1) as cache:
+        for name in names:
+            cache.offer_message_unchecked(answered(name, A, *hosts(name)), "example.", 100)
+        assert cache.trim(100, 60 * 320 * 4) == (0, 60 * 320)
+        assert cache.trim(100, 4 * 8 * 320 + 3, 1) == (
+            sum(parts.count(it) > 8 for it in range(4)),
+            sum(max(8, parts.count(it) - 1) for it in range(4)) * 320)
+        told = cache.trim(100, 4 * 8 * 320 + 3)
+        assert told.octets == 4 * 8 * 320
+        # Those that were offered last, and no closed chapter.
+        assert [shelf.sizes()[::2] for _, shelf in cache._shelves] == [(8, 0)] * 4
+        for place, name in enumerate(names):
+            kept = parts[place + 1:].count(parts[place]) < 8
+            assert cache.ask(name, A, 110).kind == (FRESH if kept else MISS)
 
 
 def test_threads_that_look_at_one_shelf():
@@ -98,14 +120,23 @@ def test_a_cache_has_a_seed_of_its_own():
         assert parts_of(cache) == [parts.count(it) for it in range(64)]
 
 
+def test_a_cache_is_asked_by_names_that_were_made():
+    """Whatever they were made for: their seed and number of parts are not those of the cache."""
+    with rrcache.Cache(64) as cache:
+        for name in NAMES:
+            cache.offer_message_unchecked(answered(name, A, *hosts(name)), "example.", 100)
+            made = rrcache.make_name(name, IN_FOUR)
+            assert cache.ask(made, A, 110).left == cache.follow(made, A, 110)[0].left == 50
+
+
 @pytest.mark.parametrize("part", range(4))
 def test_the_share_of_each_part(part):
     octets = answered(NAMES[0], A, *aliases(NAMES), *hosts(NAMES[-1]), flags=0)
     with rrcache.Shelf(seed=SEED, record=True) as shelf:
         counts = shelf.offer_part_unchecked(octets, "example", IN_FOUR, part, 100)
-        assert counts == (PARTS.count(part), 0, 0)
-        held = [HELD + size for size, home in zip([12] * 7 + [4], PARTS) if home == part]
-        assert shelf.sizes() == (len(held), len(held), 0, sum(held))
+        share = PARTS.count(part)
+        assert counts == (share, 0, 0)
+        assert shelf.sizes() == (share, share, 0, HELD * share)
         for name, rtype, home in zip(NAMES, [CNAME] * 7 + [A], PARTS):
             kind = rrcache.Kind.FRESH if home == part else rrcache.Kind.MISS
             assert shelf.peek(name, rtype, 100).kind == kind
@@ -121,7 +152,7 @@ def test_one_reading():
                 assert shelf.offer_read(offers, part) == (share, 0, 0)
                 counts = shelf.offer_part_unchecked(octets, "example.", IN_FOUR, part, 100)
                 assert counts == (share, 0, 0)
-                assert shelf.sizes() == (share, 2 * share, 0, (HELD + 4) * share)
+                assert shelf.sizes() == (share, 2 * share, 0, HELD * share)
 
 
 def test_a_reading_of_another_seed():

@@ -1,0 +1,107 @@
+# SPDX-License-Identifier: MIT
+"""What a resolver parsed of a response itself, as a message that `read_response` reads."""
+from __future__ import annotations
+
+import struct
+from collections.abc import Iterable
+from typing import NamedTuple
+
+from .choices import Class
+from .names import LABEL_MOST, NAME_MOST, to_wire
+from .refusals import BadChoice, BadName, BadType, WrongBody
+from .replies import Query
+
+# The fields of a message (RFC 1035 section 4.1), and where no pointer leads to any more.
+HEADER, QUESTION, RECORD, POINTER = map(struct.Struct, (">6H", ">2H", ">2HIH", ">H"))
+POINTER_BIT, POINTERS_END = 0xC000, 0x4000
+QR, AA, TC, RA = 0x8000, 0x0400, 0x0200, 0x0080
+RCODES, MESSAGE_MOST = 16, 65_535
+
+
+class ParsedSet(NamedTuple):
+    """An RRset of a response that a resolver parsed itself: its data are octets with no name
+    compressed.
+
+    >>> ParsedSet("www.example.", 1, ttl=60, data=[bytes([192, 0, 2, 1])]).rclass.name
+    'IN'
+    """
+
+    owner: str | bytes
+    rtype: int
+    ttl: int
+    data: Iterable[bytes]
+    rclass: Class | int = Class.IN
+
+
+def whole_name(name: str | bytes) -> bytes:
+    """The wire form of a name; `BadName` is raised where octets are none."""
+    wire, at = to_wire(name), 0
+    while at < len(wire) and 0 < wire[at] <= LABEL_MOST:
+        at += 1 + wire[at]
+    if wire[at:] != b"\0" or len(wire) > NAME_MOST:
+        raise BadName
+    return wire
+
+
+def put_set(message: bytearray, asked: bytes, one: ParsedSet) -> int:
+    """Writes the records of a set behind a message, and tells how many they are."""
+    owner, data = whole_name(one.owner), list(one.data)
+    if not (one.rtype and one.rclass):
+        raise BadType
+    if not data:
+        raise WrongBody
+    place = HEADER.size if owner == asked else 0
+    for datum in data:
+        if 0 < place < POINTERS_END:
+            message += POINTER.pack(POINTER_BIT | place)
+        else:
+            place = len(message)
+            message += owner
+        message += RECORD.pack(one.rtype, one.rclass, one.ttl, len(datum)) + datum
+    return len(data)
+
+
+def put_message(query: Query, flags: int, sections: Iterable[Iterable[ParsedSet]]) -> bytes:
+    """The message of these flags and sections."""
+    asked = whole_name(query.name)
+    if not (query.rtype and query.rclass):
+        raise BadType
+    message = bytearray(HEADER.size) + asked + QUESTION.pack(query.rtype, query.rclass)
+    counts = [sum(put_set(message, asked, it) for it in section) for section in sections]
+    if len(message) > MESSAGE_MOST:
+        raise ValueError("the message has more than 65,535 octets")
+    HEADER.pack_into(message, 0, query.id, flags, 1, *counts)
+    return bytes(message)
+
+
+def compose_response(query: Query, answer: Iterable[ParsedSet] = (),
+                     authority: Iterable[ParsedSet] = (), additional: Iterable[ParsedSet] = (), *,
+                     rcode: int = 0, aa: bool = False, tc: bool = False, ra: bool = False) -> bytes:
+    """What a resolver parsed of a response itself, as a message, which is then handed to
+    `read_response` with the same query like any response: the RRsets of its three sections, the
+    RCODE of its header and three of its flags.
+
+    The caller compares the response with its query first (RFC 5452 section 9.1): QR, the opcode,
+    the identifier and the question. The message has those of the query, whatever the response had.
+    A set whose records have several TTLs is handed in as several sets, one for each record.
+
+    `BadChoice` is raised of an RCODE above 15, `BadType` of a type or a class of 0, `BadName` of
+    octets that are no name, `WrongBody` of a set with no data, and `ValueError` of a number that
+    its field has no room for, and where the message would have more than 65,535 octets. That may be
+    so of a response that had fewer, since of its names owners alone are compressed.
+
+    >>> from rrcache import Parts, Query, read_response
+    >>> query, parts = Query("www.example.", 1, id=0x1234), Parts(1, seed=bytes(range(16)))
+    >>> answer = [ParsedSet("www.example.", 1, 60, [bytes([192, 0, 2, 1])])]
+    >>> message = compose_response(query, answer, aa=True)
+    >>> with read_response(message, "example.", query, parts, moment=1000) as offers:
+    ...     [(reply.kind.name, reply.left, reply.data) for _, reply in offers]
+    [('FRESH', 60, (b'\\xc0\\x00\\x02\\x01',))]
+    """
+    if not 0 <= rcode < RCODES:
+        raise BadChoice
+    flags = QR | AA * aa | TC * tc | RA * ra | rcode
+    try:
+        return put_message(query, flags, (answer, authority, additional))
+    except struct.error as fault:
+        raise ValueError(f"a number is out of its range: {fault}") from fault
