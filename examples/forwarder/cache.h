@@ -47,7 +47,7 @@ enum outcome look_up(const struct question *question, enum rrcache_mode mode, st
 
 /* Keeps what a response says, and makes the reply to its question: what is then in the cache, or,
    of what is not kept there, as data with a ttl of 0, what the response says. False where the
-   response cannot be read. */
+   response cannot be read, or is a referral. */
 bool keep(const struct question *question, const uint8_t *message, size_t size,
           struct reply *reply);
 

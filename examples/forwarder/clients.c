@@ -9,14 +9,17 @@
 #include <sys/socket.h>
 #include <unistd.h>
 
-enum { LENGTH = 2, BACKLOG = 128, SHUT_MS = 100, PORT_TRIES = 16 };
+enum { LENGTH = 2, BACKLOG = 128, BURST = 64, SHUT_MS = 100, PORT_TRIES = 16 };
+/* What a datagram tells beside its octets: the address that it was sent to, or is to come from. */
+enum { CONTROL = CMSG_SPACE(sizeof(struct in_pktinfo)) };
 
 /* A connection. Its thread takes it up, reads from it and shuts it; the lock is for those that
    write replies to it, and for what they change. */
 struct connection {
     pthread_mutex_t lock;
-    int sock;        /* below 0: the place is free */
-    uint64_t serial; /* goes up when the connection is shut */
+    int sock;          /* below 0: the place is free */
+    in_addr_t address; /* of the client */
+    uint64_t serial;   /* goes up when the connection is shut */
     unsigned waiting;
     uint64_t active_at; /* when a query was taken from it, or some of a reply was sent */
     bool has_ended;     /* the client sends no more */
@@ -27,6 +30,8 @@ struct connection {
 };
 
 static int udp_listener = -1, tcp_listener = -1;
+/* Comes behind each moment at which an idle connection was active last. */
+static const uint64_t BUSY = UINT64_MAX / 2;
 
 /* ---- Listeners. */
 
@@ -36,6 +41,8 @@ static int bound_socket(int kind, struct sockaddr_in *address)
     int yes = 1, sock = socket(AF_INET, kind | SOCK_NONBLOCK | SOCK_CLOEXEC, 0);
     if (sock >= 0 && kind == SOCK_STREAM) /* else no port for a while after a restart */
         setsockopt(sock, SOL_SOCKET, SO_REUSEADDR, &yes, sizeof yes);
+    if (sock >= 0 && kind == SOCK_DGRAM)
+        setsockopt(sock, IPPROTO_IP, IP_PKTINFO, &yes, sizeof yes);
     if (sock >= 0 && bind(sock, (struct sockaddr *)address, size) == 0
         && getsockname(sock, (struct sockaddr *)address, &size) == 0)
         return sock;
@@ -62,11 +69,12 @@ bool open_listeners(struct sockaddr_in *address)
 
 /* ---- Connections. Whoever calls these holds the lock, but where something else is said. */
 
-static void begin(struct connection *connection, int sock, uint64_t now)
+static void begin(struct connection *connection, int sock, in_addr_t address, uint64_t now)
 {
     int yes = 1;
     setsockopt(sock, IPPROTO_TCP, TCP_NODELAY, &yes, sizeof yes); /* each reply is one write */
     connection->sock = sock;
+    connection->address = address;
     connection->active_at = now;
     connection->waiting = 0;
     connection->in_size = connection->unsent_size = 0;
@@ -177,54 +185,106 @@ bool make_clients(struct clients *clients, size_t places)
     return true;
 }
 
-/* Since when a connection is idle that may be shut for another; UINT64_MAX: it may not. */
-static uint64_t idle_since(struct connection *connection, uint64_t now)
+/* ---- Places. Each thread has its own, and what holds here holds in each of them.
+
+   A new connection gets a free place. Where there is none, the address that holds most places, the
+   new one counted, gives up one: that of its connection which did nothing for longest. Where it
+   holds more than the address of the new connection, it does so at once, also while it asks on all
+   of them. Else only an idle connection gives way. So one address has no more than its share once
+   others come: who is alone may have all places, and of two addresses each gets half of them.
+
+   What gets no place is shut, since others wait behind it in the queue of the system. That is full
+   of connections of whoever makes most of them, so it is emptied as long as an address that holds
+   no place would get one. Where it would not, each place is another address's, and who comes waits
+   there for the first that is idle. */
+
+/* How many places the connections of an address hold. */
+static size_t held_by(const struct clients *clients, in_addr_t address)
 {
-    pthread_mutex_lock(&connection->lock);
-    uint64_t since = is_idle(connection, now, YIELD_MS) ? connection->active_at : UINT64_MAX;
-    pthread_mutex_unlock(&connection->lock);
-    return since;
+    size_t held = 0;
+    for (size_t i = 0; i < clients->places; i++)
+        held += clients->connections[i].sock >= 0 && clients->connections[i].address == address;
+    return held;
 }
 
-/* A place for a new connection: a free one, or that of the connection which did nothing for
-   longest; NULL where none is idle. */
-static struct connection *place_for(struct clients *clients, uint64_t now)
+/* The turn of a connection to give way: the lowest is the first. It is below BUSY where the
+   connection is idle. */
+static uint64_t turn_of(struct connection *connection, uint64_t now)
+{
+    pthread_mutex_lock(&connection->lock);
+    uint64_t turn = connection->active_at + (is_idle(connection, now, YIELD_MS) ? 0 : BUSY);
+    pthread_mutex_unlock(&connection->lock);
+    return turn;
+}
+
+/* The connection that gives way to one of an address, or NULL. */
+static struct connection *least_needed(struct clients *clients, in_addr_t address, uint64_t now)
 {
     struct connection *place = NULL;
-    uint64_t first = UINT64_MAX;
+    size_t own = held_by(clients, address) + 1, most = 0;
+    uint64_t first = BUSY;
     for (size_t i = 0; i < clients->places; i++) {
         struct connection *connection = &clients->connections[i];
-        if (connection->sock < 0)
-            return connection;
-        uint64_t since = idle_since(connection, now);
-        if (since < first) {
-            place = connection;
-            first = since;
-        }
+        size_t held = connection->address == address ? own : held_by(clients, connection->address);
+        uint64_t turn = turn_of(connection, now);
+        if (held < most || (held == most && turn >= first))
+            continue;
+        place = connection;
+        most = held;
+        first = turn;
     }
-    return place;
+    return most > own || first < BUSY ? place : NULL;
+}
+
+/* A place for a connection of an address, or NULL. */
+static struct connection *place_for(struct clients *clients, in_addr_t address, uint64_t now)
+{
+    for (size_t i = 0; i < clients->places; i++)
+        if (clients->connections[i].sock < 0)
+            return &clients->connections[i];
+    return least_needed(clients, address, now);
+}
+
+static bool is_open(struct clients *clients, uint64_t now)
+{
+    return now >= clients->shut_until && place_for(clients, INADDR_ANY, now) != NULL;
+}
+
+/* Gives a new connection a place, or shuts it. */
+static void settle(struct clients *clients, int sock, in_addr_t address, uint64_t now)
+{
+    struct connection *place = place_for(clients, address, now);
+    if (place == NULL) {
+        close(sock);
+        return;
+    }
+    pthread_mutex_lock(&place->lock);
+    if (place->sock >= 0)
+        shut(place);
+    begin(place, sock, address, now);
+    pthread_mutex_unlock(&place->lock);
+    count(CONNECTIONS, 1);
 }
 
 /* Takes up the connections that wait. Where there is no descriptor or no memory for one, none is
    looked for during a while, since the listener would be ready all the time. */
 static void take_up(struct clients *clients, uint64_t now)
 {
-    struct connection *place;
-    while ((place = place_for(clients, now)) != NULL) {
-        int sock = accept4(tcp_listener, NULL, NULL, SOCK_NONBLOCK | SOCK_CLOEXEC);
+    for (int i = 0; i < BURST && is_open(clients, now); i++) {
+        struct sockaddr_in from = {0};
+        socklen_t size = sizeof from;
+        int sock =
+            accept4(tcp_listener, (struct sockaddr *)&from, &size, SOCK_NONBLOCK | SOCK_CLOEXEC);
         if (sock < 0) {
             if (errno == EMFILE || errno == ENFILE || errno == ENOBUFS || errno == ENOMEM)
                 clients->shut_until = now + SHUT_MS;
             return;
         }
-        pthread_mutex_lock(&place->lock);
-        if (place->sock >= 0)
-            shut(place);
-        begin(place, sock, now);
-        pthread_mutex_unlock(&place->lock);
-        count(CONNECTIONS, 1);
+        settle(clients, sock, from.sin_addr.s_addr, now);
     }
 }
+
+/* ---- What is polled, and tended. */
 
 static struct pollfd polled_for(struct connection *connection)
 {
@@ -242,9 +302,8 @@ static struct pollfd polled_for(struct connection *connection)
 
 void poll_clients(struct clients *clients, struct pollfd *polled, uint64_t now)
 {
-    bool is_open = now >= clients->shut_until && place_for(clients, now) != NULL;
     polled[0] = (struct pollfd){.fd = udp_listener, .events = POLLIN};
-    polled[1] = (struct pollfd){.fd = is_open ? tcp_listener : -1, .events = POLLIN};
+    polled[1] = (struct pollfd){.fd = is_open(clients, now) ? tcp_listener : -1, .events = POLLIN};
     for (size_t i = 0; i < clients->places; i++)
         polled[i + 2] = clients->connections[i].sock < 0 ? (struct pollfd){.fd = -1}
                                                          : polled_for(&clients->connections[i]);
@@ -274,15 +333,38 @@ void free_clients(struct clients *clients)
 
 /* ---- Queries and replies. */
 
+static struct msghdr datagram(struct sockaddr_in *client, struct iovec *octets, uint8_t *control)
+{
+    return (struct msghdr){.msg_name = client,
+                           .msg_namelen = sizeof *client,
+                           .msg_iov = octets,
+                           .msg_iovlen = 1,
+                           .msg_control = control,
+                           .msg_controllen = CONTROL};
+}
+
+/* The address of this host that a datagram was sent to; any, where the system does not tell. */
+static struct in_addr asked_address(const struct msghdr *message)
+{
+    struct in_pktinfo told = {0};
+    const struct cmsghdr *first = CMSG_FIRSTHDR(message); /* no other is asked for */
+    if (first != NULL)
+        memcpy(&told, CMSG_DATA(first), sizeof told);
+    return told.ipi_spec_dst;
+}
+
 bool take_datagram(uint8_t octets[MOST_QUERY], size_t *size, struct asker *asker)
 {
-    socklen_t from_size = sizeof asker->from;
-    ssize_t got = recvfrom(udp_listener, octets, MOST_QUERY, MSG_TRUNC,
-                           (struct sockaddr *)&asker->from, &from_size);
-    bool is_query = got >= HEADER && got <= MOST_QUERY && !(octets[2] & 0x80);
+    _Alignas(struct cmsghdr) uint8_t control[CONTROL];
+    struct iovec all = {octets, MOST_QUERY};
+    struct msghdr message = datagram(&asker->from, &all, control);
+    ssize_t got = recvmsg(udp_listener, &message, MSG_TRUNC);
+    *size = got >= HEADER && got <= MOST_QUERY && !(octets[2] & 0x80) ? (size_t)got : 0;
+    if (got < 0)
+        return false;
     asker->connection = NULL;
-    *size = is_query ? (size_t)got : 0;
-    return got >= 0;
+    asker->at = asked_address(&message);
+    return true;
 }
 
 /* Takes the first query from what was read. What is none ends the connection. The lock is held. */
@@ -331,6 +413,21 @@ static void send_message(const struct asker *asker, const uint8_t *octets, size_
     pthread_mutex_unlock(&connection->lock);
 }
 
+/* Sends a datagram from the address that was asked, which clients look at. No interface is told:
+   that is for the routes to say. */
+static void send_datagram(const struct asker *asker, uint8_t *octets, size_t size)
+{
+    _Alignas(struct cmsghdr) uint8_t control[CONTROL] = {0};
+    const struct in_pktinfo told = {.ipi_spec_dst = asker->at};
+    struct sockaddr_in client = asker->from;
+    struct iovec all = {octets, size};
+    struct msghdr message = datagram(&client, &all, control);
+    struct cmsghdr *first = CMSG_FIRSTHDR(&message);
+    *first = (struct cmsghdr){CMSG_LEN(sizeof told), IPPROTO_IP, IP_PKTINFO};
+    memcpy(CMSG_DATA(first), &told, sizeof told);
+    sendmsg(udp_listener, &message, 0);
+}
+
 void send_reply(const struct asker *asker, const struct reply *reply, enum counter what)
 {
     uint8_t octets[LENGTH + MESSAGE];
@@ -340,8 +437,7 @@ void send_reply(const struct asker *asker, const struct reply *reply, enum count
     count(OCTETS, size);
     count(CUT, octets[LENGTH + 2] >> 1 & 1);
     if (asker->connection == NULL) {
-        sendto(udp_listener, octets + LENGTH, size, 0, (const struct sockaddr *)&asker->from,
-               sizeof asker->from);
+        send_datagram(asker, octets + LENGTH, size);
         return;
     }
     octets[0] = (uint8_t)(size >> 8);

@@ -16,7 +16,7 @@ enum {
     MOST_WAITING = 64,         /* queries of a connection that are not answered yet */
     MOST_UNSENT = 3 * MESSAGE, /* octets that are kept for a client that does not read */
     IDLE_MS = 5000,            /* so long a connection may do nothing (RFC 7766 section 6.2.3) */
-    YIELD_MS = 500             /* and so long where others wait for its place */
+    YIELD_MS = 200             /* and so long where no place is free, and others come */
 };
 
 struct connection;
@@ -26,6 +26,7 @@ struct asker {
     struct asker *next;
     struct query query;
     struct sockaddr_in from;
+    struct in_addr at;             /* the address of this host that was asked by UDP */
     struct connection *connection; /* NULL: the query came by UDP */
     uint64_t serial;
 };

@@ -2,8 +2,11 @@
 #include "counters.h"
 
 #include <inttypes.h>
+#include <poll.h>
 #include <stdatomic.h>
+#include <stdbool.h>
 #include <stdio.h>
+#include <unistd.h>
 
 static const char *const NAMES[COUNTERS] = {
     [QUERIES] = "queries",   [FRESH] = "fresh",
@@ -40,8 +43,17 @@ void set_part(uint64_t part, uint64_t keys)
     atomic_store_explicit(&keys_of_parts[part], keys, memory_order_relaxed);
 }
 
+/* Whether a line can be written at once; else it is dropped, since who does not read may hold up
+   nothing. A pipe that is ready takes 4,096 octets (PIPE_BUF), and no line has as many. */
+static bool takes_line(int file)
+{
+    return poll(&(struct pollfd){.fd = file, .events = POLLOUT}, 1, 0) == 1;
+}
+
 void print_counters(void)
 {
+    if (!takes_line(STDOUT_FILENO))
+        return;
     for (int i = 0; i < COUNTERS; i++)
         printf("%s %" PRIu64 " ", NAMES[i], counted(i));
     for (int i = 0; i < PARTS; i++)
@@ -60,6 +72,8 @@ void log_counters(unsigned seconds)
         since[i] = now - last[i];
         last[i] = now;
     }
+    if (!takes_line(STDERR_FILENO))
+        return;
     fprintf(stderr,
             "forwarder: in %u s %" PRIu64 " queries, %" PRIu64 " hits, %" PRIu64 " stale, %" PRIu64
             " failures, %" PRIu64 " octets sent; %" PRIu64 " keys of %" PRIu64 " octets\n",

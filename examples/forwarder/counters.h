@@ -40,17 +40,19 @@ uint64_t counted(enum counter which);
 /* How many keys a part of the cache holds, below `PARTS`. */
 void set_part(uint64_t part, uint64_t keys);
 
-/* Prints all counters in one line on standard output, and at its end the keys of each part. */
+/* Prints all counters in one line on standard output, and at its end the keys of each part. Where
+   the line cannot be written at once it is dropped, here and below. */
 void print_counters(void);
 
 /* Prints on standard error what was done since the last call, in so many seconds. */
 void log_counters(unsigned seconds);
 
-/* Milliseconds of a clock that nobody sets. */
+/* Milliseconds of a clock that nobody sets, and that goes on while the machine is suspended: what
+   is kept ages in that time too. */
 static inline uint64_t milliseconds(void)
 {
     struct timespec now;
-    clock_gettime(CLOCK_MONOTONIC, &now);
+    clock_gettime(CLOCK_BOOTTIME, &now);
     return (uint64_t)now.tv_sec * 1000 + (uint64_t)now.tv_nsec / 1000000;
 }
 

@@ -5,8 +5,9 @@
 #include <string.h>
 
 enum { QR = 0x80, OPCODE = 0x78, TC = 0x02, RD = 0x01, RA = 0x80, CD = 0x10, RCODE = 0x0f };
-enum { POINTER = 0xc0, MOST_LABEL = 63, RECORD = 10 }; /* RECORD: what stands before the data */
-enum { DNSSEC_OK = 0x8000 };                           /* in the ttl of an OPT record (RFC 3225) */
+enum { POINTER = 0xc0, MOST_LABEL = 63, MOST_LABELS = 127 };
+enum { RECORD = 10 };        /* what stands before the data */
+enum { DNSSEC_OK = 0x8000 }; /* in the ttl of an OPT record (RFC 3225) */
 
 /* A record that stands in a message: where its owner and its data begin and where it ends. */
 struct record {
@@ -24,12 +25,6 @@ static void write_word(uint8_t *octets, unsigned word)
 {
     octets[0] = (uint8_t)(word >> 8);
     octets[1] = (uint8_t)word;
-}
-
-static void write_long(uint8_t *octets, uint32_t number)
-{
-    write_word(octets, number >> 16);
-    write_word(octets + 2, number & 0xffff);
 }
 
 /* ---- Names. */
@@ -74,26 +69,28 @@ static size_t name_size(const uint8_t *octets, size_t size, size_t start)
     return is_whole ? at - start + 1 : 0;
 }
 
-/* Reads the name at a place of a message, which may go on behind pointers that lead to lower places
-   (RFC 1035 section 4.1.4). Answers its size, or 0 where there is none. */
-static size_t expand(const uint8_t *message, size_t size, size_t at, uint8_t name[NAME])
+/* Reads the name at a place of a message, and moves the place behind it. It may go on behind
+   pointers (RFC 1035 section 4.1.4), of which no more are followed than a name has labels. Answers
+   its size, or 0 where there is none. */
+static size_t expand(const uint8_t *message, size_t size, size_t *place, uint8_t name[NAME])
 {
-    size_t got = 0, run = at;
-    while (at + 1 < size && message[at] != 0) {
-        size_t label = message[at];
-        size_t lower = word_at(message + at) & 0x3fff;
-        if (label >= POINTER && lower < run) {
-            at = run = lower;
-        } else if (label <= MOST_LABEL && at + label < size && got + label + 1 < NAME) {
-            memcpy(name + got, message + at, label + 1);
-            got += label + 1;
-            at += label + 1;
+    size_t got = 0, at = *place, behind = 0;
+    for (int pointers = 0; at + 1 < size && message[at] != 0;) {
+        size_t length = message[at] + 1u;
+        if (message[at] >= POINTER && pointers++ < MOST_LABELS) {
+            behind = behind == 0 ? at + 2 : behind;
+            at = word_at(message + at) & 0x3fff;
+        } else if (length <= MOST_LABEL + 1 && at + length < size && got + length < NAME) {
+            memcpy(name + got, message + at, length);
+            got += length;
+            at += length;
         } else {
             return 0;
         }
     }
     bool is_whole = at < size && message[at] == 0;
     name[got] = 0;
+    *place = behind == 0 ? at + 1 : behind;
     return is_whole ? got + 1 : 0;
 }
 
@@ -282,64 +279,62 @@ void refuse(struct reply *reply, const struct question *question, enum rcode rco
     reply->rcode = rcode;
 }
 
-/* Leads a name on by the first alias of it in the answer section, which begins at a place; false
-   where there is none. */
-static bool lead_on(struct question *at, const uint8_t *message, size_t size, size_t answers)
+/* Whether the cache keeps no data of a type (docs/RULES.md). */
+static bool is_unkept(unsigned type)
 {
-    struct record record = {.behind = answers};
-    uint8_t owner[NAME];
-    for (unsigned left = word_at(message + 6); left > 0; left--) {
-        if (!read_record(message, size, record.behind, &record))
-            return false;
-        if (record.type != CNAME || record.class != IN)
+    return type == SIG || type == NXT || type == NAPTR || type == RRSIG
+           || (type >= META && type <= ANY);
+}
+
+/* Where the name begins that may be compressed in the data of a record of such a type (RFC 3597
+   section 4); the place behind them where there is none. */
+static size_t name_in(const uint8_t *message, const struct record *record)
+{
+    size_t at = record->data + (record->type == SIG ? 18 : record->type == NAPTR ? 4 : 0);
+    for (int strings = record->type == NAPTR ? 3 : 0; strings > 0 && at < record->behind; strings--)
+        at += message[at] + 1u;
+    bool has_name = record->type == SIG || record->type == NXT || record->type == NAPTR;
+    return has_name && at < record->behind ? at : record->behind;
+}
+
+/* Copies the data of a record of such a type behind their length, with that name in full. Answers
+   the size of both, or 0 where it cannot be read. */
+static size_t copy_data(const uint8_t *message, const struct record *record,
+                        uint8_t data[2 + MESSAGE + NAME])
+{
+    size_t at = name_in(message, record), size = 2 + at - record->data;
+    memcpy(data + 2, message + record->data, at - record->data);
+    if (at < record->behind) {
+        size_t name = expand(message, record->behind, &at, data + size);
+        size_t rest = record->behind - at;
+        if (name == 0 || at > record->behind)
+            return 0;
+        memcpy(data + size + name, message + at, rest);
+        size += name + rest;
+    }
+    write_word(data, (unsigned)size - 2);
+    return size - 2 <= MESSAGE ? size : 0;
+}
+
+void put_unkept(struct reply *reply, const struct unkept *wanted, const uint8_t *message,
+                size_t size)
+{
+    struct record record = {.behind = front_of(wanted->question)};
+    unsigned type = wanted->question->type, left = word_at(message + 6);
+    uint8_t owner[NAME], pointer[2], data[2 + MESSAGE + NAME];
+    write_word(pointer, POINTER << 8 | (unsigned)wanted->place);
+    for (; left > 0 && read_record(message, size, record.behind, &record); left--) {
+        size_t at = record.owner;
+        if (!is_unkept(record.type) || (type != record.type && type != ANY) || record.class != IN
+            || !is_same_name(owner, expand(message, size, &at, owner), wanted->name->octets,
+                             wanted->name->size))
             continue;
-        size_t owner_size = expand(message, size, record.owner, owner);
-        if (is_same_name(owner, owner_size, at->name, at->size)) {
-            at->size = expand(message, size, record.data, at->name);
-            return true;
-        }
+        uint32_t ttl = record.ttl < wanted->cap ? record.ttl : wanted->cap;
+        size_t copied = copy_data(message, &record, data);
+        reply->is_cut |= copied == 0;
+        reply->answers +=
+            put_records(reply, pointer, sizeof pointer, record.type, ttl, data, copied);
     }
-    return false;
-}
-
-/* Whether the aliases that lead on from a question come to an end. */
-static bool do_aliases_end(const struct question *question, const uint8_t *message, size_t size)
-{
-    struct question at = *question;
-    int steps = 0;
-    if (question->type == CNAME || question->type == ANY)
-        return true;
-    while (steps <= MOST_ALIASES && lead_on(&at, message, size, front_of(question)))
-        steps++;
-    return steps <= MOST_ALIASES;
-}
-
-/* Lowers the times to live of so many records, the first of which begins at a place, to a cap. One
-   with its top bit set is a large number (RFC 8767 section 4). Answers the place behind them. */
-static size_t cap_records(uint8_t *message, size_t size, size_t at, unsigned count, uint32_t cap)
-{
-    struct record record = {.behind = at};
-    while (count > 0 && read_record(message, size, record.behind, &record)) {
-        if (record.ttl > cap)
-            write_long(message + record.data - 6, cap);
-        count--;
-    }
-    return record.behind;
-}
-
-bool relay(struct reply *reply, const struct question *question, const uint8_t *message,
-           size_t size, uint32_t cap)
-{
-    size_t front = front_of(question);
-    begin_reply(reply, question);
-    reply->rcode = message[3] & RCODE;
-    reply->answers = (uint16_t)word_at(message + 6);
-    reply->authority = (uint16_t)word_at(message + 8);
-    put(reply, message + front, size - front);
-    if (reply->is_cut)
-        return false;
-    reply->size = cap_records(reply->octets, size, front, reply->answers + reply->authority, cap);
-    return do_aliases_end(question, message, size);
 }
 
 /* Writes the header of a reply but for its id, and its question as it was spelled. */
@@ -381,16 +376,20 @@ static bool is_about(const uint8_t *message, size_t size, const struct question 
            && is_same_question(&read, question);
 }
 
-/* Whether all records can be read, and the upper octet of the RCODE, which an OPT record has, is 0
-   (RFC 6891 section 6.1.3). */
-static bool is_plain_rcode(const uint8_t *message, size_t size, size_t at)
+/* Whether all records can be read, the first of which begins at a place. Of the OPT record the type
+   is told, and the ttl: its upper octet is that of the RCODE (RFC 6891 section 6.1.3). */
+static bool read_records(const uint8_t *message, size_t size, size_t at, struct record *opt)
 {
     unsigned left = word_at(message + 6) + word_at(message + 8) + word_at(message + 10);
     struct record record = {.behind = at};
-    for (; left > 0; left--)
-        if (!read_record(message, size, record.behind, &record)
-            || (record.type == OPT && record.ttl >> 24 != 0))
+    for (; left > 0; left--) {
+        if (!read_record(message, size, record.behind, &record))
             return false;
+        if (record.type != OPT)
+            continue;
+        opt->type = OPT;
+        opt->ttl |= record.ttl;
+    }
     return true;
 }
 
@@ -405,10 +404,12 @@ enum verdict judge(const struct upstream_query *query, const uint8_t *message, s
         return WANTS_PLAIN;
     if (!is_about(message, size, query->question))
         return STRAY;
-    if (wants_plain)
+    struct record opt = {0};
+    bool is_whole = read_records(message, size, front_of(query->question), &opt);
+    if (wants_plain && opt.type != OPT) /* else the upstream knows OPT records */
         return WANTS_PLAIN;
     if (message[2] & TC)
         return TRUNCATED;
-    bool is_answer = rcode == NOERROR || rcode == NXDOMAIN;
-    return is_answer && is_plain_rcode(message, size, front_of(query->question)) ? ANSWER : FAILURE;
+    bool is_answer = is_whole && (rcode == NOERROR || rcode == NXDOMAIN) && opt.ttl >> 24 == 0;
+    return is_answer ? ANSWER : FAILURE;
 }

@@ -32,7 +32,18 @@ enum { PLAIN_PAYLOAD = 512, PAYLOAD = 1232 };
 enum { MOST_ALIASES = 16 };
 
 enum rcode { NOERROR, FORMERR, SERVFAIL, NXDOMAIN, NOTIMP, REFUSED, BADVERS = 16 };
-enum type { CNAME = 5, SOA = 6, DNAME = 39, OPT = 41, META = 128, ANY = 255 };
+enum type {
+    CNAME = 5,
+    SOA = 6,
+    SIG = 24,
+    NXT = 30,
+    NAPTR = 35,
+    DNAME = 39,
+    OPT = 41,
+    RRSIG = 46,
+    META = 128,
+    ANY = 255
+};
 enum class { IN = 1 };
 
 struct question {
@@ -58,6 +69,14 @@ struct reply {
     uint16_t answers, authority;
     enum rcode rcode;
     bool is_cut; /* not all of it fits in a message */
+};
+
+/* Which records of a response are passed on though the cache keeps no data of their type. */
+struct unkept {
+    const struct question *question; /* of the response */
+    const struct rrcache_name *name;
+    size_t place; /* of the name in the reply */
+    uint32_t cap; /* no time to live is above it */
 };
 
 /* A query that is sent upstream. */
@@ -117,10 +136,10 @@ uint16_t put_records(struct reply *reply, const uint8_t *owner, size_t owner_siz
 /* A reply with no records. */
 void refuse(struct reply *reply, const struct question *question, enum rcode rcode);
 
-/* Makes a reply of the answer and the authority section of a response that was judged an ANSWER, in
-   which no time to live is above a cap. False where their aliases do not end. */
-bool relay(struct reply *reply, const struct question *question, const uint8_t *message,
-           size_t size, uint32_t cap);
+/* Puts the records of a question's type, if the cache keeps no data of it, that the answer section
+   of a response to it has of a name. With ANY these are all such types. */
+void put_unkept(struct reply *reply, const struct unkept *wanted, const uint8_t *message,
+                size_t size);
 
 /* Writes a reply as one who asked gets it: under the id of the query, with the question as it was
    spelled there, and with an OPT record where the query had one. Where it has more than `most`

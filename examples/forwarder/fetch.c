@@ -33,10 +33,11 @@ struct fetch {
 
     /* The rest is the thread's that began it. */
     struct fetcher *fetcher;
-    bool is_live;                          /* else the place is free */
-    unsigned domain, turn, tries, refused; /* refused: a bit for each upstream that said no */
+    bool is_live; /* else the place is free */
+    unsigned domain, turn, tries;
+    unsigned asked, refused; /* a bit for each upstream that this socket asked, or that said no */
     uint64_t began, try_ends;
-    struct upstream *upstream;
+    struct upstream *upstream;   /* the one that was asked last */
     struct upstream_query query; /* the one that was sent last */
     int sock;
     enum way way;
@@ -166,6 +167,11 @@ static void turn_late(struct fetch *fetch)
 
 /* ---- Asking. */
 
+static unsigned bit_of(const struct upstream *upstream)
+{
+    return 1u << (upstream - upstreams);
+}
+
 static bool bind_anywhere(int sock)
 {
     struct sockaddr_in here = {.sin_family = AF_INET};
@@ -177,93 +183,126 @@ static bool bind_anywhere(int sock)
     return false;
 }
 
-/* Connects a new socket to the upstream, by UDP from a random port. */
-static bool connect_by(struct fetch *fetch, int kind)
+static bool draw_id(struct fetch *fetch)
 {
-    const struct sockaddr_in *address = &fetch->upstream->address;
-    close_socket(fetch);
-    fetch->sock = socket(AF_INET, kind | SOCK_NONBLOCK | SOCK_CLOEXEC, 0);
-    fetch->way = kind == SOCK_DGRAM ? BY_UDP : CONNECTS;
-    if (fetch->sock < 0 || (kind == SOCK_DGRAM && !bind_anywhere(fetch->sock)))
-        return false;
-    return connect(fetch->sock, (const struct sockaddr *)address, sizeof *address) == 0
-           || errno == EINPROGRESS;
+    return getentropy(fetch->query.id, sizeof fetch->query.id) == 0;
 }
 
-/* Sends the query, with a new id. Over TCP its length stands before it. */
+/* Opens a socket that asks by UDP, if this one does not. It is connected to no upstream, since it
+   asks one after another; IP_RECVERR has it tell nevertheless which one's port is closed. */
+static bool open_socket(struct fetch *fetch)
+{
+    int yes = 1;
+    if (fetch->way == BY_UDP && fetch->sock >= 0)
+        return true;
+    close_socket(fetch);
+    fetch->asked = 0;
+    fetch->sock = socket(AF_INET, SOCK_DGRAM | SOCK_NONBLOCK | SOCK_CLOEXEC, 0);
+    return fetch->sock >= 0 && bind_anywhere(fetch->sock) && draw_id(fetch)
+           && setsockopt(fetch->sock, IPPROTO_IP, IP_RECVERR, &yes, sizeof yes) == 0;
+}
+
+/* Sends to the upstream. A call may tell of an older datagram's error, and is made again then. */
+static bool send_octets(struct fetch *fetch, const uint8_t *octets, size_t size)
+{
+    const struct sockaddr_in *to = fetch->way == BY_UDP ? &fetch->upstream->address : NULL;
+    ssize_t sent = -1;
+    for (int i = 0; i < 2 && sent < 0; i++)
+        sent = sendto(fetch->sock, octets, size, MSG_NOSIGNAL | MSG_DONTWAIT,
+                      (const struct sockaddr *)to, to == NULL ? 0 : sizeof *to);
+    return sent == (ssize_t)size;
+}
+
+static void begin_try(struct fetch *fetch)
+{
+    fetch->try_ends = milliseconds() + TRY_MS + LONGER_MS * (fetch->tries - 1);
+}
+
+/* Sends the query. Over TCP its length stands before it. */
 static bool send_query(struct fetch *fetch)
 {
     uint8_t octets[LENGTH + QUERY];
-    uint64_t now = milliseconds();
     fetch->query.question = &fetch->question;
-    fetch->query.has_edns = now >= fetch->upstream->plain_until;
-    fetch->try_ends = now + TRY_MS;
-    if (getentropy(fetch->query.id, sizeof fetch->query.id) != 0)
-        return false;
+    fetch->query.has_edns = milliseconds() >= fetch->upstream->plain_until;
     size_t size = write_query(&fetch->query, octets + LENGTH);
     octets[0] = (uint8_t)(size >> 8);
     octets[1] = (uint8_t)size;
     size_t skipped = fetch->way == BY_UDP ? LENGTH : 0; /* all of it fits into an empty buffer */
-    ssize_t sent =
-        send(fetch->sock, octets + skipped, LENGTH + size - skipped, MSG_NOSIGNAL | MSG_DONTWAIT);
+    begin_try(fetch);
     count(SENT, 1);
     count(UPGRADED, fetch->way == BY_TCP);
-    return sent == (ssize_t)(LENGTH + size - skipped);
+    fetch->asked |= bit_of(fetch->upstream);
+    return send_octets(fetch, octets + skipped, LENGTH + size - skipped);
 }
 
 /* The next upstream in turn of those that did not say no, or NULL where all tries were made. */
 static struct upstream *next_upstream(struct fetch *fetch)
 {
     for (unsigned i = 0; i < upstream_count && fetch->tries < TRIES; i++) {
-        unsigned number = fetch->turn++ % upstream_count;
-        if ((fetch->refused >> number & 1) == 0) {
+        struct upstream *upstream = &upstreams[fetch->turn++ % upstream_count];
+        if ((fetch->refused & bit_of(upstream)) == 0) {
             fetch->tries++;
-            return &upstreams[number];
+            return upstream;
         }
     }
     return NULL;
 }
 
-/* Asks the next upstream by UDP. Where this process has no socket for that, that is no failure of
-   the name's servers, and is not remembered as one. */
+/* Whether what a call lacked is this system's to have. */
+static bool is_lack(void)
+{
+    return errno == EAGAIN || errno == EADDRNOTAVAIL || errno == ENOBUFS || errno == ENOMEM;
+}
+
+/* Asks the next upstream by UDP. That there is no socket, no port or no room for that is no failure
+   of the name's servers, and is not remembered as one. */
 static void ask_next(struct fetch *fetch)
 {
     while ((fetch->upstream = next_upstream(fetch)) != NULL) {
-        if (connect_by(fetch, SOCK_DGRAM) && send_query(fetch))
+        bool is_open = open_socket(fetch);
+        if (is_open && send_query(fetch))
             return;
-        if (fetch->sock < 0) {
+        if (!is_open || is_lack()) {
             give_up(fetch);
             return;
         }
+        fetch->refused |= bit_of(fetch->upstream);
     }
     fail(fetch);
 }
 
-/* The upstream cannot answer this question, and is not asked for it again. */
-static void refused(struct fetch *fetch)
+/* An upstream cannot answer this question, and is not asked for it again. */
+static void refused(struct fetch *fetch, const struct upstream *upstream)
 {
-    fetch->refused |= 1u << (fetch->upstream - upstreams);
-    ask_next(fetch);
+    fetch->refused |= bit_of(upstream);
+    if (upstream == fetch->upstream) /* else another one may answer yet */
+        ask_next(fetch);
 }
 
 /* Asks the upstream again, over TCP (RFC 7766 section 5). */
 static void upgrade(struct fetch *fetch)
 {
-    fetch->try_ends = milliseconds() + TRY_MS;
-    if (connect_by(fetch, SOCK_STREAM))
+    const struct sockaddr_in *address = &fetch->upstream->address;
+    close_socket(fetch);
+    begin_try(fetch);
+    fetch->sock = socket(AF_INET, SOCK_STREAM | SOCK_NONBLOCK | SOCK_CLOEXEC, 0);
+    fetch->way = CONNECTS;
+    if (fetch->sock >= 0
+        && (connect(fetch->sock, (const struct sockaddr *)address, sizeof *address) == 0
+            || errno == EINPROGRESS))
         return;
-    if (fetch->sock < 0)
+    if (fetch->sock < 0 || is_lack())
         give_up(fetch);
     else
-        ask_next(fetch);
+        refused(fetch, fetch->upstream);
 }
 
 /* Asks the upstream again on the same socket, with no OPT record (RFC 6891 section 6.2.2). */
 static void ask_plainly(struct fetch *fetch)
 {
     fetch->upstream->plain_until = milliseconds() + PLAIN_MS;
-    if (!send_query(fetch))
-        ask_next(fetch);
+    if (!draw_id(fetch) || !send_query(fetch))
+        refused(fetch, fetch->upstream);
 }
 
 /* ---- What comes back. */
@@ -272,36 +311,34 @@ static void take_answer(struct fetch *fetch, const uint8_t *message, size_t size
 {
     struct reply reply;
     if (!keep(&fetch->question, message, size, &reply)) {
-        refused(fetch);
+        refused(fetch, fetch->upstream);
         return;
     }
     preferred = (unsigned)(fetch->upstream - upstreams);
     end_fetch(fetch, &reply, reply.rcode == SERVFAIL ? FAILED : FETCHED);
 }
 
-/* Takes a message; true where it was a stray, behind which the answer may stand. */
-static bool take_stray(struct fetch *fetch, const uint8_t *message, size_t size)
+/* Takes a message of an upstream that was asked; true where it was a stray, behind which the answer
+   may stand. */
+static bool take_stray(struct fetch *fetch, struct upstream *upstream, const uint8_t *message,
+                       size_t size)
 {
-    switch (judge(&fetch->query, message, size)) {
-    case STRAY:
+    enum verdict verdict = judge(&fetch->query, message, size);
+    if (verdict == STRAY) {
         count(STRAYS, 1);
         return true;
-    case ANSWER:
-        take_answer(fetch, message, size);
-        return false;
-    case WANTS_PLAIN:
-        ask_plainly(fetch);
-        return false;
-    case TRUNCATED:
-        if (fetch->way == BY_UDP) {
-            upgrade(fetch);
-            return false;
-        }
-        break;
-    case FAILURE:
-        break;
     }
-    refused(fetch);
+    if (verdict == FAILURE || (verdict == TRUNCATED && fetch->way != BY_UDP)) {
+        refused(fetch, upstream);
+        return false;
+    }
+    fetch->upstream = upstream; /* whose answer counts, though another one was asked since */
+    if (verdict == ANSWER)
+        take_answer(fetch, message, size);
+    else if (verdict == WANTS_PLAIN)
+        ask_plainly(fetch);
+    else
+        upgrade(fetch);
     return false;
 }
 
@@ -310,16 +347,44 @@ static bool would_block(void)
     return errno == EAGAIN || errno == EWOULDBLOCK || errno == EINTR;
 }
 
+/* The upstream at an address, if this socket asked it, or NULL. */
+static struct upstream *asked_at(const struct fetch *fetch, const struct sockaddr_in *address)
+{
+    for (struct upstream *it = upstreams; it < upstreams + upstream_count; it++)
+        if ((fetch->asked & bit_of(it)) != 0 && it->address.sin_port == address->sin_port
+            && it->address.sin_addr.s_addr == address->sin_addr.s_addr)
+            return it;
+    return NULL;
+}
+
 static void read_datagrams(struct fetch *fetch)
 {
     uint8_t message[MESSAGE];
     for (int i = 0; i < BURST; i++) {
-        ssize_t got = recv(fetch->sock, message, sizeof message, 0);
-        if (got < 0 && !would_block()) /* nobody listens there */
-            ask_next(fetch);
-        if (got < 0 || !take_stray(fetch, message, (size_t)got))
+        struct sockaddr_in from = {0};
+        socklen_t from_size = sizeof from;
+        ssize_t got =
+            recvfrom(fetch->sock, message, sizeof message, 0, (struct sockaddr *)&from, &from_size);
+        struct upstream *upstream = got < 0 ? NULL : asked_at(fetch, &from);
+        if (got < 0 || (upstream != NULL && !take_stray(fetch, upstream, message, (size_t)got)))
             return;
     }
+}
+
+/* Reads where a query came back from, by ICMP. Where nobody listens there, that is a refusal; else
+   it may be over soon. */
+static void read_error(struct fetch *fetch)
+{
+    uint8_t query[QUERY];
+    struct sockaddr_in to = {0};
+    socklen_t to_size = sizeof to, error_size = sizeof(int);
+    int error = 0;
+    getsockopt(fetch->sock, SOL_SOCKET, SO_ERROR, &error, &error_size);
+    ssize_t got =
+        recvfrom(fetch->sock, query, sizeof query, MSG_ERRQUEUE, (struct sockaddr *)&to, &to_size);
+    struct upstream *upstream = got < 0 ? NULL : asked_at(fetch, &to);
+    if (upstream != NULL && error == ECONNREFUSED)
+        refused(fetch, upstream);
 }
 
 /* Goes on once the upstream took up a connection, or did not. */
@@ -329,8 +394,8 @@ static void begin_stream(struct fetch *fetch)
     socklen_t size = sizeof error;
     fetch->way = BY_TCP;
     if (getsockopt(fetch->sock, SOL_SOCKET, SO_ERROR, &error, &size) != 0 || error != 0
-        || !send_query(fetch))
-        ask_next(fetch);
+        || !draw_id(fetch) || !send_query(fetch))
+        refused(fetch, fetch->upstream);
 }
 
 /* Reads on in the message that comes over TCP, behind its length; false where it does not come. */
@@ -356,7 +421,7 @@ static void miss_message(struct fetch *fetch)
     if (lacks_memory)
         give_up(fetch);
     else
-        ask_next(fetch);
+        refused(fetch, fetch->upstream);
 }
 
 static void read_stream(struct fetch *fetch)
@@ -375,8 +440,8 @@ static void read_stream(struct fetch *fetch)
     uint8_t *message = fetch->message; /* it is to stay while it is looked at */
     fetch->message = NULL;
     fetch->got = 0;
-    if (take_stray(fetch, message, size))
-        refused(fetch);
+    if (take_stray(fetch, fetch->upstream, message, size))
+        refused(fetch, fetch->upstream);
     free(message);
 }
 
@@ -389,13 +454,15 @@ void poll_fetches(const struct fetcher *fetcher, struct pollfd *polled)
     }
 }
 
-static void tend(struct fetch *fetch, bool is_ready, uint64_t now)
+static void tend(struct fetch *fetch, short revents, uint64_t now)
 {
-    if (is_ready && fetch->way == BY_UDP)
+    if (revents & POLLERR && fetch->way == BY_UDP)
+        read_error(fetch);
+    else if (revents != 0 && fetch->way == BY_UDP)
         read_datagrams(fetch);
-    else if (is_ready && fetch->way == CONNECTS)
+    else if (revents != 0 && fetch->way == CONNECTS)
         begin_stream(fetch);
-    else if (is_ready)
+    else if (revents != 0)
         read_stream(fetch);
     if (fetch->is_live && !fetch->is_late && now >= fetch->began + LATE_MS)
         turn_late(fetch);
@@ -407,7 +474,7 @@ void tend_fetches(struct fetcher *fetcher, const struct pollfd *polled, uint64_t
 {
     for (size_t i = 0; i < fetcher->places; i++)
         if (fetcher->fetches[i].is_live)
-            tend(&fetcher->fetches[i], polled[i].revents != 0, now);
+            tend(&fetcher->fetches[i], polled[i].revents, now);
 }
 
 /* ---- Places. */
@@ -496,6 +563,43 @@ static void begin(struct fetcher *fetcher, struct fetch *place, struct bucket *b
     LIST_INSERT_HEAD(&bucket->fetches, place, others);
 }
 
+/* Whose place one who asks by UDP takes: that of the same query, which was sent again, or, where
+   its address has its share, of the one that asked first. NULL: nobody's. */
+static struct asker *older_of(const struct fetch *fetch, const struct asker *asker)
+{
+    struct asker *first = NULL;
+    unsigned count = 0;
+    for (struct asker *it = fetch->askers; it != NULL && asker->connection == NULL; it = it->next) {
+        if (it->connection != NULL || it->from.sin_addr.s_addr != asker->from.sin_addr.s_addr)
+            continue;
+        bool is_again = it->from.sin_port == asker->from.sin_port
+                        && memcmp(it->query.id, asker->query.id, sizeof it->query.id) == 0;
+        if (is_again)
+            return it;
+        first = it;
+        count++;
+    }
+    return count < MOST_ASKERS / ASKER_SHARE ? NULL : first;
+}
+
+/* Has one who asks wait for a fetch; false where too many wait. The bucket's lock is held. */
+static bool add_asker(struct fetch *fetch, struct asker *added)
+{
+    struct asker *older = older_of(fetch, added);
+    if (older != NULL) {
+        added->next = older->next;
+        *older = *added;
+        free(added);
+        return true;
+    }
+    if (fetch->count == MOST_ASKERS)
+        return false;
+    added->next = fetch->askers;
+    fetch->askers = added;
+    fetch->count++;
+    return true;
+}
+
 bool await_fetch(struct fetcher *fetcher, const struct asker *asker, bool though_late)
 {
     const struct question *question = &asker->query.question;
@@ -513,12 +617,7 @@ bool await_fetch(struct fetcher *fetcher, const struct asker *asker, bool though
         fetch = place;
         begin(fetcher, fetch, bucket, question);
     }
-    bool waits = fetch != NULL && fetch->count < MOST_ASKERS && (though_late || !fetch->is_late);
-    if (waits) {
-        added->next = fetch->askers;
-        fetch->askers = added;
-        fetch->count++;
-    }
+    bool waits = fetch != NULL && (though_late || !fetch->is_late) && add_asker(fetch, added);
     pthread_mutex_unlock(&bucket->lock);
     count(JOINED, waits && !is_new);
     if (!waits)

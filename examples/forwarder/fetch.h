@@ -2,10 +2,12 @@
 /* fetch.h: asking upstream. A question is fetched once at a time: who asks what is being fetched,
    of whatever thread, waits for that fetch.
 
-   A fetch asks one upstream after another, the one that answered last first, TRIES times for TRY_MS
-   each, from a random port and with a random id. It asks by UDP, with an OPT record where the
-   upstream knows it, and over TCP what came back truncated. After LATE_MS whoever waits gets what
-   is stale, if there is something (the client response timer of RFC 8767 section 5). */
+   A fetch asks one upstream after another, the one that answered last first, TRIES times: for
+   TRY_MS, and LONGER_MS longer each time. It asks by UDP, with an OPT record where the upstream
+   knows it, and over TCP what came back truncated. All its tries by UDP have one port and one id,
+   which are random, so that an answer that is late for its try is taken. After LATE_MS whoever
+   waits gets what is stale, if there is something (the client response timer of RFC 8767 section
+   5). */
 #ifndef FETCH_H
 #define FETCH_H
 
@@ -16,8 +18,10 @@ enum {
     MOST_UPSTREAMS = 8,
     TRIES = 4,
     TRY_MS = 800,
+    LONGER_MS = 100,
     LATE_MS = 1800,
     MOST_ASKERS = 256, /* of a fetch */
+    ASKER_SHARE = 4,   /* one address has a fourth of these at most */
     PLAIN_MS = 900000, /* so long an upstream that wants no OPT record gets none */
     DOMAINS = 256,
     DOMAIN_SHARE = 4, /* with a fourth of all places, a domain has others give way no more */

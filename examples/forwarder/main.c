@@ -1,12 +1,13 @@
 /* SPDX-License-Identifier: MIT */
 /* forwarder [-q] [-l SECONDS] [-t THREADS] ADDRESS PORT UPSTREAM PORT [UPSTREAM PORT ..]
+   forwarder --help | --version
 
    A DNS forwarder over UDP and TCP and IPv4, as an example of the library for C. Clients ask it at
    an address and a port (0: one is picked), and what its cache does not have it asks the upstreams,
    at most 8, which are resolvers. It prints the port on standard output, and there on SIGUSR1 and
    at its end all its counters in one line, behind which stands how many keys each part of its cache
    holds; SIGTERM and SIGINT end it. On standard error stands one line a minute of what it did; with
-   -l SECONDS more or less often, with -q none.
+   -l SECONDS more or less often, with -q none. A line that cannot be written at once is dropped.
 
    dns.c       messages: queries are read, replies are built, responses are judged
    cache.c     shelves of the library under locks: what is kept, and what is answered from them
@@ -18,6 +19,7 @@
    ask, the connections that it took up, and the fetches that it began. */
 #include <arpa/inet.h>
 #include <errno.h>
+#include <getopt.h>
 #include <pthread.h>
 #include <sched.h>
 #include <signal.h>
@@ -34,8 +36,9 @@
 #include "fetch.h"
 
 enum { MOST_THREADS = 64, BURST = 64, TICK_MS = 50, MINUTE = 60 };
-/* Of each thread, where there are descriptors enough. Those that are no thread's are standard
-   input, output and error, both listeners, and some for what the C library opens. */
+/* Of each thread, where there are descriptors enough: beside these it has one for a connection that
+   has no place yet. Those that are no thread's are standard input, output and error, both
+   listeners, and some for what the C library opens. */
 enum { MOST_FETCHES = 200, MOST_CONNECTIONS = 64, LEAST_PLACES = 4, OTHER_DESCRIPTORS = 8 };
 
 struct worker {
@@ -46,10 +49,20 @@ struct worker {
 };
 
 struct options {
+    int told; /* 'h' and 'V': the usage or the version is to be told; else 0 */
     bool is_quiet;
     unsigned seconds, threads;
     struct sockaddr_in address;
 };
+
+static const char USAGE[] = "usage: forwarder [-q] [-l SECONDS] [-t THREADS] ADDRESS PORT\n"
+                            "                 UPSTREAM PORT [UPSTREAM PORT ..]\n"
+                            "       forwarder --help | --version\n"
+                            "  -q          no log\n"
+                            "  -l SECONDS  a line on standard error each so many seconds (60)\n"
+                            "  -t THREADS  so many threads (one for each processor)\n";
+static const struct option LONG_OPTIONS[] = {
+    {"help", no_argument, NULL, 'h'}, {"version", no_argument, NULL, 'V'}, {0}};
 
 static struct worker workers[MOST_THREADS];
 static atomic_bool is_over;
@@ -165,7 +178,7 @@ static bool make_worker(struct worker *worker, size_t descriptors)
     size_t connections = descriptors / 4;
     if (connections > MOST_CONNECTIONS)
         connections = MOST_CONNECTIONS;
-    size_t fetches = descriptors - connections;
+    size_t fetches = descriptors - connections - 1;
     if (fetches > MOST_FETCHES)
         fetches = MOST_FETCHES;
     worker->polled = calloc(2 + connections + fetches, sizeof *worker->polled);
@@ -229,7 +242,11 @@ static bool read_options(int argc, char **argv, struct options *options)
 {
     unsigned long number = 0;
     *options = (struct options){.seconds = MINUTE, .threads = processors()};
-    for (int option; (option = getopt(argc, argv, "ql:t:")) != -1;) {
+    for (int option; (option = getopt_long(argc, argv, "hqVl:t:", LONG_OPTIONS, NULL)) != -1;) {
+        if (option == 'h' || option == 'V') {
+            options->told = option;
+            return true;
+        }
         if (option == 'q')
             options->is_quiet = true;
         else if (option == 'l' && read_number(optarg, 86400, &number) && number > 0)
@@ -271,15 +288,29 @@ static void keep_house(const sigset_t *signals, const struct options *options)
     }
 }
 
+/* Tells the usage, or the version, which is that of the library. */
+static int tell(int option)
+{
+    uint32_t version = rrcache_version();
+    if (option == 'h')
+        fputs(USAGE, stdout);
+    else
+        printf("forwarder %u.%u.%u\n", version >> 16, version >> 8 & 255, version & 255);
+    return 0;
+}
+
 int main(int argc, char **argv)
 {
     struct options options;
     sigset_t signals;
-    if (!read_options(argc, argv, &options) || !read_addresses(argc, argv, &options.address)) {
-        fprintf(stderr, "usage: forwarder [-q] [-l SECONDS] [-t THREADS] ADDRESS PORT "
-                        "UPSTREAM PORT [UPSTREAM PORT ..]\n");
+    bool are_read = read_options(argc, argv, &options);
+    if (are_read && options.told != 0)
+        return tell(options.told);
+    if (!are_read || !read_addresses(argc, argv, &options.address)) {
+        fputs(USAGE, stderr);
         return 2;
     }
+    signal(SIGPIPE, SIG_IGN); /* who reads standard output or error may be gone */
     sigemptyset(&signals);
     sigaddset(&signals, SIGUSR1);
     sigaddset(&signals, SIGTERM);

@@ -263,10 +263,10 @@ class Server(threading.Thread):
 
 # ---- Clients and forwarders.
 
-def datagrams(port, seconds=5):
-    """A socket that sends to a forwarder."""
+def datagrams(port, seconds=5, host="127.0.0.1"):
+    """A socket that sends to a forwarder, and takes what comes from the address that it asks."""
     sock = socket.socket(socket.AF_INET, socket.SOCK_DGRAM)
-    sock.connect(("127.0.0.1", port))
+    sock.connect((host, port))
     sock.settimeout(seconds)
     return sock
 
@@ -308,9 +308,11 @@ def ask_for_any(port, name, rtype):
 class Stream(socket.socket):
     """A connection to a forwarder."""
 
-    def __init__(self, port, seconds=8):
+    def __init__(self, port, seconds=8, source=None):
         super().__init__()
         self.settimeout(seconds)
+        if source:
+            self.bind((source, 0))
         self.connect(("127.0.0.1", port))
 
     def put(self, *queries):
@@ -339,8 +341,9 @@ class Stream(socket.socket):
 class Forwarder:
     """A forwarder's process. At its end it has to be as clean as the sanitizers want it."""
 
-    def __init__(self, *upstreams, program, options=("-q",), descriptors=None, environment=None):
-        words = [BUILD / program, *options, "127.0.0.1", "0"]
+    def __init__(self, *upstreams, program, options=("-q",), descriptors=None, environment=None,
+                 host="127.0.0.1"):
+        words = [BUILD / program, *options, host, "0"]
         words += [word for it in upstreams for word in ("127.0.0.1", str(it.port))]
         if descriptors:
             words = ["sh", "-c", 'ulimit -n "$0" && exec "$@"', str(descriptors), *words]

@@ -7,7 +7,7 @@ from dns.flags import AA, RA, RD, TC
 from dns.rcode import NOERROR, NXDOMAIN, SERVFAIL
 
 from tests.forwarder.harness import (SOA, Server, address, aliases, counts, data, octets_of, plain,
-                                     query, record, response, told, truncated, with_id)
+                                     query, record, response, told, truncated, under, with_id)
 
 WEEK = 604800
 SIGNATURE = "A 8 2 60 20300101000000 20200101000000 7 example AAAA"
@@ -22,8 +22,8 @@ def test_fresh(forwarder):
         assert 0 < reply.answer[0].ttl <= 60
     assert server.times("a7.example") == 1
     assert it.counted("queries", "fresh", "fetched", "sent") == [3, 2, 1, 1]
-    # The name twice, a record, an address.
-    assert it.counted("keys", "held") == [1, 12 + 12 + 48 + 4]
+    # A key takes 160 octets, its name 32 and 48, and the address as much (docs/RULES.md).
+    assert it.counted("keys", "held") == [1, 160 + 80 + 80]
 
 
 def test_ttl_goes_down(forwarder):
@@ -45,6 +45,23 @@ def test_ttl_is_capped_from_the_first_answer_on(forwarder, ttl, rtype, text):
         assert WEEK - 9 <= it.ask("a1.example", rtype).answer[0].ttl <= WEEK
 
 
+def test_lowest_ttl_of_a_set(forwarder):
+    """TTLs that differ with AA clear. Who sends all queries to certain servers takes the lowest TTL
+    for each record (RFC 2181 section 5.2), from the first answer on."""
+    def answer(server, asked, name):
+        ttls = 300, int(name.split(".")[0][1:]), 600
+        return [response(asked, *(f"{name} {ttl} A {address(n)}" for n, ttl in enumerate(ttls)))]
+    it = forwarder(server := Server(answer))
+    for _ in range(2):
+        reply = it.ask("t30.example")
+        assert sorted(data(reply)) == [address(n) for n in range(3)]
+        assert {it.ttl for it in reply.answer} in ({30}, {29})
+    it.ask("t1.example")
+    time.sleep(1.1)
+    assert len(data(it.ask("t1.example"))) == 3
+    assert (server.times("t30.example"), server.times("t1.example")) == (1, 2)
+
+
 def test_negative(forwarder):
     it = forwarder(server := Server())
     for name, rcode in (("nothing.example", NOERROR), ("gone.example", NXDOMAIN)):
@@ -57,6 +74,21 @@ def test_negative(forwarder):
     assert it.ask("gone.example", "TXT").rcode() == NXDOMAIN
     assert server.times("gone.example", "TXT") == 0
     assert it.counters()["negative"] == 3
+
+
+def test_what_was_denied_does_not_come_back(forwarder):
+    """An NXDOMAIN with AA set denies the name, for all types (RFC 2308 section 5). Once it is over
+    the upstream is asked, though the old address had more time left."""
+    soa = "example 1 SOA ns.example host.example 1 2 3 4 1"
+    it = forwarder(server := Server(told(f"{{}} 300 A {address(1)}", flags=AA | RA)))
+    assert data(it.ask("a1.example")) == [address(1)]
+    server.answer = told(authority=[soa], rcode=NXDOMAIN, flags=AA | RA)
+    for rtype in ("TXT", "A"):
+        assert it.ask("a1.example", rtype).rcode() == NXDOMAIN
+    server.answer = told(f"{{}} 300 A {address(2)}", flags=AA | RA)
+    time.sleep(1.1)
+    it.counters()  # it sweeps
+    assert data(it.ask("a1.example")) == [address(2)]
 
 
 def test_fully_expired_keys_are_swept(forwarder):
@@ -72,13 +104,76 @@ def test_fully_expired_keys_are_swept(forwarder):
 
 
 @pytest.mark.parametrize("rtype, line", [
-    ("A", f"a3.example 0 A {address(3)}"), ("RRSIG", f"a3.example 60 RRSIG {SIGNATURE}")])
+    ("A", f"a3.example 0 A {address(3)}"), ("MX", "a3.example 0 MX 5 mx.a3.example"),
+    ("RRSIG", f"a3.example 60 RRSIG {SIGNATURE}"),
+    ("NAPTR", 'a3.example 60 NAPTR 1 2 "u" "" "!x!y!" rest.a3.example')])
 def test_what_is_not_kept_is_passed_on(forwarder, rtype, line):
-    """A set with a TTL of 0, and a type that is not kept."""
+    """A set with a TTL of 0, and a type that is not kept. The messages have pointers in their
+    data."""
     it = forwarder(server := Server(told(line)))
     for _ in range(2):
         assert it.ask("a3.example", rtype).answer == [record(line)]
     assert server.times("a3.example", rtype) == 2
+
+
+def test_too_large_a_set_is_passed_on(forwarder):
+    """1,500 addresses of 16 octets are more than are kept of a name."""
+    octets = octets_of(response(query("a1.example", "AAAA"),
+                                *(f"a1.example 60 AAAA 2001:db8::{n:x}" for n in range(1500))))
+    it = forwarder(server := Server(lambda server, asked, name: [
+        with_id(asked, octets[2:]) if server.is_tcp else truncated(asked)]))
+    with it.stream() as stream:
+        for _ in range(2):
+            assert len(data(stream.ask("a1.example", "AAAA"), "AAAA")) == 1500
+    assert server.times("a1.example", "AAAA") == 4
+
+
+@pytest.mark.parametrize("rtype, text", [("A", address(1)), ("RRSIG", SIGNATURE)])
+def test_nothing_else_is_passed_on(forwarder, rtype, text):
+    """Of what is not kept go out the aliases, with the DNAME record that made one, and what was
+    asked for; not what else the upstream sends, of these names and of others."""
+    wanted = [*aliases(["a1.example", "w.old.example"], 0), "old.example 0 DNAME new.example",
+              *aliases(["w.old.example", "w.new.example"], 0), f"w.new.example 0 {rtype} {text}"]
+    others = [f"a1.example 0 A {address(66)}", f"bank.example 0 {rtype} {text}",
+              "w.new.example 0 TXT other", "other.example 0 DNAME new.example",
+              *aliases(["x.other.example", "x.new.example"], 0)]
+    it = forwarder(Server(told(*others, *reversed(wanted), flags=AA | RA, authority=[
+        "example 0 NS ns.example", SOA], additional=[f"w.new.example 0 A {address(66)}"])))
+    reply = it.ask("a1.example", rtype)
+    assert (reply.answer, counts(reply)[1:]) == ([record(it) for it in wanted], [0, 0])
+
+
+@pytest.mark.parametrize("rcode", [NOERROR, NXDOMAIN])
+@pytest.mark.parametrize("rtype, ttl", [("A", 0), ("NAPTR", 60)])
+def test_nothing_else_is_passed_on_beside_a_denial(forwarder, rtype, ttl, rcode):
+    soa = SOA.replace("60", str(ttl), 1)
+    it = forwarder(server := Server(told(
+        f"bank.example 0 A {address(66)}", *aliases(["a1.example", "a2.example"], ttl),
+        authority=["example 60 NS ns.example", soa, SOA.replace("example", "other.example", 1)],
+        additional=[f"a1.example 60 A {address(66)}"], rcode=rcode)))
+    reply = it.ask("a1.example", rtype)
+    assert (reply.rcode(), counts(reply)) == (rcode, [1, 1, 0])
+    assert (data(reply, "CNAME"), reply.authority) == (["a2.example."], [record(soa)])
+    assert len(server.asked) == 1
+
+
+@pytest.mark.parametrize("ttls", [(0, 60), (60, 0)])
+def test_lowest_ttl_of_a_set_is_0(forwarder, ttls):
+    it = forwarder(Server(told(*(f"{{}} {ttl} A {address(ttl)}" for ttl in ttls))))
+    reply = it.ask("a1.example")
+    assert sorted(data(reply)) == [address(0), address(60)]
+    assert {it.ttl for it in reply.answer} == {0}
+
+
+def test_any_is_passed_on(forwarder):
+    """All types of the name, kept ones and others, and no alias is followed."""
+    lines = ["a1.example 60 CNAME a2.example", f"a1.example 0 A {address(1)}",
+             "a1.example 60 MX 5 mail.example", f"a1.example 60 RRSIG {SIGNATURE}"]
+    it = forwarder(server := Server(told(*lines, f"a2.example 60 A {address(2)}")))
+    for _ in range(2):
+        answer = it.ask("a1.example", "ANY").answer
+        assert sorted(answer, key=str) == sorted(map(record, lines), key=str)
+    assert server.times("a1.example", "ANY") == 2
 
 
 def test_first_answer_is_that_of_the_cache(forwarder):
@@ -173,8 +268,8 @@ def test_aliases_many_of_them(forwarder):
 
 
 def test_aliases_more_than_a_message_has(forwarder):
-    """A set of thousands of aliases has too many octets to be kept: each answer is the upstream's,
-    of which none is followed."""
+    """A name has one alias. A set of thousands fits in no message once its names are written out,
+    and has too many octets to be kept."""
     longest = ".".join(["x" * 63] * 3 + ["x" * 57])
     lines = (rf"{longest} 60 CNAME \{1 + n // 250:03}\{1 + n % 250:03}.{longest}"
              for n in range(3700))
@@ -184,9 +279,10 @@ def test_aliases_more_than_a_message_has(forwarder):
         return [with_id(asked, octets) if server.is_tcp else truncated(asked)]
     it = forwarder(Server(answer))
     with it.stream() as stream:
-        for _ in range(2):
-            assert len(data(stream.ask(longest), "CNAME")) == 3700
-    assert it.counters()["fetched"] == 2
+        for rtype in ("A", "CNAME"):
+            reply = stream.ask(longest, rtype)
+            assert (reply.rcode(), counts(reply)) == (SERVFAIL, [0, 0, 0])
+    assert it.counted("fetched", "failed") == [0, 2]
 
 
 def test_dname_stays_beside_its_alias(forwarder):
@@ -203,3 +299,34 @@ def test_dname_stays_beside_its_alias(forwarder):
         for _ in range(2):
             assert it.ask(name).answer == [record(it) for it in lines]
     assert server.times("w.x.old.example") == 1
+
+
+@pytest.mark.parametrize("ttl", [0, 60])
+def test_dname_stays_beside_the_alias_that_was_asked_for(forwarder, ttl):
+    made = [f"old.example {ttl} DNAME new.example",
+            *aliases(["w.x.old.example", "w.x.new.example"], ttl)]
+    it = forwarder(server := Server(told(*made)))
+    for _ in range(2):
+        assert it.ask("w.x.old.example", "CNAME").answer == [record(it) for it in made]
+    assert server.times("w.x.old.example", "CNAME") == (1 if ttl else 2)
+
+
+@under("forwarder")
+def test_aliases_of_many_labels(forwarder):
+    """11 aliases of 118 labels, of which all but the last may stand in front of a DNAME record's
+    owner, cost no more than five addresses, with a tenth of a second for what else goes on."""
+    names = [f"{'a.' * 117}e{n}" for n in range(12)]
+
+    def answer(server, asked, name):
+        if name == names[0]:
+            return [response(asked, *aliases(names), f"{names[-1]} 60 A {address(1)}")]
+        return plain()(server, asked, name)
+    it = forwarder(Server(answer))
+
+    def spent(name):
+        before = it.processor_seconds()
+        for _ in range(1000):
+            it.ask(name)
+        return it.processor_seconds() - before
+    assert len(it.stream().ask(names[0]).answer) == 12
+    assert spent(names[0]) < 5 * spent("a1.example") + 0.1

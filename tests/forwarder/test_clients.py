@@ -1,9 +1,11 @@
 # SPDX-License-Identifier: MIT
 """What clients may ask, by UDP and over TCP, and what fits into a reply."""
+import contextlib
 import random
 import select
 import socket
 import struct
+import threading
 import time
 
 import dns.edns
@@ -12,7 +14,8 @@ from dns.flags import DO, QR, RD, TC
 from dns.rcode import BADVERS, FORMERR, NOERROR, NOTIMP, NXDOMAIN, REFUSED, SERVFAIL
 
 from tests.forwarder.harness import (SOA, Server, Stream, address, counts, data, datagrams, edns,
-                                     exchange, framed, many, octets_of, query, record, silent, took)
+                                     exchange, framed, many, octets_of, query, read, record, silent,
+                                     took)
 
 ASKED = query("a1.example", id=7)
 OPCODES = 0x7800
@@ -90,6 +93,16 @@ def test_junk_of_clients(forwarder):
             client.send(octets[:dice.choice((len(octets), dice.randrange(len(octets))))])
             if n % 100 == 99:
                 assert data(it.ask("a2.example")) == [address(2)]
+
+
+def test_replies_come_from_the_address_that_was_asked(forwarder):
+    """Where it listens on all addresses; what is fetched, and what is cached."""
+    it = forwarder(Server(), host="0.0.0.0")
+    for n, host in enumerate(("127.0.0.5", "127.0.0.1")):
+        for _ in range(2):
+            with datagrams(it.port, 5, host) as client:
+                client.send(octets_of(query(f"a{n}.example")))
+                assert data(read(client.recv(4096))) == [address(n)]
 
 
 # ---- EDNS (RFC 6891).
@@ -274,6 +287,58 @@ def test_tcp_connections_more_than_places(forwarder):
     assert len(select.select(streams, [], [], 0)[0]) >= 50
     for stream in streams + more:
         stream.close()
+
+
+class Hog(threading.Thread):
+    """A client of 127.0.0.1 with many connections. He asks on each of them five times a second, and
+    makes another for each that is shut."""
+
+    def __init__(self, port, count):
+        super().__init__()
+        self.port, self.is_over = port, threading.Event()
+        self.sockets = [self.connect() for _ in range(count)]
+
+    def connect(self):
+        sock = socket.socket()
+        sock.setblocking(False)
+        sock.connect_ex(("127.0.0.1", self.port))
+        return sock
+
+    def ask_on(self, number):
+        try:
+            self.sockets[number].send(framed(ASKED))
+        except BlockingIOError:  # it is not taken up yet
+            pass
+        except OSError:
+            self.sockets[number].close()
+            self.sockets[number] = self.connect()
+
+    def run(self):
+        while not self.is_over.wait(0.2):
+            for number in range(len(self.sockets)):
+                self.ask_on(number)
+
+    def __enter__(self):
+        self.start()
+        return self
+
+    def __exit__(self, *_):
+        self.is_over.set()
+        self.join()
+        for it in self.sockets:
+            it.close()
+
+
+def test_tcp_client_that_wants_all_places(forwarder):
+    """It keeps no other address out, whose connections stay though they are less active."""
+    it = forwarder(Server(), options=("-q", "-t", "2"))
+    with Hog(it.port, 256), contextlib.ExitStack() as opened:
+        time.sleep(1)
+        streams = [opened.enter_context(Stream(it.port, 5, "127.0.0.2")) for _ in range(20)]
+        for _ in range(3):
+            for n, stream in enumerate(streams):
+                assert data(stream.ask(f"a{n}.example")) == [address(n)]
+            time.sleep(0.4)
 
 
 def test_tcp_client_that_leaves(forwarder):

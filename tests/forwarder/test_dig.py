@@ -56,37 +56,55 @@ def owner_of(n):
 QUESTIONS = [(f"{owner_of(n)}.test.example", rtype) for n in range(NAMES) for rtype in TYPES]
 
 
+# Seconds that nsd may take to start, on a machine that does much else, and ports that are tried.
+START, PORTS = 60, 5
+
+
 @pytest.fixture
 def authority(tmp_path):
     """The port of nsd, with the zone."""
     nsd = shutil.which("nsd") or shutil.which("nsd", path="/usr/sbin:/usr/local/sbin")
     if nsd is None or shutil.which("dig") is None:
         pytest.skip("there is no dig or no nsd here (Debian's bind9-dnsutils and nsd)")
-    with socket.socket(socket.AF_INET, socket.SOCK_DGRAM) as free:
-        free.bind(("127.0.0.1", 0))
-        port = free.getsockname()[1]
     (tmp_path / "zone").write_text(zone())
-    (tmp_path / "conf").write_text(CONFIGURATION.format(port=port, folder=tmp_path))
-    process = subprocess.Popen([nsd, "-d", "-c", tmp_path / "conf"], stdout=subprocess.DEVNULL,
-                               stderr=subprocess.PIPE, text=True)
-    try:
-        await_answer(port)
-        yield port
-    finally:
-        process.terminate()
-        print(process.communicate()[1])
+    said = []
+    for _ in range(PORTS):
+        port = free_port()
+        (tmp_path / "conf").write_text(CONFIGURATION.format(port=port, folder=tmp_path))
+        process = subprocess.Popen([nsd, "-d", "-c", tmp_path / "conf"], text=True,
+                                   stdout=subprocess.DEVNULL, stderr=subprocess.PIPE)
+        try:
+            if has_started(process, port):
+                yield port
+                return
+        finally:
+            process.terminate()
+            said.append(process.communicate()[1])
+    pytest.fail(f"nsd did not start: {said}")
 
 
-def await_answer(port):
-    """Waits until nsd answers."""
-    for _ in range(100):
+def free_port():
+    """A port of 127.0.0.1 that nobody has, of UDP nor of TCP."""
+    while True:
+        with socket.socket(socket.AF_INET, socket.SOCK_DGRAM) as udp, socket.socket() as tcp:
+            udp.bind(("127.0.0.1", 0))
+            try:
+                tcp.bind(udp.getsockname())
+            except OSError:
+                continue
+            return udp.getsockname()[1]
+
+
+def has_started(process, port):
+    """Waits until nsd answers; whether it does."""
+    end = time.monotonic() + START
+    while process.poll() is None and time.monotonic() < end:
         try:
             if dns.query.udp(query("test.example", "SOA"), "127.0.0.1", 1, port).answer:
-                return
+                return True
         except (OSError, dns.exception.Timeout):
-            pass
-        time.sleep(0.05)
-    pytest.fail("nsd did not start")
+            time.sleep(0.05)
+    return False
 
 
 def dig(port, words):

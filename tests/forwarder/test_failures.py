@@ -1,10 +1,12 @@
 # SPDX-License-Identifier: MIT
 """Stale answers (RFC 8767), and failures that are remembered (RFC 2308 section 7)."""
+import os
 import time
 
 from dns.rcode import NOERROR, REFUSED, SERVFAIL
 
-from tests.forwarder.harness import Server, address, data, plain, silent, told, took
+from tests.forwarder.harness import (BUILD, Server, address, data, plain, silent, told, took,
+                                     under)
 
 
 def test_stale_while_no_upstream_answers(forwarder):
@@ -51,7 +53,7 @@ def test_stale_aliases(forwarder):
 def test_failure_is_remembered(forwarder):
     it = forwarder(server := Server(silent))
     reply, seconds = took(it.ask, "a8.example")
-    assert reply.rcode() == SERVFAIL and 2 < seconds < 5
+    assert reply.rcode() == SERVFAIL and 2 < seconds < 8
     assert server.times("a8.example") == 4
     began = time.monotonic()
     while time.monotonic() - began < 28:
@@ -62,6 +64,17 @@ def test_failure_is_remembered(forwarder):
     server.answer = plain()
     time.sleep(max(0, began + 31.2 - time.monotonic()))
     assert data(it.ask("a8.example")) == [address(8)]
+
+
+@under("forwarder")
+def test_no_port_is_no_failure_that_is_remembered(forwarder):
+    """The first 32 ports are refused, 8 for a question: that is no failure of the names'
+    servers."""
+    it = forwarder(server := Server(), environment={
+        **os.environ, "LD_PRELOAD": str(BUILD / "refusals.so"), "REFUSED_PORTS": "32"})
+    for rcode in [SERVFAIL] * 4 + [NOERROR]:
+        assert it.ask("a1.example").rcode() == rcode
+    assert (it.counted("failed", "failures"), len(server.asked)) == ([4, 0], 1)
 
 
 def test_upstream_that_refuses_is_asked_once(forwarder):

@@ -6,19 +6,22 @@ import random
 import re
 import socket
 import string
+import struct
 
 import dns.message
+import pytest
 from dns.rcode import NOERROR, NXDOMAIN, SERVFAIL
 from dns.rdataclass import IN
-from dns.rdatatype import OPT
+from dns.rdatatype import CNAME, OPT, RRSIG
 
 from tests.forwarder.harness import (Server, address, ask_for_any, counts, data, octets_of, plain,
-                                     response, text_of, took, truncated, wire_name, with_id)
+                                     query, response, take, text_of, took, truncated, under,
+                                     wire_name, with_id)
 from tools.model import part_of
 from tools.mutation import changed_octets
 from tools.rows import content, rows
 
-META = 128
+META, PRIVATE = 128, 65280
 # The parts of the forwarder's cache, and how many names are asked for that are to be spread.
 PARTS, SPREAD = 16, 2048
 
@@ -146,6 +149,47 @@ def test_upstream_of_changed_messages(forwarder):
         assert data(it.ask(f"a{n}.example")) == [address(n)]
     assert min(rcodes.count(it) for it in (NOERROR, NXDOMAIN, SERVFAIL)) > 20
     assert it.counters()["upgraded"] > 100
+
+
+# ---- A message whose names stand behind thousands of pointers (RFC 1035 section 4.1.4).
+
+def pointer(place):
+    return (0xc000 + place).to_bytes(2, "big")
+
+
+def entry(owner, rtype, data):
+    """The octets of a record with a TTL of 0."""
+    return owner + struct.pack(">HHIH", rtype, 1, 0, len(data)) + data
+
+
+def behind_pointers(asked, rtype):
+    """The octets of a response behind its id: some 16 aliases, the last of which stands first, and
+    before them 3,200 records whose owner stands behind 8,100 pointers, each to the one before."""
+    front = octets_of(response(query(asked, rtype, use_edns=False)))
+    places = range(len(front) + 11, 0x3fff, 2)  # behind what stands before a record's data
+    front += entry(b"\0", PRIVATE, b"".join(map(pointer, [12, *places[:-1]])))
+    names = [wire_name(it) for it in [asked, *(f"y{n}.example" for n in range(16))]]
+    tail = b"".join(entry(*it) for it in reversed([*zip(names, [CNAME] * 16, names[1:])]))
+    filler = entry(b"\1x" + pointer(places[-1]), RRSIG if rtype == "RRSIG" else CNAME, pointer(12))
+    count = (65140 - len(front) - len(tail)) // len(filler)
+    return front[2:6] + struct.pack(">H", 1 + count + 16) + front[8:] + filler * count + tail
+
+
+@under("forwarder")
+@pytest.mark.parametrize("rtype", ["A", "RRSIG"])
+def test_names_behind_thousands_of_pointers(forwarder, rtype):
+    """Five of these messages take less than half a second of a processor."""
+    octets = behind_pointers("a1.example", rtype)
+
+    def answer(server, asked, name):
+        return [with_id(asked, octets) if server.is_tcp else truncated(asked)]
+    it = forwarder(Server(answer))
+    before = it.processor_seconds()
+    with it.stream() as stream:
+        stream.put(*[query("a1.example", rtype)] * 5)
+        replies = [take(stream, int.from_bytes(take(stream, 2), "big")) for _ in range(5)]
+    assert it.processor_seconds() - before < 0.5
+    assert {it[3:8] for it in replies} == {b"\x80\0\1\0\x10"}  # NOERROR, 16 aliases
 
 
 # ---- Names that are picked to lie in one part.

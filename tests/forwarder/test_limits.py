@@ -1,5 +1,6 @@
 # SPDX-License-Identifier: MIT
-"""Few descriptors, no memory, more questions than can be asked, and the log."""
+"""Few descriptors, no memory, more questions than can be asked, a suspended machine, the log, and
+arguments."""
 import contextlib
 import os
 import re
@@ -15,6 +16,8 @@ from dns.rcode import FORMERR, NOERROR, SERVFAIL
 from tests.forwarder.harness import (BUILD, Forwarder, Server, Stream, address, counts, data,
                                      datagrams, dead, exchange, octets_of, plain, query, read,
                                      silent, took, under)
+
+VERSION = (BUILD.parent / "VERSION").read_text().strip()
 
 
 def spent(forwarder, seconds):
@@ -158,6 +161,20 @@ def test_dead_domains_starve_no_others(forwarder, names):
     assert it.counters()["displaced"] > 0
 
 
+# ---- The clock.
+
+@under("forwarder")
+def test_what_is_kept_ages_in_suspend(forwarder):
+    environment = {**os.environ, "LD_PRELOAD": str(BUILD / "suspend.so")}
+    it = forwarder(server := Server(plain(60)), environment=environment)
+    for _ in range(2):
+        assert data(it.ask("a1.example")) == [address(1)]
+    it.process.send_signal(signal.SIGUSR2)  # 100 seconds
+    time.sleep(0.1)
+    assert data(it.ask("a1.example")) == [address(1)]
+    assert server.times("a1.example") == 2
+
+
 # ---- The log.
 
 @pytest.mark.parametrize("program", ["forwarder-checked", "forwarder-threads"])
@@ -174,9 +191,56 @@ def test_log(programs, program):
     queries, hits, stale, failures, sent = (sum(int(it[n]) for it in found) for n in range(1, 6))
     assert (queries, hits, stale, failures) == (5, 3, 0, 0)
     assert sent > 5 * 29
-    # Two answers and the SOA record, whose owner has 9 octets and its data 46.
-    held = (12 + 12 + 48 + 4) + (17 + 9 + 46) + (9 + 9 + 48 + 46)
+    # Two answers and the SOA record. A key takes 160 octets, a short name and an address 80, and
+    # the SOA record's data 32, 48, 16 and 46 (docs/RULES.md).
+    held = (160 + 80 + 80) + (160 + 80 + 80 + 142) + (160 + 80 + 142)
     assert found[-1].group(6, 7) == ("3", str(held))
+
+
+def fill(pid, number):
+    """Fills a pipe that a process writes to."""
+    end = os.open(f"/proc/{pid}/fd/{number}", os.O_WRONLY | os.O_NONBLOCK)
+    with contextlib.suppress(BlockingIOError):
+        while True:
+            os.write(end, bytes(4096))
+    os.close(end)
+
+
+@pytest.mark.parametrize("number", [1, 2], ids=["output", "errors"])
+def test_pipe_that_nobody_reads(programs, number):
+    """What does not fit is dropped: nothing waits for who reads it, and SIGTERM neither."""
+    it = Forwarder(Server(), program="forwarder", options=("-l", "1"))
+    fill(it.process.pid, number)
+    it.process.send_signal(signal.SIGUSR1)
+    time.sleep(1.2)
+    try:
+        assert data(it.ask("a1.example")) == [address(1)]
+        it.process.send_signal(signal.SIGTERM)
+        assert it.process.wait(2) == 0
+    finally:
+        it.process.kill()
+        it.end()
+
+
+def test_pipes_whose_reader_is_gone(programs):
+    it = Forwarder(Server(), program="forwarder", options=("-l", "1"))
+    it.process.stdout.close()
+    it.process.stderr.close()
+    it.process.send_signal(signal.SIGUSR1)
+    time.sleep(1.2)
+    assert data(it.ask("a1.example")) == [address(1)]
+    assert it.end() == (0, "")
+
+
+# ---- Arguments.
+
+@pytest.mark.parametrize("words", ["--help", "-h", "--version", "-V", "-t 1 --help 127.0.0.1"])
+def test_arguments_that_ask(programs, words):
+    """For the usage and for the version."""
+    run = subprocess.run([BUILD / "forwarder", *words.split()], capture_output=True, text=True)
+    assert (run.returncode, run.stderr) == (0, "")
+    told = "usage: " if "h" in words else f"forwarder {VERSION}\n"
+    assert run.stdout[:len(told)] == told
 
 
 @pytest.mark.parametrize("words", [

@@ -2,19 +2,22 @@
 """How upstreams are asked, and what is made of what they answer."""
 import concurrent.futures
 import random
+import select
 import socket
 import struct
 import time
 
 import pytest
-from dns.flags import QR, RA, RD, TC
+from dns.flags import AA, QR, RA, RD, TC
 from dns.rcode import FORMERR, NOERROR, NOTIMP, REFUSED, SERVFAIL
 
-from tests.forwarder.harness import (Server, address, addresses, ask_for_any, counts, data, framed,
-                                     octets_of, plain, query, response, silent, told, took,
-                                     truncated, with_id)
+from tests.forwarder.harness import (Server, address, addresses, ask_for_any, counts, data,
+                                     datagrams, framed, octets_of, plain, query, read, response,
+                                     silent, told, took, truncated, with_id)
 
 FORGED = f"A {address(66)}"
+# The octets of an address record whose owner is a pointer, and the most that a datagram has.
+ADDRESS_RECORD, MOST_UDP = 16, 65507
 
 
 def test_glue_is_never_answered(forwarder):
@@ -32,7 +35,32 @@ def test_glue_is_never_answered(forwarder):
         assert server.times(f"www{n}.example") == 1
 
 
+def test_servers_that_a_zone_names_are_not_kept(forwarder):
+    """An authoritative answer may have the zone's NS RRset behind it, and addresses. They are not
+    kept, else a zone that was withdrawn would renew its own delegation (ghost domains)."""
+    def answer(server, asked, name):
+        if name == "zone.example":
+            return [response(asked, "zone.example 60 NS new.example")]
+        return [response(asked, f"{name} 60 A {address(1)}", flags=AA | RA,
+                         authority=["zone.example 86400 NS ns.zone.example"],
+                         additional=[f"ns.zone.example 86400 {FORGED}"])]
+    it = forwarder(server := Server(answer))
+    reply = it.ask("www.zone.example")
+    assert (counts(reply), it.counted("keys")) == ([1, 0, 0], [1])
+    assert data(it.ask("zone.example", "NS"), "NS") == ["new.example."]
+    assert data(it.ask("ns.zone.example")) == [address(1)]
+    assert (server.times("zone.example", "NS"), server.times("ns.zone.example")) == (1, 1)
+
+
+def with_junk(message, size):
+    """The header and the question of a message, and junk in place of its records."""
+    octets = octets_of(message)
+    front = octets[:6] + b"\xff" * 6 + octets[12:-ADDRESS_RECORD]
+    return front + random.Random(size).randbytes(size - len(front))
+
+
 def test_spoofed_replies(forwarder):
+    """What has another id or question is dropped, whatever stands behind that."""
     def forged(asked, **others):
         """A forged answer to what may be another query."""
         it = response(asked, f"{asked.question[0].name} 60 {FORGED}")
@@ -45,14 +73,15 @@ def test_spoofed_replies(forwarder):
             other.bind(("127.0.0.1", 0))
             other.sendto(octets_of(forged(asked)), server.client)
         others = [query("a2.example"), query(name, "TXT"), query(name, rdclass="CH")]
-        return [forged(asked, id=asked.id ^ 1), *(forged(it, id=asked.id) for it in others),
+        strays = [forged(asked, id=asked.id ^ 1), *(forged(it, id=asked.id) for it in others)]
+        return [*strays, *map(with_junk, strays, (MOST_UDP, 16384, 1232, 64)),
                 forged(asked, flags=RD | RA), forged(asked, flags=0x9180),
                 forged(asked, question=[]), octets_of(forged(asked))[:20], b"", b"x",
                 *plain()(server, asked, name)]
     it = forwarder(Server(answer))
     for _ in range(2):
         assert data(it.ask("a1.example")) == [address(1)]
-    assert it.counted("strays", "sent") == [10, 1]
+    assert it.counted("strays", "sent", "failures") == [14, 1, 0]
 
 
 def test_many_ask_and_one_query_goes_out(forwarder):
@@ -63,6 +92,28 @@ def test_many_ask_and_one_query_goes_out(forwarder):
     assert server.times("a4.example") == 1
     assert sum(it.counted("joined", "fresh")) == 59
     assert it.counted("sent") == [1]
+
+
+def test_one_asks_all_the_time_and_others_get_answers(forwarder):
+    """300 queries of one address for one name, while it is fetched, leave room for one of another
+    address; a query that is sent again is answered once."""
+    it = forwarder(Server(delay=1))
+    one, again = datagrams(it.port, 2), query("a1.example")
+    with socket.socket(socket.AF_INET, socket.SOCK_DGRAM) as other:
+        other.bind(("127.0.0.2", 0))
+        other.connect(("127.0.0.1", it.port))
+        other.settimeout(5)
+        for n in range(300):
+            one.send(octets_of(query("a1.example", id=n)))
+            time.sleep(0.01 * (n % 30 == 29))
+        for _ in range(3):
+            other.send(octets_of(again))
+        assert data(read(other.recv(4096))) == [address(1)]
+        assert data(it.ask("a1.example")) == [address(1)]  # what was to come is there
+        assert not select.select([other], [], [], 0)[0]
+    replies = [read(one.recv(4096)) for _ in range(64)]
+    assert {it.rcode() for it in replies} == {NOERROR}
+    one.close()
 
 
 def test_ids_and_ports_differ(forwarder):
@@ -91,6 +142,49 @@ def test_upstreams_in_turn(forwarder, first, most):
     assert data(reply) == [address(1)] and seconds < most
     assert data(it.ask("a2.example")) == [address(2)]
     assert (len(one.asked), len(two.asked)) == (1, 2)
+
+
+@pytest.mark.parametrize("count, delay", [(1, 1.2), (2, 1.3)])
+def test_upstreams_that_are_slow(forwarder, count, delay):
+    """An answer counts that is late for its own try, also while another upstream is asked."""
+    it = forwarder(*(Server(delay=delay) for _ in range(count)))
+    reply, seconds = took(it.ask, "a1.example")
+    assert data(reply) == [address(1)] and seconds < 3
+    assert it.counted("sent", "strays", "failures") == [2, 0, 0]
+
+
+def test_late_refusal_of_an_upstream(forwarder):
+    """What the one says while the other is asked ends nothing, and it is not asked again."""
+    it = forwarder(one := Server(told(rcode=REFUSED), delay=1), Server(delay=1.2))
+    assert data(it.ask("a1.example")) == [address(1)]
+    assert (it.counted("sent"), len(one.asked)) == ([3], 1)
+
+
+@pytest.mark.parametrize("count", [1, 2])
+def test_upstreams_whose_ports_are_closed(forwarder, count):
+    """Each is asked once, and then the question has failed."""
+    servers = [Server() for _ in range(count)]
+    it = forwarder(*servers)
+    for server in servers:
+        server.stop()
+    reply, seconds = took(it.ask, "a1.example")
+    assert reply.rcode() == SERVFAIL and seconds < 0.7
+    assert it.counted("sent", "failures") == [count, 1]
+
+
+def test_upstream_whose_port_is_closed(forwarder):
+    """The other is asked at once, and again at the end of its try."""
+    it = forwarder(one := Server(), Server(delay=1.3))
+    one.stop()
+    assert data(it.ask("a1.example")) == [address(1)]
+    assert it.counted("sent") == [3]
+
+
+def test_referral_upstream(forwarder):
+    """It answers nothing, so the next upstream is asked."""
+    it = forwarder(Server(told(authority=["example 60 NS ns.example"])), two := Server())
+    assert data(it.ask("a1.example")) == [address(1)]
+    assert two.times("a1.example") == 1
 
 
 def test_junk_upstream(forwarder):
@@ -138,6 +232,34 @@ def test_edns_upstream_does_not_know(forwarder, rcode, is_bare):
         reply, seconds = took(lambda: it.ask(f"a{n}.example", use_edns=True))
         assert data(reply) == [address(n)] and seconds < 0.7
     assert len(server.asked) == 4
+
+
+@pytest.mark.parametrize("rcode", [FORMERR, NOTIMP])
+def test_edns_upstream_knows_it_though_it_refuses(forwarder, rcode):
+    """FORMERR or NOTIMP with an OPT record is of a server that knows these (RFC 6891 section 7). It
+    is not asked for that name again, and gets OPT records all the same."""
+    def answer(server, asked, name):
+        if name == "a1.example":
+            (it := response(asked, rcode=rcode)).use_edns(0)
+            return [it]
+        assert asked.opt
+        return plain()(server, asked, name)
+    it = forwarder(server := Server(answer))
+    assert it.ask("a1.example").rcode() == SERVFAIL
+    assert data(it.ask("a2.example")) == [address(2)]
+    assert (len(server.asked), server.octets[10:12]) == (2, b"\0\1")
+
+
+def test_edns_upstream_of_those_alone_that_does_not_know_it(forwarder):
+    """What one upstream does not know is sent to another."""
+    def answer(server, asked, name):
+        if name == "a1.example":
+            return [response(asked, rcode=FORMERR if asked.opt else SERVFAIL)]
+        return []
+    it = forwarder(one := Server(answer), two := Server())
+    for n in (1, 2):
+        assert data(it.ask(f"a{n}.example")) == [address(n)]
+    assert (len(one.asked), one.octets[10:12], two.octets[10:12]) == (2, b"\0\0", b"\0\1")
 
 
 def test_edns_extended_rcode_upstream(forwarder):
@@ -191,7 +313,7 @@ def test_tcp_upstream_that_is_not_there(forwarder):
     it = forwarder(server := Server(over_tcp(100), tcp=False))
     reply, seconds = took(it.ask, "a1.example")
     assert (reply.rcode(), counts(reply), reply.flags & TC) == (SERVFAIL, [0, 0, 0], 0)
-    assert seconds < 5 and server.times("a1.example") == 4
+    assert seconds < 5 and server.times("a1.example") == 1
 
 
 @pytest.mark.parametrize("how", ["early", "short", "empty", "other", "id", "truncated", "slow"])
