@@ -6,6 +6,7 @@
   grammar, mutation, trials       random traces, and what is compared on them
   rows                            the worked traces of tests/rows
   captures                        what bin/from-capture, bin/what-if and bin/why are made of
+  commands                        how commands read their words, and how they end
   kit, lanes, processes           the Rattle kit, tasks side by side, and what these take
   version, manual, debian         the library's version and man pages, and libraries of Debian's
 

@@ -2,6 +2,7 @@
 """What tests of the tools share with those of archives, refusals and the package for Python."""
 import fcntl
 import io
+import os
 import re
 import signal
 import subprocess
@@ -32,6 +33,9 @@ REPORT = '"$real" "$@" | sed "{}"'
 OPTIONS = {name: [int(it.replace(",", "")) for it in numbers] for name, *numbers in re.findall(
     r"^\| `--(\w+) N` \| ([\d,]+) to ([\d,]+) \| (\d+) \|",
     (TOP / "docs" / "FORMATS.md").read_text(), re.M)}
+# What keys take in memory, by the table in docs/CAPTURES.md: an entry; what is shared; a list of up
+# to 32 octets, such as a name or rdata; and a longer one beside its octets.
+ENTRY, SHARED, SHORT_LIST, LONG_LIST, SEVERAL = 160, 32, 48, 48 + 16, 48 + 16
 
 
 def pytest_ran(*words, **others):
@@ -45,17 +49,24 @@ def is_all_read(pipe):
     return not any(fcntl.ioctl(pipe, termios.FIONREAD, bytes(4)))
 
 
+def sleeps(process):
+    """Whether a process waits for something."""
+    stat = Path(f"/proc/{process}/stat").read_text()
+    return stat.rpartition(")")[2].split()[0] == "S"
+
+
 def interrupted(*words, octets=b"sweep 0\n", is_read=True, is_begun=is_all_read):
     """The status of a tool that is interrupted where it waits for more than these octets on
     standard input, and what it writes and says; its lines are read, or nobody is there who would.
     """
+    buffered = {it: value for it, value in os.environ.items() if it != "PYTHONUNBUFFERED"}
     with subprocess.Popen(
             [sys.executable, *words], cwd=TOP, stdin=subprocess.PIPE, stdout=subprocess.PIPE,
-            stderr=subprocess.PIPE,
+            stderr=subprocess.PIPE, env=buffered,
             preexec_fn=lambda: signal.signal(signal.SIGINT, signal.SIG_DFL)) as run:
         run.stdin.write(octets)
         run.stdin.flush()
-        while run.poll() is None and not is_begun(run.stdin):
+        while run.poll() is None and not (is_begun(run.stdin) and sleeps(run.pid)):
             time.sleep(0.01)
         if not is_read:
             run.stdout.close()

@@ -13,25 +13,28 @@ import subprocess
 import sys
 import time
 from collections import Counter
-from ipaddress import ip_address
 
 import pytest
 
 from tests.tools import made_captures as made
 from tests.tools.made_messages import message, query
-from tests.tools.shared import TOP, counted, interrupted, ran
+from tests.tools.shared import (ENTRY, LONG_LIST, SEVERAL, SHARED, SHORT_LIST, TOP, counted,
+                                interrupted, ran)
 from tools.captures import dnstap
 from tools.captures.packets import Capture, NoCapture
-from tools.captures.traffic import Traffic
+from tools.captures.seen import Peer, Seen
+from tools.captures.sides import Place
+from tools.captures.traffic import WAIT_UNKNOWN, Traffic
+from tools.captures.waits import HELD_MOST, Waits
 from tools.model import Part
 from tools.mutation import changed_octets
-from tools.traces import Replay, line_of
+from tools.traces import Replay, line_of, report
 
 CAPTURES = TOP / "tests" / "captures"
 PCAP, DNSTAP = CAPTURES / "small.pcap", CAPTURES / "small.dnstap"
 ANY = "255"
 CLIENT, RESOLVER, SERVER, OTHER = (bytes([192, 0, 2, it]) for it in (1, 53, 201, 202))
-RESOLVERS = [ip_address(it).packed for it in ("192.0.2.53", "2001:db8:53::53")]
+RESOLVERS = [Place.of(it) for it in ("192.0.2.53", "2001:db8:53::53")]
 NOW = 1_000_000_000
 
 
@@ -129,7 +132,7 @@ def exchange(at, asked, answer, server=SERVER):
 def told(capture, **options):
     """The lines without messages, their moments counted from the first second, and what was
     counted."""
-    lines, counts = lines_of(capture, resolvers=[RESOLVER], **options)
+    lines, counts = lines_of(capture, **{"resolvers": [Place(RESOLVER)], **options})
     found = [it.split()[:3 if it.startswith("response") else 4] for it in lines]
     return [" ".join([word, str(int(at) - NOW), *rest]) for word, at, *rest in found], counts
 
@@ -158,6 +161,82 @@ def test_a_server_that_is_a_client_too_is_no_resolver():
                              (1, SERVER, RESOLVER, query("later. A"))))
     assert lines == [f"ask {NOW} www.example. 1 answer failed", f"response {NOW} . {ANSWER.hex()}",
                      f"ask {NOW + 1} later. 1 answer failed"]
+
+
+# ---- a resolver and its servers at one address
+
+
+HERE = bytes([127, 0, 0, 1])
+
+
+def here(at, ports, octets):
+    """The packet of a message from a port of the address to another."""
+    return NOW + at, made.udp(HERE, HERE, ports, octets)
+
+
+def talk_here(up=UP):
+    """A client asks port 53, where the resolver is, and that asks port 5353."""
+    return on_ethernet([here(0, (4000, 53), query()), here(0, (5000, 5353), up),
+                        here(1, (5353, 5000), ANSWER),
+                        here(1, (53, 4000), message(7, 0x8180, WWW))])
+
+
+BOTH = (53, 5353)
+# The resolver where its servers are asked with a wish for recursion too.
+FORWARDED = query(number=9)
+
+
+@pytest.mark.parametrize("up, options", [
+    (UP, {"resolvers": [Place(HERE, 53)]}), (FORWARDED, {"resolvers": [Place(HERE, 53)]}),
+    # guessed, by who wishes for recursion
+    (UP, {"resolvers": []})])
+def test_a_port_tells_a_resolver_from_servers_at_its_address(up, options):
+    assert texts(talk_here(up), ports=BOTH, **options) == [ASK, "response 1 ."]
+
+
+def run_here(tmp_path, capture, *words):
+    """The words of the lines, and the warnings."""
+    path = tmp_path / "capture"
+    path.write_bytes(capture)
+    run = ran("bin/from-capture", *words, path)
+    assert run.returncode == 0
+    return ([it.split()[0] for it in run.stdout.splitlines()],
+            [it for it in run.stderr.splitlines() if "warning" in it])
+
+
+@pytest.mark.parametrize("words, lines, said", [
+    (["--resolver=127.0.0.1@53", "--port=5353"], ["ask", "response"], []),
+    # the resolver's own queries are taken for a client's
+    (["--resolver=127.0.0.1", "--port=53", "--port=5353"], ["ask", "ask"], [
+        "no response", "to 127.0.0.1@53, 127.0.0.1@5353 count as clients'"]),
+    (["--port=53", "--port=5353"], ["ask", "ask"], [
+        "no response", "to 127.0.0.1@53, 127.0.0.1@5353 count as clients'"]),
+    # what goes to the other port is left out
+    (["--resolver=127.0.0.1@53"], ["ask"], ["no response"]),
+    (["--resolver=127.0.0.1"], ["ask"], ["no response"])])
+def test_the_command_warns_where_sides_are_not_told(tmp_path, words, lines, said):
+    found, warned = run_here(tmp_path, talk_here(FORWARDED), *words)
+    assert (found, len(warned)) == (lines, len(said))
+    assert all(it in line and "pass --resolver ADDRESS@PORT" in line
+               for it, line in zip(said, warned))
+
+
+def test_a_client_on_the_resolver_s_own_host_is_one(tmp_path):
+    capture = talk((0, CLIENT, RESOLVER, query()), (1, RESOLVER, RESOLVER, query("own. A")),
+                   *exchange(1, UP, ANSWER))
+    assert run_here(tmp_path, capture, "--resolver=192.0.2.53") == (["ask", "ask", "response"], [])
+
+
+def test_a_server_that_is_named_as_the_resolver_is_told_of(tmp_path):
+    words = ["--resolver=192.0.2.53", "--resolver=192.0.2.201"]
+    found, warned = run_here(tmp_path, talk(ASKED, *exchange(0, UP, ANSWER)), *words)
+    assert found == ["ask", "ask"] and "to 192.0.2.201@53 count as clients'" in warned[1]
+
+
+@pytest.mark.parametrize("place", ["192.0.2.53@", "192.0.2.53@0", "::1@65536", "::1@+5", "a@53"])
+def test_the_command_refuses_what_is_no_place(place):
+    run = ran("bin/from-capture", f"--resolver={place}", PCAP)
+    assert (run.returncode, run.stdout) == (2, "") and f"{place} is no ADDRESS" in run.stderr
 
 
 # ---- the same messages on other ways
@@ -305,7 +384,7 @@ ODD = [
 
 @pytest.mark.parametrize("octets, reason", ODD, ids=[reason for _, reason in ODD])
 def test_odd_packets_are_counted_by_their_reason(octets, reason):
-    lines, counts = lines_of(octets, resolvers=[RESOLVER])
+    lines, counts = lines_of(octets, resolvers=[Place(RESOLVER)])
     if reason:
         assert lines == [] and any(it.startswith(reason) for it in counts)
 
@@ -323,7 +402,7 @@ def test_fragments_that_do_not_fit_are_given_up(pieces):
     packets = [(NOW + it, made.ip4(CLIENT, RESOLVER, 17, payload[start:end], 5, start, more))
                for it, (start, end, more) in enumerate(pieces)]
     packets.append((NOW + 40, made.ip4(CLIENT, RESOLVER, 17, payload[:8], 6, more=1)))
-    lines, counts = lines_of(on_ethernet(packets), resolvers=[RESOLVER])
+    lines, counts = lines_of(on_ethernet(packets), resolvers=[Place(RESOLVER)])
     assert lines == [] and any(it.startswith("packet: fragments") for it in counts)
 
 
@@ -472,7 +551,7 @@ def test_many_ICMP_messages_take_a_few_seconds(ports, unmatched):
            for number, port in enumerate(ports)]
     octets = on_ethernet([(NOW, it) for it in ups] + [refused(1, it) for it in ups])
     begun = time.process_time()
-    lines, counts = lines_of(octets, resolvers=[RESOLVER])
+    lines, counts = lines_of(octets, resolvers=[Place(RESOLVER)])
     spent = time.process_time() - begun
     assert lines == [f"fail {NOW + 1} h{it}. 1" for it in range(10_000)]
     assert counts["ICMP: of no query to a server"] == unmatched
@@ -484,7 +563,7 @@ def test_ICMP_for_IPv6_tells_of_a_failure():
     up = made.udp(ours, theirs, (5000, 53), UP)
     packets = [(NOW, up), (NOW + 1, made.ip6(theirs, ours, 58, b"\1\4" + bytes(6) + up)),
                (NOW + 20, made.udp(theirs, ours, (4000, 53), query("later. A")))]
-    lines, _ = lines_of(on_ethernet(packets), resolvers=[ours])
+    lines, _ = lines_of(on_ethernet(packets), resolvers=[Place(ours)])
     assert [it.split()[0] for it in lines] == ["fail", "ask"]
 
 
@@ -506,6 +585,123 @@ def test_messages_that_go_backward_in_time_are_counted(times, count):
 def test_other_ports_are_of_the_DNS_where_that_is_said():
     octets = on_ethernet([(NOW, made.udp(CLIENT, RESOLVER, (4000, 5300), query()))])
     assert texts(octets, ports=(5300,)) == [ASK]
+
+
+# ---- when a stale answer will do
+
+
+# The timer of RFC 8767 section 5, in microseconds.
+TIMER = 1_800_000
+
+
+def timed(capture, limit=TIMER, **options):
+    """The lines of a capture, and what was counted, with a client response timer or without."""
+    counts, stream = Counter(), io.BufferedReader(io.BytesIO(capture))
+    is_frames = dnstap.is_dnstap(stream.peek(4))
+    found = dnstap.messages(stream, counts) if is_frames else Capture(counts).messages(stream)
+    traffic = Traffic(counts, **options)
+    return list(traffic.lines(Waits(limit).told(found) if limit else found)), counts
+
+
+def modes_of(capture, **options):
+    """The mode of each ask, and what was counted."""
+    lines, counts = timed(capture, resolvers=[Place(RESOLVER)], **options)
+    return [it.split()[-1] for it in lines if it.startswith("ask")], counts
+
+
+def answered(at, number=7, flags=0x8180):
+    """The resolver's answer to a client."""
+    return at, RESOLVER, CLIENT, message(number, flags, WWW)
+
+
+def unwished(at):
+    """A client's query that wishes for no recursion."""
+    return at, CLIENT, RESOLVER, query(number=5, flags=0)
+
+
+@pytest.mark.parametrize("said, modes", [
+    # the timer of RFC 8767 section 5 runs out at 1.8 seconds
+    ([ASKED, answered(1.79), LATER, answered(20)], ["failed", "failed"]),
+    ([ASKED, answered(1.8), LATER, answered(20)], ["now", "failed"]),
+    ([ASKED, answered(9), LATER, answered(20)], ["now", "failed"]),
+    # never answered; and a server failure at once is an answer
+    ([ASKED, LATER, answered(20)], ["now", "failed"]),
+    ([ASKED, answered(1, flags=0x8182), LATER, answered(20)], ["failed", "failed"]),
+    # an answer to another query is none
+    ([ASKED, answered(1, number=8), LATER, answered(20)], ["now", "failed"]),
+    # sent again, by one query's number: each waits by itself
+    ([ASKED, asks(1), answered(2), LATER, answered(20)], ["now", "failed", "failed"]),
+    # without a wish for recursion no stale answer will do (docs/RULES.md)
+    ([unwished(0), LATER, answered(20)], ["none", "failed"])])
+def test_a_client_that_waited_has_a_stale_answer_at_once(said, modes):
+    assert modes_of(talk(*said)) == (modes, {})
+
+
+@pytest.mark.parametrize("limit", [TIMER, None])
+def test_asks_are_stale_at_once_where_that_is_asked_for(limit):
+    said = talk(ASKED, answered(1), unwished(2), answered(2, number=5), LATER, answered(20))
+    assert modes_of(said, limit=limit, mode="now")[0] == ["now", "none", "now"]
+
+
+def test_what_is_not_known_of_a_client_at_the_end_is_counted():
+    assert modes_of(talk(ASKED, (1.5, RESOLVER, SERVER, UP))) == (["failed"], {
+        WAIT_UNKNOWN: 1, "query: the capture ends before its response or time-out": 1})
+
+
+def test_a_timer_changes_modes_alone(small):
+    """Neither which lines there are nor their order."""
+    assert [re.sub(" now$", " failed", it) for it in timed(PCAP.read_bytes())[0]] == small
+
+
+def test_what_is_held_back_stays_little():
+    """Of 150,000 queries within the timer the first are let go before it is known."""
+    one = Seen(NOW, Peer(CLIENT, 4000), Peer(RESOLVER, 53), query())
+    waits, most, unknown = Waits(TIMER), 0, 0
+    for it in waits.told(one for _ in range(HELD_MOST + 50_000)):
+        most, unknown = max(most, len(waits.held)), unknown + (it.waited is None)
+    assert most <= HELD_MOST and unknown == HELD_MOST + 50_000 and not waits.open
+
+
+@pytest.mark.parametrize("limit, first", [
+    (TIMER, "stale 30 www.example. 00000000"), (None, "miss")])
+def test_a_stale_answer_comes_where_the_client_waited(limit, first):
+    """An address with a TTL of 60 is asked for when it is 100 seconds old (RFC 8767 section 5), and
+    again by a client that is answered at once."""
+    lines, _ = timed(talk(*exchange(0, UP, ANSWER), asks(100), answered(102), asks(110),
+                          answered(110)), limit, resolvers=[Place(RESOLVER)])
+    told = report(line_of(it.encode()) for it in lines)
+    assert [it.split(" ", 2)[2] for it in told if " ask " in it] == [first, "miss"]
+
+
+@pytest.mark.parametrize("words, mode", [([], "failed"), (["--mode=now"], "now")])
+def test_the_command_takes_a_mode(words, mode):
+    run = ran("bin/from-capture", *words, PCAP)
+    wished = [int(it[3]) for it in told_by_tshark("small.asks") if it[2] != ANY]
+    assert (run.returncode, "warning" in run.stderr) == (0, False)
+    assert [it[-1] for it in fields(run.stdout.splitlines(), "ask")] == [
+        mode if it else "none" for it in wished]
+
+
+def test_the_command_warns_where_a_capture_cannot_tell_how_long_clients_waited():
+    """This one has no answers to clients but server failures."""
+    run = ran("bin/from-capture", "--mode=timer", PCAP)
+    assert run.returncode == 0 and run.stderr.count("warning: the capture has no answer") == 1
+
+
+@pytest.mark.parametrize("seconds, mode", [("2.5", "failed"), ("1.5", "now"), (None, "now")])
+def test_the_command_takes_a_client_timer(tmp_path, seconds, mode):
+    (tmp_path / "capture").write_bytes(talk(ASKED, answered(2), LATER, answered(20)))
+    words = [f"--client-timer={seconds}"] * bool(seconds)
+    run = ran("bin/from-capture", "--resolver=192.0.2.53", "--mode=timer", *words,
+              tmp_path / "capture")
+    assert run.stdout.splitlines()[0].endswith(f" {mode}")
+
+
+@pytest.mark.parametrize("word", ["--client-timer=0", "--client-timer=61", "--client-timer=nan",
+                                  "--mode=none"])
+def test_the_command_refuses_what_is_no_mode_and_no_timer(word):
+    run = ran("bin/from-capture", word, PCAP)
+    assert (run.returncode, run.stdout) == (2, "")
 
 
 # ---- dnstap
@@ -574,6 +770,12 @@ def test_dnstap_tells_the_sides_and_the_zone():
         "ask 4 www.example. 1", "fail 5 www.example. 1"]
 
 
+@pytest.mark.parametrize("at, mode", [(1, "failed"), (3, "now")])
+def test_dnstap_tells_how_long_a_client_waited(at, mode):
+    octets = START + tapped(5, 0, query()) + tapped(6, at, message(7, 0x8180, WWW))
+    assert [it.split()[-1] for it in timed(octets)[0]] == [mode]
+
+
 # ---- zones
 
 
@@ -633,7 +835,7 @@ def test_the_command_ends_by_an_interrupt_without_a_traceback(size, is_read):
     """It waits for more. It ends with whole lines, and also where whoever read them is gone; what
     there is to write then is less than is written at once."""
     octets = PCAP.read_bytes()[:size]
-    resolvers = [f"--resolver={ip_address(it)}" for it in RESOLVERS]
+    resolvers = [f"--resolver={it}" for it in RESOLVERS]
     status, out, said = interrupted("bin/from-capture", *resolvers, "-", octets=octets,
                                     is_read=is_read)
     assert (status, bool(out), said) == (130, is_read, "")
@@ -643,8 +845,7 @@ def test_the_command_ends_by_an_interrupt_without_a_traceback(size, is_read):
 
 
 @pytest.mark.parametrize("path, said", [
-    (__file__, __file__), ("/nonexistent", "/nonexistent"), (os.devnull, os.devnull),
-    ("-", "standard input is no capture")])
+    (__file__, __file__), (os.devnull, os.devnull), ("-", "standard input is no capture")])
 def test_the_command_says_what_is_no_capture(path, said):
     run = ran("bin/from-capture", path, input="")
     assert (run.returncode, run.stdout, run.stderr.count("\n")) == (1, "", 1)
@@ -653,27 +854,39 @@ def test_the_command_says_what_is_no_capture(path, said):
 
 def test_the_command_says_what_to_install():
     code = ("import sys, runpy; from tools import debian; debian.has = lambda it: False;"
-            "sys.argv = ['from-capture'];"
+            "sys.argv = ['from-capture', *{}];"
             "runpy.run_path('bin/from-capture', run_name='__main__')")
-    run = subprocess.run([sys.executable, "-c", code], cwd=TOP, capture_output=True,
-                         text=True, env={**os.environ, "RRCACHE_TOOL_AGAIN": "1"})
+
+    def without_dpkt(*words):
+        return subprocess.run([sys.executable, "-c", code.format(words)], cwd=TOP, text=True,
+                              capture_output=True, env={**os.environ, "RRCACHE_TOOL_AGAIN": "1"})
+    run = without_dpkt(os.devnull)
     assert (run.returncode, run.stderr.count("\n")) == (1, 1)
     assert "apt-get install python3-dpkt" in run.stderr
+    assert without_dpkt("--help").stdout.startswith("usage: from-capture")
 
 
 # ---- what bin/what-if says of the capture
 
 
+def memory_of(entry):
+    """What a key takes: its lists of octets are its names and its data, of which the names are
+    shared each, and the data together. A failure has the key's name alone."""
+    key, body = entry.key, entry.body
+    names = {key.name} if body.kind == "failure" else {key.name, body.owner}
+    lists = [SHORT_LIST if len(it) <= 32 else LONG_LIST + len(it) for it in [*names, *body.items]]
+    shared = SHARED * (len(names) + (body.kind != "failure"))
+    return ENTRY + shared + SEVERAL * (len(body.items) > 1) + sum(lists)
+
+
 class Counting(Part):
-    """A part of the model's that remembers the most octets that it held behind any offer."""
+    """A part of the model's that remembers the most memory that it took behind any offer."""
 
     most = 0
 
     def offer(self, offer):
         outcome = super().offer(offer)
-        self.most = max(self.most, sum(
-            len(key.name) + len(entry.body.owner) + sum(map(len, entry.body.items))
-            for key, entry in self.held.items()))
+        self.most = max(self.most, sum(map(memory_of, self.held.values())))
         return outcome
 
 

@@ -8,8 +8,10 @@ import xml.etree.ElementTree as xml
 
 import pytest
 
-from tests.tools.made_messages import DENIED
-from tests.tools.shared import REPORT, TOP, WRONG_ARGUMENTS, counted, interrupted, ran
+from tests.tools.made_messages import DENIED, SOA, message
+from tests.tools.shared import (ENTRY, LONG_LIST, REPORT, SEVERAL, SHARED, SHORT_LIST, TOP,
+                                WRONG_ARGUMENTS, counted, interrupted, ran)
+from tools.captures.curves import AmountScale
 
 ASKED = [
     "put 100 a. 1 4 60 01020304", "ask 110 a. 1 answer none",
@@ -17,16 +19,60 @@ ASKED = [
     "ask 200 b. 1 answer now", f"response 200 example. {DENIED}",
     "ask 210 a.example. 1 answer none",
 ]
-# capacity, stale, negative: fresh, stale, negative, missed, evictions, octets. A set of a. has 3
-# octets of name, 3 of owner, 4 of data; the SOA set 9, 9, 38; the denial of a.example. 11, 9, 38.
+# What these take: a name of up to 32 octets, as all are here; the set of a. or b., with 4 octets of
+# rdata; the SOA set of example., with 38; the denial of a.example., with the owner's name besides.
+NAME = SHARED + SHORT_LIST
+A_SET = ENTRY + NAME + SHARED + SHORT_LIST
+SOA_SET = ENTRY + NAME + SHARED + LONG_LIST + 38
+DENIAL = ENTRY + NAME + NAME + SHARED + LONG_LIST + 38
+ALL = A_SET + A_SET + SOA_SET + DENIAL
+# capacity, stale, negative: fresh, stale, negative, missed, evictions, octets.
 COUNTED = {
-    (8, 86_400, 10_800): (3, 1, 1, 0, 0, 134), (1, 86_400, 10_800): (2, 1, 1, 1, 3, 58),
-    (8, 0, 10_800): (3, 0, 1, 1, 0, 134), (1, 0, 10_800): (2, 0, 1, 2, 3, 58),
-    (8, 86_400, 5): (3, 1, 0, 1, 0, 134), (1, 86_400, 5): (2, 1, 0, 2, 3, 58),
-    (8, 0, 5): (3, 0, 0, 2, 0, 134), (1, 0, 5): (2, 0, 0, 3, 3, 58),
+    (8, 86_400, 10_800): (3, 1, 1, 0, 0, ALL), (1, 86_400, 10_800): (2, 1, 1, 1, 3, DENIAL),
+    (8, 0, 10_800): (3, 0, 1, 1, 0, ALL), (1, 0, 10_800): (2, 0, 1, 2, 3, DENIAL),
+    (8, 86_400, 5): (3, 1, 0, 1, 0, ALL), (1, 86_400, 5): (2, 1, 0, 2, 3, DENIAL),
+    (8, 0, 5): (3, 0, 0, 2, 0, ALL), (1, 0, 5): (2, 0, 0, 3, 3, DENIAL),
 }
+KINDS = ["fresh", "stale", "negative", "missed"]
 VARIED = ["--capacity=1,8", "--stale=0,86400", "--negative=5,10800"]
 PUT = "put 100 a. 1 4 60 01020304"
+# Names of 32 octets, with that of the length and the root's, and of 33.
+NAME_32, NAME_33 = "a" * 30 + ".", "a" * 31 + "."
+LONG_NAME = SHARED + LONG_LIST + 33
+
+
+def denied(asked, soa=SOA, flags=0x8403):
+    """A line of a response that denies what is asked."""
+    return f"response 100 . {message(7, flags, asked, [], [soa]).hex()}"
+
+
+# Lines that offer one set, one failure, or a denial with its SOA set; and what all of it takes.
+HELD = {
+    "short": (PUT, A_SET),
+    "no octets": ("put 100 . 10 4 60 -", A_SET),
+    "name of 32": (f"put 100 {NAME_32} 1 4 60 01020304", A_SET),
+    "name of 33": (f"put 100 {NAME_33} 1 4 60 01020304", ENTRY + LONG_NAME + SHARED + SHORT_LIST),
+    "owner": ("put 100 A. 1 4 60 01020304", A_SET + NAME),
+    "owner of 33": (f"put 100 {NAME_33.upper()} 1 4 60 01020304",
+                    ENTRY + LONG_NAME + LONG_NAME + SHARED + SHORT_LIST),
+    "two records": (f"{PUT},01020305", A_SET + SEVERAL + SHORT_LIST),
+    "one record twice": (f"{PUT},01020304", A_SET),
+    "rdata of 32": (f"put 100 a. 16 4 60 {'00' * 32}", A_SET),
+    "rdata of 33": (f"put 100 a. 16 4 60 {'00' * 33}", ENTRY + NAME + SHARED + LONG_LIST + 33),
+    "rdata of 33 and 4": (f"put 100 a. 16 4 60 {'00' * 33},01020304",
+                          ENTRY + NAME + SHARED + SEVERAL + LONG_LIST + 33 + SHORT_LIST),
+    "no name": (denied("a.example. A"), SOA_SET + DENIAL),
+    "no type": (denied("a.example. A", flags=0x8400), SOA_SET + DENIAL),
+    "no type of the owner": (denied("example. A", flags=0x8400), SOA_SET + DENIAL - NAME),
+    "denial's owner": (denied("a.Example. A"), SOA_SET + NAME + DENIAL),
+    # the name that is denied has 35 octets
+    "denial of 35": (denied(f"a.{NAME_33} A", f"{NAME_33}{SOA.removeprefix('example.')}"),
+                     ENTRY + LONG_NAME + SHARED + LONG_LIST + 38
+                     + ENTRY + LONG_NAME + 2 + LONG_NAME + SHARED + LONG_LIST + 38),
+    "failure": ("fail 100 A. 1", ENTRY + NAME),
+    "failure of 33": (f"fail 100 {NAME_33} 1", ENTRY + LONG_NAME),
+    "fetch": ("fetch 100 a. 1 . -", ENTRY + NAME),
+}
 
 
 @pytest.fixture
@@ -41,27 +87,102 @@ def test_what_if_counts_by_the_rules(what_if, asked):
     rows = csv.DictReader(io.StringIO(what_if(asked, "--csv", *VARIED)))
     assert [counted(it) for it in rows] == [counted(it) for it in results]
     table = what_if(asked, "--capacity=8").split()
-    assert "60.0" in table and "134" in table
+    assert "60.0" in table and f"{ALL:,}" in table
+
+
+@pytest.mark.parametrize("line, octets", HELD.values(), ids=HELD)
+def test_what_if_counts_the_memory_that_keys_take(what_if, trace_of, line, octets):
+    found = json.loads(what_if(trace_of([line]), "--json", "--capacity=8"))
+    assert [it["octets"] for it in found] == [octets]
 
 
 @pytest.mark.parametrize("lines, stale, octets", [
-    ([PUT, "put 110 a. 1 3 60 0102030405060708"], 0, 10),
-    ([PUT, "sweep 200", "put 200 b. 1 4 9 01020304"], 0, 10),
-    ([PUT, "sweep 200", "put 200 b. 1 4 9 01020304"], 86_400, 20)])
-def test_what_if_counts_the_octets_that_are_held(what_if, trace_of, lines, stale, octets):
-    """What is outranked is not held, nor is what a sweep removed: a stale set is kept by it."""
+    ([PUT, "put 110 a. 1 3 60 01020304,01020305"], 0, A_SET),
+    ([PUT, "put 110 a. 1 4 60 01020304,01020305"], 0, A_SET + SEVERAL + SHORT_LIST),
+    ([PUT, "sweep 200", "put 200 b. 1 4 9 01020304"], 0, A_SET),
+    ([PUT, "sweep 200", "put 200 b. 1 4 9 01020304"], 86_400, A_SET + A_SET)])
+def test_what_if_counts_what_is_held(what_if, trace_of, lines, stale, octets):
+    """What is outranked or replaced is not held, nor is what a sweep removed: a stale set is kept
+    by it."""
     words = ["--json", "--capacity=8", f"--stale={stale}"]
     assert json.loads(what_if(trace_of(lines), *words))[0]["octets"] == octets
 
 
-@pytest.mark.parametrize("words, curves, points", [
-    (["--capacity=1,2,4,8"], 4, 4), (VARIED[:2], 2, 2), (["--capacity=8", "--stale=5"], 4, 1)])
-def test_what_if_draws_a_curve_for_each_share_or_setting(what_if, asked, tmp_path, words, curves,
-                                                         points):
-    what_if(asked, "--svg", tmp_path / "a.svg", *words)
-    found = [it.get("points").split() for it in xml.parse(tmp_path / "a.svg").iter()
-             if it.tag.endswith("polyline")]
-    assert [len(it) for it in found] == [points] * curves
+@pytest.fixture
+def drawn(what_if, tmp_path):
+    """Draws a trace, and answers the points of each curve by its name, which has its color."""
+    def draw(path, *words):
+        what_if(path, "--svg", tmp_path / "a.svg", *words)
+        found = list(xml.parse(tmp_path / "a.svg").iter())
+        curves = {it.get("stroke"): [tuple(map(float, point.split(",")))
+                                     for point in it.get("points").split()]
+                  for it in found if it.tag.endswith("polyline")}
+        names = {it.get("style").removeprefix("fill:"): it.text for it in found if it.get("style")}
+        return {names[color]: points for color, points in curves.items()}
+    return draw
+
+
+@pytest.mark.parametrize("words, names, points", [
+    (["--capacity=1,2,4,8"], KINDS, 4), (["--capacity=8", "--stale=5"], KINDS, 1),
+    (VARIED[:2], ["answered, stale 0", "answered, stale 86,400"], 2),
+    (["--by=octets", "--capacity=1,2,4,8"], [*KINDS, "answered"], 4),
+    (["--by=octets", "--capacity=1,8", "--stale=0,5,9"],
+     ["answered, stale 0", "answered, stale 5", "answered, stale 9"], 2),
+    (["--by=octets", "--capacity=8", "--parts=1,2"],
+     ["answered, parts 1", "answered, parts 2"], 1)])
+def test_what_if_draws_a_curve_for_each_share_or_setting(drawn, asked, words, names, points):
+    """Over octets a curve goes along the capacities, however few they are."""
+    found = drawn(asked, *words)
+    assert {it: len(curve) for it, curve in found.items()} == dict.fromkeys(names, points)
+
+
+def test_what_if_draws_the_shares_over_octets(drawn, asked, tmp_path):
+    """The shares are those over the capacities 1, 2, 4 and 8. The first holds the denial at most,
+    the second the SOA set too, and the others all, which is less than 8 times as much: so they
+    stand as they are, and not by logarithms."""
+    words = "--capacity=1,2,4,8"
+    usual, found = drawn(asked, words), drawn(asked, "--by", "octets", words)
+    for kind in KINDS:
+        assert [y for _, y in found[kind]] == [y for _, y in usual[kind]]
+    low, second, third, last = (x for x, _ in found["answered"])
+    assert low < second < third == last
+    assert (second - low) / (last - low) == pytest.approx(SOA_SET / (ALL - DENIAL), abs=0.001)
+    # what is not missed is answered, and y of both together is that of 0 % and 100 %
+    height = {round(y + other, 1) for (_, y), (_, other) in zip(found["missed"], found["answered"])}
+    assert len(height) == 1 and len(set(found["answered"])) == 3
+    # round numbers are marked, of which one lies between, and not what was counted
+    text = (tmp_path / "a.svg").read_text()
+    assert ">1k<" in text and f">{ALL:,}<" not in text
+    assert ">octets that keys took, at most<" in text
+
+
+def test_what_if_goes_on_where_octets_are_the_same(what_if, drawn, trace_of):
+    """What was removed had fewer octets than what came then. The capacity 1 misses one ask of two,
+    and 2 and 3 none, so the curve of what is missed goes down, and y up."""
+    big = f"put 200 c. 16 4 60 {'00' * 2_000}"
+    trace = trace_of([PUT, "put 100 b. 1 4 60 01020304", "ask 110 a. 1 answer none",
+                      "ask 110 b. 1 answer none", "sweep 200", big])
+    words = ["--capacity=1,2,3", "--stale=0"]
+    results = json.loads(what_if(trace, "--json", *words))
+    assert [it["octets"] for it in results] == [ENTRY + NAME + SHARED + LONG_LIST + 2_000] * 3
+    found = drawn(trace, "--by=octets", *words)
+    assert len({x for curve in found.values() for x, _ in curve}) == 1
+    first, *others = (y for _, y in found["missed"])
+    assert others[0] == others[1] > first
+    first, *others = (y for _, y in found["answered"])
+    assert others[0] == others[1] < first
+
+
+@pytest.mark.parametrize("values, labels", [
+    ([0], "0"), ([23_693], "23.693k"), ([486, 1_596], "600 800 1k 1.2k 1.4k"),
+    ([1_234_001, 1_240_000], "1.235M 1.236M 1.237M 1.238M 1.239M 1.24M"),
+    ([5_000, 40_000], "5k 10k 20k"),
+    ([400_000, 3_000_000_000], "500k 1M 2M 5M 10M 20M 50M 100M 200M 500M 1G 2G")])
+def test_amounts_are_marked_by_round_numbers(values, labels):
+    """Up to six of them stand between amounts that span less than 8 times; others stand by their
+    logarithm, with 1, 2 and 5 of each power of ten."""
+    scale = AmountScale(values)
+    assert [scale.label(it) for it in scale.marks] == labels.split()
 
 
 @pytest.mark.parametrize("name", ["none/a.svg", ""])
@@ -93,7 +214,7 @@ def test_what_if_counts_a_fetch_as_an_ask(what_if, trace_of):
 
 
 @pytest.mark.parametrize("word", ["--capacity=0", "--stale=604801", "--parts=x",
-                                  "--negative=10801"])
+                                  "--negative=10801", "--by=capacity"])
 def test_what_if_refuses_what_it_cannot_replay(asked, word):
     run = ran("bin/what-if", word, asked)
     assert (run.returncode, run.stdout) == (WRONG_ARGUMENTS, "")
@@ -129,8 +250,8 @@ def test_what_if_shows_how_far_the_build_of_its_program_is(what_if, program_of, 
     (tmp_path / "bin").mkdir()
     tool = shutil.copy(TOP / "bin" / "what-if", tmp_path / "bin")
     (tmp_path / "tools").symlink_to(TOP / "tools")
-    program = program_of('case "$*" in --help) echo building >&2; exec "$real" --help ;;'
-                         ' *) exec "$real" "$@" ;; esac', tmp_path / "bin" / "rrcache")
+    program = program_of('case "$*" in "") echo building >&2 ;; esac; exec "$real" "$@"',
+                         tmp_path / "bin" / "rrcache")
     run = ran(tool, "--json", *VARIED, asked)
     assert (run.returncode, run.stderr) == (0, "building\n")
     assert run.stdout == what_if(asked, "--json", *VARIED)

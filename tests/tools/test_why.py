@@ -1,5 +1,6 @@
 # SPDX-License-Identifier: MIT
 """Tests of bin/why: what it says of small traces follows from docs/RULES.md."""
+import json
 import re
 
 import pytest
@@ -99,6 +100,36 @@ def test_why_says_what_follows_from_the_rules(trace_of, case):
     run = ran("bin/why", len(lines) - 1, trace_of([*lines, "sweep 0"]), *options)
     text = re.sub(r"\s+", " ", run.stdout)
     assert [it for it in wanted if it not in text] == [], text + run.stderr
+
+
+@pytest.mark.parametrize("case", WHY)
+def test_why_says_the_same_in_JSON(trace_of, case):
+    """As one object in a line, of the fields that docs/CAPTURES.md names; no sentence is cut."""
+    lines, wanted, *options = case
+    run = ran("bin/why", "--json", len(lines) - 1, trace_of([*lines, "sweep 0"]), *options)
+    assert (run.returncode, run.stderr, run.stdout.count("\n")) == (0, "", 1)
+    told = json.loads(run.stdout)
+    assert [*told] == ["line", "trace", "report", "reasons"]
+    assert (told["line"], told["trace"]) == (len(lines) - 1, lines[-1])
+    assert told["report"].startswith(f"{len(lines) - 1} {lines[-1].split()[0]}")
+    text = " ".join(told["reasons"])
+    assert [it for it in wanted if it.replace(" - ", " ") not in text] == []
+
+
+def test_why_tells_a_long_line_whole_in_JSON(trace_of):
+    """The words for people cut it."""
+    item = "fa" + "61" * 250
+    path = trace_of([f"put 100 a. 16 4 60 {item}", "ask 101 a. 16 any none"])
+    told = json.loads(ran("bin/why", "--json", 1, path).stdout)
+    assert told["report"] == f"1 ask fresh 59 a. {item}"
+    assert json.loads(ran("bin/why", "--json", 0, path).stdout)["trace"].endswith(item)
+    assert item not in ran("bin/why", 1, path).stdout
+
+
+@pytest.mark.parametrize("number, line", [(1, PUT), (0, "put")])
+def test_why_tells_a_fault_in_JSON_as_else(trace_of, number, line):
+    run = ran("bin/why", "--json", number, trace_of([line]))
+    assert (run.returncode, run.stdout, run.stderr.count("\n")) == (1, "", 1)
 
 
 @pytest.mark.parametrize("lines, number", NO_ALIAS)

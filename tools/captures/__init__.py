@@ -1,3 +1,3 @@
 # SPDX-License-Identifier: MIT
 """From captures to traces (packets, dnstap, traffic), and from traces to what was or would have
-been answered (replays, curves), and why (reasons)."""
+been answered (replays, memory, curves), and why (reasons)."""

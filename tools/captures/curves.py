@@ -1,5 +1,5 @@
 # SPDX-License-Identifier: MIT
-"""Curves on one picture, as SVG: shares from 0 to 100 % over a setting."""
+"""Curves on one picture, as SVG: shares from 0 to 100 % over a setting or an amount."""
 import math
 from typing import NamedTuple
 from xml.sax.saxutils import escape
@@ -10,27 +10,53 @@ COLORS = ("#1b6ca8", "#c8553d", "#4f7f3a", "#8a4f9e", "#b8860b", "#3a3a3a", "#0b
 DASHES = ("", "7 4", "2 3", "9 3 2 3")
 FONT = 'font-family="sans-serif" font-size="12" fill="#222"'
 GAP = 15
+# Numbers to read an amount by, and how they are written short.
+ROUND = [digit * 10**power for power in range(18) for digit in (1, 2, 5)]
+UNITS = ((10**9, "G"), (10**6, "M"), (10**3, "k"))
+STEPS_MOST = 6
 
 
 class Curve(NamedTuple):
-    """A name, and points: the setting's value and a share from 0 to 1."""
+    """A name, and points: the value that it is over, and a share from 0 to 1."""
 
     name: str
     points: list
 
 
 class Scale:
-    """Where the values of a setting stand: by their logarithm, where they span much."""
+    """Where the values of a setting stand: by their logarithm, where they span much. Each of them
+    is marked."""
 
     def __init__(self, values):
-        self.values = sorted(set(values))
-        low, high = self.values[0], self.values[-1]
+        self.marks = sorted(set(values))
+        low, high = self.marks[0], self.marks[-1]
         self.of = math.log2 if low > 0 and high / low >= 8 else float
         self.low, self.span = self.of(low), self.of(high) - self.of(low)
 
     def x(self, value):
         part = (self.of(value) - self.low) / self.span if self.span else 0.5
         return LEFT + part * (WIDTH - LEFT - RIGHT)
+
+    def label(self, value):
+        return f"{value:,}"
+
+
+class AmountScale(Scale):
+    """Where amounts stand. Round numbers between them are marked, in thousands (k), millions (M)
+    and thousands of millions (G)."""
+
+    def __init__(self, values):
+        super().__init__(values)
+        low, high = self.marks[0], self.marks[-1]
+        if self.of is math.log2:
+            self.marks = [it for it in ROUND if low <= it <= high]
+        else:
+            step = next(it for it in ROUND if high - low <= STEPS_MOST * it)
+            self.marks = list(range(-(-low // step) * step, high + 1, step))
+
+    def label(self, value):
+        size, unit = next((it for it in UNITS if value >= it[0]), (1, ""))
+        return f"{value / size:.12g}{unit}"
 
 
 def y(share):
@@ -47,20 +73,20 @@ def line(x1, y1, x2, y2, color):
             f'stroke="{color}" stroke-width="1"/>')
 
 
-def axes(scale, setting):
+def axes(scale, over):
     """The lines and the words at both axes."""
     right, last = WIDTH - RIGHT, -math.inf
     for percent in range(0, 101, 20):
         yield line(LEFT, y(percent / 100), right, y(percent / 100), "#ddd")
         yield text(LEFT - 8, y(percent / 100) + 4, f"{percent} %", "end")
-    for value in scale.values:
+    for value in scale.marks:
         x = scale.x(value)
         yield line(x, y(0), x, y(0) + 5, "#444")
         if x - last >= 34:
-            yield text(x, y(0) + 19, f"{value:,}", "middle")
+            yield text(x, y(0) + 19, scale.label(value), "middle")
             last = x
     yield line(LEFT, y(0), right, y(0), "#444")
-    yield text((LEFT + right) / 2, HEIGHT - 16, setting, "middle")
+    yield text((LEFT + right) / 2, HEIGHT - 16, over, "middle")
 
 
 def drawn(curve, number, scale):
@@ -82,13 +108,13 @@ def names(curves, scale):
         yield text(right + 18, last + 4, curves[number].name, more=f' style="fill:{color}"')
 
 
-def svg(title, setting, curves):
+def svg(title, over, curves, scale_of=Scale):
     """The picture."""
-    scale = Scale([value for it in curves for value, _ in it.points])
+    scale = scale_of([value for it in curves for value, _ in it.points])
     lines = [f'<svg xmlns="http://www.w3.org/2000/svg" width="{WIDTH}" height="{HEIGHT}" '
              f'viewBox="0 0 {WIDTH} {HEIGHT}">',
              f'<rect width="{WIDTH}" height="{HEIGHT}" fill="#fff"/>',
-             text(LEFT, 26, title, more=' font-weight="bold"'), *axes(scale, setting)]
+             text(LEFT, 26, title, more=' font-weight="bold"'), *axes(scale, over)]
     for number, curve in enumerate(curves):
         lines += drawn(curve, number, scale)
     return "\n".join([*lines, *names(curves, scale), "</svg>"]) + "\n"

@@ -5,7 +5,7 @@ Debian has libraries for neither in Python but for protobuf itself, which wants 
 the few fields that are needed are read here. The formats: fstrm's frame streams, the encoding of
 protocol buffers, and dnstap.proto of dnstap.info.
 """
-from tools.captures.packets import MICROSECONDS, NoCapture, Peer, Seen
+from tools.captures.seen import MICROSECONDS, NoCapture, Peer, Seen
 from tools.messages import name_at
 
 ESCAPE, FRAME_MOST = b"\0\0\0\0", 2**20

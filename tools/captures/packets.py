@@ -14,41 +14,15 @@ from typing import NamedTuple
 
 import dpkt
 
+from tools.captures.seen import CUT, MICROSECONDS, NoCapture, Peer, Seen
+
 PACKET_MOST = 262_144
 BLOCK_MOST = 16 * 2**20
-MICROSECONDS = 1_000_000
 FRAGMENTED_MOST, FRAGMENTED_SECONDS, PIECES_MOST = 1_000, 30, 64
 STREAMS_MOST, STREAM_SECONDS, AHEAD_MOST, OCTETS_MOST = 10_000, 120, 64, 64 * 2**20
 # What dpkt raises on octets that are not what they should be.
 ODD = (dpkt.UnpackError, struct.error, ValueError, IndexError, KeyError, TypeError, AttributeError)
 UDP, TCP, ICMP, ICMP6 = 17, 6, 1, 58
-CUT = "packet: cut off, as by the capture's snap length"
-
-
-class NoCapture(ValueError):
-    """A file is no capture."""
-
-
-class Peer(NamedTuple):
-    """An address, 4 or 16 octets, and a port."""
-
-    address: bytes
-    port: int
-
-
-class Seen(NamedTuple):
-    """What was seen: a `message`; the first octets of a response, with the header, of which the
-    capture's snap length `cut` off the rest; or that a datagram was `unreachable` (RFC 1122 section
-    3.2.2.1). `role` and `zone` are there where the capture tells them: the side of the resolver,
-    `client` or `server`, and the zone for which a server was asked."""
-
-    at: int
-    source: Peer
-    target: Peer
-    octets: bytes
-    role: str | None = None
-    zone: bytes | None = None
-    kind: str = "message"
 
 
 # ---- files

@@ -1,20 +1,18 @@
 # SPDX-License-Identifier: MIT
-"""What bin/from-capture, bin/what-if and bin/why have in common: files, the ranges of settings, how
-they show how far they are, and how they end where they are interrupted."""
+"""What bin/from-capture, bin/what-if and bin/why have in common: files, the ranges of settings, and
+how they show how far they are."""
 import argparse
+import errno
 import os
 import shutil
 import sys
 import tempfile
 from contextlib import contextmanager, nullcontext
-from pathlib import Path
 
 from tools import trials
 from tools.model import NEGATIVE_CAP
 
 STANDARD_INPUT = "-"
-# 128 and the number of SIGINT, as of a shell's command that the signal ended.
-INTERRUPTED = 130
 # Those of the program's options, and of the life of negative answers.
 RANGES = {**trials.RANGES, "negative": (0, NEGATIVE_CAP)}
 
@@ -37,33 +35,32 @@ def show(text):
         print(f"\r{text}\033[K", end="", file=sys.stderr, flush=True)
 
 
-def status_of(main, words):
-    """The status that a tool ends with, also where it is interrupted (Ctrl-C), or where whoever
-    reads what it prints wants no more of it."""
-    status = 0
-    try:
-        try:
-            status = main(words)
-            sys.stdout.flush()
-        except KeyboardInterrupt:
-            status = INTERRUPTED
-            sys.stdout.flush()
-    except BrokenPipeError:
-        # what is not written by now is written nowhere
-        os.dup2(os.open(os.devnull, os.O_WRONLY), sys.stdout.fileno())
-        return status or 1
-    return status
+def name_of(path):
+    """What a file is called where a tool tells of it."""
+    return "standard input" if path == STANDARD_INPUT else path
 
 
+@contextmanager
 def opened(path):
-    """A file, or standard input, which is read once and never sought in."""
-    return nullcontext(sys.stdin.buffer) if path == STANDARD_INPUT else open(path, "rb")
+    """A file, or standard input, which is read once and never sought in. Where nothing can be read
+    of it, as of a folder, the fault names it."""
+    is_input = path == STANDARD_INPUT
+    if is_input and sys.stdin is None:
+        raise OSError(errno.EBADF, os.strerror(errno.EBADF), name_of(path))
+    with nullcontext(sys.stdin.buffer) if is_input else open(path, "rb") as stream:
+        try:
+            stream.peek(1)
+        except OSError as fault:
+            raise OSError(fault.errno, fault.strerror, name_of(path)) from fault
+        yield stream
 
 
 @contextmanager
 def file_of(trace):
     """The path of a trace, for it is read more than once; of a copy where it is no regular file."""
-    if trace != STANDARD_INPUT and Path(trace).is_file():
+    if trace != STANDARD_INPUT and os.path.isfile(trace):
+        with opened(trace):
+            pass
         yield trace
         return
     with tempfile.NamedTemporaryFile() as copy:

@@ -4,11 +4,12 @@
 Whoever asks the resolver is a client, and whom it asks is a server. Memory is bounded but for the
 zones with the names of their servers, the addresses of all names, and the aliases to be followed.
 """
-from collections import Counter, OrderedDict, deque
+from collections import OrderedDict, deque
 from functools import lru_cache
 from typing import NamedTuple
 
-from tools.captures.packets import CUT, MICROSECONDS
+from tools.captures.seen import CUT, MICROSECONDS
+from tools.captures.sides import QR, RD, Sides, guess
 from tools.messages import (ALIASES_MOST, ANY, CNAME, HEADER, IN, NOERROR, NS, NXDOMAIN, QUESTION,
                             SOA, MessageFault, fields_at, final_name, is_kept, name_at, read)
 from tools.names import ROOT, ancestors, fold, is_at_or_below, to_text
@@ -17,12 +18,13 @@ from tools.traces import MOMENT_MOST
 DS, ADDRESSES = 43, (1, 28)
 # IXFR and AXFR (RFC 1995, RFC 5936).
 TRANSFERS = (251, 252)
-SERVFAIL, RD, QR, AA = 2, 0x0100, 0x8000, 0x0400
+SERVFAIL = 2
 # How many messages are kept until it is guessed who the resolver is.
 GUESSED_FROM = 20_000
 PENDING_MOST, FAILED_MOST = 100_000, 100_000
 TWICE_MICROSECONDS, TWICE_MOST = 10_000, 4_096
 REMEMBERED = 30 * MICROSECONDS
+WAIT_UNKNOWN = "client's query: used in the mode failed, not known whether it waited so long"
 BACKWARD = "used, though more than a second earlier than one before: are the files in order?"
 
 
@@ -65,29 +67,6 @@ def drop_first(times, most, is_old):
     """Takes the first times out of an ordered dictionary where they are old, or more than most."""
     while times and (len(times) > most or is_old(next(iter(times.values())))):
         times.popitem(last=False)
-
-
-# ---- who is the resolver
-
-
-def guess(messages, ports):
-    """The addresses of the resolver: those that are asked for recursion and ask others, and those
-    that ask others with no wish for it."""
-    asks, recursive = Counter(), Counter()
-    for it in messages:
-        if it.kind == "message" and it.target.port in ports and not flags_of(it.octets) & QR:
-            pair = (it.source.address, it.target.address)
-            asks[pair] += 1
-            recursive[pair] += bool(flags_of(it.octets) & RD)
-    found = {source for source, _ in asks} & {pair[1] for pair in asks if recursive[pair]}
-    for (source, target), count in asks.items():
-        if source not in found and target not in found:
-            found.add(target if recursive[source, target] * 2 > count else source)
-    return found
-
-
-def flags_of(octets):
-    return int.from_bytes(octets[2:4], "big")
 
 
 # ---- whose servers are asked
@@ -156,8 +135,9 @@ class Traffic:
     """Takes what was seen in its order, and answers lines of a trace."""
 
     def __init__(self, counts, resolvers=(), by_servers=False, seconds=5, ports=(53,),
-                 follows_aliases=False):
-        self.counts, self.resolvers, self.ports = counts, frozenset(resolvers), frozenset(ports)
+                 follows_aliases=False, mode="failed"):
+        self.mode, self.has_answers = mode, False
+        self.counts, self.sides, self.ports = counts, Sides(resolvers), frozenset(ports)
         self.is_given = bool(resolvers)
         self.aliases = {} if follows_aliases else None
         self.zones, self.timeout = Zones(by_servers), seconds * MICROSECONDS
@@ -194,7 +174,7 @@ class Traffic:
             size += len(it.octets)
             if len(first) == GUESSED_FROM or size > 64 * 2**20:
                 break
-        self.resolvers = frozenset(guess((it for it in first if not it.role), self.ports))
+        self.sides = Sides(guess((it for it in first if not it.role), self.ports))
         while first:
             yield first.popleft()
         yield from seen
@@ -223,7 +203,7 @@ class Traffic:
         if (it.source if is_response else it.target).port not in self.ports and it.role is None:
             self.counts["message: from or to a port of which it should not be"] += 1
             return
-        side = it.role or self.side(it.source.address, it.target.address, is_response)
+        side = it.role or self.sides.of(it, is_response)
         if side is None:
             self.counts["message: neither from nor to the resolver"] += 1
         elif is_response:
@@ -231,16 +211,9 @@ class Traffic:
         else:
             yield from (self.ask if side == "client" else self.query)(it, question)
 
-    def side(self, source, target, is_response):
-        """Whether a message is between the resolver and a `client`, or a `server`."""
-        asked, asking = (source, target) if is_response else (target, source)
-        if asked in self.resolvers:
-            return "client"
-        return "server" if asking in self.resolvers else None
-
     def is_response_of_server(self, it):
         """Whether a message that could not be read stands where a server's response is awaited."""
-        is_server = it.role == "server" or it.target.address in self.resolvers
+        is_server = it.role == "server" or it.target.address in self.sides.addresses
         return is_server and self.awaited(it)[1]
 
     # ---- clients
@@ -251,9 +224,18 @@ class Traffic:
         if reason:
             self.counts[f"client's query: {reason}"] += 1
             return
-        mode, at = "failed" if question.flags & RD else "none", it.at // MICROSECONDS
+        mode, at = self.mode_of(it, question), it.at // MICROSECONDS
         for name, rtype in self.chain(question):
             yield f"ask {at} {text(name)} {rtype} answer {mode}"
+
+    def mode_of(self, it, question):
+        """When a stale answer will do: at once for a client that waited for so long, which a trace
+        has no other way to say."""
+        if not question.flags & RD:
+            return "none"
+        if it.waited is None:
+            self.counts[WAIT_UNKNOWN] += 1
+        return "now" if it.waited else self.mode
 
     def chain(self, question):
         """What a cache is asked for: where aliases are followed, each that is known by now, and
@@ -268,6 +250,7 @@ class Traffic:
 
     def answered(self, it, question):
         """A server failure to a client as a failure: that is the resolver's own word for it."""
+        self.has_answers |= question.flags & 15 != SERVFAIL
         if question.flags & 15 == SERVFAIL and not unusable(question):
             last = self.failed.get(question.asked)
             if last is None or it.at - last >= REMEMBERED:

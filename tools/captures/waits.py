@@ -1,0 +1,68 @@
+# SPDX-License-Identifier: MIT
+"""Which clients waited longer for a response than the client response timer of RFC 8767 section 5,
+after which a resolver gives them a stale answer."""
+from collections import deque
+
+from tools.messages import HEADER
+
+# How many messages are held back, and how many octets of them, until it is known.
+HELD_MOST, OCTETS_MOST = 100_000, 64 * 2**20
+
+
+class Held:
+    """A message that is held back; a query is open until it has a response."""
+
+    def __init__(self, it, key=None):
+        self.it, self.key, self.is_open = it, key, key is not None
+
+
+class Waits:
+    """Holds messages back until it is known of each query whether its sender waited longer."""
+
+    def __init__(self, limit):
+        self.limit, self.held, self.size, self.open = limit, deque(), 0, {}
+
+    def told(self, messages):
+        """The messages again, in their order, and of the queries which `waited`. That is not known
+        where the capture ends before, or too much would be held."""
+        latest = 0
+        for it in messages:
+            latest = max(latest, it.at)
+            self.take(it)
+            while self.held and self.is_ready(latest):
+                yield self.first(latest)
+        while self.held:
+            yield self.first(latest)
+
+    def take(self, it):
+        """Holds a message back. A response ends the waiting for it."""
+        key = None
+        if it.kind != "unreachable" and it.role != "server" and len(it.octets) >= HEADER.size:
+            if it.octets[2] & 128:
+                for one in self.open.pop((it.target, it.octets[:2]), ()):
+                    one.is_open = it.at - one.it.at >= self.limit
+            else:
+                key = it.source, it.octets[:2]
+        self.held.append(one := Held(it, key))
+        self.size += len(it.octets)
+        if one.is_open:
+            self.open.setdefault(key, deque()).append(one)
+
+    def is_ready(self, latest):
+        """Whether all is known of the message that was held first, or too much is held."""
+        one, is_full = self.held[0], len(self.held) > HELD_MOST or self.size > OCTETS_MOST
+        return is_full or not one.is_open or latest - one.it.at >= self.limit
+
+    def first(self, latest):
+        """The message that was held first."""
+        one = self.held.popleft()
+        self.size -= len(one.it.octets)
+        if not one.is_open:
+            return one.it
+        # Those of one key are held in the order in which they are open.
+        waiting = self.open.get(one.key, ())
+        if waiting and waiting[0] is one:
+            waiting.popleft()
+            if not waiting:
+                del self.open[one.key]
+        return one.it._replace(waited=True if latest - one.it.at >= self.limit else None)
