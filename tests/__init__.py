@@ -10,7 +10,7 @@ bin/test runs all.
   tools      from-capture, what-if, why, fuzz, the model of the rules, and the program's options
   captures   a capture that the tools are tested on
   archives   audits of archives that the model of the rules makes
-  hostile    what hostile messages, names and traces cost
+  hostile    what hostile messages, names, traces and floods cost
   schedules  random traces by several workers
   refusals   requests for memory and threads that are refused
   documents  widths, links and paths of the documents, and how sources are laid out

@@ -1,12 +1,12 @@
 # SPDX-License-Identifier: MIT
-"""Measures anew all that docs/PERFORMANCE.md tells, and writes it, in some 12 minutes."""
+"""Measures anew all that docs/PERFORMANCE.md tells, and writes it, in some 13 minutes."""
 import subprocess
 import sys
 
 from bench.setup import ARCHIVE, BENCH, REPLAY, TOP
 
 NEEDS, OPTIONS = (REPLAY, BENCH, ARCHIVE), {}
-SUITES = ("unbound", "share", "c", "one-reading", "latency")
+SUITES = ("unbound", "share", "c", "one-reading", "latency", "memory")
 
 
 def main(_):

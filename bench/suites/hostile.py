@@ -12,6 +12,7 @@ thread whose stack has STACK KB, since no proof says how deep the stack gets.
 import concurrent.futures
 import os
 import threading
+from itertools import product
 from pathlib import Path
 
 from bench.setup import BUILD, REPLAY
@@ -78,6 +79,10 @@ def denied(shelf, it, moment):
     shelf.offer_negative(capitals(it), A, rrcache.Kind.NXDOMAIN, 3, 600, capitals(it), soa, moment)
 
 
+def failed(shelf, it, moment):
+    shelf.offer_failure(name(it), A, 300, moment)
+
+
 def fill(shelf, kind, keys):
     for number in range(keys):
         shelf.offer_set(name(number, kind), A, 4, 60, [ADDRESS], 0)
@@ -86,49 +91,65 @@ def fill(shelf, kind, keys):
 # ---- What full parts take.
 
 
-def tell_room(what, keys, offer, times=1):
-    """What keys take beside the octets that are told of them: while the events of their offers are
-    there, and once these were dropped. Of several times as many the last ones stay."""
+def room(keys, offer, times, is_recording):
+    """What a shelf tells once so many times as many keys came as it has room for, and what it holds
+    with the events of their offers, and without them."""
     before = memory()
-    with rrcache.Shelf(keys, keys, record=True) as shelf:
+    with rrcache.Shelf(keys, keys, record=is_recording) as shelf:
         for number in range(times * keys):
             offer(shelf, number, 0)
             if number % keys == 0:
                 shelf.drop_chapters()
-        first, told = memory() - before, shelf.sizes()
-        # The chapter is full, so that one more call closes it.
+        first = memory() - before
+        # Where it records the chapter is full, so that one more call closes it.
         shelf.ask(ROOT, A, 0)
         shelf.drop_chapters()
-        stay = memory() - before
-    print(f"{told.keys:,} {what}: {told.octets:,} octets told; {first:,} stay, of a key"
-          f" {(first - told.octets) / keys:,.0f} more than told; without the events {stay:,},"
-          f" {(stay - told.octets) / keys:,.0f} more", flush=True)
+        return shelf.sizes(), first, memory() - before
 
 
-def tell_evicting(what, keys, offer):
-    """The most that keys take which evict each other, beside twice the octets that are told: looked
-    at right after a chapter was closed and dropped."""
+def tell_room(what, keys, offer, times=1):
+    """What is held of keys beside the octets that are told of them, of a shelf that records nothing
+    and of one that records. Of several times as many the last ones stay."""
+    told, _, held = room(keys, offer, times, False)
+    _, first, stay = room(keys, offer, times, True)
+    one, *held = (f"{it / told.keys:,.0f}" for it in (told.octets, held, first, stay))
+    print(f"{told.keys:,} {what}: of a key {one} octets told, {held[0]} held; where it records"
+          f" {held[1]} with the events and {held[2]} without", flush=True)
+
+
+def most_held(keys, offer, is_recording, is_swept):
+    """The most that is held of keys that evict each other, to what is told: looked at right after a
+    chapter was closed and dropped."""
     before, most = memory(), 0
-    with rrcache.Shelf(keys, keys // 4, record=True) as shelf:
+    with rrcache.Shelf(keys, keys // 4, record=is_recording) as shelf:
+        if is_swept:
+            shelf.sweep(0)
         for number in range(9 * keys):
             # The timestamps go up, so that there are expiries of many times.
             offer(shelf, number, number // 1000)
             if number % (keys // 4) == 0:
                 shelf.drop_chapters()
-                stay, told = memory() - before, shelf.sizes()
+                told = shelf.sizes()
                 if told.keys == keys:
-                    most = max(most, (stay - 2 * told.octets) / keys)
-    print(f"{keys:,} {what} that evict each other: at most twice the octets told and"
-          f" {most:,.0f} for each key", flush=True)
+                    most = max(most, (memory() - before) / told.octets)
+    return most
+
+
+def tell_evicting(what, keys, offer):
+    most = [f"{most_held(keys, offer, *how):.2f}" for how in product((False, True), repeat=2)]
+    print(f"{keys:,} {what} that evict each other: at most {most[0]} times the octets told are"
+          f" held, {most[1]} of a shelf that was swept; where it records {most[2]} and {most[3]}",
+          flush=True)
 
 
 def tell_rooms(keys, size):
     small, data = sets_of([ADDRESS], name, A), data_of(size)
     long = sets_of([bytes(33)], capitals)
     tell_evicting("small sets", keys // 16, small)
-    tell_evicting("sets of a record that came 15 times, whose owner has 255 octets in capitals",
-                  keys // 16, repeated(capitals))
+    tell_evicting("small sets, whose owner has 255 octets", keys // 16,
+                  sets_of([ADDRESS], lambda it: name(it, LONG_NAMES), A))
     tell_evicting("negative answers of names of 255 octets in capitals", keys // 16, denied)
+    tell_evicting("failures of names", keys // 16, failed)
     tell_room("small sets", keys, small)
     tell_room("small sets whose owner is in capitals", keys,
               sets_of([ADDRESS], lambda it: capitals(it, "short names"), A))
@@ -136,8 +157,7 @@ def tell_rooms(keys, size):
               long)
     tell_room("such sets after four times as many", keys // 16, long, 4)
     tell_room("sets of a record that came 15 times", keys // 4, repeated(name))
-    tell_room("failures of names", keys,
-              lambda shelf, it, moment: shelf.offer_failure(name(it), A, 300, moment))
+    tell_room("failures of names", keys, failed)
     tell_room(f"sets of {len(data):,} rdata of 2 octets", 16, sets_of(data))
     tell_room("sets of 255 rdata of 33 octets", 256,
               sets_of([bytes([number]) + bytes(32) for number in range(255)]))

@@ -1,0 +1,72 @@
+# SPDX-License-Identifier: MIT
+"""Tells what allocators hold of keys to the octets that are told, of keys of all kinds.
+
+Each kind of keys of tests/hostile/rooms.py is offered to a shelf, KEYS of them, which is never
+swept, or after each tenth offer. What is held is what glibc's malloc gave out more than before
+(mallinfo2), and in runs of their own what jemalloc did (stats.allocated), where Debian's package
+libjemalloc2 is there. Each number is the least or the most while the last half of the keys came,
+so that a table doubles once in between.
+"""
+import ctypes
+import json
+import os
+import sys
+from pathlib import Path
+
+from bench.page import write_section
+from bench.setup import BUILD, TOP, ran
+
+NEEDS, TITLE = (BUILD / "librrcache.so",), "Memory that keys take"
+OPTIONS = {"keys": (9_300, "keys of each kind")}
+
+
+def allocated():
+    """How many octets jemalloc has given out. It counts anew where the number of an epoch is
+    written."""
+    control = ctypes.CDLL(None).mallctl
+    number, size = ctypes.c_uint64(1), ctypes.c_size_t(8)
+    control(b"epoch", None, None, ctypes.byref(number), size)
+    control(b"stats.allocated", ctypes.byref(number), ctypes.byref(size), None, ctypes.c_size_t(0))
+    return number.value
+
+
+def measure(way, keys):
+    """Writes the least and the most of each kind, by the allocator that this process has."""
+    from tests.hostile.costs import memory
+    from tests.hostile.rooms import KINDS, ratios
+
+    found, held = {}, {"glibc": memory, "jemalloc": allocated}[way]
+    for what, offer in KINDS.items():
+        both = [ratios(offer, held, int(keys), is_swept) for is_swept in (False, True)]
+        found[what] = [min(least for least, _ in both), max(most for _, most in both)]
+    print(json.dumps(found))
+
+
+def measured(way, keys, preload):
+    """What a process tells that has this allocator. To jemalloc all that a thread's cache has is
+    given out, so there is none."""
+    path = os.pathsep.join(map(str, (TOP, TOP / "python")))
+    return json.loads(ran(sys.executable, "-m", "bench.suites.memory", way, keys, PYTHONPATH=path,
+                          LD_PRELOAD=preload, MALLOC_CONF="tcache:false").stdout)
+
+
+def main(args):
+    jemalloc = next(Path("/usr/lib").glob("*/libjemalloc.so.2"), None)
+    ways = {"glibc": ""} | ({"jemalloc": str(jemalloc)} if jemalloc else {})
+    found = {way: measured(way, args.keys, preload) for way, preload in ways.items()}
+    said = []
+    for way, of in found.items():
+        of["all"] = min(least for least, _ in of.values()), max(most for _, most in of.values())
+        for what, (least, most) in of.items():
+            print(f"{way:10}{what:44}{least:.2f} to {most:.2f}")
+        said.append(f"{way} held {of['all'][0]:.2f} to {of['all'][1]:.2f} times")
+    write_section(
+        args, TITLE, f": of {args.keys:,} keys of each of {len(found['glibc']) - 1} kinds, while "
+        f"the last half of them came, {' and '.join(said)} the octets that `rrcache_sizes` told. "
+        "Names had 3 to 255 octets, RRsets 1 to 200 records of 4 to 16,000, and SOA records of "
+        "negative answers, with their owners, 23 to 785. A shelf was swept never, or after each "
+        "tenth offer; no key was evicted and nothing recorded.")
+
+
+if __name__ == "__main__":
+    measure(*sys.argv[1:])
