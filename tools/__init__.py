@@ -8,6 +8,7 @@
   captures                        what bin/from-capture, bin/what-if and bin/why are made of
   commands                        how commands read their words, and how they end
   kit, lanes, processes           the Rattle kit, tasks side by side, and what these take
+  parts, running, beside          the parts of bin/test, and what is built beside its gate
   version, manual, debian         the library's version and man pages, and libraries of Debian's
 
 build-times has how long each crate takes, for bin/build, and proof-times tells the slowest proofs.

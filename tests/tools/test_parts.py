@@ -1,0 +1,224 @@
+# SPDX-License-Identifier: MIT
+"""Tests of how bin/test runs its parts: side by side, each told by itself, and of the archive that
+is built beside the gate."""
+import importlib.machinery
+import importlib.util
+import os
+import re
+import signal
+import subprocess
+import sys
+import time
+from pathlib import Path
+from types import SimpleNamespace
+
+import pytest
+
+from tests.tools.shared import LIMIT, TOP
+from tools import beside, kit
+from tools.beside import Archive
+from tools.parts import Part, run_lanes
+from tools.running import Commands, NoMore
+
+# A command of a part prints so many lines, each a moment behind the one before.
+LINES = 5
+
+
+def python(text):
+    """The words of a command in Python, quoted for a part."""
+    return f"""{sys.executable} -c "{text}" """
+
+
+def slow(name, said):
+    return python(f"import sys, time\nfor it in range({LINES}): print('{name}', it, flush=True);"
+                  f" time.sleep(0.02)\nprint('{said}', flush=True)\nprint('!', file=sys.stderr)")
+
+
+@pytest.fixture(scope="module")
+def test_command():
+    """bin/test as a module."""
+    loader = importlib.machinery.SourceFileLoader("test_command", str(TOP / "bin" / "test"))
+    module = importlib.util.module_from_spec(importlib.util.spec_from_loader("test_command",
+                                                                             loader))
+    loader.exec_module(module)
+    return module
+
+
+# ---- parts
+
+
+def test_each_part_runs_once(test_command):
+    """The gate comes first, and the last part runs alone."""
+    beside_the_others = [name for lane in test_command.LANES for name in lane]
+    assert sorted(["gate", *beside_the_others, "alone"]) == sorted(test_command.PARTS)
+
+
+def test_each_test_that_is_left_out_is_run_alone(test_command):
+    parts = test_command.PARTS
+    left = {folder for words in parts.values() for it in words if "not alone" in it
+            for folder in re.findall(r"tests/\w+", it)}
+    marked = {f"tests/{it.parent.name}" for it in TOP.glob("tests/*/test_*.py")
+              if re.search(r"^(@|pytestmark = )pytest.mark.alone$", it.read_text(), re.M)}
+    alone = {it.split()[0] for it in parts["alone"]}
+    assert alone == marked and marked <= left
+
+
+def test_lines_of_a_part_stand_together(capfd):
+    """What a command says on standard error stands behind what it prints."""
+    parts = [Part(name, [slow(name, f"{number} passed, 0 failed")], True)
+             for number, name in enumerate("abcd", 1)]
+    with Commands() as commands:
+        run_lanes([parts[:2], parts[2:3], parts[3:]], commands)
+    blocks = capfd.readouterr().out.split("== ")[1:]
+    assert sorted(blocks) == [
+        "\n".join([name, *(f"{name} {it}" for it in range(LINES)), f"{number} passed, 0 failed",
+                   "!", f"{name}: {number} passed, 0 failed\n"])
+        for number, name in enumerate("abcd", 1)]
+    assert [it.counts["passed"] for it in parts] == [1, 2, 3, 4]
+
+
+def test_processor_seconds_are_those_of_each_part(capfd):
+    busy = python("import time\nwhile time.process_time() < 0.5: pass\nprint('1 passed, 0 failed')")
+    idle = python("import time\ntime.sleep(0.5)\nprint('1 passed, 0 failed')")
+    parts = [Part("busy", [busy], True), Part("idle", [idle], True)]
+    with Commands() as commands:
+        run_lanes([[it] for it in parts], commands)
+    assert parts[0].processor >= 0.5 > 0.4 > parts[1].processor
+    assert all(it.wall >= 0.5 for it in parts)
+
+
+@pytest.mark.parametrize("command, told", [
+    (python("print('FAILED it')\nprint('1 failed, 2 passed in 3.4s')"), ["FAILED it"]),
+    (python("raise SystemExit(3)"), ["FAIL", "status 3"]),
+    (python("print('2 passed in 1.0s')\nraise SystemExit(3)"), ["FAIL", "status 3"])])
+def test_a_part_that_failed_is_told(command, told, capfd):
+    part = Part("it", [command, python("print('5 passed, 0 failed')")])
+    with Commands() as commands:
+        part.run(commands)
+    assert part.counts["failed"] == 1 and part.counts["passed"] >= 5
+    [line] = part.told
+    assert line.startswith("failed in it: ") and all(it in line for it in told)
+
+
+def test_an_interrupt_ends_all_commands(tmp_path):
+    """Also one that goes on at an interrupt, as `rt ci` does. No part behind them begins."""
+    script = tmp_path / "script"
+    script.write_text(f"""
+import sys
+sys.path.insert(0, {str(TOP)!r})
+from tools.parts import Part, run_lanes
+from tools.running import Commands
+from tools import running
+running.PATIENCE = 0.3
+with Commands() as commands:
+    run_lanes([[Part("a", ["sleep 600", "touch {tmp_path}/begun"], True)],
+               [Part("b", ["sh -c 'trap : INT; echo; while sleep 1; do :; done'"], True)],
+               [Part("c", ["touch {tmp_path}/ready", "sleep 600"], True)]], commands)
+""")
+    with subprocess.Popen([sys.executable, script], stderr=subprocess.DEVNULL,
+                          stdout=subprocess.DEVNULL) as run:
+        while run.poll() is None and not (tmp_path / "ready").exists():
+            time.sleep(0.01)
+        children = processes_of(run.pid)
+        run.send_signal(signal.SIGINT)
+        run.wait(LIMIT)
+    assert children and not processes_of(run.pid) and not (tmp_path / "begun").exists()
+    assert not any(Path("/proc", it).exists() for it in children)
+
+
+def processes_of(parent):
+    found = subprocess.run(["ps", "-o", "pid=", "--ppid", str(parent)], capture_output=True,
+                           text=True)
+    return found.stdout.split()
+
+
+def test_no_command_starts_behind_the_end():
+    commands = Commands()
+    commands.end()
+    with pytest.raises(NoMore):
+        commands.run(["true"], print)
+
+
+# ---- the archive
+
+WRITES = """
+import os
+for end in ("a", "a.stamp"):
+    with open(f"crates/it/out/libit.{end}", "w") as made:
+        made.write(f"{end} by {os.environ['RT_JOBS']} at {os.nice(0)}")
+"""
+
+
+@pytest.fixture
+def archive(tmp_path, monkeypatch):
+    """Archives of which the copy has nothing but a script for bin/build."""
+    (tmp_path / "crates" / "it" / "out").mkdir(parents=True)
+    monkeypatch.setattr(Archive, "copy", lambda it, folder: it.copies(folder))
+
+    def made(script):
+        def copies(folder):
+            (folder / "bin").mkdir()
+            (folder / "bin" / "build").write_text(script)
+            (folder / "crates" / "it" / "out").mkdir(parents=True)
+        archive = Archive("it", Commands(), tmp_path)
+        archive.copies = copies
+        return archive
+    return made
+
+
+def taken(archive, *lines):
+    """What is told behind these lines of the gate, and the files of the archive that then stand."""
+    told = []
+    for line in lines:
+        archive.hear(line)
+    archive.take(told.append)
+    return told, {it.name: it.read_text() for it in archive.top.glob("crates/it/out/*")}
+
+
+def test_the_archive_is_built_where_the_gate_proved_its_crate(archive):
+    """By one job, and at a priority that is lower, where there is a lower one."""
+    made = f"by 1 at {min(os.nice(0) + 10, 19)}"
+    assert taken(archive(WRITES), "rt: other proved", "rt: it proved") == (
+        [], {f"libit.{end}": f"{end} {made}" for end in ("a", "a.stamp")})
+
+
+def test_no_archive_is_built_where_the_gate_did_not_prove_its_crate(archive):
+    lines = "rt: it NOT PROVED", "rt: it: its tests are proved", "rt: FAILED: it"
+    assert taken(archive(WRITES), *lines) == ([], {})
+
+
+def test_a_build_that_failed_is_told_and_leaves_no_archive(archive):
+    failing = archive(WRITES + "raise SystemExit('no room')")
+    assert taken(failing, "rt: it proved") == (
+        ["no room", "it was not built beside the gate: status 1"], {})
+
+
+def test_a_build_that_lacks_memory_is_tried_again_until_the_gate_ends(archive, monkeypatch):
+    monkeypatch.setattr(beside, "LATER", 0.01)
+    lines = "rt: it proved", "rt: ok; handles allowed: none"
+    assert taken(archive("raise SystemExit(2)"), *lines) == (
+        ["it was not built beside the gate: status 2"], {})
+    lacking = archive("import os\nif not os.path.exists('begun'):\n"
+                      "    open('begun', 'w').close()\n    raise SystemExit(2)" + WRITES)
+    lacking.hear("rt: it proved")
+    lacking.thread.join()
+    told, made = taken(lacking)
+    assert not told and len(made) == 2
+
+
+@pytest.mark.parametrize("stale", ["stamp", "source"])
+def test_libraries_that_the_gate_did_not_make_are_not_taken(stale, tmp_path, monkeypatch):
+    """The one below has what bin/build leaves, or a source that is newer."""
+    library = tmp_path / "crates" / "low" / "out" / "rlib" / "low.rlib"
+    library.mkdir(parents=True)
+    (library / "format").touch()
+    (library.parent / "stamp" if stale == "stamp" else tmp_path / "crates.txt").touch()
+    os.utime(library, (0, 0))
+    low, it = (SimpleNamespace(name=name, rlib=library, folder=tmp_path, below=lambda: [low])
+               for name in ("low", "it"))
+    rtlib = SimpleNamespace(crates_below=lambda _: [low, it])
+    monkeypatch.setattr(kit, "load", lambda: SimpleNamespace(rtlib=rtlib))
+    monkeypatch.setattr(kit, "TOP", tmp_path)
+    told, made = taken(Archive("it", Commands(), tmp_path), "rt: it proved")
+    assert told == ["it was not built beside the gate: the gate left no library of low"]
+    assert not made
