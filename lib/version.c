@@ -1,7 +1,7 @@
 /* SPDX-License-Identifier: MIT */
-/* The version of the library that a program is linked with. It is the one call that is not written
-   in Rattle: bin/build-c links it beside the proved ones. */
-#include "rrcache.h"
+/* The version of the library that a program is linked with. It is not written in Rattle:
+   bin/build-c links it beside the proved calls. */
+#include "rrcache_shelf.h"
 
 uint32_t rrc_version(void)
 {

@@ -1,9 +1,10 @@
 # SPDX-License-Identifier: MIT
-"""The man pages of the library for C, made of the header's own comments (include/rrcache.h), so
-that the two cannot differ. bin/install-c installs them.
+"""The man pages of the library for C, made of the headers' own comments (include/), so that the two
+cannot differ. bin/install-c installs them.
 
-`pages()` gives each page's name with its text in the macros of man(7): rrcache(3), of the whole,
-and one page for each group of calls, under the name of its first call.
+`pages()` gives each page's name with its text in the macros of man(7): rrcache(3) and
+rrcache_shelf(3), each of the whole of one header, and one page for each group of calls, under the
+name of its first call.
 """
 import re
 import textwrap
@@ -12,9 +13,15 @@ from pathlib import Path
 from tools.version import VERSION
 
 TOP = Path(__file__).resolve().parent.parent
-HEADER = (TOP / "include" / "rrcache.h").read_text()
-# Each group: its calls, without the rrcache_ of their names, and what its page is about.
-GROUPS = {
+# What the page of each header is about.
+ABOUT = {
+    "rrcache": "the RRset cache of a recursive DNS resolver",
+    "rrcache_shelf": "the shelves of the RRset cache of a recursive DNS resolver",
+}
+HEADERS = {name: (TOP / "include" / f"{name}.h").read_text() for name in ABOUT}
+# Each group of calls of a header: their names without rrcache_, and what its page is about.
+CACHE_GROUPS = {}
+SHELF_GROUPS = {
     "make free": "make and free a shelf",
     "make_name": "make a name, for all that is asked of it",
     "compose_response read_response tell_response tell_offer tell_octets offer_read offer_one "
@@ -31,25 +38,38 @@ GROUPS = {
     "fault status_text version":
         "tell a message's fault, what a status says and the library's version",
 }
-# The example of rrcache(3), behind the line of its licence.
-EXAMPLE = (TOP / "examples" / "first.c").read_text().partition("\n")[2]
-# An inline function with a comment of its own: that, its prototype and its name. Those that look at
-# what others are handed, rrcache_can_.., are no calls.
-CALL = re.compile(r"/\* ((?:(?!\*/).)*?) \*/\nstatic inline ((?:uint32_t|enum rrcache_status|"
-                  r"const char \*)\s*(rrcache_(?!can_)\w+)\([^)]*\))\n\{", re.S)
+GROUPS = {"rrcache": CACHE_GROUPS, "rrcache_shelf": SHELF_GROUPS}
+# The example of a header's page, behind the line of its licence.
+EXAMPLES = {"rrcache_shelf": (TOP / "examples" / "first.c").read_text().partition("\n")[2]}
+# A call with a comment of its own, by the first words of its declaration: that comment, the rest of
+# its prototype, and its name. Inline functions that look at what others are handed, rrcache_can_..,
+# are no calls.
+COMMENT = r"/\* ((?:(?!\*/).)*?) \*/\n"
+CALLS = {
+    "static inline ": COMMENT + r"static inline ((?:uint32_t|enum rrcache_status|const char \*)\s*"
+                                r"(rrcache_(?!can_)\w+)\([^)]*\))\n\{",
+    "RRCACHE_API ": COMMENT + r"RRCACHE_API ([^(;]*?\b(rrcache_\w+)\([^;]*\));",
+}
+# The enums and structs of a header, which stand before its calls.
+TYPES = {
+    "rrcache": r'extern "C" \{\n#endif\n(.*?)'
+               r"(?:/\* ---- |/\* (?:(?!\*/).)*? \*/\nRRCACHE_API |#ifdef __cplusplus)",
+    "rrcache_shelf": r"(/\* What calls return\. \*/.*?)/\* ---- The functions of the library",
+}
 
 
-def shown(prototype):
+def shown(prototype, first_words):
     """A prototype without its first words. Where its name stands on its first line, its next lines
     stand farther in."""
-    inset = "\n" + " " * len("static inline ")
+    inset = "\n" + " " * len(first_words)
     is_inset = "(" in prototype.partition("\n")[0]
     return (prototype.replace(inset, "\n") if is_inset else prototype) + ";"
 
 
-def calls():
-    """The header's calls that have a comment of their own: prototype and comment by name."""
-    return {name: (shown(prototype), comment) for comment, prototype, name in CALL.findall(HEADER)}
+def calls(header):
+    """A header's calls that have a comment of their own: prototype and comment by name."""
+    return {name: (shown(prototype, first_words), comment) for first_words, call in CALLS.items()
+            for comment, prototype, name in re.findall(call, HEADERS[header], re.S)}
 
 
 def roff(text):
@@ -75,10 +95,10 @@ def blocks(comment):
             for block in re.split(r"\n\s*\n", comment)]
 
 
-def overview():
-    """The sections of the header's first comment: titles with points, the first untitled."""
+def overview(header):
+    """The sections of a header's first comment: titles with points, the first untitled."""
     sections, title = {"": []}, ""
-    for lines in blocks(re.search(r"/\* rrcache\.h: (.*?)\*/", HEADER, re.S)[1]):
+    for lines in blocks(re.search(rf"/\* {header}\.h: (.*?)\*/", HEADERS[header], re.S)[1]):
         if len(lines) > 1 and lines[1].startswith("- "):
             title = lines[0]
             points = re.split(r"(?:^| )- (?=[A-Z`])", " ".join(lines[1:]))
@@ -88,45 +108,54 @@ def overview():
     return sections
 
 
-def page(name, about, text):
+def page(name, about, header, text):
     """A page with this text between its head and the names of the other pages."""
-    names = ["rrcache", *(f"rrcache_{it.split()[0]}" for it in GROUPS)]
+    names = [*HEADERS, *(f"rrcache_{it.split()[0]}" for groups in GROUPS.values() for it in groups)]
     others = " ,\n".join(f".BR {it} (3)" for it in names if it != name)
     return (f'.TH {name.upper()} 3 "" "rrcache {VERSION}" "rrcache"\n.SH NAME\n'
             f"{about}\n.SH LIBRARY\nThe RRset cache of a DNS resolver (\\fIlibrrcache\\fR, "
-            "\\fI\\-lrrcache\\fR)\n.SH SYNOPSIS\n.B #include <rrcache.h>\n"
-            f"{text}.SH SEE ALSO\n{others}\n")
+            "\\fI\\-lrrcache\\fR)\n.SH SYNOPSIS\n"
+            f".B #include <{header}.h>\n{text}.SH SEE ALSO\n{others}\n")
 
 
-def group_page(names, about):
-    """The page of a group of calls."""
-    found = calls()
+def returns(names, found):
+    """What calls return, of which most return a status."""
+    others = [f"\\fB{it}\\fR" for it in names if not found[it][0].startswith("enum rrcache_status")]
+    if len(others) == len(names):
+        return ""
+    but = f", but for {' and '.join(others)}" if others else ""
+    return (f".SH RETURN VALUE\nA status, RRCACHE_DONE or the reason of a refusal{but}. "
+            "\\fBrrcache_shelf\\fR(3) has them all, with the order in which they are told, and "
+            "with what a refusal leaves.\n")
+
+
+def group_page(names, about, header):
+    """The page of a group of a header's calls."""
+    found = calls(header)
     text = "".join(f".PP\n{verbatim(found[it][0])}" for it in names) + ".SH DESCRIPTION\n"
     for name in names:
         text += f".SS {name}\n" + filled(map(" ".join, blocks(found[name][1])))
-    text += (".SH RETURN VALUE\nA status, RRCACHE_DONE or the reason of a refusal, but for "
-             "\\fBrrcache_version\\fR and \\fBrrcache_status_text\\fR. \\fBrrcache\\fR(3) has them "
-             "all, with the order in which they are told, and with what a refusal leaves.\n")
-    return page(names[0], f"{', '.join(names)} \\- {about}", text)
+    text += returns(names, found)
+    return page(names[0], f"{', '.join(names)} \\- {about}", header, text)
 
 
-def whole_page():
-    """The page of the whole."""
+def whole_page(header):
+    """The page of the whole of a header."""
     text = ".SH DESCRIPTION\n"
-    for title, points in overview().items():
+    for title, points in overview(header).items():
         text += (f".SS {title}\n" if title else "") + filled(points)
-    # The enums and structs, as the header has them.
-    types = HEADER[HEADER.index("/* What calls return. */"):
-                   HEADER.index("/* ---- The functions of the library proper,")]
-    text += f".SH TYPES\n{verbatim(types)}.SH EXAMPLES\n{verbatim(EXAMPLE)}"
-    return page("rrcache", "rrcache \\- the RRset cache of a recursive DNS resolver", text)
+    types = re.search(TYPES[header], HEADERS[header], re.S)[1].strip()
+    for title, shows in (("TYPES", types), ("EXAMPLES", EXAMPLES.get(header))):
+        text += f".SH {title}\n{verbatim(shows)}" if shows else ""
+    return page(header, f"{header} \\- {ABOUT[header]}", header, text)
 
 
 def pages():
     """The man pages by the names of their files; calls behind the first of a group are links."""
-    made = {"rrcache.3": whole_page()}
-    for group, about in GROUPS.items():
-        names = [f"rrcache_{it}" for it in group.split()]
-        made[f"{names[0]}.3"] = group_page(names, about)
-        made.update({f"{it}.3": f".so man3/{names[0]}.3\n" for it in names[1:]})
+    made = {f"{header}.3": whole_page(header) for header in HEADERS}
+    for header, groups in GROUPS.items():
+        for group, about in groups.items():
+            names = [f"rrcache_{it}" for it in group.split()]
+            made[f"{names[0]}.3"] = group_page(names, about, header)
+            made.update({f"{it}.3": f".so man3/{names[0]}.3\n" for it in names[1:]})
     return made

@@ -14,7 +14,7 @@ from .parts import Name
 from .refusals import Status, refusal
 from .replies import Reply, Stored, StoredEntry
 
-# The octets that are enough for a reply of what `read_response` read (rrcache.h).
+# The octets that are enough for a reply of what `read_response` read (rrcache_shelf.h).
 ROOM = 28_551
 KINDS = {int(it): it for it in Kind}
 TRUSTS = {int(it): it for it in Trust}

@@ -8,8 +8,8 @@ from .replies import Counts, Swept
 
 
 class Status(IntEnum):
-    """What calls of the library answer (include/rrcache.h). NULL, SINK and OVERLAP are told by the
-    header's own functions alone, and so to no caller of this package."""
+    """What calls of the library answer (include/rrcache_shelf.h). NULL, SINK and OVERLAP are told
+    by the header's own functions alone, and so to no caller of this package."""
 
     DONE = 0
     NO_SHELF = 1

@@ -1,5 +1,5 @@
 # SPDX-License-Identifier: MIT
-"""The structs of include/rrcache.h as ctypes has them, each with the header's fields in its order:
+"""The structs of include/rrcache_shelf.h as ctypes has them, each with its fields in its order:
 `struct rrcache_told` is `Told` here, and `struct rrc_set` is `SetTerms`."""
 from __future__ import annotations
 

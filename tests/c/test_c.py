@@ -1,7 +1,7 @@
 # SPDX-License-Identifier: MIT
 """tests.c on the library for C as bin/build-c makes it: on the archive, on the shared library, on
 the archive with each malloc and realloc refused in turn and those of calls that only look counted,
-and under the sanitizers of addresses and of undefined behaviour. The header by itself, with the
+and under the sanitizers of addresses and of undefined behaviour. Each header by itself, with the
 warnings that resolvers are compiled with."""
 import re
 import shutil
@@ -11,7 +11,8 @@ from pathlib import Path
 import pytest
 
 TOP = Path(__file__).resolve().parents[2]
-FLAGS = ["-std=c99", "-O1", "-g", "-Wall", "-Wextra", "-Werror", f"-I{TOP / 'include'}"]
+FLAGS = ["-std=c99", "-O1", "-g", "-Wall", "-Wextra", "-Werror", "-pthread",
+         f"-I{TOP / 'include'}"]
 # Each build: its library, and further words for the compiler.
 BUILDS = {
     "archive": ["librrcache.a"],
@@ -60,11 +61,12 @@ def test_library(build, libraries, tmp_path, capsys):
         print(f"\n{build}: {checks[1]} checks")
 
 
+@pytest.mark.parametrize("header", ["rrcache.h", "rrcache_shelf.h"])
 @pytest.mark.parametrize("language", LANGUAGES)
-def test_header(language):
+def test_header(language, header):
     compiler, *words = LANGUAGES[language]
     if shutil.which(compiler) is None:
         pytest.skip(f"there is no {compiler} here (bin/setup installs it)")
     subprocess.run([compiler, *words, "-Wall", "-Wextra", "-Werror", "-pedantic",
                     f"-I{TOP / 'include'}", "-fsyntax-only", "-"], check=True,
-                   input=b'#include "rrcache.h"\n')
+                   input=f'#include "{header}"\n'.encode())

@@ -11,7 +11,8 @@ from pathlib import Path
 import pytest
 
 TOP = Path(__file__).resolve().parents[2]
-FLAGS = ["-std=c99", "-O1", "-g", "-Wall", "-Wextra", "-Werror", f"-I{TOP / 'include'}"]
+FLAGS = ["-std=c99", "-O1", "-g", "-Wall", "-Wextra", "-Werror", "-pthread",
+         f"-I{TOP / 'include'}"]
 SECONDS = 300
 # The bars.
 ALONE, IN_TURN = 125, 250

@@ -1,7 +1,7 @@
 # SPDX-License-Identifier: MIT
 """The library for C as bin/install-c installs it to a fresh folder.
 
-The example of rrcache(3) is compiled by what pkg-config tells alone, in C and in C++, with the
+The examples of the man pages are compiled by what pkg-config tells alone, in C and in C++, with the
 shared library and with the archive, and run; the forwarder is compiled so too, and README.md's
 example. Versions, soname, exports and man pages have to fit.
 """
@@ -13,7 +13,7 @@ from pathlib import Path
 
 import pytest
 
-from tools.manual import EXAMPLE, calls, pages
+from tools.manual import EXAMPLES, calls, pages
 from tools.version import SONAME, VERSION
 
 TOP = Path(__file__).resolve().parents[2]
@@ -40,8 +40,10 @@ void resolve(const uint8_t *message, size_t size, uint16_t id, uint64_t now, con
     uint8_t buffer[512];
 {0}}}
 """
-# What the example prints: the set has a TTL of 60 and is asked for 10 seconds later.
-WANTED = "TTL 50\n"
+# The headers, each of which has a page.
+HEADERS = ["rrcache", "rrcache_shelf"]
+# What the example of each page prints: the set has a TTL of 60 and is asked for 10 seconds later.
+WANTED = {"rrcache_shelf": "TTL 50\n"}
 pytestmark = pytest.mark.skipif(shutil.which("pkg-config") is None,
                                 reason="there is no pkg-config here (bin/setup installs it)")
 
@@ -66,8 +68,8 @@ class Installed:
     def flags(self, *words):
         return self.told("--cflags", "--libs", *words).split()
 
-    def header(self):
-        return (self.prefix / "include" / "rrcache.h").read_text()
+    def header(self, name):
+        return (self.prefix / "include" / f"{name}.h").read_text()
 
     def run(self, source, folder, compiler, words):
         """What a program prints, compiled so."""
@@ -80,14 +82,15 @@ def it(tmp_path_factory):
     return Installed(tmp_path_factory.mktemp("installed"))
 
 
+@pytest.mark.parametrize("page", EXAMPLES)
 @pytest.mark.parametrize("library", ["shared", "static"])
 @pytest.mark.parametrize("language", LANGUAGES)
-def test_example(language, library, it, tmp_path):
+def test_example(language, library, page, it, tmp_path):
     words = it.flags()
     if library == "static":
         words = [word for word in it.flags("--static") if word != "-lrrcache"]
         words.append(it.lib / "librrcache.a")
-    assert it.run(EXAMPLE, tmp_path, LANGUAGES[language], words) == WANTED
+    assert it.run(EXAMPLES[page], tmp_path, LANGUAGES[language], words) == WANTED[page]
 
 
 def test_forwarder(it, tmp_path):
@@ -104,7 +107,7 @@ def test_readme(it):
 
 def test_versions(it, tmp_path):
     assert it.told("--modversion").strip() == VERSION
-    parts = [re.search(rf"RRCACHE_VERSION_{name} (\d+)", it.header())[1]
+    parts = [re.search(rf"RRCACHE_VERSION_{name} (\d+)", it.header("rrcache_shelf"))[1]
              for name in ("MAJOR", "MINOR", "PATCH")]
     assert ".".join(parts) == VERSION
     source = '#include <rrcache.h>\nint main(void) { return rrcache_version() != RRCACHE_VERSION; }'
@@ -123,11 +126,12 @@ def test_library(it):
 @pytest.mark.skipif(shutil.which("man") is None,
                     reason="there is no man here (bin/setup installs it)")
 def test_manual(it):
-    named = calls()
-    assert set(pages()) == {"rrcache.3", *(f"{name}.3" for name in named)}
-    assert set(named) == set(re.findall(
-        r"^static inline (?:uint32_t|enum rrcache_status|const char \*)\s*(rrcache_(?!can_)\w+)\(",
-        it.header(), re.M))
+    named = {header: set(calls(header)) for header in HEADERS}
+    assert set(pages()) == {f"{name}.3" for name in [*HEADERS, *set.union(*named.values())]}
+    for header, names in named.items():
+        assert names == set(re.findall(
+            r"^(?:static inline (?:uint32_t|enum rrcache_status|const char \*)|RRCACHE_API [^(;]*?)"
+            r"\s*\b(rrcache_(?!can_)\w+)\(", it.header(header), re.M))
     man = it.prefix / "share" / "man" / "man3"
     for page in man.glob("*.3"):
         told = subprocess.run(["man", "--warnings", "-E", "UTF-8", "-l", "-Tutf8", "-Z", page.name],
@@ -138,14 +142,16 @@ def test_manual(it):
 
 def test_again(it, tmp_path):
     said(INSTALL, "--strip", it.prefix)
-    assert it.run(EXAMPLE, tmp_path, LANGUAGES["C"], it.flags()) == WANTED
+    for page, wanted in WANTED.items():
+        assert it.run(EXAMPLES[page], tmp_path, LANGUAGES["C"], it.flags()) == wanted
 
 
 def test_below_destdir(tmp_path):
     said(INSTALL, "--libdir", "/usr/lib64", "/usr", DESTDIR=str(tmp_path))
     pc = (tmp_path / "usr/lib64/pkgconfig/rrcache.pc").read_text()
     assert "prefix=/usr\n" in pc and "libdir=/usr/lib64\n" in pc
-    assert (tmp_path / "usr/include/rrcache.h").exists()
+    for header in HEADERS:
+        assert (tmp_path / "usr" / "include" / f"{header}.h").exists()
 
 
 def test_uninstall(it):

@@ -1,6 +1,6 @@
 # SPDX-License-Identifier: MIT
-"""What the package says of the library for C, compared with include/rrcache.h: its enumerations,
-structs, calls, numbers and words."""
+"""What the package says of the library for C, compared with include/rrcache_shelf.h: its
+enumerations, structs, calls, numbers and words."""
 import re
 import shutil
 import subprocess
@@ -16,7 +16,7 @@ from tests.forwarder.harness import BUILD
 from tools.captures import memory
 
 INCLUDE = BUILD.parent / "include"
-HEADER = re.sub(r"/\*.*?\*/", " ", (INCLUDE / "rrcache.h").read_text(), flags=re.S)
+HEADER = re.sub(r"/\*.*?\*/", " ", (INCLUDE / "rrcache_shelf.h").read_text(), flags=re.S)
 # The classes of the package that are enumerations of the header.
 ENUMS = {"status": rrcache.Status, "kind": rrcache.Kind, "class": rrcache.Class,
          "purpose": rrcache.Purpose, "mode": rrcache.Mode, "trust": rrcache.Trust,
@@ -96,7 +96,7 @@ def test_fields_of_structs():
 @pytest.mark.skipif(shutil.which("cc") is None, reason="there is no compiler of C here")
 def test_layouts_of_structs():
     """The size of each struct, and the place and the size of each of its fields, by a compiler."""
-    lines = ['#include "rrcache.h"']
+    lines = ['#include "rrcache_shelf.h"']
     for name, it in STRUCTS.items():
         lines.append(f"_Static_assert(sizeof(struct {name}) == {sizeof(it)}, \"{name}\");")
         for field, _ in it._fields_:
