@@ -267,10 +267,12 @@ enum rrcache_status {
                                      (told by the inline functions alone) */
     RRCACHE_OTHER_SEED = 26,      /* the name was made, or the message was read, under another seed
                                      than that of the shelf */
-    RRCACHE_NO_QUESTION = 27      /* the response is a header without a question, of a server that
+    RRCACHE_NO_QUESTION = 27,     /* the response is a header without a question, of a server that
                                      could or would not read the query: its RCODE, the low four
                                      bits of its fourth octet, is FORMERR (1), NOTIMP (4) or
                                      REFUSED (5) */
+    RRCACHE_TOO_LARGE = 28        /* what is to be stored takes more memory than a shelf may have
+                                     (told by the calls of rrcache.h alone) */
 };
 
 /* What a reply is, and what is stored: 1, 3, 4 and 6 of these, or 0 where nothing is. */
@@ -859,6 +861,8 @@ static inline const char *rrcache_status_text(enum rrcache_status status)
         return "the name or the message is of another seed than the shelf";
     case RRCACHE_NO_QUESTION:
         return "the response has no question";
+    case RRCACHE_TOO_LARGE:
+        return "what is to be stored takes more memory than a shelf may have";
     }
     return "no such status";
 }

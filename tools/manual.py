@@ -20,7 +20,14 @@ ABOUT = {
 }
 HEADERS = {name: (TOP / "include" / f"{name}.h").read_text() for name in ABOUT}
 # Each group of calls of a header: their names without rrcache_, and what its page is about.
-CACHE_GROUPS = {}
+CACHE_GROUPS = {
+    "open close": "open and close a cache that threads share",
+    "lookup lookup_delegation next": "look up what answers a question",
+    "store store_set store_negative store_failure": "store what a response says, or an RRset",
+    "forget sweep_all": "forget a name and type, remove what is expired",
+    "stats stats_of stats_text": "tell what a cache did and holds",
+    "record_all stop_recording_all dump": "write histories, and what is held",
+}
 SHELF_GROUPS = {
     "make free": "make and free a shelf",
     "make_name": "make a name, for all that is asked of it",
@@ -39,8 +46,16 @@ SHELF_GROUPS = {
         "tell a message's fault, what a status says and the library's version",
 }
 GROUPS = {"rrcache": CACHE_GROUPS, "rrcache_shelf": SHELF_GROUPS}
-# The example of a header's page, behind the line of its licence.
-EXAMPLES = {"rrcache_shelf": (TOP / "examples" / "first.c").read_text().partition("\n")[2]}
+# The example of each header's page, behind the line of its licence.
+EXAMPLES = {header: (TOP / "examples" / name).read_text().partition("\n")[2]
+            for header, name in (("rrcache", "stub.c"), ("rrcache_shelf", "first.c"))}
+# What a page says of the statuses that a header's calls return.
+STATUSES = {
+    "rrcache": "It is one that the text above names, or one of the calls of a shelf that are made. "
+               "`rrcache_shelf`(3) has them all, and `rrcache`(3) tells what a refusal leaves.",
+    "rrcache_shelf": "`rrcache_shelf`(3) has them all, with the order in which they are told, and "
+                     "with what a refusal leaves.",
+}
 # A call with a comment of its own, by the first words of its declaration: that comment, the rest of
 # its prototype, and its name. Inline functions that look at what others are handed, rrcache_can_..,
 # are no calls.
@@ -118,15 +133,14 @@ def page(name, about, header, text):
             f".B #include <{header}.h>\n{text}.SH SEE ALSO\n{others}\n")
 
 
-def returns(names, found):
+def returns(names, found, header):
     """What calls return, of which most return a status."""
-    others = [f"\\fB{it}\\fR" for it in names if not found[it][0].startswith("enum rrcache_status")]
+    others = [f"`{it}`" for it in names if not found[it][0].startswith("enum rrcache_status")]
     if len(others) == len(names):
         return ""
     but = f", but for {' and '.join(others)}" if others else ""
-    return (f".SH RETURN VALUE\nA status, RRCACHE_DONE or the reason of a refusal{but}. "
-            "\\fBrrcache_shelf\\fR(3) has them all, with the order in which they are told, and "
-            "with what a refusal leaves.\n")
+    return ".SH RETURN VALUE\n" + filled(
+        [f"A status, RRCACHE_DONE or the reason of a refusal{but}. {STATUSES[header]}"])
 
 
 def group_page(names, about, header):
@@ -135,7 +149,7 @@ def group_page(names, about, header):
     text = "".join(f".PP\n{verbatim(found[it][0])}" for it in names) + ".SH DESCRIPTION\n"
     for name in names:
         text += f".SS {name}\n" + filled(map(" ".join, blocks(found[name][1])))
-    text += returns(names, found)
+    text += returns(names, found, header)
     return page(names[0], f"{', '.join(names)} \\- {about}", header, text)
 
 
@@ -145,8 +159,8 @@ def whole_page(header):
     for title, points in overview(header).items():
         text += (f".SS {title}\n" if title else "") + filled(points)
     types = re.search(TYPES[header], HEADERS[header], re.S)[1].strip()
-    for title, shows in (("TYPES", types), ("EXAMPLES", EXAMPLES.get(header))):
-        text += f".SH {title}\n{verbatim(shows)}" if shows else ""
+    for title, shows in (("TYPES", types), ("EXAMPLES", EXAMPLES[header])):
+        text += f".SH {title}\n{verbatim(shows)}"
     return page(header, f"{header} \\- {ABOUT[header]}", header, text)
 
 

@@ -39,6 +39,7 @@ class Status(IntEnum):
     OVERLAP = 25
     OTHER_SEED = 26
     NO_QUESTION = 27
+    TOO_LARGE = 28
 
 
 class Refused(Exception):

@@ -529,13 +529,13 @@ static void test_layout(void)
     EXPECT(rrcache_version() == RRCACHE_VERSION);
 }
 
-enum { STATUSES = 28 };
+enum { STATUSES = 29 };
 
 /* Each status has a text of its own, and so has a number that is none. */
 static void test_status_texts(void)
 {
     const char *unknown = rrcache_status_text((enum rrcache_status)STATUSES);
-    EXPECT(RRCACHE_NO_QUESTION == STATUSES - 1 && unknown != NULL && *unknown != 0);
+    EXPECT(RRCACHE_TOO_LARGE == STATUSES - 1 && unknown != NULL && *unknown != 0);
     EXPECT(strcmp(unknown, rrcache_status_text((enum rrcache_status)1000)) == 0);
     for (int one = 0; one < STATUSES; one++) {
         const char *text = rrcache_status_text((enum rrcache_status)one);

@@ -25,7 +25,8 @@ ENUMS = {"status": rrcache.Status, "kind": rrcache.Kind, "class": rrcache.Class,
 # Those that are read by the header's inline functions alone, of which the package has none.
 INLINE = {f"rrcache_{it}" for it in ("query", "response", "set", "negative", "failure",
                                      "parsed_set", "parsed_response", "draft")}
-TOLD_INLINE = {rrcache.Status.NULL, rrcache.Status.SINK, rrcache.Status.OVERLAP}
+TOLD_IN_C = {rrcache.Status.NULL, rrcache.Status.SINK, rrcache.Status.OVERLAP,
+             rrcache.Status.TOO_LARGE}
 TYPES = {"void *": c_void_p, "bool": c_bool, "uint8_t": c_uint8, "uint16_t": c_uint16,
          "uint32_t": c_uint32, "uint64_t": c_uint64, "size_t": c_size_t, "uint8_t *": c_char_p,
          "uint32_t *": POINTER(c_uint32), "uint64_t *": POINTER(c_uint64)}
@@ -154,7 +155,7 @@ def test_refusals_say_what_statuses_do():
     """Each status that the library may return has an exception, with the header's words."""
     words = dict(re.findall(r'case RRCACHE_(\w+):\s+return "(.*?)";', HEADER))
     assert set(words) == set(rrcache.Status.__members__)
-    told = set(rrcache.Status) - {rrcache.Status.DONE, rrcache.Status.SMALL} - TOLD_INLINE
+    told = set(rrcache.Status) - {rrcache.Status.DONE, rrcache.Status.SMALL} - TOLD_IN_C
     assert set(refusals.BY_STATUS) == told
     for status, refused in refusals.BY_STATUS.items():
         assert str(refused()) == words[status.name]

@@ -1,0 +1,35 @@
+# SPDX-License-Identifier: MIT
+"""cache_tests.c, of `struct rrcache`, on the library for C as tests.c runs on it (test_c.py). Under
+the sanitizers lib/*.c is compiled with the tests, in place of what the archive has of it. The
+archives that a cache writes are audited by the program, where it is built."""
+import subprocess
+
+import pytest
+
+from tests.c.builds import BUILDS, TOP, built, run
+
+SOURCES = sorted((TOP / "lib").glob("*.c"))
+# What stands first is linked, and that is what the sanitizers see.
+MORE = {"sanitized": [*SOURCES, "-Wl,--allow-multiple-definition"]}
+
+
+@pytest.mark.parametrize("build", BUILDS)
+def test_cache(build, libraries, tmp_path, capsys):
+    run(built("cache_tests.c", build, libraries, tmp_path, *MORE.get(build, ()), standard="c11"),
+        build, capsys)
+
+
+def test_archives_are_legal(libraries, tmp_path, request):
+    program = request.config.getoption("program")
+    if not program.exists():
+        pytest.skip(f"there is no {program}, which audits archives: bin/build builds it")
+    folder = tmp_path / "archives"
+    folder.mkdir()
+    writer = built("cache_tests.c", "archive", libraries, tmp_path, standard="c11")
+    subprocess.run([writer, folder], check=True)
+    archives = sorted(folder.iterdir())
+    assert len(archives) == 4
+    for it in archives:
+        audit = subprocess.run([program, "--audit-history"], stdin=it.open("rb"),
+                               capture_output=True, text=True)
+        assert audit.returncode == 0 and audit.stdout.startswith("legal: "), audit.stdout
