@@ -5,10 +5,11 @@ It takes the library as bin/build-c made it, fetches the source package of Debia
 build/unbound (apt-get with lists of its own; nothing is installed), builds it (2 minutes; it needs
 libssl-dev and libexpat1-dev), and compiles bench/c/beside against both. The two run in turn on
 NAMES names with one A record each, in random order, in 64 shards with room for twice the names:
-asks that hit and copy, one name that is always asked, puts that replace, and puts that evict in a
-cache with no room. The locks of rrcache's shards are mutexes, and spin locks, as unbound's are, in
-runs of their own; in others asks are peeks, under locks for readers. Each ratio is that of the
-medians of RUNS runs; ratios count, since machines differ.
+asks that hit and copy, of any name and by Zipf's law, one name that is always asked, puts that
+replace, and puts that evict in a cache with no room. It is `struct rrcache`, and in runs of their
+own shelves whose locks are mutexes, spin locks, as unbound's are, or locks for readers, under which
+asks are peeks. Each ratio is that of the medians of RUNS runs; ratios count, since machines
+differ.
 """
 import os
 import shutil
@@ -33,8 +34,8 @@ FOLDER, BESIDE = BUILD / "unbound", SOURCES / "beside"
 ARCHIVES = ["apt-get", "indextargets", "Created-By: Packages", "Codename: bookworm", "--format",
             "deb-src [signed-by=/usr/share/keyrings/debian-archive-keyring.gpg]"
             " $(REPO_URI) $(RELEASE) $(COMPONENT)"]
-KINDS = {"hit": "asks that hit", "hot": "asks for one name", "replace": "puts that replace",
-         "evict": "puts that evict"}
+KINDS = {"hit": "asks that hit", "zipf": "asks by Zipf's law", "hot": "asks for one name",
+         "replace": "puts that replace", "evict": "puts that evict"}
 
 
 def fetch():
@@ -72,6 +73,7 @@ def programs():
     """The programs, by the name of what is in them."""
     unbound, work, own = built(), BESIDE / "work.c", (BESIDE / "rrcache.c", ARCHIVE)
     return {
+        "cache": compiled("beside_cache", work, BESIDE / "cache.c", ARCHIVE),
         "rrcache": compiled("beside_rrcache", work, *own),
         "spinning": compiled("beside_spinning", "-DSPINS", work, *own),
         "peeking": compiled("beside_peeking", "-DPEEKS", work, *own),
@@ -106,11 +108,12 @@ def main(args):
         return "unbound's source comes by apt-get, which is not on this machine"
     made = programs()
     jemalloc = next(Path("/usr/lib").glob("*/libjemalloc.so.2"), None)
-    ways = [("With mutexes and glibc's malloc:", "rrcache", None),
-            ("With spin locks, as unbound's are:", "spinning", None),
-            ("With locks for readers, under which asks are peeks:", "peeking", None)]
+    ways = [("`struct rrcache`, with its locks in it:", "cache", None),
+            ("Shelves with mutexes and glibc's malloc:", "rrcache", None),
+            ("Shelves with spin locks, as unbound's are:", "spinning", None),
+            ("Shelves with locks for readers, under which asks are peeks:", "peeking", None)]
     if jemalloc:
-        ways.append(("With mutexes and jemalloc:", "rrcache", str(jemalloc)))
+        ways.append(("Shelves with mutexes and jemalloc:", "rrcache", str(jemalloc)))
     head = [f"{what}, {of_threads(it)}" for it in args.threads for what in ("time", "rate")]
     parts = []
     for way, own, preload in ways:

@@ -1,9 +1,10 @@
 /* SPDX-License-Identifier: MIT */
-/* THREADS CALLS hit|hot|replace|evict NAMES: times a cache of RRsets. So many threads make so many
-   calls in all on names `host<i>.example`, each with one A record, in random order: `hit` asks for
-   names that are there, `hot` always for one; `replace` puts names that are there with another
-   address, `evict` names that are not there into a cache that has no room. It prints how many calls
-   there were, the nanoseconds that they took by the clock, and those of processor time. */
+/* THREADS CALLS hit|zipf|hot|replace|evict NAMES: times a cache of RRsets. So many threads make so
+   many calls in all on names `host<i>.example`, each with one A record, in random order: `hit` asks
+   for names that are there, `zipf` too, but for the n-th of them as often as 1 / n is large, `hot`
+   always for one; `replace` puts names that are there with another address, `evict` names that are
+   not there into a cache that has no room. It prints how many calls there were, the nanoseconds
+   that they took by the clock, and those of processor time. */
 #include "work.h"
 
 #include <pthread.h>
@@ -14,7 +15,7 @@
 
 enum { MOST_THREADS = 64 };
 
-enum kind { HIT, HOT, REPLACE, EVICT };
+enum kind { HIT, ZIPF, HOT, REPLACE, EVICT };
 
 struct worker {
     pthread_t thread;
@@ -22,8 +23,9 @@ struct worker {
     uint64_t calls, seed, processor;
 };
 
-static const char *const KINDS[] = {"hit", "hot", "replace", "evict"};
+static const char *const KINDS[] = {"hit", "zipf", "hot", "replace", "evict"};
 static struct name *names;
+static uint32_t by_zipf[1 << 16]; /* names, each as often as Zipf's law has it */
 static size_t name_count, worker_count;
 static enum kind kind;
 static pthread_barrier_t start;
@@ -64,14 +66,39 @@ static void make_names(size_t count)
     }
 }
 
-/* One call. Puts that evict go round all names, of which the cache holds the last half. */
+/* Names by Zipf's law: the n-th of them stands in the table as often as 1 / n is large. Which shard
+   one lies in goes by its hash, so that the first ones lie anywhere. */
+static void make_table(void)
+{
+    const size_t room = sizeof by_zipf / sizeof *by_zipf;
+    double sum = 0, passed = 0;
+    for (size_t i = 0; i < name_count; i++)
+        sum += 1.0 / (double)(i + 1);
+    for (size_t at = 0, i = 0; i < name_count; i++) {
+        passed += 1.0 / (double)(i + 1);
+        while (at < room && (double)at < passed / sum * (double)room)
+            by_zipf[at++] = (uint32_t)i;
+    }
+}
+
+/* The name of a call. Puts that evict go round all names, of which the cache holds the last half.
+ */
+static size_t place_of(struct worker *worker, uint64_t turn)
+{
+    if (kind == HOT)
+        return 0;
+    if (kind == EVICT)
+        return (worker->number + turn * worker_count) % name_count;
+    uint64_t drawn = draw(&worker->seed);
+    return kind == ZIPF ? by_zipf[drawn % (1 << 16)] : drawn % name_count;
+}
+
 static void call(struct worker *worker, void *thread, uint64_t turn)
 {
-    size_t place = kind == EVICT ? (worker->number + turn * worker_count) % name_count
-                                 : draw(&worker->seed) % name_count;
+    const struct name *name = &names[place_of(worker, turn)];
     if (kind == REPLACE || kind == EVICT)
-        put(thread, &names[place], (unsigned)turn);
-    else if (!ask(thread, &names[kind == HOT ? 0 : place]))
+        put(thread, name, (unsigned)turn);
+    else if (!ask(thread, name))
         fail("an ask found nothing");
 }
 
@@ -120,6 +147,7 @@ int main(int count, char **words)
             fail("no such kind");
     size_t room = strtoul(words[4], NULL, 10);
     make_names(kind == EVICT ? 2 * room : room);
+    make_table();
     make_cache(kind == EVICT ? room : 2 * room);
     void *thread = begin_thread(0);
     for (size_t i = 0; i < name_count; i++)

@@ -1,0 +1,60 @@
+/* SPDX-License-Identifier: MIT */
+/* `struct rrcache` under work.c, which has its locks in it. */
+#include "rrcache.h"
+#include "work.h"
+
+/* What a set of one address takes (`rrcache_sizes`), of a name that is stored in itself. */
+enum { SET_OCTETS = RRCACHE_ENTRY_OCTETS + 2 * RRCACHE_SHARED_OCTETS + 2 * RRCACHE_VALUE_OCTETS };
+
+static struct rrcache *cache;
+
+void make_cache(size_t sets)
+{
+    const struct rrcache_config config = {.octets = sets * SET_OCTETS, .shelves = SHARDS};
+    if (rrcache_open(&cache, &config) != RRCACHE_DONE)
+        fail("no cache");
+}
+
+void *begin_thread(unsigned number)
+{
+    (void)number;
+    return NULL;
+}
+
+void put(void *thread, const struct name *name, unsigned turn)
+{
+    const uint8_t data[] = {0, 4, 192, 0, 2, (uint8_t)turn};
+    const struct rrcache_set set = {
+        .owner = name->octets,
+        .owner_size = name->size,
+        .rtype = 1,
+        .rclass = RRCACHE_IN,
+        .trust = RRCACHE_AUTHORITATIVE_ANSWER,
+        .ttl = TTL,
+        .data = data,
+        .data_size = sizeof data,
+        .moment = MOMENT,
+    };
+    uint32_t outcome;
+    (void)thread;
+    if (rrcache_store_set(cache, &set, &outcome) != RRCACHE_DONE)
+        fail("a put was refused");
+}
+
+bool ask(void *thread, const struct name *name)
+{
+    const struct rrcache_request request = {
+        .name = name->octets,
+        .name_size = name->size,
+        .rtype = 1,
+        .rclass = RRCACHE_IN,
+        .moment = MOMENT,
+        .mode = RRCACHE_NO_STALE,
+    };
+    uint8_t buffer[512];
+    struct rrcache_answer answer = {.buffer = buffer, .room = sizeof buffer};
+    (void)thread;
+    if (rrcache_lookup(cache, &request, &answer) != RRCACHE_DONE)
+        fail("an ask was refused");
+    return answer.kind == RRCACHE_FRESH;
+}
