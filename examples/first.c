@@ -1,5 +1,5 @@
 /* SPDX-License-Identifier: MIT */
-#include <rrcache.h>
+#include <rrcache_shelf.h>
 #include <stdio.h>
 #include <string.h>
 

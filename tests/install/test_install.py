@@ -1,9 +1,10 @@
 # SPDX-License-Identifier: MIT
 """The library for C as bin/install-c installs it to a fresh folder.
 
-The examples of the man pages are compiled by what pkg-config tells alone, in C and in C++, with the
-shared library and with the archive, and run; the forwarder is compiled so too, and README.md's
-example. Versions, soname, exports and man pages have to fit.
+What pkg-config tells is enough to compile the examples: that of shelves in C and in C++, with the
+shared library and with the archive, which is run too, the stub resolver (tests/c runs that) and the
+forwarder. README.md has a part of the stub resolver. Versions, soname, exports and man pages have
+to fit.
 """
 import os
 import re
@@ -24,25 +25,10 @@ LANGUAGES = {
     "C++": ["c++", "-std=c++11", "-Wno-missing-field-initializers", "-xc++"],
 }
 WARNINGS = ["-Wall", "-Wextra", "-Werror"]
-# What README.md's example has around it.
-AROUND = """\
-#include <rrcache.h>
-#include <stdio.h>
-#include <string.h>
-
-void resolve(const uint8_t *message, size_t size, uint16_t id, uint64_t now, const uint8_t *seed)
-{{
-    static const uint8_t octets[] = "\\3www\\7example", zone[] = "\\7example";
-    struct rrcache_name name = {{0}};
-    struct rrcache_counts counts;
-    struct rrcache_told told;
-    uint64_t concerned;
-    uint8_t buffer[512];
-{0}}}
-"""
 # The headers, each of which has a page.
 HEADERS = ["rrcache", "rrcache_shelf"]
-# What the example of each page prints: the set has a TTL of 60 and is asked for 10 seconds later.
+# What the example of a page prints, where it comes to an end: the set has a TTL of 60 and is asked
+# for 10 seconds later.
 WANTED = {"rrcache_shelf": "TTL 50\n"}
 pytestmark = pytest.mark.skipif(shutil.which("pkg-config") is None,
                                 reason="there is no pkg-config here (bin/setup installs it)")
@@ -68,6 +54,13 @@ class Installed:
     def flags(self, *words):
         return self.told("--cflags", "--libs", *words).split()
 
+    def linked(self, library):
+        """The words that link with the shared library or with the archive."""
+        if library == "shared":
+            return self.flags()
+        words = [word for word in self.flags("--static") if word != "-lrrcache"]
+        return [*words, self.lib / "librrcache.a"]
+
     def header(self, name):
         return (self.prefix / "include" / f"{name}.h").read_text()
 
@@ -82,15 +75,18 @@ def it(tmp_path_factory):
     return Installed(tmp_path_factory.mktemp("installed"))
 
 
-@pytest.mark.parametrize("page", EXAMPLES)
+@pytest.mark.parametrize("page", WANTED)
 @pytest.mark.parametrize("library", ["shared", "static"])
 @pytest.mark.parametrize("language", LANGUAGES)
 def test_example(language, library, page, it, tmp_path):
-    words = it.flags()
-    if library == "static":
-        words = [word for word in it.flags("--static") if word != "-lrrcache"]
-        words.append(it.lib / "librrcache.a")
+    words = it.linked(library)
     assert it.run(EXAMPLES[page], tmp_path, LANGUAGES[language], words) == WANTED[page]
+
+
+@pytest.mark.parametrize("library", ["shared", "static"])
+def test_stub(library, it, tmp_path):
+    said("cc", "-std=gnu11", *WARNINGS, TOP / "examples" / "stub.c", *it.linked(library), "-o",
+         tmp_path / "stub")
 
 
 def test_forwarder(it, tmp_path):
@@ -99,10 +95,9 @@ def test_forwarder(it, tmp_path):
          tmp_path / "forwarder")
 
 
-def test_readme(it):
-    example = re.search(r"^```c\n(.*?)^```", (TOP / "README.md").read_text(), re.M | re.S)[1]
-    said("cc", "-std=c99", *WARNINGS, *it.told("--cflags").split(), "-fsyntax-only", "-xc", "-",
-         source=AROUND.format(example))
+def test_readme():
+    shown = re.findall(r"^```c\n(.*?)^```", (TOP / "README.md").read_text(), re.M | re.S)
+    assert len(shown) == 1 and shown[0] in (TOP / "examples" / "stub.c").read_text()
 
 
 def test_versions(it, tmp_path):

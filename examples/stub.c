@@ -1,0 +1,123 @@
+/* SPDX-License-Identifier: MIT */
+/* stub PORT UPSTREAM UPSTREAM-PORT: a caching stub resolver on 127.0.0.1, over UDP with no EDNS. */
+#include <arpa/inet.h>
+#include <poll.h>
+#include <rrcache.h>
+#include <stdlib.h>
+#include <string.h>
+#include <unistd.h>
+
+enum { SERVFAIL = 2, NXDOMAIN = 3, OCTETS = 512, RRSETS = 64 };
+static struct sockaddr_in here = {.sin_family = AF_INET}, upstream = {.sin_family = AF_INET};
+static struct rrcache *cache;
+
+/* Asks upstream and stores the response. It returns its size, or 0 where none came that can be
+   read. Eight packets that answer other queries are an attack. */
+static size_t ask(struct rrcache_query query, uint8_t *it, struct rrcache_answer *answer)
+{
+    static const uint8_t root[1]; /* the zone: upstream answers for all names */
+    struct pollfd peer = {.fd = socket(AF_INET, SOCK_DGRAM, 0), .events = POLLIN};
+    struct rrcache_response response = {.octets = it, .zone = root, .zone_size = 1};
+    struct rrcache_report report;
+    enum rrcache_status status = RRCACHE_OTHER_QUERY;
+    memcpy(it + 2, "\1\0\0\1\0\0\0\0\0", 10);         /* RD, and one question */
+    memcpy(it + 12, query.name, query.name_size + 4); /* with the type and class behind it */
+    if (getentropy(it, 2) == 0 && connect(peer.fd, (void *)&upstream, sizeof upstream) == 0)
+        send(peer.fd, it, 12 + query.name_size + 4, 0);
+    query.id = it[0] << 8 | it[1];
+    response.lowest_ttl = true;
+    for (int i = 0; i < 8 && status == RRCACHE_OTHER_QUERY && poll(&peer, 1, 1000) == 1; i++) {
+        ssize_t size = recv(peer.fd, it, OCTETS, 0);
+        response.size = size > 0 ? size : 0;
+        status = rrcache_store(cache, &query, &response, &report, answer);
+    }
+    close(peer.fd);
+    return status == RRCACHE_DONE ? response.size : 0;
+}
+
+/* Writes an answer as the reply to a query, and returns its size. What has no room sets TC. */
+static size_t compose(const struct rrcache_query *query, const struct rrcache_answer *answer,
+                      uint8_t *reply)
+{
+    struct rrcache_parsed_set sets[RRSETS];
+    struct rrcache_parsed_response response = {.ra = true, .sets = sets};
+    struct rrcache_rrset rrset = {0};
+    size_t size = 0;
+    if (answer->kind == RRCACHE_MISS || answer->kind == RRCACHE_FAILED)
+        response.rcode = SERVFAIL;
+    else if (answer->kind == RRCACHE_NXDOMAIN)
+        response.rcode = NXDOMAIN;
+    while (response.rcode != SERVFAIL && response.count < RRSETS && rrcache_next(answer, &rrset))
+        sets[response.count++] = rrset.set;
+    while (rrcache_compose_response(query, &response, reply, OCTETS, &size) == RRCACHE_SMALL) {
+        response.count = 0;
+        response.tc = true;
+    }
+    return size;
+}
+
+/* Answers a query by what is held, by what upstream says, or by what is held past its TTL (RFC
+   8767), and returns the size of the reply, 0 where there is none. */
+static size_t respond(const struct rrcache_query *query, uint8_t *reply)
+{
+    static uint8_t buffer[RRCACHE_ANSWER_OCTETS];
+    struct rrcache_answer answer = {.buffer = buffer, .room = sizeof buffer};
+    struct rrcache_request request = {.name = query->name, .name_size = query->name_size};
+    struct rrcache_failure failure = {.name = query->name, .name_size = query->name_size};
+    size_t came = 0;
+    uint32_t outcome;
+    request.rtype = failure.rtype = query->rtype;
+    request.rclass = failure.rclass = query->rclass;
+    request.mode = RRCACHE_STALE_IF_FAILED;
+    failure.ttl = 30;
+    if (rrcache_lookup(cache, &request, &answer) != RRCACHE_DONE)
+        return 0;
+    if (answer.kind == RRCACHE_MISS && !answer.is_endless)
+        came = ask(*query, reply, &answer);
+    if (answer.kind == RRCACHE_MISS && came != 0)
+        return came; /* it leaves nothing to store, as with TC set: it goes on as it came */
+    if (answer.kind == RRCACHE_MISS)
+        rrcache_store_failure(cache, &failure, &outcome);
+    if (answer.kind == RRCACHE_MISS || answer.kind == RRCACHE_FAILED)
+        rrcache_lookup(cache, &request, &answer); /* stale data will do now */
+    return compose(query, &answer, reply);
+}
+
+/* Takes a packet of a client's, and answers it if it is a query with one question. */
+static void serve(int clients)
+{
+    struct sockaddr_in client;
+    socklen_t client_size = sizeof client;
+    uint8_t it[OCTETS] = {0}, reply[OCTETS];
+    ssize_t got = recvfrom(clients, it, sizeof it, 0, (void *)&client, &client_size);
+    ssize_t end = 12; /* of the name, which stands behind the header */
+    while (end < got && it[end] != 0 && it[end] < 64)
+        end += it[end] + 1;
+    if (end + 5 > got || it[end] != 0 || (it[2] & 0xf8) != 0 || it[4] != 0 || it[5] != 1)
+        return;
+    struct rrcache_query query = {.name = it + 12, .name_size = end - 11};
+    query.rtype = it[end + 1] << 8 | it[end + 2];
+    query.rclass = it[end + 3] << 8 | it[end + 4];
+    size_t size = respond(&query, reply);
+    if (size == 0)
+        return;
+    memcpy(reply, it, 2); /* its identifier, and RD */
+    reply[2] = (reply[2] & 0xfe) | (it[2] & 1);
+    sendto(clients, reply, size, 0, (void *)&client, client_size);
+}
+
+int main(int count, char **words)
+{
+    const struct rrcache_config config = {.max_stale = 86400};
+    int clients = socket(AF_INET, SOCK_DGRAM, 0);
+    if (count != 4 || inet_pton(AF_INET, words[2], &upstream.sin_addr) != 1)
+        return 2;
+    here.sin_addr.s_addr = htonl(INADDR_LOOPBACK);
+    here.sin_port = htons(atoi(words[1]));
+    upstream.sin_port = htons(atoi(words[3]));
+    if (rrcache_open(&cache, &config) != RRCACHE_DONE
+        || bind(clients, (void *)&here, sizeof here) != 0)
+        return 1;
+    for (;;)
+        serve(clients);
+}
