@@ -19,7 +19,7 @@ from .history import (ArchiveFault, Ask, Body, Chapter, Entry, Event, Failure, K
                       RRset, Slot, Sweep, read_archive)
 from .library import fault, library_version
 from .names import NameFault, to_text, to_wire
-from .offers import Offers, Summary, read_message_unchecked, read_response
+from .offers import Offers, Summary, octets_of, read_message_unchecked, read_response
 from .parts import AnyName, Name, Parts, make_name
 from .refusals import (BadChoice, BadData, BadLimits, BadMessage, BadName, BadRules, BadSeed,
                        BadType, HasOffers, HistoryFull, Memory, MomentTooLarge, NoOffers,
@@ -38,6 +38,6 @@ __all__ = [
     "OtherQuery", "OtherSeed", "Outcome", "ParsedSet", "Parts", "Purpose", "Query", "RRset",
     "Refused", "Reply", "ResponseKind", "SHARED_OCTETS", "Shelf", "Sizes", "Slot", "Status",
     "Stored", "StoredEntry", "Summary", "Sweep", "Swept", "Trimmed", "Trust", "VALUE_OCTETS",
-    "Wide", "WrongBody", "compose_response", "fault", "library_version", "make_name",
+    "Wide", "WrongBody", "compose_response", "fault", "library_version", "make_name", "octets_of",
     "read_archive", "read_message_unchecked", "read_response", "to_text", "to_wire",
 ]

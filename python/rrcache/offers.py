@@ -9,11 +9,12 @@ from typing import Any, NamedTuple
 
 from . import structs
 from .asking import told_offer
-from .choices import ResponseKind
+from .choices import Kind, ResponseKind
 from .library import Held, call, seed_of, sized, told
 from .names import to_wire
 from .parts import Name, Parts
-from .replies import Limits, Query, Reply
+from .replies import (BLOCK_OCTETS, ENTRY_OCTETS, INLINE_OCTETS, SHARED_OCTETS, VALUE_OCTETS,
+                      Limits, Query, Reply)
 
 
 class Summary(NamedTuple):
@@ -74,6 +75,31 @@ class Offers(Held):
         bits = told(export, c_uint64, self._handle, *arguments)
         self.concerned = [part for part in range(count) if bits >> part & 1]
         return self
+
+
+def room(octets: bytes) -> int:
+    """How many octets of memory a name or rdata take."""
+    size = len(octets)
+    return VALUE_OCTETS + (0 if size <= INLINE_OCTETS else BLOCK_OCTETS + size)
+
+
+def octets_of(name: Name, reply: Reply) -> int:
+    """How many octets of memory an offer takes, if it is kept as a key of its own: one that going
+    through `Offers` told. One that takes more than a shelf is trimmed to would drive all other keys
+    out: who bounds memory leaves it out, by `Shelf.offer_one` of the others.
+
+    >>> from rrcache import make_name
+    >>> name = make_name("www.example.", Parts(1, seed=bytes(range(16))))
+    >>> octets_of(name, Reply(Kind.FRESH, 50, name.octets, (bytes([192, 0, 2, 1]),), rtype=1))
+    320
+    """
+    octets = ENTRY_OCTETS + SHARED_OCTETS + room(name.octets)
+    if reply.kind == Kind.FAILED:
+        return octets
+    if reply.owner != name.octets:
+        octets += SHARED_OCTETS + room(reply.owner)
+    several = VALUE_OCTETS + BLOCK_OCTETS if len(reply.data) > 1 else 0
+    return octets + SHARED_OCTETS + sum(map(room, reply.data)) + several
 
 
 def terms(moment: int, limits: Limits, line: int = 0, parts: Parts | None = None, part: int = 0,

@@ -8,7 +8,7 @@ import pytest
 from dns.rdatatype import A, AAAA, ANY, CNAME, OPT, TXT
 
 import rrcache
-from rrcache import Class, Kind, Mode, Purpose, StoredEntry, Trust
+from rrcache import Class, Kind, Mode, Purpose, StoredEntry, Trust, to_wire
 from tests.forwarder.harness import SOA, record, wire_name
 from tools.audits import first_fault
 
@@ -95,6 +95,12 @@ def test_negative_and_large_data():
         assert shelf.sizes() == (2, 4, 0, octets)
 
 
+def told_octets(name, kind, owner, data):
+    """What is told that an offer takes, before it is made."""
+    made = rrcache.make_name(name, rrcache.Parts(1, SEED))
+    return rrcache.octets_of(made, rrcache.Reply(kind, 60, to_wire(owner), tuple(data)))
+
+
 @pytest.mark.parametrize("owner, data, octets", [
     ("a.", [ADDRESS], KEY + SHARED + SHORT),
     ("a.", [ADDRESS, SEED[:4]], KEY + SHARED + LONG + 2 * SHORT),
@@ -112,6 +118,7 @@ def test_octets_of_a_set(owner, data, octets):
     with rrcache.Shelf() as shelf:
         shelf.offer_set(owner, TXT, HIGH, 60, data, 100)
         assert shelf.sizes() == (1, 0, 0, octets)
+    assert told_octets(owner, Kind.FRESH, owner, data) == octets
 
 
 @pytest.mark.parametrize("name, owner, soa, octets", [
@@ -128,6 +135,7 @@ def test_octets_of_a_denial(name, owner, soa, octets):
         for kind in Kind.NODATA, Kind.NXDOMAIN:
             shelf.offer_negative(name, A, kind, HIGH, 60, owner, soa, 100)
         assert shelf.sizes() == (2, 0, 0, 2 * octets)
+    assert told_octets(name, Kind.NODATA, owner, [soa]) == octets
 
 
 def test_octets_of_a_failure():
@@ -136,6 +144,7 @@ def test_octets_of_a_failure():
         assert shelf.sizes().octets == KEY
         shelf.offer_failure(31 * "A", A, 30, 100)
         assert shelf.sizes() == (2, 0, 0, KEY + LONG_KEY + 33)
+    assert told_octets(31 * "A", Kind.FAILED, ".", []) == LONG_KEY + 33
 
 
 def test_outcomes():
