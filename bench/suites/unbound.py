@@ -34,6 +34,8 @@ FOLDER, BESIDE = BUILD / "unbound", SOURCES / "beside"
 ARCHIVES = ["apt-get", "indextargets", "Created-By: Packages", "Codename: bookworm", "--format",
             "deb-src [signed-by=/usr/share/keyrings/debian-archive-keyring.gpg]"
             " $(REPO_URI) $(RELEASE) $(COMPONENT)"]
+OF_CACHE = ("`struct rrcache`, with its locks in it. Each of its look-ups follows aliases, and so"
+            " looks for a\nCNAME record beside the type, which asks of shelves do not here:")
 KINDS = {"hit": "asks that hit", "zipf": "asks by Zipf's law", "hot": "asks for one name",
          "replace": "puts that replace", "evict": "puts that evict"}
 
@@ -108,7 +110,7 @@ def main(args):
         return "unbound's source comes by apt-get, which is not on this machine"
     made = programs()
     jemalloc = next(Path("/usr/lib").glob("*/libjemalloc.so.2"), None)
-    ways = [("`struct rrcache`, with its locks in it:", "cache", None),
+    ways = [(OF_CACHE, "cache", None),
             ("Shelves with mutexes and glibc's malloc:", "rrcache", None),
             ("Shelves with spin locks, as unbound's are:", "spinning", None),
             ("Shelves with locks for readers, under which asks are peeks:", "peeking", None)]
