@@ -1,11 +1,12 @@
 // SPDX-License-Identifier: MIT
 ghost use Rattle.std.specs.Prelude.{◌≡◌, true, false};
 ghost use Rattle.std.specs.Option.{option_map};
+ghost use Rattle.rrc_cache.specs.Lookups.{TellsLookup};
 ghost use Rattle.rrc_cache.specs.Seeds.{IsHashOf};
 ghost use Rattle.rrc_c.specs.Aliases.{alias_ask, alias_mode, ask_or_alias, has_data, has_failed, is_preferred};
 ghost use Rattle.rrc_history.specs.Views.{ask_in, held_in, reply_in};
 
-use rrc_cache::NameHash;
+use rrc_cache::{Lookup, NameHash};
 use rrc_history::{AskRef, Held, Mode, ReplyRef, governing};
 use rrc_name::rtype::CNAME;
 use rrc_share::CacheShelf;
@@ -64,23 +65,28 @@ fn is_preferred(alias: Option<Held<'_>>, other: Option<Held<'_>>, moment: u64) -
 }
 
 /// The question itself, or that for the name's CNAME record where this is to be told in place of
-/// what there is of the type. It takes no memory.
+/// what there is of the type, with what the shelf tells of it. It takes no memory.
 #[tactic(auto, unfolding(crate::specs::Aliases::ask_or_alias))]
-pub(crate) fn ask_or_alias<'a>(shelf: &CacheShelf, ask: AskRef<'a>, hash: NameHash) -> AskRef<'a>
+pub(crate) fn ask_or_alias<'a, 's>(
+    shelf: &'s CacheShelf,
+    ask: AskRef<'a>,
+    hash: NameHash,
+) -> (AskRef<'a>, Lookup<'s>)
     requires { IsHashOf hash (ask_in ask).name }
-    ensures chosen { ask_in result ≡ ask_or_alias shelf.now (ask_in ask.entry) }
-    ensures name { (ask_in result).name ≡ (ask_in ask.entry).name }
-    ensures moment { (ask_in result).moment ≡ (ask_in ask.entry).moment }
+    ensures chosen { ask_in result.0 ≡ ask_or_alias shelf.now (ask_in ask.entry) }
+    ensures name { (ask_in result.0).name ≡ (ask_in ask.entry).name }
+    ensures moment { (ask_in result.0).moment ≡ (ask_in ask.entry).moment }
+    ensures lookup { TellsLookup shelf.now.shelf.part (ask_in result.0) result.1 }
 {
-    if ask.rtype == CNAME || ask.rtype == ANY {
-        return ask;
-    }
     let of_type = shelf.lookup(ask, hash);
+    if ask.rtype == CNAME || ask.rtype == ANY {
+        return (ask, of_type);
+    }
     let alias = alias_ask(ask, of_type.reply);
     let of_alias = shelf.lookup(alias, hash);
     if has_data(of_alias.reply) && is_preferred(of_alias.entry, of_type.entry, ask.moment) {
-        alias
+        (alias, of_alias)
     } else {
-        ask
+        (ask, of_type)
     }
 }

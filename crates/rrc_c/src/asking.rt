@@ -7,7 +7,7 @@ ghost use Rattle.rrc_c.specs.Shelves.{IsLeftAs};
 ghost use Rattle.rrc_c.specs.Statuses.{number_of_reply};
 
 use crate::aliases::ask_or_alias;
-use crate::asks::{answer, show};
+use crate::asks::{answer, show, show_lookup};
 use crate::folded_name::FoldedName;
 use crate::question::question_of;
 use crate::reply_record::ReplyRecord;
@@ -53,7 +53,7 @@ pub(crate) fn ask_shelf_alias(
     ensures due { AskAliasDue name.now question.now seed.now (length buffer.old) shelf.old (number_of_reply result) }
 {
     let (ask, hash) = question_of(name, question, seed)?;
-    let chosen = ask_or_alias(shelf, ask, hash);
+    let (chosen, _) = ask_or_alias(shelf, ask, hash);
     answer(alloc, shelf, chosen, hash, question.line, told, buffer)
 }
 
@@ -90,6 +90,6 @@ pub(crate) fn peek_at_alias(
     ensures due { PeekAliasDue name.now question.now seed.now (length buffer.old) shelf.now (number_of_reply result) }
 {
     let (ask, hash) = question_of(name, question, seed)?;
-    let chosen = ask_or_alias(shelf, ask, hash);
-    show(shelf, chosen, hash, told, buffer)
+    let (chosen, lookup) = ask_or_alias(shelf, ask, hash);
+    show_lookup(shelf, chosen, lookup, told, buffer)
 }

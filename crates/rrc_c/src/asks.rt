@@ -80,7 +80,24 @@ pub(crate) fn show(
     ensures err { OnErr result (TellsNothing told.old buffer.old told.new buffer.new) }
     ensures due { TellingThen (reply_of shelf.now (ask_in ask.entry)) (length buffer.old) (λ number. number ≡ 0) (number_of_reply result) }
 {
-    tell(shelf, ask, shelf.lookup(ask, hash), told, buffer)
+    show_lookup(shelf, ask, shelf.lookup(ask, hash), told, buffer)
+}
+
+/// Tells what a shelf would answer, as it was looked up.
+#[inline(always)]
+pub(crate) fn show_lookup(
+    shelf: &CacheShelf,
+    ask: AskRef<'_>,
+    lookup: Lookup<'_>,
+    told: &mut ReplyRecord,
+    buffer: &mut [u8],
+) -> Result<bool, Status>
+    requires { TellsLookup shelf.now.shelf.part (ask_in ask) lookup }
+    ensures ok { IfOk result (λ fits. TellsOr fits (ask_in ask.entry) shelf.now told.new buffer.old buffer.new) }
+    ensures err { OnErr result (TellsNothing told.old buffer.old told.new buffer.new) }
+    ensures due { TellingThen (reply_of shelf.now (ask_in ask.entry)) (length buffer.old) (λ number. number ≡ 0) (number_of_reply result) }
+{
+    tell(shelf, ask, lookup, told, buffer)
 }
 
 /// Writes the event of a question, and answers the reply that the shelf has.
