@@ -13,4 +13,5 @@ pub mod Loan
 pub mod Looking
 pub mod Lending
 pub mod Telling
+pub mod Trimming
 pub mod Sweeping

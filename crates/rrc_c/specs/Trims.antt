@@ -1,6 +1,8 @@
 -- SPDX-License-Identifier: MIT
 -- A trim to a limit of octets, which one call makes of a shelf.
-use Rattle.std.specs.Prelude.{◌≡◌, ℕ, ◌<◌, ◌≤◌, ◌⊎◌}
+use Rattle.std.specs.Prelude.{◌≡◌, ℕ, ◌+◌, ◌^◌, ◌<◌, ◌≤◌, ◌⊎◌, false}
+use Rattle.rrc_cache.specs.Expiry.{IsAfterLastSweep}
+use Rattle.rrc_cache.specs.Part.{PartOf, next_number}
 use Rattle.rrc_cache.specs.Sizes.{HoldsOctets}
 use Rattle.rrc_history.specs.Lives.{LAST_MOMENT}
 use Rattle.rrc_share.specs.CacheShelf.{CacheShelfOf}
@@ -34,11 +36,17 @@ pub record TrimsShelf (trim : TrimTerms) (trimmed : Trimmed) (old new : CacheShe
   pub trims : Trims trim.limit trim.most old.shelf new.shelf trimmed.removed
   pub octets : HoldsOctets new.shelf.part trimmed.octets
 
+-- why a trim stops, while nothing is recorded: the numbers of events are spent, or memory, which it asks
+-- for only if no sweep came after the last offer
+abbrev pub IsLeanStop : PartOf → PartOf → ℕ → Type 0
+IsLeanStop old new number = ((number ≡ number_of HistoryFull) × (2 ^ 62 ≤ next_number new + 1)) ⊎ (OutOfMemory number × IsAfterLastSweep old 0)
+
 -- some of them went, and then an event was refused by this number
 pub record TrimsSome (number : ℕ) (trim : TrimTerms) (old new : CacheShelfOf) : Type 0 where
   pub fit : IsTrim trim
   pub goes : GoesOn trim old new
   pub why : (number ≡ number_of HistoryFull) ⊎ OutOfMemory number
+  pub lean : old.records ≡ false → IsLeanStop old.shelf.part new.shelf.part number
 
 -- it was refused at once, and nothing was done
 pub record TrimsNothing (number : ℕ) (trim : TrimTerms) (old new : CacheShelfOf) : Type 0 where

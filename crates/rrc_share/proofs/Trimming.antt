@@ -1,7 +1,7 @@
 -- SPDX-License-Identifier: MIT
 -- Keys go, the one touched least recently first.
 use Rattle.std.proofs.Common.{◌≡◌, ℕ, zero, suc, ◌+◌, ◌-◌, ◌^◌, ◌%◌, ◌<◌, ◌≤◌, inl, inr, List, [], ◌∷◌, ◌++◌, length, take, reverse, Bool, true, false, Option, Some, None, Result, Ok, Err, refl, sym, ap, subst, ◌∙◌, arith, append_assoc}
-use Rattle.std.specs.Prelude.{IfNone, IfOk, IfSome, OnOk, OnErr, nat_eq}
+use Rattle.std.specs.Prelude.{IfErr, IfNone, IfOk, IfSome, IsErrAnd, OnOk, OnErr, nat_eq}
 use Rattle.std.specs.List.{AllByRecursion}
 use Rattle.std.specs.Option.{option_eq}
 use Rattle.std.proofs.lemmas.Bool.Decides.{nat_tests}
@@ -33,18 +33,20 @@ use Rattle.rrc_history.specs.lemmas.OfferLaws.{offer_contents}
 use Rattle.rrc_history.specs.lemmas.OneHistory.{one_contents}
 use Rattle.rrc_history.specs.lemmas.Openings.{opening}
 use Rattle.rrc_history.specs.lemmas.SweepLaws.{living-staying, sweep_contents}
-use Rattle.rrc_cache.specs.Evicting.{evicting_body, evicting_offer, evictions_by, is_data, AreLasting, EvictsBy, Has, Lasts}
-use Rattle.rrc_cache.specs.Expiry.{HoldsNothing, NoneFullyExpiresBefore}
+use Rattle.rrc_cache.specs.Evicting.{evicting_body, evicting_offer, evictions_by, is_data, AreLasting, EvictsBy, Has, IsEvictDue, Lasts}
+use Rattle.rrc_cache.specs.Expiry.{HoldsNothing, IsAfterLastSweep, NoneFullyExpiresBefore}
 use Rattle.rrc_cache.specs.Lasts.{last_of}
-use Rattle.rrc_cache.specs.Part.{PartOf, past_of, Adds}
+use Rattle.rrc_cache.specs.Lean.{IsLeanDue}
+use Rattle.rrc_cache.specs.Part.{PartOf, past_of, next_number, Adds}
 use Rattle.rrc_cache.specs.Sizes.{HoldsOctets}
 use Rattle.rrc_cache.specs.Taken.{IsTaken}
 use Rattle.rrc_cache.specs.lemmas.Evictions.{Ends, all_taken, cleared, ends, failure_body, last_goes, living_all, no_second, none_last}
 use Rattle.rrc_cache.specs.declared.refusal.Refusal.{Refusal}
-use Rattle.rrc_share.specs.CacheShelf.{CacheShelfOf, IsLeftBy, IsSoundBy, TakesOffer, TakesSweep}
-use Rattle.rrc_share.specs.Evictions.{AreNone, AreTheLasting, AreTheOthers, EvictsLast, Took}
+use Rattle.rrc_cache.specs.declared.refusal.Refusal.TheVariants.{HistoryFull, MomentTooLarge, Memory}
+use Rattle.rrc_share.specs.CacheShelf.{CacheShelfOf, IsDueBy, IsLeftBy, IsSoundBy, TakesOffer, TakesSweep}
+use Rattle.rrc_share.specs.Evictions.{AreNone, AreTheLasting, AreTheOthers, EvictsLast, IsEvictRefusal, IsSweepRefusal, Took}
 use Rattle.rrc_share.specs.Shelf.{ShelfOf, first_snapshot, history_of, Appends, HasMadeRoom, ShelvesChapter}
-use Rattle.rrc_share.specs.Trims.{lasting, AreTrimmed, Becomes, Evicts, IsEviction, Trims}
+use Rattle.rrc_share.specs.Trims.{lasting, AreTrimmed, Becomes, Evicts, IsEviction, IsLeanRefusal, Trims}
 
 -- ---- events that evict
 
@@ -533,3 +535,50 @@ trims limit most old middle new (Ok removed) lasts left = λ contents are.
     let after = left lasting'.0 lasting'.1 in
     (after.0, after.1, subst (λ before. AreTrimmed limit most removed before after.0) lasting'.2 after.2)
 trims limit most old middle new (Err refusal) lasts left = tt
+
+-- ---- refusals of a part that records nothing
+
+-- nothing was done, and so its numbers are those that it had
+still_spent : (old new : PartOf) → new ≡ old → 2 ^ 62 ≤ next_number old + 1 → 2 ^ 62 ≤ next_number new + 1
+still_spent old new same spent = subst (λ part. 2 ^ 62 ≤ next_number part + 1) (sym same) spent
+
+lean_sweep_refused : (old new : ShelfOf) (result : Result ℕ Refusal) → IsLeanDue old.part 0 result → OnErr result (new ≡ old) → IfErr result (IsSweepRefusal new.part)
+lean_sweep_refused old new (Ok removed) due same = tt
+lean_sweep_refused old new (Err HistoryFull) due same = still_spent old.part new.part (ap (λ (shelf : ShelfOf). shelf.part) same) (omega (arith, due))
+lean_sweep_refused old new (Err MomentTooLarge) due same = omega (arith, due.1)
+lean_sweep_refused old new (Err Memory) due same = tt
+
+pub sweep_refused : (records : Bool) (old new : ShelfOf) (result : Result ℕ Refusal) → IsDueBy records old.part 0 result → OnErr result (IsLeftBy records old new) → records ≡ false
+    → IfErr result (IsSweepRefusal new.part)
+sweep_refused records old new result due left lean =
+    lean_sweep_refused old new result (subst (λ by. IsDueBy by old.part 0 result) lean due) (subst (λ by. OnErr result (IsLeftBy by old new)) lean left)
+
+pub evict_refused : (moment : ℕ) (old new : CacheShelfOf) (result : Result Bool Refusal) → IsEvictDue old.shelf.part moment result → OnErr result (new ≡ old)
+    → IfErr result (IsEvictRefusal new.shelf.part moment)
+evict_refused moment old new (Ok went) due same = tt
+evict_refused moment old new (Err HistoryFull) due same = still_spent old.shelf.part new.shelf.part (ap (λ (shelf : CacheShelfOf). shelf.shelf.part) same) due
+evict_refused moment old new (Err MomentTooLarge) due same = due.1
+evict_refused moment old new (Err Memory) due same = due
+
+-- where the earliest expiry is at moment 0, no sweep came behind the last offer
+pub not_swept : (part : PartOf) (next : Option ℕ) → IfSome next (λ time. IsAfterLastSweep part time) → option_eq nat_eq next (Some 0) ≡ true → IsAfterLastSweep part 0
+not_swept part None after is = absurd cc
+not_swept part (Some time) after is =
+    let at : time ≡ 0 = grind (arith, nat_tests) in
+    subst (λ time. IsAfterLastSweep part time) at after
+
+-- what `?` hands on is the error that it met
+pub met : {A : Type 0} (result : Result A Refusal) (refusal : Refusal) (Is : Refusal → Type 0) → IsErrAnd result (λ one. one ≡ refusal) → Is refusal → IfErr result Is
+met (Ok answer) refusal Is same is = tt
+met (Err one) refusal Is same is = subst Is (sym same) is
+
+pub begin_refused : (old new : PartOf) (moment : ℕ) (refusal : Refusal) → IsSweepRefusal new refusal → IsAfterLastSweep old 0 → IsLeanRefusal old new moment refusal
+begin_refused old new moment HistoryFull why after = why
+begin_refused old new moment MomentTooLarge why after = absurd why
+begin_refused old new moment Memory why after = after
+
+pub trim_refused : (old new : PartOf) (moment : ℕ) (result : Result ℕ Refusal) → IfErr result (IsEvictRefusal new moment) → IfErr result (IsLeanRefusal old new moment)
+trim_refused old new moment (Ok removed) why = tt
+trim_refused old new moment (Err HistoryFull) why = why
+trim_refused old new moment (Err MomentTooLarge) why = why
+trim_refused old new moment (Err Memory) why = absurd why

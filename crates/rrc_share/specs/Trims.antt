@@ -1,6 +1,6 @@
 -- SPDX-License-Identifier: MIT
 -- Keys go, the one touched least recently first, until a part takes no more octets than a limit.
-use Rattle.std.specs.Prelude.{◌≡◌, ℕ, ◌-◌, ◌^◌, ◌%◌, ◌<◌, ◌≤◌, ◌⊎◌, List, ◌++◌, length, take, Result, Ok, Err}
+use Rattle.std.specs.Prelude.{◌≡◌, ℕ, ◌+◌, ◌-◌, ◌^◌, ◌%◌, ◌<◌, ◌≤◌, ◌⊎◌, List, ◌++◌, length, take, Result, Ok, Err}
 use Rattle.std.specs.List.{AllByRecursion}
 use Rattle.rrc_history.specs.declared.event.Event.{Event}
 use Rattle.rrc_history.specs.declared.event.Event.TheVariants.{Offered, Asked, Swept}
@@ -10,7 +10,8 @@ use Rattle.rrc_history.specs.Entries.{living}
 use Rattle.rrc_history.specs.Lives.{LAST_MOMENT, ttl_of}
 use Rattle.rrc_history.specs.Octets.{octets_of}
 use Rattle.rrc_history.specs.Past.{AreContents}
-use Rattle.rrc_cache.specs.Part.{past_of}
+use Rattle.rrc_cache.specs.Expiry.{IsAfterLastSweep}
+use Rattle.rrc_cache.specs.Part.{PartOf, past_of, next_number}
 use Rattle.rrc_cache.specs.declared.refusal.Refusal.{Refusal}
 use Rattle.rrc_cache.specs.declared.refusal.Refusal.TheVariants.{HistoryFull, MomentTooLarge, Memory}
 use Rattle.rrc_share.specs.Shelf.{ShelfOf, opening_of, history_of}
@@ -59,3 +60,10 @@ IsTrimDue moment (Ok removed) = moment ≤ LAST_MOMENT
 IsTrimDue moment (Err HistoryFull) = moment ≤ LAST_MOMENT
 IsTrimDue moment (Err MomentTooLarge) = LAST_MOMENT < moment
 IsTrimDue moment (Err Memory) = moment ≤ LAST_MOMENT
+
+-- why a trim of a part that records nothing is refused: the numbers of its events do not go on to two
+-- more; the moment is too large; or memory, which it asks for only if no sweep came after the last offer
+abbrev pub IsLeanRefusal : PartOf → PartOf → ℕ → Refusal → Type 0
+IsLeanRefusal old new moment HistoryFull = 2 ^ 62 ≤ next_number new + 1
+IsLeanRefusal old new moment MomentTooLarge = LAST_MOMENT < moment
+IsLeanRefusal old new moment Memory = IsAfterLastSweep old 0

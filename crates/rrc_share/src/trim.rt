@@ -1,11 +1,11 @@
 // SPDX-License-Identifier: MIT
-ghost use Rattle.std.specs.Prelude.{◌≡◌, ◌≤◌, ℕ, true, false, IfOk, OnErr, OnOk};
+ghost use Rattle.std.specs.Prelude.{◌≡◌, ◌≤◌, ℕ, true, false, IfErr, IfOk, OnErr, OnOk};
 ghost use Rattle.rrc_history.specs.Fits.{fits};
 ghost use Rattle.rrc_history.specs.Lives.{ttl_of, LAST_MOMENT};
 ghost use Rattle.rrc_history.specs.Views.{held_in};
 ghost use Rattle.rrc_cache.specs.Evicting.{evicting_offer, is_data, AreLasting};
-ghost use Rattle.rrc_share.specs.Evictions.{AreTheLasting, EvictsLast, Took};
-ghost use Rattle.rrc_share.specs.Trims.{AreTrimmed, Becomes, Evicts, IsTrimDue, Trims};
+ghost use Rattle.rrc_share.specs.Evictions.{AreTheLasting, EvictsLast, IsEvictRefusal, IsSweepRefusal, Took};
+ghost use Rattle.rrc_share.specs.Trims.{AreTrimmed, Becomes, Evicts, IsLeanRefusal, IsTrimDue, Trims};
 
 use crate::cache_shelf::CacheShelf;
 use rrc_cache::{LAST_MOMENT, Refusal};
@@ -22,12 +22,15 @@ impl CacheShelf {
     /// recorded, that sweep alone may ask for memory.
     ///
     /// `MomentTooLarge` (above 2^40 seconds) comes first; else the refusals are those of `offer`.
-    /// After one of them some keys may be gone.
+    /// After one of them some keys may be gone. While nothing is recorded, `HistoryFull` says that
+    /// the numbers of events do not go on to two more, and `Memory` that no sweep came after the
+    /// last offer.
     pub fn trim(&mut self, tag: Tag, moment: u64, limit: u64, most: usize) -> Result<usize, Refusal>
         ensures records { self.new.records ≡ self.old.records }
         ensures evicts { Evicts tag moment self.old.shelf self.new.shelf }
         ensures ok { IfOk result (Trims limit most self.old.shelf self.new.shelf) }
         ensures due { IsTrimDue moment result }
+        ensures lean { self.old.records ≡ false → IfErr result (IsLeanRefusal self.old.shelf.part self.new.shelf.part moment) }
     {
         if moment > LAST_MOMENT {
             return Err(Refusal::MomentTooLarge);
@@ -90,6 +93,7 @@ fn sweep_no_time(shelf: &mut CacheShelf, tag: Tag) -> Result<usize, Refusal>
     ensures evicts { (moment : ℕ) → Evicts tag moment shelf.old.shelf shelf.new.shelf }
     ensures ok { OnOk result (Becomes shelf.old.shelf shelf.new.shelf (AreTheLasting shelf.old.shelf.part.snapshot.rules.stale)) }
     ensures due { OnErr result (IsTrimDue 0 result) }
+    ensures lean { shelf.old.records ≡ false → IfErr result (IsSweepRefusal shelf.new.shelf.part) }
 {
     shelf.is_sound();
     let removed = shelf.sweep(tag, 0);
@@ -105,6 +109,7 @@ fn begin(shelf: &mut CacheShelf, tag: Tag) -> Result<(), Refusal>
     ensures ok { OnOk result (Becomes shelf.old.shelf shelf.new.shelf (AreTheLasting shelf.old.shelf.part.snapshot.rules.stale)) }
     ensures lasting { OnOk result (AreLasting shelf.new.shelf.part) }
     ensures due { OnErr result (IsTrimDue 0 result) }
+    ensures lean { shelf.old.records ≡ false → (moment : ℕ) → IfErr result (IsLeanRefusal shelf.old.shelf.part shelf.new.shelf.part moment) }
 {
     // Its contract tells that there is a list of what the keys hold.
     let _ = shelf.octets();
@@ -146,6 +151,7 @@ fn evict_unrecorded(shelf: &mut CacheShelf, tag: Tag, moment: u64) -> Result<boo
     ensures evicts { Evicts tag moment shelf.old.shelf shelf.new.shelf }
     ensures ok { IfOk result (λ went. EvictsLast went shelf.old.shelf shelf.new.shelf) }
     ensures due { OnErr result (IsTrimDue moment result) }
+    ensures lean { IfErr result (IsEvictRefusal shelf.new.shelf.part moment) }
 {
     shelf.is_sound();
     let went = shelf.evict_unrecorded(tag, moment);
@@ -161,6 +167,7 @@ fn evict_last(shelf: &mut CacheShelf, tag: Tag, moment: u64) -> Result<bool, Ref
     ensures evicts { Evicts tag moment shelf.old.shelf shelf.new.shelf }
     ensures ok { IfOk result (λ went. EvictsLast went shelf.old.shelf shelf.new.shelf) }
     ensures due { OnErr result (IsTrimDue moment result) }
+    ensures lean { shelf.old.records ≡ false → IfErr result (IsEvictRefusal shelf.new.shelf.part moment) }
 {
     if shelf.is_recording() {
         evict_recorded(shelf, tag, moment)
@@ -184,6 +191,7 @@ fn evict(
     ensures evicts { Evicts tag moment shelf.old.shelf shelf.new.shelf }
     ensures ok { IfOk result (λ removed. Becomes shelf.old.shelf shelf.new.shelf (AreTrimmed limit most removed)) }
     ensures due { OnErr result (IsTrimDue moment result) }
+    ensures lean { shelf.old.records ≡ false → IfErr result (IsEvictRefusal shelf.new.shelf.part moment) }
 {
     for removed in 0..most {
         if shelf.octets() <= limit {
