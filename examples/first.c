@@ -17,7 +17,7 @@ int main(void)
     uint32_t outcome;
     rules.capacity = rules.chapter = 4096;
     rules.max_stale = 86400;
-    rules.seed[0] = 1; /* 16 random octets in a resolver */
+    rules.seed[0] = 1; /* a resolver uses 16 random octets */
     parts.count = 1;
     memcpy(parts.seed, rules.seed, sizeof parts.seed);
     if (rrcache_make(&shelf, &rules) != RRCACHE_DONE)

@@ -1,5 +1,5 @@
 /* SPDX-License-Identifier: MIT */
-/* stub PORT UPSTREAM UPSTREAM-PORT: a caching stub resolver on 127.0.0.1, over UDP with no EDNS. */
+/* stub PORT UPSTREAM UPSTREAM-PORT: a caching stub resolver on 127.0.0.1, over UDP without EDNS. */
 #include <arpa/inet.h>
 #include <poll.h>
 #include <rrcache.h>
@@ -11,8 +11,9 @@ enum { SERVFAIL = 2, NXDOMAIN = 3, OCTETS = 512, RRSETS = 64 };
 static struct sockaddr_in here = {.sin_family = AF_INET}, upstream = {.sin_family = AF_INET};
 static struct rrcache *cache;
 
-/* Asks upstream and stores the response. It returns its size, or 0 where none came that can be
-   read. Eight packets that answer other queries are an attack. */
+/* Sends a query upstream, and stores the response. Returns the size of the response, or 0 if there
+   is no response that can be read. Gives up after eight packets that answer other queries, which
+   are an attack. */
 static size_t ask(struct rrcache_query query, uint8_t *it, struct rrcache_answer *answer)
 {
     static const uint8_t root[1]; /* the zone: upstream answers for all names */
@@ -20,13 +21,13 @@ static size_t ask(struct rrcache_query query, uint8_t *it, struct rrcache_answer
     struct rrcache_response response = {.octets = it, .zone = root, .zone_size = 1};
     struct rrcache_report report;
     enum rrcache_status status = RRCACHE_OTHER_QUERY;
-    memcpy(it + 2, "\1\0\0\1\0\0\0\0\0", 10);         /* RD, and one question */
-    memcpy(it + 12, query.name, query.name_size + 4); /* with the type and class behind it */
+    memcpy(it + 2, "\1\0\0\1\0\0\0\0\0", 10);         /* RD set, and one question */
+    memcpy(it + 12, query.name, query.name_size + 4); /* with its type and class */
     if (getentropy(it, 2) == 0 && connect(peer.fd, (void *)&upstream, sizeof upstream) == 0)
         send(peer.fd, it, 12 + query.name_size + 4, 0);
     query.id = it[0] << 8 | it[1];
     response.lowest_ttl = true;
-    for (int i = 0; i < 8 && status == RRCACHE_OTHER_QUERY && poll(&peer, 1, 1000) == 1; i++) {
+    for (int i = 0; i < 8 && status == RRCACHE_OTHER_QUERY && poll(&peer, 1, 1800) == 1; i++) {
         ssize_t size = recv(peer.fd, it, OCTETS, 0);
         response.size = size > 0 ? size : 0;
         status = rrcache_store(cache, &query, &response, &report, answer);
@@ -35,7 +36,7 @@ static size_t ask(struct rrcache_query query, uint8_t *it, struct rrcache_answer
     return status == RRCACHE_DONE ? response.size : 0;
 }
 
-/* Writes an answer as the reply to a query, and returns its size. What has no room sets TC. */
+/* Writes an answer as a response, and returns its size. If the answer does not fit, TC is set. */
 static size_t compose(const struct rrcache_query *query, const struct rrcache_answer *answer,
                       uint8_t *reply)
 {
@@ -56,8 +57,8 @@ static size_t compose(const struct rrcache_query *query, const struct rrcache_an
     return size;
 }
 
-/* Answers a query by what is held, by what upstream says, or by what is held past its TTL (RFC
-   8767), and returns the size of the reply, 0 where there is none. */
+/* Answers a query from the cache, from upstream, or with stale data (RFC 8767). Returns the size of
+   the response, or 0 if there is none. */
 static size_t respond(const struct rrcache_query *query, uint8_t *reply)
 {
     static uint8_t buffer[RRCACHE_ANSWER_OCTETS];
@@ -75,22 +76,22 @@ static size_t respond(const struct rrcache_query *query, uint8_t *reply)
     if (answer.kind == RRCACHE_MISS && !answer.is_endless)
         came = ask(*query, reply, &answer);
     if (answer.kind == RRCACHE_MISS && came != 0)
-        return came; /* it leaves nothing to store, as with TC set: it goes on as it came */
+        return came; /* nothing was stored, as with TC set: pass the response on unchanged */
     if (answer.kind == RRCACHE_MISS)
         rrcache_store_failure(cache, &failure, &outcome);
     if (answer.kind == RRCACHE_MISS || answer.kind == RRCACHE_FAILED)
-        rrcache_lookup(cache, &request, &answer); /* stale data will do now */
+        rrcache_lookup(cache, &request, &answer); /* stale data are acceptable now */
     return compose(query, &answer, reply);
 }
 
-/* Takes a packet of a client's, and answers it if it is a query with one question. */
+/* Receives a packet from a client, and answers it if it is a query with one question. */
 static void serve(int clients)
 {
     struct sockaddr_in client;
     socklen_t client_size = sizeof client;
     uint8_t it[OCTETS] = {0}, reply[OCTETS];
     ssize_t got = recvfrom(clients, it, sizeof it, 0, (void *)&client, &client_size);
-    ssize_t end = 12; /* of the name, which stands behind the header */
+    ssize_t end = 12; /* the end of the name, which follows the header */
     while (end < got && it[end] != 0 && it[end] < 64)
         end += it[end] + 1;
     if (end + 5 > got || it[end] != 0 || (it[2] & 0xf8) != 0 || it[4] != 0 || it[5] != 1)
@@ -101,7 +102,7 @@ static void serve(int clients)
     size_t size = respond(&query, reply);
     if (size == 0)
         return;
-    memcpy(reply, it, 2); /* its identifier, and RD */
+    memcpy(reply, it, 2); /* the client's identifier, and RD */
     reply[2] = (reply[2] & 0xfe) | (it[2] & 1);
     sendto(clients, reply, size, 0, (void *)&client, client_size);
 }

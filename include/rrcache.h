@@ -1,58 +1,90 @@
 /* SPDX-License-Identifier: MIT */
-/* rrcache.h: the RRset cache of a recursive DNS resolver, which all its threads share.
+/* rrcache.h: the RRset cache of a recursive DNS resolver, shared by all its threads.
 
-   `struct rrcache` is a cache with its locks in it. It is C over the shelves of rrcache_shelf.h:
-   the shelves are proved, docs/RULES.md has their rules, and the C over them is tested and not
-   proved. A program with one thread, or with locks of another kind, takes the shelves themselves.
+   `struct rrcache` is a cache that does its own locking. The cache is C code over the shelves
+   (shards) of rrcache_shelf.h. The exported functions of the shelves (`rrc_..`) are proved, and
+   docs/RULES.md has their rules. The inline functions of the headers and the C code of the cache
+   are tested, not proved. A program with one thread, or with its own locks, can use the shelves
+   directly.
 
    Threads
-   - Any thread may make any call at any time, but for `rrcache_close`: no other call may run
-     then, or come later. A call may wait for locks. None may be made in a signal handler, nor
-     after a fork in the child of a process with threads.
-   - The cache divides names among its shelves by a hash under a secret seed. A shelf has
-     `readers` locks, and each thread has the use of one of them, in turn as threads come. A
-     look-up takes that one, so look-ups do not wait for one another, also of one name, while
-     there are no more threads than locks. What writes takes all locks of the shelf. No call has
-     the locks of two shelves.
-   - Keys go in the order of their last use. A look-up moves what it found to the front of that
-     order where more than a quarter of the shelf's keys may have been used since, once three
-     quarters of the shelf's octets or keys are taken. Else it does so only where most look-ups move
-     what they find: names that are asked for often are not moved each time, which would take all
-     locks. `exact_recency` has each look-up move what it found. docs/RULES.md says what a caller
-     may count on.
+   - Any thread may call any function at any time. The exception is `rrcache_close`: no other call
+     on the cache may be running at that time, and none may follow. A call may block on a lock. No
+     function may be called in a signal handler, or in the child after a process with several
+     threads forks.
+   - A hash under a secret seed chooses the shelf of each name. Each shelf has `readers` places, and
+     threads are assigned to these places in turn. A look-up that does not move its entry takes only
+     the place of its thread, or another place if that one is taken. Such look-ups do not block each
+     other, even for the same name, as long as there are at least as many places as threads. A call
+     that changes a shelf keeps new look-ups out of the shelf, and waits for those that have begun.
+     No call holds locks of two shelves at once.
+   - If a thread asks for a name again and again within a second, in lower case, the answer is
+     copied from a memo as long as nothing has changed in the shelf of the name. Only an answer of
+     one RRset and a negative answer have memos. Such a look-up takes no place. It returns and
+     counts what it would return and count otherwise.
+   - ThreadSanitizer cannot see the locks of the built library. A program that runs under it has to
+     compile the files of lib/ for it too, and to link them before the library.
+   - Eviction is LRU, but a look-up does not always move its entry to the front of the LRU order,
+     because a move changes the shelf. In a shelf that is at least three quarters full,
+     by octets or by keys, a look-up moves its entry if more than a quarter of the shelf's keys may
+     have been used after that entry. In all other cases a look-up moves its entry only if most of
+     the recent look-ups moved theirs. With `exact_recency` every look-up moves its entry.
+     docs/RULES.md says which order a caller can rely on.
 
    Memory
-   - The keys take at most `octets` of memory, as `rrcache_sizes` counts them. Each shelf has an
-     equal share of that, whether others are full or not. A call that stores makes room before it
-     returns: the keys of that shelf go that were used least recently. Where malloc refuses that,
-     the next call that stores does it. SECURITY.md tells how much memory shelves took.
-   - Look-ups take no memory while nothing is recorded, and `rrcache_next` and the calls that
-     tell statistics never do. Where malloc refuses, another call returns RRCACHE_MEMORY, and
-     what is held stays as it was. But of a response, a sweep or what is forgotten a part may be
-     done.
+   - The keys use at most `octets` of memory, as counted by `rrcache_sizes`. Each shelf has an equal
+     share of `octets`, even while other shelves have room. A call that stores in a shelf evicts the
+     least recently used keys of that shelf, if necessary, before it returns. If malloc fails during
+     the eviction, the call still succeeds, and the next call that stores in that shelf evicts the
+     rest. An allocator uses more memory than is counted. So set `octets` to four tenths of the
+     memory that the cache may use, without the memory of the next paragraph. SECURITY.md has the
+     measurements behind this factor.
+   - In addition, `rrcache_open` allocates the places, memos of answers, and a filter of the names
+     that may be aliases. The memos use at most 1/32 of `octets`, and at most about 265 KiB for each
+     of `readers`. The filter uses at most about 1/80 of `octets`, and at most 128 KiB for each
+     shelf. A second filter, of the names that may have a negative answer or a failure, uses 2 to 4
+     octets for each of `keys`, whatever `octets` is: 8 MiB with the default number of keys. So set
+     `keys` too if `octets` is small.
+   - Look-ups never allocate while no history is recorded. `rrcache_next`, `rrcache_stats`,
+     `rrcache_stats_of` and `rrcache_stats_text` never allocate. If malloc fails in any other
+     function, except during an eviction, the function returns RRCACHE_MEMORY. The contents of the
+     cache are then unchanged, with three exceptions: `rrcache_store`, `rrcache_sweep_all` and
+     `rrcache_forget` may have done part of their work.
 
-   Moments
-   - Moments are seconds, at most 2^40. With 0 for a moment a call takes the time of
-     CLOCK_BOOTTIME, which nobody sets and which goes on while the machine is suspended.
-   - A program hands in 0 in all calls, or in all calls moments of one clock of its own, which is
-     never set back. With both, data live too long or end too soon. `retry_from` is by the same
-     clock.
+   Timestamps
+   - Timestamps (`moment`) are in seconds, at most 2^40. If a timestamp is 0, the call uses
+     CLOCK_BOOTTIME, which cannot be set and keeps running while the machine is suspended.
+   - A program passes 0 in every call, or it passes timestamps of its own clock in every call. That
+     clock must never be set back. If a program mixes the two clocks, data expire too late or too
+     early. `retry_from` is a timestamp of the same clock.
 
-   Refusals
-   - What is a name, who owns which octets, and what each status says, is told in
-     rrcache_shelf.h. A refused call leaves what it was to write as it was, but where it is told
-     otherwise.
-   - A call that fills an answer empties it first, and leaves it empty where it is refused, with
-     the kind RRCACHE_MISS and no name at `end`. But after RRCACHE_SMALL it has the RRsets that
-   found room, and nothing is known of the name at `end`. */
+   Errors
+   - The header rrcache_shelf.h describes the wire form of names, the ownership of memory, and each
+     status. On error, outputs are unmodified, unless the comment of the function says otherwise.
+   - A function that fills an answer empties the answer first. On error the answer stays empty: its
+     `kind` is RRCACHE_MISS, and `end` has no name. The exception is RRCACHE_SMALL: the answer then
+     has the RRsets that fit, and `end` is unspecified.
+   - Every function that returns a status returns RRCACHE_NULL if a required pointer is null.
+     RRCACHE_MEMORY means that malloc failed, RRCACHE_HISTORY_FULL that event numbers are spent, and
+     RRCACHE_MOMENT_TOO_LARGE that a timestamp is above 2^40. The comments below do not repeat these
+     conditions.
+   - After RRCACHE_HISTORY_FULL the shelf stores nothing any more. Then close the cache and open a
+     new one. At 10^9 events a second in one shelf, this happens after 146 years.
+   - A field of `struct rrcache_config`, and a limit in a `struct rrcache_response` that
+     `rrcache_store` gets, may be 0: its default then applies. For the functions of rrcache_shelf.h
+     a limit or a seed of 0 is an error.
+
+   ABI
+   - The library reads or writes every struct of this header. So each of these structs keeps its
+     size and its fields in all versions with the same soname. */
 #ifndef RRCACHE_H
 #define RRCACHE_H
 
 #include "rrcache_shelf.h"
 
-/* Begins the line that declares a function of this header. bin/build-c exports what has it, and
-   tools/manual.py makes man pages of it. It is empty, since exports go by a list of names and not
-   by visibility. */
+/* Begins each function declaration of this header. bin/build-c exports the functions that have it,
+   and tools/manual.py makes man pages of them. RRCACHE_API expands to nothing, because a list of
+   names, not a visibility attribute, selects the exports. */
 #define RRCACHE_API
 
 #ifdef __cplusplus
@@ -61,215 +93,293 @@ extern "C" {
 
 struct rrcache;
 
-/* What a cache is made with. Zeros make a good cache. */
+/* The configuration of a cache. All zeros are good defaults, without stale data. */
 struct rrcache_config {
-    uint64_t octets;    /* the most memory that its keys take, an equal share for each shelf: 65,536
-                           to 2^46, or 0 for 64 MiB */
-    uint64_t keys;      /* the most keys, divided among the shelves, where a part of one counts as
-                           one: up to 65,536 for each, or 0 for that many */
-    uint64_t shelves;   /* 1 to 64, or 0 for 64 */
-    uint64_t readers;   /* how many locks a shelf has, by which so many threads look up in it at
-                           once: 1 to 64, or 0 for as many as the machine has processors, up to 16 */
-    uint64_t max_stale; /* for how many seconds past its time to live a set may answer: 0 to
-                           604,800 (RFC 8767 section 4) */
-    struct rrcache_limits limits; /* of responses, each 0 for what RRCACHE_LIMITS has */
-    uint8_t seed[16];   /* random octets that nobody else knows, or all 0 for the system's */
-    bool exact_recency; /* whether each look-up moves what it found to the front */
+    uint64_t octets;    /* the most octets of memory that the keys use, divided equally among the
+                           shelves: 65,536 to 2^46, or 0 for 64 MiB */
+    uint64_t keys;      /* the most keys, divided equally among the shelves and rounded up: at most
+                           65,536 for each shelf, or 0 for this maximum */
+    uint64_t shelves;   /* the number of shelves: 1 to 64, or 0 for 64 */
+    uint64_t readers;   /* the number of places of a shelf, which is the most threads that look up
+                           in it at once: 1 to 64, or 0 for the number of processors, but at most
+                           16 */
+    uint64_t max_stale; /* for how many seconds past its TTL an RRset may be served: 0 to 604,800
+                           (RFC 8767 section 4) */
+    struct rrcache_limits limits; /* of responses; a field that is 0 means that field of
+                                     RRCACHE_LIMITS */
+    uint8_t seed[16];             /* 16 secret random octets, or all 0 for octets from the system */
+    bool exact_recency; /* whether every look-up moves its entry to the front of the LRU order */
 };
 
-/* What is looked up or forgotten: a name, a class and a type. */
+/* The question to look up, or the data to forget: a name, a class and a type. */
 struct rrcache_request {
     const uint8_t *name;
     size_t name_size;
     uint16_t rtype;
     uint16_t rclass;        /* enum rrcache_class */
-    uint64_t moment;        /* or 0 for now */
-    enum rrcache_mode mode; /* whether stale data will do: 0 is refused */
-    bool takes_glue; /* whether data will do that no question may be answered with, as addresses of
-                        name servers that a referral brought (RFC 2181 section 5.4.1) */
+    uint64_t moment;        /* a timestamp, or 0 for now */
+    enum rrcache_mode mode; /* when a stale answer is acceptable; 0 is an error */
+    bool takes_glue; /* whether additional data are acceptable, such as glue, which must not answer
+                        a client's question (RFC 2181 section 5.4.1) */
 };
 
-/* So many aliases are followed. */
+/* The most CNAME records that a look-up follows. */
 enum { RRCACHE_MOST_ALIASES = 16 };
 
-/* So many octets are enough for each answer of a look-up: a chain of aliases, and at its end an
-   RRset that a response brought. They are for a response too, but to a query of type ANY. */
+/* A buffer of this size has room for every answer of a look-up if each CNAME RRset and each DNAME
+   RRset has one record (RFC 2181 section 10.1), and if the RRset at the end of the CNAME chain came
+   in a response. But a server may send CNAME RRsets of many records. Each of these RRsets is stored
+   if it has at most 16,384 octets of rdata. If a CNAME chain has four or more of them, the answer
+   may need a larger buffer, and the call returns RRCACHE_SMALL. A buffer of 1 MiB has room for
+   every answer of a look-up whose RRsets all came in responses. An answer of `rrcache_store` may
+   also need a larger buffer if the query is of type ANY or of a type that is not kept, or if an
+   RRset has more than 16,384 octets of rdata. `rrcache_store` has then stored everything, and the
+   answer has the RRsets that fit. */
 enum { RRCACHE_ANSWER_OCTETS = 65536 };
 
-/* An answer: RRsets, which `rrcache_next` tells one after another, and what they come to. They are
-   at most RRCACHE_MOST_ALIASES + 1, but of a response to a query of type ANY may be more. The
-   caller gives it a buffer and leaves the rest 0. */
+/* The answer to a question: a list of RRsets, which `rrcache_next` returns one by one, and their
+   kind. An answer has at most RRCACHE_MOST_ALIASES + 1 RRsets, and RRCACHE_MOST_ALIASES more with
+   DNAME RRsets. The answer of a response to a query of type ANY may have more. The caller sets
+   `buffer` and `room`, sets `with_dnames` to get DNAME RRsets, and initializes the other fields to
+   0. */
 struct rrcache_answer {
     uint8_t *buffer;
     size_t room;
-    size_t size;             /* of the buffer so many octets are used */
-    uint32_t kind;           /* enum rrcache_kind, of the name at the end of the aliases */
-    uint32_t aliases;        /* how many of the RRsets are CNAME records that lead there */
-    bool is_stale;           /* one of the RRsets is past its time to live */
-    bool is_endless;         /* the aliases lead in a circle, or are more than RRCACHE_MOST_ALIASES:
-                                `kind` is RRCACHE_MISS, and to ask upstream will not help */
-    uint64_t retry_from;     /* with RRCACHE_FAILED the moment from which to try again */
-    struct rrcache_name end; /* the name at the end of the aliases: with RRCACHE_MISS the one to ask
-                                upstream for. Of a delegation the zone that it leads to */
+    size_t size;             /* the number of octets of the buffer that are used */
+    uint32_t kind;           /* enum rrcache_kind, for the name at the end of the CNAME chain */
+    uint32_t aliases;        /* the number of CNAME RRsets that lead to `end` */
+    bool is_stale;           /* at least one of the RRsets is stale */
+    bool is_endless;         /* the CNAME chain is a loop, or has more than RRCACHE_MOST_ALIASES
+                                records. `kind` is then RRCACHE_MISS, and a query to a server will
+                                not help */
+    bool with_dnames;        /* set by the caller: each CNAME record that was synthesized from a
+                                DNAME record is preceded by the DNAME RRset, if that is cached or is
+                                in the response (RFC 6672 section 3.1). Up to 16 owners are tried,
+                                and each counts as one more look-up */
+    uint64_t retry_from;     /* with RRCACHE_FAILED, the timestamp from which to try again, and
+                                otherwise 0. For a stale answer after a failure of the question, a
+                                second look-up with RRCACHE_NO_STALE returns this timestamp */
+    struct rrcache_name end; /* the name at the end of the CNAME chain. With RRCACHE_MISS, it is the
+                                name to query for. For a delegation, it is the owner of the NS
+                                RRset */
 };
 
-/* An RRset of an answer, as `rrcache_compose_response` takes it: of a denial the SOA record, in the
-   authority section. It begins as zeros. */
+/* An RRset of an answer, in the form that `rrcache_compose_response` takes. In a negative answer it
+   is the SOA record, for the authority section. Initialize this struct to zeros. */
 struct rrcache_rrset {
     struct rrcache_parsed_set set;
-    uint32_t kind;  /* enum rrcache_kind: fresh, stale, NODATA or NXDOMAIN */
-    uint32_t trust; /* enum rrcache_trust */
-    size_t next;    /* where in the buffer the next one begins */
+    uint32_t kind;              /* enum rrcache_kind: fresh, stale, NODATA or NXDOMAIN */
+    uint32_t trust;             /* its rank: enum rrcache_trust */
+    struct rrcache_entry entry; /* the entry that the RRset comes from. Its `ttl` and `moment`, as
+                                   they were stored, tell a resolver when to prefetch. `number` is
+                                   unique only within the shelf of the owner's name, and no field
+                                   has that shelf. In an answer of `rrcache_store`, `number` and
+                                   `age` are 0 */
+    size_t next;                /* the offset of the next RRset in the buffer */
 };
 
-/* What a response came to. */
+/* The result of `rrcache_store`. */
 struct rrcache_report {
-    struct rrcache_summary summary; /* of its header, and its kind */
+    struct rrcache_summary summary; /* RCODE, AA and TC of the response, and its kind */
     struct rrcache_counts counts;
-    uint64_t too_large;       /* how many RRsets were left out, since each would take more memory
-                                 than a shelf may have */
-    struct rrcache_name name; /* of the zone that a referral leads to, or that an alias leads on to;
-                                 else zeros */
+    uint64_t too_large;       /* the number of RRsets and negative answers that were left out,
+                                 because each would use more memory than a shelf may use */
+    struct rrcache_name name; /* the zone of a referral, or the target of an alias; otherwise
+                                 zeros */
 };
 
-/* What a cache did and holds, or one of its shelves. Each name on the way along aliases counts as
-   one look-up, and of a delegation each name on the way up. */
+/* Counters of a cache or of one shelf. Each name of a CNAME chain counts as one look-up.
+   `rrcache_lookup_delegation` counts one look-up for each name that it tries. */
 struct rrcache_stats {
-    uint64_t hits;      /* look-ups that were answered by data within their time to live */
-    uint64_t stale;     /* by data past it */
-    uint64_t negative;  /* by NODATA or NXDOMAIN */
-    uint64_t misses;    /* by nothing */
-    uint64_t failed;    /* by nothing, and asking has failed recently */
-    uint64_t kept;      /* RRsets, denials and failures that were stored */
-    uint64_t outranked; /* that were not, since what is held is trusted more */
-    uint64_t evicted;   /* keys that went to make room for octets: one that goes since its shelf has
-                           as many keys as it may is not counted */
-    uint64_t expired;   /* keys that were swept */
-    uint64_t keys;      /* that are held now */
-    uint64_t octets;    /* that these take */
+    uint64_t hits;      /* look-ups that an unexpired RRset answered */
+    uint64_t stale;     /* look-ups that a stale RRset answered */
+    uint64_t negative;  /* look-ups that NODATA or NXDOMAIN answered */
+    uint64_t misses;    /* look-ups that nothing answered, without a recent failure */
+    uint64_t failed;    /* look-ups that nothing answered, with a recent failure */
+    uint64_t kept;      /* RRsets, negative answers and failures that were stored */
+    uint64_t outranked; /* RRsets and negative answers that were not stored, because data of higher
+                           rank were cached */
+    uint64_t evicted;   /* keys that were evicted to meet the limit of octets or of keys */
+    uint64_t expired;   /* keys that sweeps removed */
+    uint64_t keys;      /* keys that are cached now */
+    uint64_t octets;    /* octets of memory that these keys use */
 };
 
-/* So many octets are enough for the text of `struct rrcache_stats`. */
+/* A buffer of this size has room for the text of every `struct rrcache_stats`. */
 enum { RRCACHE_STATS_OCTETS = 384 };
 
-/* What `rrcache_stop_recording_all` and `rrcache_dump` write with: it takes all of these octets, of
-   a shelf, counted from 0, and returns 0 where more are to come. `state` is what the caller handed
-   in beside it. It is called with no lock of a shelf held, and may make no call of this cache. */
+/* A callback, to which `rrcache_stop_recording_all` and `rrcache_dump` write. Each call passes
+   `size` octets of one shelf, whose number is counted from 0. The callback has to process all these
+   octets. The callback returns 0 to continue, and nonzero to stop. `state` is the pointer that the
+   caller passed. No lock of a shelf is held during the callback, but the lock is held under which
+   recording starts and stops. A call that takes this lock again would never return. So the callback
+   must not call any function on this cache. */
 typedef int (*rrcache_shelf_sink)(void *state, uint64_t shelf, const void *octets, size_t size);
 
-/* Opens a cache. `config` may be null, which is as zeros. RRCACHE_BAD_RULES and RRCACHE_BAD_LIMITS
-   are returned where a number is not in its range, RRCACHE_BAD_SEED where the system has no random
-   octets. */
+/* Opens a cache, and writes a pointer to it to `*cache`. A null `config` means a config of zeros.
+   Close the cache with `rrcache_close`.
+
+   Returns RRCACHE_BAD_RULES if `octets`, `keys`, `shelves`, `readers` or `max_stale` is out of
+   range, RRCACHE_BAD_LIMITS if a limit is out of range, and RRCACHE_BAD_SEED if `seed` is all 0 and
+   the system has no random octets. Also returns RRCACHE_MEMORY. */
 RRCACHE_API enum rrcache_status rrcache_open(struct rrcache **cache,
                                              const struct rrcache_config *config);
 
-/* Closes a cache and frees all that it holds. Of a null pointer nothing is done. */
+/* Closes a cache, and frees all its memory. If `cache` is null, the call does nothing. */
 RRCACHE_API void rrcache_close(struct rrcache *cache);
 
-/* Looks up what answers a question: the CNAME records that lead from its name to another, each of
-   them an RRset, and at their end an RRset of the type, that there is none (RRCACHE_NODATA), that
-   the name does not exist (RRCACHE_NXDOMAIN), or nothing (RRCACHE_MISS, RRCACHE_FAILED). The CNAME
-   records are told also where nothing is found at their end. Aliases are followed as
-   `rrcache_ask_alias` tells them (RFC 1034 section 4.3.2), and not for types CNAME and ANY.
+/* Looks up the answer to a question. The answer has the CNAME RRsets of the CNAME chain that begins
+   at the name, and the reply for the name at the end of the chain: an RRset of the type, a negative
+   answer (RRCACHE_NODATA or RRCACHE_NXDOMAIN), or a miss (RRCACHE_MISS or RRCACHE_FAILED). After a
+   miss the answer still has the CNAME RRsets. At each name, `rrcache_ask_alias` has the rule that
+   chooses between a CNAME record and data of the type (RFC 1034 section 4.3.2). No CNAME record is
+   followed for types CNAME and ANY.
 
-   With RRCACHE_STALE_IF_FAILED stale data will do for each name of the chain where asking for the
-   question has failed recently (RFC 8767 section 5), and else for those names of it for which
-   asking for the type has. Where the buffer is too small RRCACHE_SMALL is returned. */
+   With the mode RRCACHE_STALE_IF_FAILED, stale data are acceptable for every name of the chain if
+   the question has failed recently, and this failure was stored after the CNAME record of the
+   question's name (RFC 8767 section 5). Otherwise stale data are acceptable only for names for
+   which the type has failed recently.
+
+   Returns RRCACHE_BAD_NAME if the name is not in wire form, RRCACHE_BAD_CHOICE if `mode` is not a
+   mode, RRCACHE_BAD_TYPE if the type is 0 or the class is not kept, and RRCACHE_SMALL if the buffer
+   is too small. Also returns RRCACHE_HISTORY_FULL and RRCACHE_MOMENT_TOO_LARGE, and RRCACHE_MEMORY
+   while histories are recorded. */
 RRCACHE_API enum rrcache_status rrcache_lookup(struct rrcache *cache,
                                                const struct rrcache_request *request,
                                                struct rrcache_answer *answer);
 
-/* Looks up the deepest NS RRset at or above a name that is within its time to live, for a resolver
-   to start from (RFC 1034 section 5.3.3, RFC 9156 section 2). `end` is its owner, and `kind`
-   RRCACHE_MISS where there is none. Type, mode and `takes_glue` of the request are not read. */
+/* Looks up the deepest unexpired NS RRset at or above a name, from which a resolver can start (RFC
+   1034 section 5.3.3, RFC 9156 section 2). The answer has this RRset, and `end` is its owner. If
+   there is none, `kind` is RRCACHE_MISS. The fields `rtype`, `mode` and `takes_glue` of the request
+   are ignored. The errors are those of `rrcache_lookup`, except RRCACHE_BAD_CHOICE. */
 RRCACHE_API enum rrcache_status rrcache_lookup_delegation(struct rrcache *cache,
                                                           const struct rrcache_request *request,
                                                           struct rrcache_answer *answer);
 
-/* Tells the next RRset of an answer, the first where `rrset` is zeros; false where there is none
-   left, and `rrset` is zeros again. What it points to stands in the answer's buffer. */
+/* Gets the next RRset of an answer, or the first one if `rrset` is zeros. Returns true if there is
+   an RRset. At the end of the answer, returns false and sets `rrset` to zeros again. The pointers
+   in `rrset` point into the buffer of the answer. */
 RRCACHE_API bool rrcache_next(const struct rrcache_answer *answer, struct rrcache_rrset *rrset);
 
-/* Stores what of a response is relevant to the query that was sent, as `rrcache_read_response`
-   reads it, each RRset in its name's shelf. One that would take more memory than a shelf may have
-   is left out. Where a limit of the response is 0 that of the cache holds.
+/* Reads the response to a query as `rrcache_read_response` does, and stores its relevant RRsets,
+   its negative answer and its failure in the shelves of their names. An RRset that would use more
+   memory than one shelf may use is left out. If a limit of `response` is 0, the limit of the cache
+   applies.
 
-   RRCACHE_OTHER_QUERY is returned of what answers no query, or another one: the caller drops it and
-   waits on. RRCACHE_BAD_MESSAGE and RRCACHE_NO_QUESTION are failures of the server's, of which
-   nothing is stored. A response with an RCODE other than NOERROR and NXDOMAIN, as SERVFAIL, is
-   stored as a failure of its question. So hand it in once no other server is left to ask; its RCODE
-   is the low four bits of its fourth octet. Of one with TC set nothing is stored: ask over TCP.
+   Returns RRCACHE_OTHER_QUERY if the octets do not answer the query: the caller then drops them and
+   keeps waiting (RFC 5452 section 9.1). RRCACHE_BAD_MESSAGE and RRCACHE_NO_QUESTION are failures of
+   the server, and nothing is stored. A response with an RCODE other than NOERROR and NXDOMAIN, such
+   as SERVFAIL, is stored as a failure of its question. So pass such a response only when no other
+   server is left to ask. The RCODE is in the low four bits of the fourth octet. From a truncated
+   response (TC set) nothing is stored: send the query again over TCP.
 
-   `answer` may be null. Else it tells what the response says, by itself: also data with a TTL of
-   0, and such as were left out or are trusted less than what is held. So a client that waits is
-   answered by what the server said, and of type ANY by all RRsets of the name, which no look-up
-   tells. Its `kind` is RRCACHE_MISS where `report` alone tells what came, as of a denial with no
-   SOA record. Where its buffer is too small RRCACHE_SMALL is returned: all is stored then, and
-   `report` is written, as it is where RRCACHE_MEMORY is returned in the midst of storing. */
+   `answer` may be null. Otherwise it gets the answer that the response itself gives, including data
+   that are not stored: data with TTL 0, data that were left out, and data of lower rank than the
+   cached data. So a waiting client gets what the server said. For type ANY, the answer has all
+   RRsets of the name, which no look-up returns. At most RRCACHE_MOST_ALIASES CNAME records are
+   followed, and RRsets of any size are returned. Fewer CNAME records and only smaller RRsets are
+   relevant, and therefore stored. If the type is not kept, such as NAPTR, each record is returned
+   as an RRset of its own, and RRCACHE_NODATA means that an SOA record denies the type. `kind` is
+   RRCACHE_MISS if only `report` has the result, as for a negative response without an SOA record.
+
+   Also returns RRCACHE_BAD_LIMITS if a limit is out of range, and RRCACHE_BAD_NAME if the zone or
+   the name of the query is not in wire form. After these errors `report` is unmodified. Once the
+   response has been read, `report` is written, even if the call then fails with
+   RRCACHE_HISTORY_FULL, RRCACHE_MOMENT_TOO_LARGE or RRCACHE_MEMORY. Two errors come after
+   everything is stored: RRCACHE_SMALL if the buffer of the answer is too small, and
+   RRCACHE_BAD_DATA if a record whose type is not kept cannot be read. */
 RRCACHE_API enum rrcache_status rrcache_store(struct rrcache *cache,
                                               const struct rrcache_query *query,
                                               const struct rrcache_response *response,
                                               struct rrcache_report *report,
                                               struct rrcache_answer *answer);
 
-/* Stores an RRset of the caller's own, as `rrcache_offer_set` offers it, and tells what became of
-   it, by a number of `enum rrcache_outcome`. RRCACHE_TOO_LARGE is returned where it may take more
-   memory than a shelf has for all its keys. */
+/* Stores the caller's RRset as `rrcache_offer_set` offers it, and writes the outcome to `outcome`
+   (`enum rrcache_outcome`). Returns RRCACHE_TOO_LARGE if the RRset might use more memory than one
+   shelf may use for all its keys. The other errors are those of `rrcache_offer_set`. */
 RRCACHE_API enum rrcache_status rrcache_store_set(struct rrcache *cache,
                                                   const struct rrcache_set *set, uint32_t *outcome);
 
-/* Stores that a name has no data of a type, or does not exist, as `rrcache_offer_negative` offers
-   it, and tells what became of it. RRCACHE_TOO_LARGE is returned as of an RRset. */
+/* Stores that a name does not exist, or has no data of a type, as `rrcache_offer_negative` offers
+   it, and writes the outcome to `outcome`. Returns RRCACHE_TOO_LARGE if the negative answer might
+   use more memory than one shelf may use for all its keys. The other errors are those of
+   `rrcache_offer_negative`. */
 RRCACHE_API enum rrcache_status rrcache_store_negative(struct rrcache *cache,
                                                        const struct rrcache_negative *negative,
                                                        uint32_t *outcome);
 
-/* Stores that asking for data of a type failed, as `rrcache_offer_failure` offers it, and tells
-   what became of it: it is always kept. */
+/* Stores a resolution failure of a name and a type as `rrcache_offer_failure` offers it (RFC 9520).
+   The failure is always stored, so `outcome` is always RRCACHE_KEPT. The errors are those of
+   `rrcache_offer_failure`. */
 RRCACHE_API enum rrcache_status rrcache_store_failure(struct rrcache *cache,
                                                       const struct rrcache_failure *failure,
                                                       uint32_t *outcome);
 
-/* Forgets what is held of a name, a class and a type: data, NODATA, that asking failed, and that
-   the name does not exist. Mode and `takes_glue` of the request are not read. */
+/* Removes the cached data of a name, a class and a type: the RRset or NODATA, the failure, and the
+   NXDOMAIN of the name. With type ANY (255), the call removes the data of every type. The call then
+   tries each type in turn, which takes about 10 milliseconds, and releases its lock after every 256
+   types. Data that other threads store for the name meanwhile may stay. The first time that a
+   failure is removed from a shelf, the call takes as long as the first sweep of the shelf, which
+   visits all its keys. The fields `mode` and `takes_glue` of the request are ignored.
+
+   Returns RRCACHE_BAD_NAME if the name is not in wire form, and RRCACHE_BAD_TYPE if the type is 0
+   or the class is not kept. If something is cached, also returns RRCACHE_HISTORY_FULL,
+   RRCACHE_MOMENT_TOO_LARGE and RRCACHE_MEMORY. Data that were removed before an error stay
+   removed. */
 RRCACHE_API enum rrcache_status rrcache_forget(struct rrcache *cache,
                                                const struct rrcache_request *request);
 
-/* Removes keys that can answer no more at a moment, 0 for now, until `most` of them or more went,
-   at least 1: `swept` tells how many did, and whether none is left. It goes on in the shelf where
-   the last sweep ended. It takes a shelf's locks anew for each 64 keys, but keys that expire in the
-   same second go at once, and the first sweep of a shelf looks at all its keys.
-   Who leaves the cache to make room for itself need not sweep. */
+/* Removes fully expired keys until at least `most` keys are removed or none is left. A key is fully
+   expired if it can no longer answer at `moment`, not even with stale data. `most` is at least 1.
+   The call writes to `swept` how many keys it removed, and whether no fully expired key is left. A
+   sweep continues in the shelf in which the last sweep ended. The call releases the locks of a
+   shelf after every 64 keys, but keys that expire in the same second are removed together, and the
+   first sweep of a shelf visits all its keys. A caller need not sweep, because eviction makes room.
+   A sweep at the timestamp 2^40 removes all keys whose data were stored before 2^40 - 2^32, so a
+   caller with a clock such as CLOCK_BOOTTIME can empty the cache. Later calls may have smaller
+   timestamps.
+
+   Returns RRCACHE_BAD_RULES if `most` is 0. Also returns RRCACHE_MOMENT_TOO_LARGE,
+   RRCACHE_HISTORY_FULL and RRCACHE_MEMORY, and then `swept` has the number of keys that were
+   removed before the error. */
 RRCACHE_API enum rrcache_status rrcache_sweep_all(struct rrcache *cache, uint64_t moment,
                                                   uint64_t most, struct rrcache_swept *swept);
 
-/* Tells what all shelves of the cache did since it was opened, and what they hold. */
+/* Writes to `stats` the counters of all shelves since the cache was opened, and the keys and octets
+   that the shelves hold. */
 RRCACHE_API enum rrcache_status rrcache_stats(struct rrcache *cache, struct rrcache_stats *stats);
 
-/* Tells the same of one shelf, counted from 0. RRCACHE_BAD_RULES is returned where there is no such
-   shelf. */
+/* Writes to `stats` the counters of one shelf, whose number is counted from 0. Returns
+   RRCACHE_BAD_RULES if there is no such shelf. */
 RRCACHE_API enum rrcache_status rrcache_stats_of(struct rrcache *cache, uint64_t shelf,
                                                  struct rrcache_stats *stats);
 
-/* Writes it as one line of text for a log, `hits 12 stale 0 ..`, without LF and with a zero octet
-   at its end. RRCACHE_SMALL is returned where the text has no room. */
+/* Writes counters to `text` as one line for a log, `hits 12 stale 0 ..`, without LF and with a zero
+   octet at its end. Returns RRCACHE_SMALL if the text does not fit into `size` octets. */
 RRCACHE_API enum rrcache_status rrcache_stats_text(const struct rrcache_stats *stats, char *text,
                                                    size_t size);
 
-/* Records the histories of all shelves from here on. Each look-up is then an event, takes all locks
-   of its shelf and moves what it found to the front. Events stay in memory until the record ends,
-   at least 96 octets each, which `octets` does not bound. After a refusal nothing is recorded. */
+/* Starts to record the histories of all shelves. While histories are recorded, each look-up is an
+   event, changes its shelf, and moves its entry to the front of the LRU order. Events
+   stay in memory until recording stops, at least 96 octets each, and `octets` does not limit them.
+   If histories are already recorded, the call does nothing. Returns RRCACHE_HISTORY_FULL and
+   RRCACHE_MEMORY. On error nothing is recorded. */
 RRCACHE_API enum rrcache_status rrcache_record_all(struct rrcache *cache);
 
-/* Ends that, and writes the archive of each shelf, one shelf after another. Where the sink returns
-   other than 0 RRCACHE_SINK is returned. After this refusal, and any other but RRCACHE_NULL, the
-   histories that were not written are dropped. Where nothing is recorded nothing is written. */
+/* Stops recording, and writes the archive of each shelf to `sink`, one shelf after another. If
+   nothing is recorded, nothing is written. Returns RRCACHE_SINK if the sink returns nonzero. Also
+   returns RRCACHE_HISTORY_FULL and RRCACHE_MEMORY. After any of these errors, recording has
+   stopped, and the histories that were not written are dropped. */
 RRCACHE_API enum rrcache_status rrcache_stop_recording_all(struct rrcache *cache,
                                                            rrcache_shelf_sink sink, void *state);
 
-/* Writes all that is held, as the lines by which an archive tells what a chapter begins with, one
-   shelf after another, each as it is at one time. It takes memory for one shelf's keys after
-   another. RRCACHE_HAS_CHAPTERS is returned while histories are recorded. */
+/* Writes the contents of each shelf to `sink`, one shelf after another, in the form in which a
+   chapter of an archive begins. The contents of each shelf are those at one point in time. The call
+   allocates memory for the keys of one shelf at a time. No call reads such contents back. A caller
+   can store each entry in a new cache, with the rank, TTL and timestamp of its line, in the order
+   of event numbers. Returns RRCACHE_HAS_CHAPTERS while
+   histories are recorded, and RRCACHE_SINK if the sink returns nonzero. Also returns
+   RRCACHE_HISTORY_FULL and RRCACHE_MEMORY. */
 RRCACHE_API enum rrcache_status rrcache_dump(struct rrcache *cache, rrcache_shelf_sink sink,
                                              void *state);
 

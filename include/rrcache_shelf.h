@@ -1,212 +1,236 @@
 /* SPDX-License-Identifier: MIT */
-/* rrcache_shelf.h: the shelves of the RRset cache of a recursive DNS resolver, for programs in C
-   that have locks of another kind or threads of their own. Whoever wants a cache that threads share
-   takes rrcache.h, which includes this header.
+/* rrcache_shelf.h: the shelves of the RRset cache of a recursive DNS resolver, for C programs that
+   do their own locking or threading. For a cache that threads share, use rrcache.h, which includes
+   this header.
 
-   A *shelf* is one part of the cache, and where it is asked to (`rrcache_record`) it records its
-   history. A resolver makes 16 to 64 of them, each with a lock beside it. It makes a name of each
-   question once (`rrcache_make_name`): that folds and hashes it, and tells the shelf that it
-   belongs to. All that is known of a name lies in one shelf, in whatever case the name is written.
-   Which one that is goes by a hash under a secret seed, which all shelves of a cache share
-   (`struct rrcache_rules`, `struct rrcache_parts`): it is to keep others from picking names of one
-   shelf, to fill it and keep its lock busy. With more shelves fewer threads wait for one lock; one
-   shelf with no lock will do where one thread asks. The rules are in docs/RULES.md, which has other
-   words for some things: docs/GLOSSARY.md has a table of this header's. docs/UPGRADING.md says what
-   to change in a program that was written for version 1.
+   A *shelf* is one shard of the cache. A resolver makes 16 to 64 shelves, and keeps a lock for
+   each. For each question it calls `rrcache_make_name` once, which folds and hashes the name, and
+   determines its shelf. All data of a name are in one shelf, whatever the case of its letters. A
+   hash under a secret seed chooses the shelf, and all shelves of a cache share that seed (`struct
+   rrcache_rules`, `struct rrcache_parts`). Without a secret seed, an attacker could pick names of
+   one shelf, to fill the shelf and keep its lock busy. With more shelves, fewer threads wait for
+   the same lock. For a program with one thread, one shelf without a lock is enough.
 
-   Who owns what
-   - The caller owns the handle, the lock and each buffer, and no call keeps a pointer to any of
-     them. What the library takes from malloc it keeps, and gives back by `rrcache_free`: no pointer
-     to it leaves the library.
-   - A handle begins as zeros, `struct rrcache_shelf shelf = {0};`, which holds no shelf. Nothing
-     but the library writes into it after that, nor into a `struct rrcache_name`, which holds no
-     name while it is zeros, and may be copied. A handle may be moved in memory while no call runs;
-     there must be no copy of it that is used as well. All this is so of `struct rrcache_offers`
-     too, which holds the offers of a message and is freed by `rrcache_free_offers`, and of `struct
-     rrcache_chapters`, which holds chapters of a history that left their shelf and is freed by
-     `rrcache_free_chapters`.
+   docs/RULES.md has the rules. Some names in this header are not its terms: a `moment` is a
+   timestamp, `trust` is a rank, `left` is a remaining TTL, and `data` are rdata (docs/GLOSSARY.md).
+   docs/UPGRADING.md says how to change a program that was written for version 1.
 
-   Which lock to hold
-   - That of the shelf, for the whole of every call that takes its handle. What only looks,
-     `rrcache_peek`, `rrcache_peek_alias`, `rrcache_tell_stored`, `rrcache_sizes` and
-     `rrcache_next_expiry`, takes a const handle and writes nothing that another thread reads: any
-     number of threads may look at one shelf at once, under a lock for readers, while no other call
-     has that shelf. Any other call wants it alone, under the lock for writers, `rrcache_ask` and
-     `rrcache_ask_alias` too. That two threads keep to this nothing tests. A call takes one shelf,
-     so no second lock is ever needed beside it.
-   - `rrcache_read_response`, `rrcache_read_message_unchecked`, `rrcache_tell_response`,
-     `rrcache_tell_offer` and `rrcache_free_offers` take no shelf, and so need no lock of one. Of a
-     handle of offers the same is true as of a shelf's: one call at a time, and `rrcache_offer_read`
-     and `rrcache_offer_one` write into both of their handles for a while.
-   - `rrcache_take_chapters` and `rrcache_stop_recording` want the shelf's lock. What is done with
-     the chapters then, by `rrcache_chapter_line`, `rrcache_write_line`, `rrcache_write_chapter` and
-     `rrcache_free_chapters`, takes no shelf, and needs none: the shelf may be called or freed
-     meanwhile. Of a handle of chapters the same is true: one call at a time.
-   - `rrcache_fault`, `rrcache_make_name` and `rrcache_compose_response` take no handle and need no
-     lock.
-   - No call waits, sleeps or takes a lock, unless malloc or free does, and none calls back but
-     `rrcache_write_line` and `rrcache_write_chapter`, which call the sink that they are handed.
-     None may be made in a signal handler, nor after a fork in the child of a process with threads.
+   Ownership
+   - The caller owns the handles, the locks and the buffers, and the library keeps no pointer to any
+     of them after a call. The library owns the memory that it allocates: no pointer to this memory
+     leaves the library, except inside a handle, and `rrcache_free` frees the memory of a shelf.
+   - Initialize a handle to zeros: `struct rrcache_shelf shelf = {0};`. The handle then holds no
+     shelf. After that, only the library writes to the handle. The caller may move a handle in
+     memory while no call uses the handle, but may use only one copy. The same rules apply to
+     `struct rrcache_offers`, which holds the offers of a message and is freed by
+     `rrcache_free_offers`, and to `struct rrcache_chapters`, which holds chapters taken from a
+     shelf and is freed by `rrcache_free_chapters`.
+   - Initialize a `struct rrcache_name` to zeros too. The struct then holds no name. After that,
+     only the library writes to the struct. The caller may copy the struct.
+
+   Locking
+   - Hold the lock of the shelf during every call that takes its handle. Read-only calls need a read
+     lock: `rrcache_peek`, `rrcache_peek_alias`, `rrcache_tell_stored`, `rrcache_sizes` and
+     `rrcache_next_expiry`. Read-only calls take a const handle, and write nothing that another
+     thread reads. Any number of threads may make read-only calls on one shelf at once. Every other
+     call on a shelf, including `rrcache_ask` and `rrcache_ask_alias`, needs a write lock: no other
+     call on that shelf may run at the same time. If a caller breaks this rule, the behavior is
+     undefined and not detected. A call takes one shelf, so it never needs the locks of two shelves.
+   - Calls that take no shelf need no lock of a shelf: `rrcache_read_response`,
+     `rrcache_read_message_unchecked`, `rrcache_tell_response`, `rrcache_tell_offer` and
+     `rrcache_free_offers`. A handle of offers must be used by one call at a time.
+     `rrcache_offer_read` and `rrcache_offer_one` write to both of their handles while they run.
+   - `rrcache_take_chapters` and `rrcache_stop_recording` need the write lock of the shelf. Calls on
+     the chapters take no shelf and need no lock: `rrcache_chapter_line`, `rrcache_write_line`,
+     `rrcache_write_chapter` and `rrcache_free_chapters`. Meanwhile the shelf may be used or freed.
+     A handle of chapters must be used by one call at a time.
+   - `rrcache_fault`, `rrcache_make_name`, `rrcache_compose_response` and `rrcache_tell_octets` take
+     no handle and need no lock.
+   - No call waits, sleeps or takes a lock, unless malloc or free does. Only `rrcache_write_line`
+     and `rrcache_write_chapter` call back, and they call only the sink that they are given. No
+     function may be called in a signal handler, or in the child after a process with several
+     threads forks.
 
    Memory
-   - The library takes memory by malloc and realloc alone, and gives it back by free. Where they
-     refuse, the call returns RRCACHE_MEMORY.
-   - What only looks takes no memory, however long the name is, and never returns RRCACHE_MEMORY:
-     `rrcache_peek`, `rrcache_peek_alias` and `rrcache_tell_stored`. Neither do
-     `rrcache_make_name`, `rrcache_tell_response`, `rrcache_tell_offer` and
-     `rrcache_compose_response`, nor `rrcache_ask` and `rrcache_ask_alias` while nothing is
-     recorded.
-   - What a reply says is copied into the caller's buffer.
+   - The library allocates only by malloc and realloc, and frees only by free. If an allocation
+     fails, the call returns RRCACHE_MEMORY.
+   - These calls never allocate and never return RRCACHE_MEMORY, even for long names:
+     `rrcache_peek`, `rrcache_peek_alias`, `rrcache_tell_stored`, `rrcache_make_name`,
+     `rrcache_tell_response`, `rrcache_tell_offer` and `rrcache_compose_response`. While nothing is
+     recorded, this also holds for `rrcache_ask` and `rrcache_ask_alias`.
+   - A reply is copied into the caller's buffer.
 
-   What a refusal leaves
-   - Every call but `rrcache_version` and `rrcache_status_text` returns a status. RRCACHE_DONE is 0;
-     each other one is a refusal, and nothing ends the process.
-   - A struct of which a field was forgotten, and so is 0, is refused where that matters: no
-     purpose, no mode, no class, no trust, no kind, no section, no seed and no limit is 0.
-   - A refusal leaves the shelf's history and its replies as they were; while the history is
-     recorded, a chapter that was full may have been closed. `rrcache_offer_read`,
-     `rrcache_offer_message_unchecked`, `rrcache_offer_part_unchecked`, `rrcache_sweep_some` and
-     `rrcache_trim` alone may leave a part of their work: the offers of one message, and the sweeps
-     or evictions of one call, are made one after another, and where one is refused, those before it
-     stay. `counts` tells how many offers these are, and `swept` how many keys they removed. Of what
-     `rrcache_write_chapter` and `rrcache_write_line` write, a beginning may have been written.
-   - Chapters that were to be taken stay in their shelf, and a record that was to end goes on.
-   - What a call was to write for the caller is as it was after a refusal, but for `counts` and
-     `swept`, and for `told` and `size` after RRCACHE_SMALL. RRCACHE_NULL, RRCACHE_OVERLAP,
-     RRCACHE_NO_SHELF and RRCACHE_NO_OFFERS leave all of it.
+   Errors
+   - Every function except `rrcache_version` and `rrcache_status_text` returns a status.
+     RRCACHE_DONE is 0, and every other status is an error. No error ends the process.
+   - For the functions of this header, the valid values of a purpose, mode, class, trust, kind,
+     section, seed and limit do not include 0. So a call that uses such a field returns an error if
+     the caller forgot to set it. For functions of rrcache.h, a seed or a limit of 0 means a
+     default.
+   - An error leaves the history of the shelf and its replies unchanged. If the history is recorded,
+     the call may have closed a full chapter. Five functions may have done part of their work when
+     they fail: `rrcache_offer_read`, `rrcache_offer_message_unchecked`,
+     `rrcache_offer_part_unchecked`, `rrcache_sweep_some` and `rrcache_trim`. These functions make
+     several offers, sweeps or evictions, one after another. If one of these fails, those before it
+     are not undone. `counts` has the number of these offers, and `swept` the number of keys that
+     these sweeps removed. `rrcache_write_chapter` and `rrcache_write_line` may have written the
+     beginning of their text.
+   - If chapters cannot be taken, they stay in the shelf. If recording cannot be stopped, it
+     continues.
+   - On error, outputs are unmodified, with these exceptions: `counts` and `swept`, and after
+     RRCACHE_SMALL also `told`, `name` and `size`. After RRCACHE_NULL, RRCACHE_OVERLAP,
+     RRCACHE_NO_SHELF and RRCACHE_NO_OFFERS all outputs are unmodified.
 
-   A message that has more than one name
-   - A response may tell of names that lie in other shelves than the one that was asked for: the
-     target of an alias, a zone's SOA record, the addresses of name servers. A resolver with so many
-     shelves reads the message once, by `rrcache_read_response` and under no lock, which tells the
-     shelves that it concerns. For each of these it calls `rrcache_offer_read` with that shelf's
-     number, counted from 0, under that shelf's lock. Each call offers what the message says of
-     names in that shelf and nothing else, so that all calls together offer all that was read, and
-     each name's data lie where `rrcache_make_name` leads with the same `struct rrcache_parts`. A
-     shelf of whose names the message tells nothing gets no event.
-   - `rrcache_offer_part_unchecked` does the same in one call for each shelf, and reads the whole
-     message anew, under that shelf's lock. That will do for one shelf's share alone.
-   - A CNAME record is then followed from shelf to shelf: one `rrcache_ask_alias` for each name,
-     under the lock of that name's shelf. The caller bounds how many are followed, which ends loops
-     too; each RRset on the way has a time to live of its own.
-   - `rrcache_offer_message_unchecked` offers all to the one shelf that it is given. That will do
-     where there is one shelf alone.
+   A message about names in several shelves
+   - A response may have data of names that are not in the shelf of its question: the target of an
+     alias, the owner of an SOA record, the addresses of name servers. A resolver with several
+     shelves reads the message once, by `rrcache_read_response` and without a lock, and gets the
+     shelves that the message concerns. For each of these shelves, the resolver takes the lock of
+     the shelf and calls `rrcache_offer_read` with the number of the shelf, counted from 0. Each
+     call offers only the data of names in that shelf, so all these calls together offer everything
+     that was read. The data of each name are then in the shelf that `rrcache_make_name` determines
+     with the same `struct rrcache_parts`. A shelf that the message does not concern gets no event.
+   - `rrcache_offer_part_unchecked` does the same in one call for each shelf. Each call reads the
+     whole message under the lock of that shelf. So use it only to get the data of one shelf.
+   - To follow a CNAME chain from shelf to shelf, call `rrcache_ask_alias` for each name, under the
+     lock of that name's shelf. The caller must limit the number of CNAME records that it follows,
+     which also ends loops. Each RRset of the chain has its own TTL.
+   - `rrcache_offer_message_unchecked` offers everything to one shelf. Use it only with a single
+     shelf.
 
-   What may be offered
-   - `rrcache_read_response` takes of a message only what is relevant to the query that the resolver
-     sent, and refuses one with another identifier or question. That is the call for what comes from
-     servers. The caller checks from which address and port it came.
-   - A resolver that parses responses itself hands in what it parsed, RRset by RRset and by section,
-     to `rrcache_compose_response`. That writes it as a message, which is then read as above.
-   - A call whose name ends in `_unchecked` reads a message by itself, and takes all that it says
-     within the zone. It does not compare it with a query: the caller checks addresses and ports,
-     the identifier and the question before it offers the message.
-   - A message that was truncated, with TC set (0x02 of the third octet), offers nothing (RFC 2181
-     section 9). Where it can be read RRCACHE_DONE is returned, `counts` is all 0 and no event is
-     written, and `rrcache_tell_response` tells TC. Where it ends within a record it is
-     RRCACHE_BAD_MESSAGE, as it is without TC. So the caller looks at TC first, and where it is set
-     asks again over TCP. The two octets of the length that stand before a message there are no part
-     of what is offered.
-   - In the same way a message offers nothing whose opcode is not that of a standard query, or whose
-     question is of a class that is not kept, or not at or below the zone.
-   - What is kept is of class IN, CH or HS (RFC 1035 section 3.2.4), and each class of a name has
-     keys of its own. Of a message the records of its question's class count alone. Data of type A
-     of class CH are not kept, since they begin with a name. A question of a class that is not kept,
-     or of type 0, is refused. One of another type that is not kept may be asked: it is a miss, or
-     RRCACHE_NXDOMAIN where that is held. Of ANY that is so also where sets of the name are held
-     that are trusted more.
-   - A message may answer its question and leave nothing to ask for: its time to live is 0, its
-     type is not kept, the times to live of a set differ with AA clear and `lowest_ttl` was not
-     chosen, a negative answer has no SOA record, or the set is not relevant.
-     `rrcache_tell_response` tells what the response comes to all the same, and
-     `rrcache_tell_offer` a set whose time to live is 0. So where the ask that follows is a miss,
-     the client that waits is answered from these; only of data that are left out, as those of a
-     type that is not kept, does the resolver read the message by itself.
-   - A failure that the shelf holds is still told after such a message, as RRCACHE_FAILED and until
-     its time is over, since nothing later is held. `rrcache_offer_failure` with `ttl` 0 ends it.
-   - Nor does such a message touch a set that the shelf holds, which may be told on, also as stale.
-     Where it is an authoritative NOERROR or NXDOMAIN (AA set) that leaves nothing of the question,
-     RFC 8767 section 4 has the data count as refreshed: the resolver then clears the type by
-     `rrcache_offer_set` with `ttl` 0.
-   - A response with an RCODE other than NOERROR and NXDOMAIN offers that asking for the question
-     failed, also where it is FORMERR, NOTIMP or REFUSED. So offer it once no other server, and no
-     try without EDNS, is left: from then on the question is RRCACHE_FAILED.
-   - A message may have more new keys than the shelf has room for, and then evicts some of its own.
+   What is stored
+   - `rrcache_read_response` reads from a message only the data that are relevant to the query that
+     the resolver sent, and rejects a message with another identifier or question. Use it for all
+     messages from servers. The caller must check the address and port that a message came from.
+   - A resolver that parses responses itself passes the parsed RRsets, with their sections, to
+     `rrcache_compose_response`. `rrcache_compose_response` writes a message, which the resolver
+     then reads like any other message.
+   - A function whose name ends in `_unchecked` offers all data of a message that are in bailiwick,
+     which means at or below the zone. Such a function does not compare the message with a query.
+     The caller must check addresses and ports, the identifier and the question before it offers the
+     message.
+   - A truncated message (TC set, 0x02 of the third octet) offers nothing (RFC 2181 section 9). If
+     the message can be read, the call returns RRCACHE_DONE, `counts` is all 0, no event is written,
+     and `rrcache_tell_response` reports TC. If the message ends inside a record, the call returns
+     RRCACHE_BAD_MESSAGE, as without TC. So the caller must look at TC first and, if TC is set, send
+     the query again over TCP. Over TCP, two octets of length precede a message: do not pass these.
+   - A message also offers nothing if its opcode is not that of a standard query, if the class of
+     its question is not kept, or if its question is out of bailiwick.
+   - The kept classes are IN, CH and HS (RFC 1035 section 3.2.4). Each class of a name has its own
+     keys. Records of a message count only if they are in the class of its question. Data of type A
+     in class CH are not kept, because they begin with a name. It is an error to ask for a class
+     that is not kept, or for type 0. A question for any other type that is not kept is allowed: the
+     reply is a miss, or RRCACHE_NXDOMAIN if that is cached. For type ANY this is so even if RRsets
+     of the name with a higher rank are cached.
+   - Even if a message answers its question, an ask that follows may be a miss. There are five
+     causes: the TTL is 0; the type is not kept; the TTLs of an RRset differ with AA clear and
+     without `lowest_ttl`; a negative answer has no SOA record; or the RRset is not relevant.
+     `rrcache_tell_response` still returns the kind of the response, and `rrcache_tell_offer`
+     returns an RRset with TTL 0. The caller answers the waiting client from the output of these
+     calls. The caller has to read the message itself only for data that are left out, such as data
+     of a type that is not kept.
+   - Such a message stores nothing, so a failure that is cached for the question is still returned
+     as RRCACHE_FAILED until the failure expires. `rrcache_offer_failure` with `ttl` 0 ends the
+     failure.
+   - Such a message does not change a cached RRset either, and that RRset may still be returned,
+     even stale. RFC 8767 section 4 counts the data as refreshed if the message is an authoritative
+     NOERROR or NXDOMAIN (AA set). The resolver then clears the type by `rrcache_offer_set` with
+     `ttl` 0.
+   - A response with an RCODE other than NOERROR and NXDOMAIN offers a failure of its question, even
+     if the RCODE is FORMERR, NOTIMP or REFUSED. From then on the reply for the question is
+     RRCACHE_FAILED. So offer such a response only when no other server, and no retry without EDNS,
+     is left.
+   - A message may have more new keys than the shelf has room for. Its later keys then evict some of
+     its earlier keys.
 
-   Moments
-   - Moments are seconds, at most 2^40 (timestamps, in docs/RULES.md). The caller keeps them: no
-     clock is read, and no call asks that its moment be no lower than that of an earlier call.
-   - Where a call's moment is lower than that of the data that it meets, their age is 0, and `left`
-     is their whole time to live. It is never more.
-   - So a clock that is set back lengthens the life of all that is kept by as much. What had
-     expired, and was not yet replaced, cleared, evicted or swept, may answer again, and keeps out
-     what is trusted less. A clock that is set forward lets data expire early, and a sweep then
-     removes for good what is fully expired by it. Take a clock that nobody sets and that goes on
-     while the machine is suspended, as CLOCK_BOOTTIME of Linux; CLOCK_MONOTONIC stands still
-     meanwhile.
-   - Which of two events came later goes by the order of the calls, and never by their moments.
+   Timestamps
+   - Timestamps (`moment`) are in seconds, at most 2^40. The caller supplies them: the library reads
+     no clock. The timestamp of a call may be lower than that of an earlier call.
+   - If the timestamp of a call is lower than that of an entry, the age of the entry is 0 and `left`
+     is its whole TTL, never more.
+   - If a clock is set back, all cached data live longer by the same amount. Data that had expired
+     may answer again, and may keep out data of lower rank, unless they were already replaced,
+     cleared, evicted or swept. If a clock is set forward, data expire early, and a sweep then
+     removes entries that are fully expired by that clock. Use a clock that cannot be set and keeps
+     running while the machine is suspended, such as CLOCK_BOOTTIME on Linux. CLOCK_MONOTONIC stops
+     during suspension.
+   - The order of the calls, not their timestamps, decides which of two events is later.
+   - An entry has expired when its age is at least its TTL. An entry is *fully expired* when it can
+     no longer answer: a negative answer or a failure when it has expired, and an RRset `max_stale`
+     seconds after it has expired.
 
-   The history and its chapters
-   - The history of a shelf grows by one event with each ask, each sweep and each offer of a set, a
-     negative answer or a failure that returns RRCACHE_DONE, with a message by one for each of its
-     offers that was made, and with a trim by one or two for each key that goes.
-   - A shelf is made to record none of it. Then an event takes a number and no memory, no chapter is
-     ever full or closed, and there is nothing to drop. `rrcache_record` keeps the events from that
-     call on in memory. `rrcache_stop_recording` ends that and hands out what was recorded,
-     `rrcache_stop_and_drop` ends it and drops what was recorded. No reply depends on it. What is
-     told below of events that are kept and of chapters is so while the history is recorded.
-   - An event takes 96 octets, beside the names and the data that it tells of.
-   - A call that is to write an event and finds the open chapter full closes it and opens the next,
-     and then does what it is to do: all within the call, and so under the lock. With a message that
-     may come before any one of its offers. No reply depends on where chapters end.
-   - To close a chapter takes a time that goes with the keys that the shelf holds, or held when the
-     chapter began. A place of 16 octets is written for each that it holds, and an entry of 56
-     octets is copied for each that was touched since, or for all, as at the end of the first
-     chapter and of one with more touches and removals than keys at its beginning. No name and no
-     data are copied, and no event. A chapter should have about as many events as the shelf has
-     keys.
-   - A caller that records takes the closed chapters out from time to time, by
-     `rrcache_take_chapters`, or drops them, by `rrcache_drop_chapters`. To take them is one step,
-     however many they are. To drop them frees each of their events, one by one, and each of the
-     copied entries that nothing else holds. So its time goes with the events that were written
-     since the last time, and it is spent under the lock as well: it is short where chapters are
-     dropped often. `rrcache_free_chapters` frees the same under no lock.
-   - `rrcache_write_chapter` writes a chapter that was taken as text: a line for what it begins
-     with, for each key that was held then, and for each event. All chapters of one record, written
-     one behind another as they were taken, are an archive, which `rrcache --audit-history` judges.
-     Chapters have numbers from 1 on, those that were not recorded too, so the first of a record has
-     the number 2 or a larger one.
-   - Numbers are spent where the next event would have the number 2^62, whether it is recorded or
-     not, or where the open chapter is full and has that number. From then on each call that is to
-     write an event is refused with RRCACHE_HISTORY_FULL, whatever is dropped; `rrcache_peek` still
-     tells replies. The resolver then frees the shelf and makes a new one, which is empty. At 10^9
-     events a second that is after 146 years.
+   History and chapters
+   - The history of a shelf is a log. Each ask, each sweep, and each offer that returns RRCACHE_DONE
+     is one event of the history. A message causes one event for each of its offers that was made. A
+     trim causes one or two events for each key that it removes.
+   - A new shelf does not record. While a shelf does not record, an event has a number but uses no
+     memory, no chapter is full or closed, and there is nothing to drop. `rrcache_record` starts to
+     keep events in memory. `rrcache_stop_recording` stops recording and returns the recorded
+     chapters. `rrcache_stop_and_drop` stops recording and drops them. No reply depends on whether a
+     shelf records. The following points about events and chapters apply only while a shelf records.
+   - An event uses 96 octets, plus its names and data.
+   - A chapter is a segment of the history. If a call has to write an event and the open chapter is
+     full, the call first closes that chapter and opens the next one, under the lock. For a message
+     this may happen before any of its offers. No reply depends on where chapters end.
+   - The time to close a chapter grows with the number of keys in the shelf, now or at the beginning
+     of the chapter. The call writes 16 octets for each key, and copies an entry of 56 octets for
+     each key that was used since the chapter began. At the end of the first chapter, the call
+     copies the entries of all keys. It does the same at the end of a chapter with more uses and
+     removals than keys at its beginning. Names, data and events are not copied. A good chapter size
+     is about as many events as the shelf has keys.
+   - A caller that records should regularly take the closed chapters by `rrcache_take_chapters`, or
+     drop them by `rrcache_drop_chapters`. Taking them is one step, however many there are. Dropping
+     them frees each of their events, and each copied entry that is not used elsewhere. So the time
+     to drop them grows with the number of events since the last time, and is spent under the lock:
+     it is short if chapters are dropped often. `rrcache_free_chapters` frees taken chapters without
+     a lock.
+   - `rrcache_write_chapter` writes a taken chapter as text: a first line with its number and the
+     rules of the shelf, a line for each key that was cached when the chapter began, and a line for
+     each event. All chapters of one record, written in the order in which they were taken, are an
+     archive. `rrcache --audit-history` audits archives. Chapters are numbered from 1, and chapters
+     that were not recorded have numbers too. So the first chapter of a record has the number 2 or a
+     higher one.
+   - Event numbers are spent if the next event would have the number 2^62, even if it is not
+     recorded. Chapter numbers are spent if the open chapter is full and has the number 2^62. After
+     that, each call that has to write an event returns RRCACHE_HISTORY_FULL, even if chapters are
+     dropped. `rrcache_peek` still returns replies. The resolver then frees the shelf and makes a
+     new, empty one; with `struct rrcache`, it closes the cache and opens a new one. At 10^9 events
+     a second, this happens after 146 years.
 
-   Which refusal is told
-   - Where more than one is due, the first of this list is told. Each call has some of them:
-     RRCACHE_NULL; RRCACHE_OVERLAP; RRCACHE_NO_SHELF or RRCACHE_HAS_SHELF; RRCACHE_NO_OFFERS or
+   Which error is returned
+   - If several errors apply, the call returns the first one in this list: RRCACHE_NULL;
+     RRCACHE_OVERLAP; RRCACHE_NO_SHELF or RRCACHE_HAS_SHELF; RRCACHE_NO_OFFERS or
      RRCACHE_HAS_OFFERS; RRCACHE_NO_CHAPTERS or RRCACHE_HAS_CHAPTERS; RRCACHE_NO_LINE; RRCACHE_SINK;
      RRCACHE_BAD_RULES; RRCACHE_BAD_SEED; RRCACHE_BAD_LIMITS; RRCACHE_BAD_CHOICE; RRCACHE_BAD_TYPE;
      RRCACHE_BAD_NAME; RRCACHE_OTHER_QUERY or RRCACHE_NO_QUESTION; RRCACHE_BAD_MESSAGE or
      RRCACHE_BAD_DATA; RRCACHE_OTHER_SEED; RRCACHE_WRONG_BODY; RRCACHE_WIDE; RRCACHE_SMALL;
      RRCACHE_HISTORY_FULL; RRCACHE_MOMENT_TOO_LARGE.
-   - RRCACHE_MEMORY is told where malloc refuses while a call tests these: in place of those that
-     the call would have found later.
-   - A message meets RRCACHE_HISTORY_FULL and RRCACHE_MOMENT_TOO_LARGE with its first offer. One
-     that offers nothing is RRCACHE_DONE, also where numbers are spent, and whatever its moment is.
+   - If malloc fails while a call checks for these errors, the call returns RRCACHE_MEMORY instead
+     of the errors that it has not yet checked for.
+   - A message causes RRCACHE_HISTORY_FULL and RRCACHE_MOMENT_TOO_LARGE with its first offer. If it
+     has no offers, the call returns RRCACHE_DONE, whatever the timestamp is, and even if numbers
+     are spent.
+   - Every function returns RRCACHE_NULL and RRCACHE_OVERLAP as described at the end of this
+     comment. A function that uses the contents of a handle returns RRCACHE_NO_SHELF,
+     RRCACHE_NO_OFFERS or RRCACHE_NO_CHAPTERS if the handle holds none. Calls that allocate return
+     RRCACHE_MEMORY if malloc fails. Calls that write an event return RRCACHE_HISTORY_FULL if
+     numbers are spent, and RRCACHE_MOMENT_TOO_LARGE if the timestamp is above 2^40. The comments of
+     the functions do not repeat these conditions.
 
-   Names are in wire form (RFC 1035 section 3.1), whole, with no pointer, at most 255 octets with
-   the zero octet at the end, in any case. `line`, in structs, is a number of the caller's own that
-   the event of the call is kept with; 0 will do. A pointer may be null only where its size is 0.
+   Names are in wire form (RFC 1035 section 3.1): whole, without compression pointers, at most 255
+   octets including the zero octet at the end, and in any case. `line` in a struct is a number that
+   the caller chooses and that is kept with the event of the call; 0 is fine. A pointer may be null
+   only if its size is 0.
 
-   The functions of the library proper begin with `rrc_`, and need pointers that are not null and
-   buffers that do not overlap. The inline functions below return RRCACHE_NULL where a pointer is
-   null that may not be, and RRCACHE_OVERLAP where what the call writes, the handle too, overlaps
-   any octets that it is handed, or an array; what is only read may overlap, and a struct with
-   pointers, and one that stands beside it, is read before anything is written. Otherwise they call
-   them, but for `rrcache_compose_response`, which calls none. No test can tell whether a handle or
-   a name began as zeros, whether two threads are in a handle, and whether buffers lie where they
-   are said to. */
+   The exported functions of the library begin with `rrc_`. The exported functions require pointers
+   that are not null, and buffers that do not overlap. The inline functions below check these
+   conditions and then call an exported function; `rrcache_compose_response` calls none. An inline
+   function returns RRCACHE_NULL if a required pointer is null. It returns RRCACHE_OVERLAP if
+   anything that it writes, including the handle, overlaps octets or an array that it reads. Inputs
+   may overlap each other. A struct that has pointers, and a struct that is passed beside one, may
+   overlap an output too, because the function reads it before it writes anything. The library
+   cannot check whether a handle or a name was initialized to zeros, whether two threads use one
+   handle, or whether a buffer is as large as its size says. */
 #ifndef RRCACHE_SHELF_H
 #define RRCACHE_SHELF_H
 
@@ -218,9 +242,9 @@
 extern "C" {
 #endif
 
-/* The version of this header. `rrcache_version` tells that of the library. */
+/* The version of this header. `rrcache_version` returns that of the library. */
 #define RRCACHE_VERSION_MAJOR 2
-#define RRCACHE_VERSION_MINOR 0
+#define RRCACHE_VERSION_MINOR 1
 #define RRCACHE_VERSION_PATCH 0
 #define RRCACHE_VERSION                                                                            \
     (RRCACHE_VERSION_MAJOR * 65536 + RRCACHE_VERSION_MINOR * 256 + RRCACHE_VERSION_PATCH)
@@ -229,84 +253,89 @@ extern "C" {
 enum rrcache_status {
     RRCACHE_DONE = 0,
     RRCACHE_NO_SHELF = 1,         /* the handle holds no shelf */
-    RRCACHE_HAS_SHELF = 2,        /* the handle holds a shelf already */
-    RRCACHE_MEMORY = 3,           /* malloc refused */
-    RRCACHE_HISTORY_FULL = 4,     /* the numbers of events or of chapters, 2^62 each, are spent */
-    RRCACHE_MOMENT_TOO_LARGE = 5, /* the moment is above 2^40 */
-    RRCACHE_BAD_RULES = 6,        /* capacity, chapter, max_stale, the number of parts, the part or
-                                     how much is swept or trimmed is not in its range */
+    RRCACHE_HAS_SHELF = 2,        /* the handle already holds a shelf */
+    RRCACHE_MEMORY = 3,           /* malloc failed */
+    RRCACHE_HISTORY_FULL = 4,     /* event numbers or chapter numbers are spent: the next one would
+                                     be 2^62 */
+    RRCACHE_MOMENT_TOO_LARGE = 5, /* the timestamp is above 2^40 */
+    RRCACHE_BAD_RULES = 6,        /* one of these is out of range: `capacity`, `chapter`,
+                                     `max_stale`, the number of parts, the part, `limit` or
+                                     `most` */
     RRCACHE_BAD_SEED = 7,         /* all octets of the seed are 0 */
-    RRCACHE_BAD_LIMITS = 8,       /* a number of `struct rrcache_limits` is not in its range */
-    RRCACHE_BAD_NAME = 9,         /* octets are not the wire form of a name, or no name was made */
-    RRCACHE_BAD_MESSAGE = 10,     /* octets are no response that can be read: `rrcache_fault` tells
-                                     why */
+    RRCACHE_BAD_LIMITS = 8,       /* a field of `struct rrcache_limits` is out of range */
+    RRCACHE_BAD_NAME = 9,         /* the octets are not the wire form of a name, or the `struct
+                                     rrcache_name` holds no name */
+    RRCACHE_BAD_MESSAGE = 10,     /* the octets are not a response that can be read; `rrcache_fault`
+                                     says why */
     RRCACHE_BAD_CHOICE = 11,      /* no purpose, mode, kind, trust, section or RCODE has this
                                      number */
-    RRCACHE_BAD_TYPE = 12,        /* of what is offered: data of this type are not kept in this
-                                     class, as those of OPT and of questions alone. Of a question:
-                                     nothing is kept in its class, or its type is 0. Of what was
-                                     parsed, and its query: a class or a type is 0 */
-    RRCACHE_BAD_DATA = 13,        /* data do not fill the layout of their type, or their lengths do
-                                     not fit */
-    RRCACHE_WRONG_BODY = 14,      /* a set with no data, or a time to live above 2^31 - 1 */
-    RRCACHE_WIDE = 15,            /* a datum of the reply has more than 65,535 octets, which no
-                                     response brings, or all have 2^64 */
-    RRCACHE_SMALL = 16,           /* the buffer is too small: `told` or `size` says what it needs,
-                                     and no event was written */
-    RRCACHE_NULL = 17,            /* a pointer is null (told by the inline functions alone) */
+    RRCACHE_BAD_TYPE = 12,        /* in an offer: data of this type are not kept in this class, such
+                                     as OPT and the types that only questions have. In a question:
+                                     its class is not kept, or its type is 0. In a parsed response
+                                     and its query: a class or a type is 0 */
+    RRCACHE_BAD_DATA = 13,        /* the rdata do not fill the layout of their type, or are cut
+                                     off */
+    RRCACHE_WRONG_BODY = 14,      /* an RRset has no data, or a TTL is above 2^31 - 1 */
+    RRCACHE_WIDE = 15,            /* the rdata of a record of the reply have more than 65,535
+                                     octets, which no message can have, or all rdata together have
+                                     2^64 */
+    RRCACHE_SMALL = 16,           /* the buffer is too small: `told` or `size` has the size that is
+                                     needed, and no event was written */
+    RRCACHE_NULL = 17,            /* a pointer is null (only from inline functions) */
     RRCACHE_NO_OFFERS = 18,       /* the handle holds no offers, or none with this number */
-    RRCACHE_HAS_OFFERS = 19,      /* the handle holds offers already */
-    RRCACHE_OTHER_QUERY = 20,     /* the octets have another identifier or question than the query
-                                     that was sent, or are a query themselves */
+    RRCACHE_HAS_OFFERS = 19,      /* the handle already holds offers */
+    RRCACHE_OTHER_QUERY = 20,     /* the identifier or the question of the octets is not that of the
+                                     query, or the octets are themselves a query */
     RRCACHE_NO_CHAPTERS = 21,     /* the handle holds no chapters */
-    RRCACHE_HAS_CHAPTERS = 22,    /* the handle holds chapters already */
+    RRCACHE_HAS_CHAPTERS = 22,    /* the handle already holds chapters */
     RRCACHE_NO_LINE = 23,         /* there is no such chapter, or it has no such line */
-    RRCACHE_SINK = 24,            /* the sink returned other than 0 (told by the inline functions
-                                     alone) */
-    RRCACHE_OVERLAP = 25,         /* what is to be written overlaps something else that is handed in
-                                     (told by the inline functions alone) */
-    RRCACHE_OTHER_SEED = 26,      /* the name was made, or the message was read, under another seed
+    RRCACHE_SINK = 24,            /* the sink returned nonzero (only from inline functions) */
+    RRCACHE_OVERLAP = 25,         /* an output overlaps another argument (only from inline
+                                     functions) */
+    RRCACHE_OTHER_SEED = 26,      /* the name was made, or the message was read, under a seed other
                                      than that of the shelf */
-    RRCACHE_NO_QUESTION = 27,     /* the response is a header without a question, of a server that
-                                     could or would not read the query: its RCODE, the low four
-                                     bits of its fourth octet, is FORMERR (1), NOTIMP (4) or
-                                     REFUSED (5) */
-    RRCACHE_TOO_LARGE = 28        /* what is to be stored takes more memory than a shelf may have
-                                     (told by the calls of rrcache.h alone) */
+    RRCACHE_NO_QUESTION = 27,     /* the response is a header without a question, from a server that
+                                     could not or would not read the query. Its RCODE, the low four
+                                     bits of its fourth octet, is FORMERR (1), NOTIMP (4) or REFUSED
+                                     (5) */
+    RRCACHE_TOO_LARGE = 28        /* the data to store would use more memory than a shelf may use
+                                     (only from functions of rrcache.h) */
 };
 
-/* What a reply is, and what is stored: 1, 3, 4 and 6 of these, or 0 where nothing is. */
+/* The kind of a reply or of a stored entry. The kind of an entry is 1, 3, 4 or 6, or 0 if nothing
+   is stored. */
 enum rrcache_kind {
-    RRCACHE_FRESH = 1,    /* a set that is not past its time to live; of what is stored a set,
-                             whether it is past that or not */
-    RRCACHE_STALE = 2,    /* a set past its time to live (RFC 8767) */
+    RRCACHE_FRESH = 1,    /* an unexpired RRset; as the kind of an entry, any RRset, even an expired
+                             one */
+    RRCACHE_STALE = 2,    /* an expired RRset (RFC 8767) */
     RRCACHE_NODATA = 3,   /* the name has no data of the type (RFC 2308 section 2.2) */
     RRCACHE_NXDOMAIN = 4, /* the name does not exist (RFC 2308 section 2.1) */
-    RRCACHE_MISS = 5,     /* nothing that will do */
-    RRCACHE_FAILED = 6 /* nothing that will do, and a failure is held, not past its time and later
-                          than what else is held: `retry_from` says when to try again, and till
-                          then a resolver answers SERVFAIL (RFC 9520) */
+    RRCACHE_MISS = 5,     /* nothing that may answer */
+    RRCACHE_FAILED = 6    /* nothing that may answer, and a recent failure: it is unexpired, and was
+                             stored later than all other entries for the question. A resolver
+                             answers SERVFAIL until `retry_from` (RFC 9520) */
 };
 
-/* The classes of which data are kept (RFC 1035 section 3.2.4). */
+/* The classes whose data are kept (RFC 1035 section 3.2.4). */
 enum rrcache_class { RRCACHE_IN = 1, RRCACHE_CH = 3, RRCACHE_HS = 4 };
 
-/* What an answer is for: anything, where glue will do, or to answer a question, where it will not
-   (RFC 2181 section 5.4.1). */
+/* The purpose of an answer (RFC 2181 section 5.4.1): anything, for which additional data such as
+   glue are acceptable, or a client's question, which additional data must not answer. */
 enum rrcache_purpose { RRCACHE_ANYTHING = 1, RRCACHE_QUESTION = 2 };
 
-/* Whether a stale answer will do (RFC 8767 section 5): no; where a failure is held by which a miss
-   would be RRCACHE_FAILED; at once. */
+/* When a stale answer is acceptable (RFC 8767 section 5): never; only if a failure is recent, so
+   that a miss would be RRCACHE_FAILED; with or without a failure. */
 enum rrcache_mode { RRCACHE_NO_STALE = 1, RRCACHE_STALE_IF_FAILED = 2, RRCACHE_STALE_NOW = 3 };
 
-/* How far data are trusted (RFC 2181 section 5.4.1), from low to high. */
+/* The rank of data (RFC 2181 section 5.4.1), from low to high. */
 enum rrcache_trust {
-    RRCACHE_ADDITIONAL = 1,               /* the additional section, or the authority section of a
-                                             reply that is not authoritative */
-    RRCACHE_NON_AUTHORITATIVE_ANSWER = 2, /* the answer section otherwise */
-    RRCACHE_AUTHORITY = 3,                /* the authority section of an authoritative reply */
-    RRCACHE_AUTHORITATIVE_ANSWER = 4      /* the answer section of an authoritative reply, under the
-                                             name that was asked for */
+    RRCACHE_ADDITIONAL = 1,               /* data of the additional section, or of the authority
+                                             section of a non-authoritative response */
+    RRCACHE_NON_AUTHORITATIVE_ANSWER = 2, /* any other data of the answer section */
+    RRCACHE_AUTHORITY = 3,                /* data of the authority section of an authoritative
+                                             response */
+    RRCACHE_AUTHORITATIVE_ANSWER = 4      /* data of the answer section of an authoritative
+                                             response, if the owner is the name of the question */
 };
 
 /* The sections of a response that have records (RFC 1035 section 4.1). */
@@ -316,82 +345,86 @@ enum rrcache_section {
     RRCACHE_ADDITIONAL_SECTION = 3
 };
 
-/* What became of an offer: it is kept; its ttl was 0, and the key holds nothing; the key holds what
-   is trusted more. */
+/* The outcome of an offer. Kept: the data were stored. Cleared: the TTL was 0, and the key now
+   holds nothing. Outranked: the key holds data of higher rank, so nothing was stored. */
 enum rrcache_outcome { RRCACHE_KEPT = 1, RRCACHE_CLEARED = 2, RRCACHE_OUTRANKED = 3 };
 
-/* What a response comes to for its question (RFC 1034 section 5.3.3), when a zone's servers were
-   asked: of the name, or of the one that its CNAME records lead to within the zone, 16 of them at
-   most. */
+/* The kind of a response for its question, when the servers of a zone were asked (RFC 1034 section
+   5.3.3). *The name* is the name of the question, or the name to which at most 16 CNAME records of
+   the response lead within the zone. */
 enum rrcache_response_kind {
-    RRCACHE_RESPONSE_ANSWER = 1,       /* it has data of the type */
-    RRCACHE_RESPONSE_UNEQUAL_TTLS = 2, /* it has, and they are left out: their TTLs differ, AA is
-                                          clear, and `lowest_ttl` was not chosen */
-    RRCACHE_RESPONSE_NODATA = 3,   /* the name has no data of the type (RFC 2308 section 2.2). No
-                                      negative answer is offered where no SOA record says so */
-    RRCACHE_RESPONSE_NXDOMAIN = 4, /* the name does not exist (RFC 2308 section 2.1). The same
-                                      is true of the SOA record */
-    RRCACHE_RESPONSE_REFERRAL = 5, /* AA is clear, and the servers of a zone below are named that
-                                      the name is in (RFC 1034 section 4.3.2) */
-    RRCACHE_RESPONSE_ALIAS = 6,    /* an alias leads on to a name of which the response has
-                                      nothing, or which is outside the zone: ask for that one */
-    RRCACHE_RESPONSE_FAILURE = 7,  /* RCODE is neither NOERROR nor NXDOMAIN */
-    RRCACHE_RESPONSE_UNUSABLE = 8 /* nothing: TC is set, the opcode is not QUERY, the question is of
-                                     a class that is not kept or outside the zone, the aliases do
-                                     not end, or the server knows neither data nor servers, as one
-                                     that does not serve the zone. Data of a type that is not kept
-                                     are read over, so they and their absence are this too */
+    RRCACHE_RESPONSE_ANSWER = 1,       /* the response has data of the type */
+    RRCACHE_RESPONSE_UNEQUAL_TTLS = 2, /* the response has data of the type, which are left out:
+                                          their TTLs differ, AA is clear, and `lowest_ttl` is not
+                                          set */
+    RRCACHE_RESPONSE_NODATA = 3,       /* the name has no data of the type (RFC 2308 section 2.2).
+                                          Without an SOA record no negative answer is offered */
+    RRCACHE_RESPONSE_NXDOMAIN = 4, /* the name does not exist (RFC 2308 section 2.1). Without an SOA
+                                      record no negative answer is offered */
+    RRCACHE_RESPONSE_REFERRAL = 5, /* AA is clear, and there are NS records of a zone that is below
+                                      the zone of the servers and contains the name (RFC 1034
+                                      section 4.3.2) */
+    RRCACHE_RESPONSE_ALIAS = 6,    /* a CNAME chain leads to a name that is out of bailiwick, or of
+                                      which the response has no data: query for that name */
+    RRCACHE_RESPONSE_FAILURE = 7,  /* the RCODE is neither NOERROR nor NXDOMAIN */
+    RRCACHE_RESPONSE_UNUSABLE = 8 /* none of these: TC is set, the opcode is not QUERY, the question
+                                     has a class that is not kept or is out of bailiwick, the CNAME
+                                     chain does not end, or the response has no data, no denial and
+                                     no referral, as from a server that does not serve the zone.
+                                     Data of a type that is not kept are skipped, so a response has
+                                     this kind whether it has such data or not */
 };
 
-/* Why octets are no response (`rrcache_fault`). */
+/* Why octets are not a response that can be read (`rrcache_fault`). */
 enum rrcache_message_fault {
-    RRCACHE_NO_FAULT = 0,         /* they are one */
-    RRCACHE_SHORT = 1,            /* they end too soon */
-    RRCACHE_RESERVED_BITS = 2,    /* a length octet has reserved bits */
-    RRCACHE_POINTER = 3,          /* a pointer leads to no lower place */
+    RRCACHE_NO_FAULT = 0,         /* they can be read */
+    RRCACHE_SHORT = 1,            /* the message ends too soon */
+    RRCACHE_RESERVED_BITS = 2,    /* the top two bits of a length octet of a name are 01 or 10 */
+    RRCACHE_POINTER = 3,          /* a compression pointer does not lead to an earlier offset */
     RRCACHE_LONG_NAME = 4,        /* a name has more than 255 octets */
-    RRCACHE_LAYOUT = 5,           /* data do not fill their layout */
-    RRCACHE_NO_RESPONSE = 6,      /* they are no response: QR is clear */
-    RRCACHE_NOT_ONE_QUESTION = 7, /* there is not one question */
-    RRCACHE_LONG_MESSAGE = 8      /* they are more than 65,535 */
+    RRCACHE_LAYOUT = 5,           /* rdata do not fill the layout of their type */
+    RRCACHE_NO_RESPONSE = 6,      /* QR is clear, so the message is a query */
+    RRCACHE_NOT_ONE_QUESTION = 7, /* there is not exactly one question */
+    RRCACHE_LONG_MESSAGE = 8      /* there are more than 65,535 octets */
 };
 
-/* A handle: zeros, or what `rrcache_make` made of it. */
+/* A handle of a shelf. Initialize it to zeros; `rrcache_make` makes its shelf. */
 struct rrcache_shelf {
     void *at;
     bool is_live;
     uint64_t seed[2];
 };
 
-/* A handle of the offers of a message: zeros, or what `rrcache_read_response` made of it. */
+/* A handle of the offers of a message. Initialize it to zeros; `rrcache_read_response` fills it. */
 struct rrcache_offers {
     void *at;
     bool is_live;
 };
 
-/* A handle of chapters that left a shelf: zeros, or what `rrcache_take_chapters` made of it. */
+/* A handle of chapters that were taken from a shelf. Initialize it to zeros;
+   `rrcache_take_chapters` fills it. */
 struct rrcache_chapters {
     void *at;
     bool is_live;
 };
 
-/* A name that was folded and hashed (`rrcache_make_name`), for all that is asked of it: zeros, or
-   what that call made of it. `part` is the shelf that it belongs to, counted from 0. `hash` is 64
-   bits of SipHash-1-3 of `octets` under the seed, which a caller may use for tables of its own. It
-   may be copied, and may be kept for as long as the seed is. */
+/* A name, folded and hashed, as shelves look it up. Initialize it to zeros; `rrcache_make_name`
+   fills it. `part` is the number of its shelf, counted from 0. `hash` has 64 bits of SipHash-1-3 of
+   `octets` under the seed, and a caller may use it in its own tables. The struct may be copied, and
+   is valid as long as the seed is in use. */
 struct rrcache_name {
     uint64_t hash;
     uint64_t part;
     uint8_t seed[16];
     uint8_t size;
-    uint8_t octets[255]; /* `size` of them are its wire form, with the letters A to Z as a to z; the
-                            others are as they were */
+    uint8_t octets[255]; /* the first `size` octets are the name in wire form, with A to Z lowered;
+                            the others are unmodified */
 };
 
-/* How names are divided among shelves: how many shelves there are, 1 to 64, and the seed that these
-   were made with. By another seed a name lies in another part, and what is kept of it is not found.
-   Names are hashed by SipHash-1-3, whose key is the seed, and the upper 32 bits of the hash choose
-   the part. */
+/* How names are divided among shelves: `count` is the number of shelves, 1 to 64, and `seed` is the
+   seed of their rules. Names are hashed by SipHash-1-3 with the seed as its key, and the upper 32
+   bits of the hash choose the shelf. Under another seed a name may be in another shelf, and its
+   data are then not found. */
 struct rrcache_parts {
     uint64_t count;
     uint8_t seed[16];
@@ -399,15 +432,15 @@ struct rrcache_parts {
 
 /* The rules of a shelf. */
 struct rrcache_rules {
-    uint64_t capacity;  /* the most keys that it holds: 1 to 65,536 */
-    uint64_t chapter;   /* the most events of a chapter that is recorded: 1 to 1,048,576 */
-    uint64_t max_stale; /* for how many seconds past its time to live a set may answer: 0 to 604,800
+    uint64_t capacity;  /* the most keys that the shelf holds: 1 to 65,536 */
+    uint64_t chapter;   /* the most events of a recorded chapter: 1 to 1,048,576 */
+    uint64_t max_stale; /* for how many seconds past its TTL an RRset may be served: 0 to 604,800
                            (RFC 8767 section 4) */
-    uint8_t seed[16];   /* 16 random octets that nobody else knows, not all 0, the same for all
-                           shelves of a cache */
+    uint8_t seed[16];   /* 16 secret random octets, not all 0, the same for all shelves of a
+                           cache */
 };
 
-/* What is asked about a name, and which answers will do. */
+/* What to ask about a name, and which answers are acceptable. */
 struct rrcache_question {
     uint64_t moment;
     uint64_t line;
@@ -417,93 +450,97 @@ struct rrcache_question {
     uint32_t mode;    /* enum rrcache_mode */
 };
 
-/* What is stored under a key. All is 0 where nothing is, and with RRCACHE_MISS and RRCACHE_FAILED.
-   An auditor finds the event in the history by its number, and a caller what it keeps of its own
-   beside the entry. */
+/* The entry of a key. All fields are 0 if nothing is stored, and in replies with RRCACHE_MISS or
+   RRCACHE_FAILED. By `number` an auditor finds the event in the history of the shelf. By the shelf
+   and `number` together, a caller can find its own data that belong to the entry. */
 struct rrcache_entry {
-    uint32_t kind;   /* enum rrcache_kind, or 0 where nothing is stored */
-    uint32_t trust;  /* enum rrcache_trust; 0 of a failure */
-    uint32_t ttl;    /* as it was stored: of a message at most the cap, else as it was offered. A
-                        resolver renews data before `ttl` seconds from `moment` on are over
-                        (prefetch), where they are asked for late in that time */
-    uint64_t moment; /* of the offer that was kept */
-    uint64_t number; /* of the event that stored it, which no other entry of the shelf has */
-    uint64_t age;    /* how many touches came after its own last one: no more keys than that were
-                        touched since. A reply tells it as it was before: an ask then moves the
-                        entry to the front, a peek does not. Where it is in front already, with
-                        the age 0, an ask is no touch */
+    uint32_t kind;   /* enum rrcache_kind, or 0 if nothing is stored */
+    uint32_t trust;  /* enum rrcache_trust; 0 for a failure */
+    uint32_t ttl;    /* the TTL as it was stored: from a message at most the cap, otherwise as it
+                        was offered. To prefetch, a resolver renews an entry that is asked for
+                        shortly before `ttl` seconds have passed since `moment` */
+    uint64_t moment; /* the timestamp of the offer that was stored */
+    uint64_t number; /* the number of the event that stored the entry; no other entry of the shelf
+                        has it */
+    uint64_t age;    /* the number of uses of keys after the last use of this key, so at most that
+                        many keys were used since. A key is used when it is stored and when it
+                        answers an ask. A reply has the age before the call: an ask then moves the
+                        entry to the front, and a peek does not. If the entry is already at the
+                        front (age 0), an ask is not a use */
 };
 
-/* A reply. Its buffer begins with `owner_size` octets, the owner's wire form as it was received,
-   and behind them are `data_size` octets: each datum of the set, or the SOA record's alone, behind
-   its length of two octets, the high one first. A miss has neither. */
+/* A reply. The first `owner_size` octets of the buffer are the owner in wire form, as it was
+   received. The next `data_size` octets are the rdata of each record of the RRset, or of the SOA
+   record of a negative answer. Two octets of length precede each rdata, high octet first. A miss
+   has neither owner nor rdata. */
 struct rrcache_told {
     uint32_t kind;       /* enum rrcache_kind */
-    uint32_t rtype;      /* the type that is answered: the question's, or CNAME (5) where
-                            `rrcache_ask_alias` tells the name's CNAME record */
-    uint32_t left;       /* for how many seconds the reply may be used: what is left of its time to
-                            live, with RRCACHE_STALE 30 (RFC 8767 section 4), with a miss 0 */
-    uint64_t retry_from; /* with RRCACHE_FAILED the moment from which to try again, and else 0: with
-                            RRCACHE_STALE a peek with RRCACHE_NO_STALE tells it */
+    uint32_t rtype;      /* the type of the reply: the type of the question, or CNAME (5) if
+                            `rrcache_ask_alias` returns the CNAME record of the name */
+    uint32_t left;       /* for how many seconds the reply may be used: the remaining TTL, 30 for
+                            RRCACHE_STALE (RFC 8767 section 4), 0 for a miss */
+    uint64_t retry_from; /* for RRCACHE_FAILED the timestamp from which to try again, otherwise 0.
+                            For RRCACHE_STALE, a peek with RRCACHE_NO_STALE returns this
+                            timestamp; with `struct rrcache`, a look-up with RRCACHE_NO_STALE */
     uint64_t owner_size;
     uint64_t data_size;
-    struct rrcache_entry entry; /* what gives the reply */
+    struct rrcache_entry entry; /* the entry that gives the reply */
 };
 
-/* What a response says beside what it offers. */
+/* What a response says in addition to its offers. */
 struct rrcache_summary {
     uint32_t kind; /* enum rrcache_response_kind */
-    uint8_t rcode; /* of the header, 0 to 15: an OPT record's upper octet of RCODE is not read */
+    uint8_t rcode; /* the RCODE of the header, 0 to 15; the upper bits in an OPT record are not
+                      read */
     bool aa;
     bool tc;
 };
 
-/* What is stored of a name and a class for a type. */
+/* The entries that are stored for a name, a class and a type. */
 struct rrcache_stored {
-    struct rrcache_entry set;      /* a set of the type, or that the name has no such data */
-    struct rrcache_entry nxdomain; /* that the name does not exist */
-    struct rrcache_entry failure;  /* that asking for the type failed */
+    struct rrcache_entry set;      /* an RRset of the type, or NODATA */
+    struct rrcache_entry nxdomain; /* NXDOMAIN of the name */
+    struct rrcache_entry failure;  /* a failure of the type */
 };
 
-/* What became of the offers of a message. */
+/* The number of offers of a message with each outcome. */
 struct rrcache_counts {
     uint64_t kept;
     uint64_t cleared;
-    uint64_t outranked; /* since what their key holds is trusted more: such an offer is an event,
-                           and no call is refused for it */
+    uint64_t outranked; /* not stored, because the key holds data of higher rank. Such an offer is
+                           an event, and the call does not fail */
 };
 
-/* How long what a response says may be kept, in seconds. */
+/* The limits of how long data of a response may be cached, in seconds. */
 struct rrcache_limits {
-    uint32_t cap;          /* the most that data live: 1 to 604,800 (RFC 8767 section 4) */
-    uint32_t negative_cap; /* the most that a negative answer lives: 1 to 604,800 (RFC 2308 section
+    uint32_t cap;          /* the greatest TTL: 1 to 604,800 (RFC 8767 section 4) */
+    uint32_t negative_cap; /* the greatest TTL of a negative answer: 1 to 604,800 (RFC 2308 section
                               5) */
-    uint32_t recheck;      /* how long a failure is remembered: 1 to 300 (RFC 8767 section 5, RFC
-                              9520 section 3.2) */
+    uint32_t recheck;      /* the TTL of a failure: 1 to 300 (RFC 8767 section 5, RFC 9520 section
+                              3.2) */
 };
 
-/* The limits of a resolver that wishes for no others. */
+/* The default limits of a resolver. */
 #define RRCACHE_LIMITS                                                                             \
     {                                                                                              \
         604800, 10800, 30                                                                          \
     }
 
-/* When a shelf is swept, and of `rrcache_sweep_some` after how many keys, or how many sweeps, it
-   ends. */
+/* When to sweep. `rrcache_sweep_some` stops after `most` keys or `most` sweeps. */
 struct rrcache_sweep_at {
     uint64_t moment;
     uint64_t line;
     uint64_t most; /* at least 1 */
 };
 
-/* What a sweep in steps came to. */
+/* The result of `rrcache_sweep_some`. */
 struct rrcache_swept {
     uint64_t removed;
-    uint32_t is_done; /* 1 where no key is left that is fully expired at its moment; 0 where some
-                         may be left */
+    uint32_t is_done; /* 1 if no key is left that is fully expired at the timestamp, 0 if there may
+                         be one */
 };
 
-/* To how many octets a shelf is trimmed, and how many keys go at most. */
+/* The number of octets to which a shelf is trimmed, and the most keys to remove. */
 struct rrcache_trim_to {
     uint64_t moment;
     uint64_t line;
@@ -511,63 +548,70 @@ struct rrcache_trim_to {
     uint64_t most;  /* at least 1 */
 };
 
-/* What a trim came to: how many keys went, and the octets that are left. */
+/* The result of a trim: the number of keys that were removed, and the octets of the remaining
+   keys. */
 struct rrcache_trimmed {
     uint64_t removed;
     uint64_t octets;
 };
 
-/* How much a shelf holds (`rrcache_sizes`). */
+/* The sizes of a shelf (`rrcache_sizes`). */
 struct rrcache_usage {
     uint64_t keys;
     uint64_t events;
     uint64_t chapters;
-    uint64_t octets; /* about those of memory that the keys take */
+    uint64_t octets; /* approximately the octets of memory that the keys use */
 };
 
-/* Which share of what was read is offered: that of a part, counted from 0. */
+/* Which offers of a message to offer: those of a part, counted from 0. */
 struct rrcache_share {
     uint64_t part;
     uint64_t line;
 };
 
-/* Which of the offers that were read is offered, counted from 0. */
+/* Which one of the offers of a message to offer, counted from 0. */
 struct rrcache_offer_pick {
     uint64_t index;
     uint64_t line;
 };
 
-/* A place in chapters: a chapter, a line of it, and an octet of that, each counted from 0. */
+/* A position in the text of chapters: a chapter, a line of it, and an octet of that line, each
+   counted from 0. */
 struct rrcache_place {
     uint64_t chapter;
     uint64_t line;
     uint64_t from;
 };
 
-/* How many octets a line of a chapter has, with its LF, and how many of them were written. */
+/* The number of octets of a line, with its LF, and how many of them were written. */
 struct rrcache_line {
     uint64_t size;
     uint64_t written;
 };
 
-/* ---- What a resolver hands in beside these. The structs below are read by the inline functions
-   alone, and so they may have more fields in a later version of this header: name the fields, and
-   what is not named is 0. The structs above are the library's too, and have the same fields in all
-   versions under one soname. A name stands with the number of its octets. */
+/* ---- Arguments of functions. Each name has the number of its octets beside it. Name the fields
+   when you initialize such a struct, and the other fields are 0.
 
-/* The query that a response is to answer. */
+   All structs of this header and of rrcache.h are part of the ABI of the library, because exported
+   functions read or write them. They keep their size and their fields in all versions with the same
+   soname. The only exception is `struct rrcache_parsed_response`: only an inline function reads it,
+   so a later version of this header may add fields to it. Exported functions of rrcache.h read the
+   other structs below, although functions that take a shelf pass them on as numbers. */
+
+/* The query that a response has to answer. */
 struct rrcache_query {
     const uint8_t *name;
     size_t name_size;
     uint16_t id;
     uint16_t rtype;
     uint16_t rclass; /* enum rrcache_class */
-    bool with_case;  /* whether a response has to repeat the letters of the name in their case. Who
-                        draws these cases at random makes a response harder to guess */
+    bool with_case;  /* whether a response has to repeat the letters of the name in the same case. A
+                        resolver that chooses the case of each letter at random ("0x20") makes
+                        responses harder to guess */
 };
 
-/* A response: its octets, without those of its length over TCP, the zone whose server sent it, when
-   it came, and how long what it says may be kept. */
+/* A response: its octets, without the length that precedes it over TCP; the zone whose server sent
+   it; when it arrived; and how long its data may be cached. */
 struct rrcache_response {
     const uint8_t *octets;
     size_t size;
@@ -575,16 +619,18 @@ struct rrcache_response {
     size_t zone_size;
     uint64_t moment;
     struct rrcache_limits limits;
-    bool lowest_ttl;    /* whether an RRset whose TTLs differ is taken where AA is clear, with the
-                           lowest of them, as other resolvers do; else it is left out (RFC 2181
-                           section 5.2) */
-    bool clears_denied; /* whether an authoritative NXDOMAIN clears what is held of the name that it
-                           denies: A, AAAA and CNAME, and the type that was asked for. Else what was
-                           stored before it answers again, fresh or stale, once it is gone */
+    bool lowest_ttl;    /* whether an RRset with different TTLs is offered with the lowest of them
+                           if AA is clear, as other resolvers do; otherwise such an RRset is left
+                           out (RFC 2181 section 5.2) */
+    bool clears_denied; /* whether an authoritative NXDOMAIN clears the data of the denied name for
+                           the types A, AAAA and CNAME and for the type of the question. Otherwise
+                           data that were stored before the NXDOMAIN may answer again, fresh or
+                           stale, after the NXDOMAIN is gone */
 };
 
-/* An RRset of a response that a resolver parsed itself. The data stand one behind another, each
-   behind its length of two octets, the high one first, with no name compressed. */
+/* An RRset of a response that a resolver parsed itself. `data` has the rdata of each record, one
+   after another, without compressed names. Two octets of length precede each rdata, high octet
+   first. */
 struct rrcache_parsed_set {
     const uint8_t *owner;
     size_t owner_size;
@@ -596,10 +642,11 @@ struct rrcache_parsed_set {
     size_t data_size;
 };
 
-/* A response that a resolver parsed itself: the RCODE and the flags of its header (RFC 1035 section
-   4.1.1), and its RRsets. Of the flags `ra` is written alone: no rule looks at it. */
+/* A response that a resolver parsed itself: the RCODE and flags of its header (RFC 1035 section
+   4.1.1), and its RRsets. `ra` affects the kind of the response, but not its offers. */
 struct rrcache_parsed_response {
-    uint8_t rcode; /* 0 to 15: the lower four bits, where an OPT record has more (RFC 6891) */
+    uint8_t rcode; /* 0 to 15: only the lower four bits, even if an OPT record has upper bits (RFC
+                      6891) */
     bool aa;
     bool tc;
     bool ra;
@@ -607,8 +654,8 @@ struct rrcache_parsed_response {
     size_t count;
 };
 
-/* An RRset. The data stand one behind another, each behind its length of two octets, with no name
-   compressed. */
+/* An RRset to offer. `data` has the rdata of each record, one after another, without compressed
+   names. Two octets of length precede each rdata, high octet first. */
 struct rrcache_set {
     const uint8_t *owner;
     size_t owner_size;
@@ -622,9 +669,10 @@ struct rrcache_set {
     uint64_t line;
 };
 
-/* That a name has no data of a type (`kind` RRCACHE_NODATA), or does not exist (RRCACHE_NXDOMAIN),
-   with the SOA record that says so, its names not compressed. A name that does not exist has no
-   type: with RRCACHE_NXDOMAIN `rtype` is not looked at. */
+/* A negative answer to offer: the name has no data of the type (`kind` RRCACHE_NODATA), or does not
+   exist (RRCACHE_NXDOMAIN). `soa` is the rdata of the SOA record of the negative answer, without
+   compressed names. With RRCACHE_NXDOMAIN `rtype` is ignored, because a name that does not exist
+   has no types. */
 struct rrcache_negative {
     const uint8_t *name;
     size_t name_size;
@@ -641,7 +689,7 @@ struct rrcache_negative {
     uint64_t line;
 };
 
-/* That asking for data of a type failed, which is remembered for `ttl` seconds. */
+/* A resolution failure of a name and a type, which is cached for `ttl` seconds. */
 struct rrcache_failure {
     const uint8_t *name;
     size_t name_size;
@@ -652,14 +700,16 @@ struct rrcache_failure {
     uint64_t line;
 };
 
-/* What a chapter is written with: it takes all of these octets, and returns 0 where more are to
-   come. `state` is what the caller handed in beside it. */
+/* A callback, to which chapters are written. The callback has to process all octets that it gets.
+   The callback returns 0 to continue, and nonzero to stop. `state` is the pointer that the caller
+   passed. */
 typedef int (*rrcache_sink)(void *state, const void *octets, size_t size);
 
-/* What `rrcache_sizes` counts of a key: the key itself, with its places in the order of touch, the
-   table and the queue of expiries; a name or a record's data, which has room in itself for some
-   octets; what a block of its own adds where there are more; and what a name, or the data of a key,
-   takes since several may own it. */
+/* The numbers of octets that `rrcache_sizes` adds up. RRCACHE_ENTRY_OCTETS is for a key, with its
+   places in the LRU order, the map and the expiry queue. RRCACHE_VALUE_OCTETS is for a name or for
+   the rdata of a record, which have inline room for RRCACHE_INLINE_OCTETS. RRCACHE_BLOCK_OCTETS is
+   for the separate block of a larger name or larger rdata. RRCACHE_SHARED_OCTETS is for the
+   reference count, with its block, of a name or of the data of a key. */
 enum {
     RRCACHE_ENTRY_OCTETS = 160,
     RRCACHE_VALUE_OCTETS = 48,
@@ -668,15 +718,15 @@ enum {
     RRCACHE_SHARED_OCTETS = 32
 };
 
-/* How many octets a sink is handed at most. */
+/* The most octets that a sink gets in one call. */
 enum { RRCACHE_PIECE_OCTETS = 4096 };
 
-/* How many octets a message has at most (RFC 1035 section 4.2.2). */
+/* The most octets of a message (RFC 1035 section 4.2.2). */
 enum { RRCACHE_MESSAGE_OCTETS = 65535 };
 
-/* ---- The functions of the library proper, and what the inline functions hand to them. A size
-   stands behind its pointer. What only looks takes a copy of a handle, `look`, which is the call's
-   alone: the call writes into it for a while. */
+/* ---- The functions of the library, which it exports, and the structs that the inline functions
+   pass to them. A size follows its pointer. The read-only functions take a copy of a handle,
+   `look`. They write to this copy while they run, so no other call may use it. */
 
 struct rrc_response {
     uint64_t moment;
@@ -793,15 +843,15 @@ uint32_t rrc_version(void);
 
 /* ---- What a resolver calls. */
 
-/* The version of the library that the program is linked with, as RRCACHE_VERSION tells that of the
-   header. A library of another major version, or of an older minor one, may lack what the header
-   declares. */
+/* Returns the version of the library that the program is linked with, in the form of
+   RRCACHE_VERSION, which is the version of the header. A library with another major version, or
+   with an older minor version, may lack functions that the header declares. */
 static inline uint32_t rrcache_version(void)
 {
     return rrc_version();
 }
 
-/* What a status says, for a log. */
+/* Returns the text of a status, for a log. */
 static inline const char *rrcache_status_text(enum rrcache_status status)
 {
     switch (status) {
@@ -810,33 +860,33 @@ static inline const char *rrcache_status_text(enum rrcache_status status)
     case RRCACHE_NO_SHELF:
         return "the handle holds no shelf";
     case RRCACHE_HAS_SHELF:
-        return "the handle holds a shelf already";
+        return "the handle already holds a shelf";
     case RRCACHE_MEMORY:
-        return "memory was refused";
+        return "out of memory";
     case RRCACHE_HISTORY_FULL:
-        return "the numbers of events are spent";
+        return "the event numbers are spent";
     case RRCACHE_MOMENT_TOO_LARGE:
-        return "the moment is too large";
+        return "the timestamp is too large";
     case RRCACHE_BAD_RULES:
-        return "a number of the rules is not in its range";
+        return "a number of the rules is out of range";
     case RRCACHE_BAD_SEED:
         return "the seed is all zeros";
     case RRCACHE_BAD_LIMITS:
-        return "a limit is not in its range";
+        return "a limit is out of range";
     case RRCACHE_BAD_NAME:
-        return "the octets are not a name";
+        return "the octets are not the wire form of a name";
     case RRCACHE_BAD_MESSAGE:
-        return "the octets are no response that can be read";
+        return "the octets are not a response that can be read";
     case RRCACHE_BAD_CHOICE:
-        return "no purpose, mode, kind, trust, section or RCODE has this number";
+        return "no purpose, mode, kind, rank, section or RCODE has this number";
     case RRCACHE_BAD_TYPE:
-        return "nothing of this type or class is kept";
+        return "this type or class is not supported";
     case RRCACHE_BAD_DATA:
-        return "the data do not fill the layout of their type";
+        return "the rdata are malformed for their type";
     case RRCACHE_WRONG_BODY:
-        return "the set has no data, or its time to live is too large";
+        return "the RRset has no data, or its TTL is too large";
     case RRCACHE_WIDE:
-        return "the reply cannot be told";
+        return "the reply has too many octets of rdata";
     case RRCACHE_SMALL:
         return "the buffer is too small";
     case RRCACHE_NULL:
@@ -844,43 +894,43 @@ static inline const char *rrcache_status_text(enum rrcache_status status)
     case RRCACHE_NO_OFFERS:
         return "the handle holds no offers, or none with this number";
     case RRCACHE_HAS_OFFERS:
-        return "the handle holds offers already";
+        return "the handle already holds offers";
     case RRCACHE_OTHER_QUERY:
-        return "the octets answer no query, or another one";
+        return "the octets do not answer the query";
     case RRCACHE_NO_CHAPTERS:
         return "the handle holds no chapters";
     case RRCACHE_HAS_CHAPTERS:
-        return "the handle holds chapters already";
+        return "the handle already holds chapters";
     case RRCACHE_NO_LINE:
         return "there is no such line";
     case RRCACHE_SINK:
-        return "the sink failed";
+        return "the sink returned an error";
     case RRCACHE_OVERLAP:
-        return "what is to be written overlaps something else";
+        return "an output overlaps another argument";
     case RRCACHE_OTHER_SEED:
-        return "the name or the message is of another seed than the shelf";
+        return "the name or the message has another seed than the shelf";
     case RRCACHE_NO_QUESTION:
         return "the response has no question";
     case RRCACHE_TOO_LARGE:
-        return "what is to be stored takes more memory than a shelf may have";
+        return "the data would use more memory than a shelf may use";
     }
     return "no such status";
 }
 
-/* Some octet for a list that has none. */
+/* Returns a valid pointer for a list of no octets. */
 static inline const uint8_t *rrcache_octets(const uint8_t *octets, size_t size)
 {
     static const uint8_t none = 0;
     return size == 0 ? &none : octets;
 }
 
-/* Whether octets are there where they are said to be. */
+/* Whether a pointer may stand for `size` octets: it is not null, or there are no octets. */
 static inline bool rrcache_is_there(const void *octets, size_t size)
 {
     return octets != NULL || size == 0;
 }
 
-/* Whether two stretches of memory have an octet in common. */
+/* Whether two ranges of memory overlap. */
 static inline bool rrcache_overlap(const void *one, size_t one_size, const void *other,
                                    size_t other_size)
 {
@@ -888,8 +938,7 @@ static inline bool rrcache_overlap(const void *one, size_t one_size, const void 
     return one_size != 0 && other_size != 0 && (a < b ? b - a < one_size : a - b < other_size);
 }
 
-/* Whether one of two stretches of memory that a call writes has an octet in common with one that it
-   reads. */
+/* Whether one of two ranges of memory that a call writes overlaps a range that it reads. */
 static inline bool rrcache_touch(const void *one, size_t one_size, const void *other,
                                  size_t other_size, const void *read, size_t read_size)
 {
@@ -897,17 +946,20 @@ static inline bool rrcache_touch(const void *one, size_t one_size, const void *o
            || rrcache_overlap(other, other_size, read, read_size);
 }
 
-/* Whether what a call of a shelf writes, or reads, overlaps the handle. */
+/* Whether the memory that a call on a shelf reads or writes overlaps the handle. */
 static inline bool rrcache_holds(const struct rrcache_shelf *shelf, const void *octets, size_t size)
 {
     return rrcache_overlap(shelf, sizeof *shelf, octets, size);
 }
 
-/* Makes an empty shelf for a handle that holds none. It records none of its history until
-   `rrcache_record` is called, and till then no chapter is full. Names are hashed by SipHash-1-3
-   under the seed of the rules. Let that be random and keep it secret, to keep others from picking
-   names whose hashes are alike, which would make calls slow. Where the handle holds a shelf
-   RRCACHE_HAS_SHELF is returned, whatever the rules are, and that shelf is as it was. */
+/* Makes an empty shelf in a handle that holds no shelf. The shelf records nothing until
+   `rrcache_record` is called, and until then no chapter is full. Names are hashed by SipHash-1-3
+   under the seed of the rules. The seed must be random and secret. Otherwise an attacker can pick
+   names with similar hashes, which makes calls slow.
+
+   Returns RRCACHE_HAS_SHELF if the handle holds a shelf, even if the rules are wrong: that shelf is
+   unchanged. Returns RRCACHE_BAD_RULES if a number of the rules is out of range, and
+   RRCACHE_BAD_SEED if the seed is all 0. Needs the write lock. */
 static inline enum rrcache_status rrcache_make(struct rrcache_shelf *shelf,
                                                const struct rrcache_rules *rules)
 {
@@ -918,8 +970,8 @@ static inline enum rrcache_status rrcache_make(struct rrcache_shelf *shelf,
     return (enum rrcache_status)rrc_make(shelf, rules);
 }
 
-/* Frees the shelf of a handle, which then holds none, with all its keys and the events that are
-   recorded, one by one. Where it held none RRCACHE_NO_SHELF is returned and nothing done. */
+/* Frees the shelf of a handle, with each of its keys and recorded events. The handle then holds no
+   shelf. Needs the write lock. */
 static inline enum rrcache_status rrcache_free(struct rrcache_shelf *shelf)
 {
     if (shelf == NULL)
@@ -927,9 +979,10 @@ static inline enum rrcache_status rrcache_free(struct rrcache_shelf *shelf)
     return (enum rrcache_status)rrc_free(shelf);
 }
 
-/* Makes a name of its wire form, for all that is asked of it: folds and hashes it, and tells in
-   which of so many parts, counted from 0, all of it lies. `name` may hold what it likes before. It
-   takes no memory. */
+/* Folds and hashes a name in wire form, and determines its part, counted from 0. Shelves look up
+   the result, `name`, which need not be initialized. The call never allocates, and needs no lock.
+   Returns RRCACHE_BAD_RULES if `parts->count` is not 1 to 64, RRCACHE_BAD_SEED if the seed is all
+   0, and RRCACHE_BAD_NAME if `octets` are not the wire form of a name. */
 static inline enum rrcache_status rrcache_make_name(struct rrcache_name *name,
                                                     const uint8_t *octets, size_t size,
                                                     const struct rrcache_parts *parts)
@@ -942,11 +995,11 @@ static inline enum rrcache_status rrcache_make_name(struct rrcache_name *name,
     return (enum rrcache_status)rrc_make_name(rrcache_octets(octets, size), size, parts, name);
 }
 
-/* Records the history of the shelf from here on. The chapter that was open ends unrecorded, and the
-   next one begins with what the shelf holds, which takes the memory and the time that it takes to
-   close a chapter in which each key was touched. No reply changes. Where the history is recorded
-   already nothing is done. RRCACHE_HISTORY_FULL is returned where the chapter has the number 2^62,
-   and after it and RRCACHE_MEMORY the shelf is as it was. */
+/* Starts to record the history of the shelf. The open chapter ends unrecorded, and the next chapter
+   begins with the entries of the shelf. The call takes as much memory and time as closing a chapter
+   in which every key was used. Replies do not change. If the history is already recorded, the call
+   does nothing. Returns RRCACHE_HISTORY_FULL if the open chapter has the number 2^62. On error the
+   shelf is unchanged. Needs the write lock. */
 static inline enum rrcache_status rrcache_record(struct rrcache_shelf *shelf)
 {
     if (shelf == NULL)
@@ -954,10 +1007,10 @@ static inline enum rrcache_status rrcache_record(struct rrcache_shelf *shelf)
     return (enum rrcache_status)rrc_record(shelf);
 }
 
-/* Records nothing from here on, and drops what was recorded: each event of the closed chapters and
-   of the open one is freed before the call returns. No reply changes, and no key is lost. It takes
-   no memory, and is refused only where a handle holds no shelf. Where nothing is recorded nothing
-   is done. */
+/* Stops recording, and frees each recorded event of the closed chapters and of the open chapter.
+   Replies do not change, and no key is lost. If nothing is recorded, the call does nothing. The
+   call never allocates, and its only errors are RRCACHE_NULL and RRCACHE_NO_SHELF. Needs the write
+   lock. */
 static inline enum rrcache_status rrcache_stop_and_drop(struct rrcache_shelf *shelf)
 {
     if (shelf == NULL)
@@ -965,7 +1018,7 @@ static inline enum rrcache_status rrcache_stop_and_drop(struct rrcache_shelf *sh
     return (enum rrcache_status)rrc_stop_and_drop(shelf);
 }
 
-/* Whether two lists of octets are the same. */
+/* Whether two lists of octets are equal. */
 static inline bool rrcache_are_same(const uint8_t *one, size_t one_size, const uint8_t *other,
                                     size_t other_size)
 {
@@ -975,7 +1028,7 @@ static inline bool rrcache_are_same(const uint8_t *one, size_t one_size, const u
     return at == one_size && at == other_size;
 }
 
-/* Whether octets are one name in wire form, and nothing else. */
+/* Whether octets are exactly one name in wire form. */
 static inline bool rrcache_is_name(const uint8_t *octets, size_t size)
 {
     size_t at = 0;
@@ -984,8 +1037,8 @@ static inline bool rrcache_is_name(const uint8_t *octets, size_t size)
     return size <= 255 && at + 1 == size && octets[at] == 0;
 }
 
-/* How many octets the datum at a place has, with those of its length: 0 at the end of the data, and
-   where it is cut off. */
+/* Returns the size of the rdata at a position, including their two octets of length. Returns 0 at
+   the end of the data, or if the rdata are cut off. */
 static inline size_t rrcache_datum_size(const struct rrcache_parsed_set *set, size_t at)
 {
     size_t left = set->data_size - at, size;
@@ -995,7 +1048,7 @@ static inline size_t rrcache_datum_size(const struct rrcache_parsed_set *set, si
     return size <= left ? size : 0;
 }
 
-/* Whether the data of a set are whole, also where it has none. */
+/* Whether no rdata of an RRset are cut off. Returns true if there are no rdata. */
 static inline bool rrcache_is_whole(const struct rrcache_parsed_set *set)
 {
     size_t at = 0, size;
@@ -1004,8 +1057,8 @@ static inline bool rrcache_is_whole(const struct rrcache_parsed_set *set)
     return at == set->data_size;
 }
 
-/* Whether what a response was parsed to is there: RRCACHE_NULL where some of it is not, and
-   RRCACHE_OVERLAP where what is written overlaps anything else. */
+/* Checks the pointers of a parsed response: RRCACHE_NULL if a required pointer is null,
+   RRCACHE_OVERLAP if an output overlaps anything else. */
 static inline enum rrcache_status rrcache_can_compose(const struct rrcache_query *query,
                                                       const struct rrcache_parsed_response *parsed,
                                                       const uint8_t *buffer, size_t room,
@@ -1033,7 +1086,8 @@ static inline enum rrcache_status rrcache_can_compose(const struct rrcache_query
     return overlap ? RRCACHE_OVERLAP : RRCACHE_DONE;
 }
 
-/* Whether a message can say what a response was parsed to: the first refusal that is due. */
+/* Checks whether a message can have the contents of a parsed response. Returns the first error that
+   applies. */
 static inline enum rrcache_status rrcache_can_say(const struct rrcache_query *query,
                                                   const struct rrcache_parsed_response *parsed)
 {
@@ -1057,18 +1111,18 @@ static inline enum rrcache_status rrcache_can_say(const struct rrcache_query *qu
                      : RRCACHE_DONE;
 }
 
-/* How many octets a header has; the question's name stands behind them. */
+/* The octets of a header. The name of the question follows them. */
 enum { RRCACHE_HEADER_OCTETS = 12 };
 
-/* A message that is written to the front of a buffer. What the buffer has no room for is counted
-   alone, and `size` is at most RRCACHE_MESSAGE_OCTETS + 1. */
+/* A message in the making, at the front of a buffer. Octets that do not fit are only counted, and
+   `size` is at most RRCACHE_MESSAGE_OCTETS + 1. */
 struct rrcache_draft {
     uint8_t *octets;
     size_t room;
     size_t size;
 };
 
-/* Writes octets, at least one, behind what was written. */
+/* Appends `size` octets, at least one. */
 static inline void rrcache_put(struct rrcache_draft *draft, const uint8_t *octets, size_t size)
 {
     size_t left = RRCACHE_MESSAGE_OCTETS + 1 - draft->size, at;
@@ -1080,9 +1134,9 @@ static inline void rrcache_put(struct rrcache_draft *draft, const uint8_t *octet
     draft->size += size < left ? size : left;
 }
 
-/* Writes an owner, by a pointer to the place where it stands already, if one can lead there (RFC
-   1035 section 4.1.4), else whole, as where it stands nowhere, which is the place 0. It tells where
-   it stands then. */
+/* Appends an owner: a pointer to the offset `place`, if the owner is already there and a pointer
+   can lead there (RFC 1035 section 4.1.4), and otherwise the whole name. `place` is 0 if the owner
+   was not written yet. Returns the offset of the owner. */
 static inline size_t rrcache_put_owner(struct rrcache_draft *draft,
                                        const struct rrcache_parsed_set *set, size_t place)
 {
@@ -1096,8 +1150,8 @@ static inline size_t rrcache_put_owner(struct rrcache_draft *draft,
     return stands ? place : here;
 }
 
-/* Writes the records of a set, and tells how many they are. The owner of the first is written as
-   the name of the question where they are the same, letters in their case. */
+/* Appends the records of an RRset, and returns their number. If the owner is the name of the
+   question, in the same case, even the owner of the first record is a pointer to that name. */
 static inline size_t rrcache_put_set(struct rrcache_draft *draft, const struct rrcache_query *query,
                                      const struct rrcache_parsed_set *set)
 {
@@ -1117,7 +1171,7 @@ static inline size_t rrcache_put_set(struct rrcache_draft *draft, const struct r
     return records;
 }
 
-/* Writes the sets of a section, and into the header how many records it has. */
+/* Appends the RRsets of a section, and writes the number of their records into the header. */
 static inline void rrcache_put_section(struct rrcache_draft *draft,
                                        const struct rrcache_query *query,
                                        const struct rrcache_parsed_response *parsed,
@@ -1129,13 +1183,13 @@ static inline void rrcache_put_section(struct rrcache_draft *draft,
         if (set->section == section)
             records += rrcache_put_set(draft, query, set);
     }
-    if (draft->size <= draft->room) {
+    if (draft->octets != NULL && draft->size <= draft->room) {
         draft->octets[4 + 2 * (size_t)section] = (uint8_t)(records >> 8 & 255);
         draft->octets[5 + 2 * (size_t)section] = (uint8_t)(records & 255);
     }
 }
 
-/* Writes a message as far as there is room, and tells how many octets it has, at most
+/* Writes as much of a message as fits, and returns the size of the whole message, at most
    RRCACHE_MESSAGE_OCTETS + 1. */
 static inline size_t rrcache_put_response(const struct rrcache_query *query,
                                           const struct rrcache_parsed_response *parsed,
@@ -1160,32 +1214,34 @@ static inline size_t rrcache_put_response(const struct rrcache_query *query,
     return draft.size;
 }
 
-/* Writes what a resolver parsed of a response itself to the front of a buffer, as a message of
-   `size` octets (RFC 1035 section 4), which is then handed to `rrcache_read_response` with the same
-   query like any response. So what is relevant, ranks, negative answers, referrals and failures are
-   those of the response that was parsed. It takes no memory, and a time that goes with the octets
-   that it is handed.
+/* Writes a response that a resolver parsed itself to the front of a buffer, as a message of `size`
+   octets (RFC 1035 section 4). The caller then passes the message to `rrcache_read_response`, with
+   the same query, like any other response. So relevance, ranks, negative answers, referrals and
+   failures are those of the parsed response. The call never allocates, needs no lock, and its time
+   is linear in the octets of its arguments.
 
-   The caller compares the response with its query first (RFC 5452 section 9.1): QR, the opcode, the
-   identifier and the question, the letters of its name too where the query has `with_case`. The
-   message has QR, the opcode of a standard query, RD clear, and identifier and question from the
-   query, whatever the response had: so it is never RRCACHE_OTHER_QUERY.
+   The caller must first compare the response with its query (RFC 5452 section 9.1): QR, the opcode,
+   the identifier and the question. If the query has `with_case`, the caller must also compare the
+   case of the letters in the name. The message has QR set, the opcode of a standard query, RD
+   clear, and the identifier and question of the query, even if the response had others. So the
+   message never causes RRCACHE_OTHER_QUERY.
 
-   The records of a section are written in the order of the array, and in a set in that of its data.
-   A set whose records have several TTLs is handed in as several sets, one for each record: what has
-   one owner, type and class is one RRset of its section when it is read. What offers nothing when
-   it is read, as an OPT record, may be left out. Data that do not fill the layout of their type are
-   found when it is read (RRCACHE_BAD_MESSAGE). No name in the data may have a pointer: it would
-   lead to another place of this message, and nothing tests that.
+   The records of a section are in the order of the array, and the records of an RRset are in the
+   order of its data. If the records of an RRset have different TTLs, pass one set for each record:
+   sets with the same owner, type and class in a section become one RRset when the message is read.
+   Records that cause no offer, such as an OPT record, may be left out. Data that do not fill the
+   layout of their type are detected when the message is read (RRCACHE_BAD_MESSAGE). Names in the
+   data must not have compression pointers, because a pointer would lead to a wrong offset in the
+   new message. The call does not check for pointers.
 
-   RRCACHE_BAD_CHOICE is returned of a section that there is not, and of an RCODE above 15;
-   RRCACHE_BAD_TYPE of a type or a class of 0, of a set or of the query (RFC 6895 reserves both);
-   RRCACHE_BAD_NAME of a name that is none; RRCACHE_BAD_DATA of data of which the last is cut off;
-   RRCACHE_WRONG_BODY of a set with no data. Where the buffer has no room RRCACHE_SMALL is returned,
-   the buffer is as it was, and `size` tells how many octets the message has:
-   RRCACHE_MESSAGE_OCTETS + 1 where they are more than any message has, which no room will do for.
-   That may be so of a response that had fewer, since of its names owners alone are compressed: then
-   leave out the additional section. */
+   Returns RRCACHE_BAD_CHOICE if a section does not exist or the RCODE is above 15; RRCACHE_BAD_TYPE
+   if a type or a class is 0, in a set or in the query (RFC 6895 reserves both); RRCACHE_BAD_NAME if
+   octets are not a name in wire form; RRCACHE_BAD_DATA if the last rdata of a set are cut off; and
+   RRCACHE_WRONG_BODY if a set has no data. Returns RRCACHE_SMALL if the buffer is too small: the
+   buffer is then unmodified, and `size` is the size of the message. If no message can be that
+   large, so that no buffer is large enough, `size` is RRCACHE_MESSAGE_OCTETS + 1. The message may
+   be too large although the response was not, because only owners are compressed in the message.
+   Then leave out the additional section. */
 static inline enum rrcache_status
 rrcache_compose_response(const struct rrcache_query *query,
                          const struct rrcache_parsed_response *parsed, uint8_t *buffer, size_t room,
@@ -1210,8 +1266,9 @@ rrcache_compose_response(const struct rrcache_query *query,
     return status;
 }
 
-/* Whether the octets of a response are there, and RRCACHE_OVERLAP where one of two stretches of
-   memory that the call writes overlaps them, or the other one. */
+/* Checks the pointers of a response: RRCACHE_NULL if a required pointer is null, RRCACHE_OVERLAP if
+   one of two ranges of memory that the call writes overlaps the octets of the response, or the
+   other range. */
 static inline enum rrcache_status rrcache_can_read(const struct rrcache_response *response,
                                                    const void *one, size_t one_size,
                                                    const void *other, size_t other_size)
@@ -1227,48 +1284,60 @@ static inline enum rrcache_status rrcache_can_read(const struct rrcache_response
     return RRCACHE_DONE;
 }
 
-/* Reads a response from a server of this zone to a query into a handle that holds no offers: those
-   of its offers that are relevant to the query that was sent. It tells which of the parts they
-   concern: bit 0 of `concerned` is set where one lies in part 0, bit 1 for part 1, and so on. It
-   takes no shelf and writes no event. A handle that holds offers keeps them, and RRCACHE_HAS_OFFERS
-   is returned, whatever else would be refused. Where a response offers nothing, as one with TC set,
-   `concerned` is 0, and the handle is to be freed like any other. What the handle holds can be
-   offered, and told by `rrcache_tell_offer`. `rrcache_tell_response` tells what the response comes
-   to: an answer, a denial, a referral, an alias or a failure.
+/* Reads the response of a zone's server to a query. `offers` is a handle that holds no offers.
+   After the call, the handle holds the offers of the response that are relevant to the query. The
+   call writes to `concerned` the parts of these offers: bit 0 is set if an offer is in part 0, bit
+   1 for part 1, and so on. `rrcache_offer_read` and `rrcache_offer_one` then offer the offers to
+   shelves, `rrcache_tell_offer` returns them, and `rrcache_tell_response` returns the kind of the
+   response. If a response has no offers, as with TC set, `concerned` is 0. Free the handle by
+   `rrcache_free_offers` in any case. The call takes no shelf, needs no lock, and writes no event.
 
-   The identifier and the question are compared first (RFC 5452 section 9.1), and what stands behind
-   them is read only where they are the query's. So octets that are RRCACHE_OTHER_QUERY cost next to
-   nothing, and anyone may have sent them: the caller drops them and waits on. Such are those with
-   another identifier, or too few for one; those with QR clear; and those with another question, in
-   which the case of letters counts where the query has `with_case`. A question whose name has a
-   pointer is another one. RRCACHE_BAD_MESSAGE is told of octets alone that answer the query and
-   cannot be read: they are a failure of the server's (RFC 8767 section 5). So is
-   RRCACHE_NO_QUESTION; a server that tells FORMERR so may know no EDNS (RFC 6891 section 7).
+   Returns RRCACHE_HAS_OFFERS if the handle already holds offers, even if another error applies. The
+   handle then keeps its offers. Returns RRCACHE_BAD_RULES, RRCACHE_BAD_SEED or RRCACHE_BAD_LIMITS
+   if `parts` or the limits are out of range, and RRCACHE_BAD_NAME if the zone or the name of the
+   query is not in wire form.
 
-   Relevant are: of the answer section, RRsets of the name and of at most 11 that CNAME records lead
-   to from it, of the type that was asked for (any type, where that is ANY) or CNAME, and DNAME
-   records above them; of the authority section, the first NS, SOA and DS set of a zone that the
-   last name is in; of the additional section, addresses of the hosts that NS, MX and SRV records
-   among these name; and the negative answer, or that asking failed. The hosts are the first 20
-   names in the data of these records, those of NS records first, else in the order of the message:
-   a name in two data counts once, and one outside the zone counts, though its addresses are left
-   out.
+   Before it reads anything else of the message, the call compares the identifier and the question
+   with the query (RFC 5452 section 9.1). If they differ, it returns RRCACHE_OTHER_QUERY and does
+   not read further, so such octets cost almost nothing. Anyone may have sent them, and the caller
+   drops them and keeps waiting. The call also returns RRCACHE_OTHER_QUERY if the octets are too few
+   for an identifier, or if QR is clear. If the query has `with_case`, a name with letters in
+   another case differs. A question whose name has a compression pointer differs too. Two errors are
+   failures of the server (RFC 8767 section 5): RRCACHE_BAD_MESSAGE if the octets answer the query
+   but cannot be read, and RRCACHE_NO_QUESTION if the response is a header without a question. A
+   server that returns FORMERR without a question may not support EDNS (RFC 6891 section 7).
 
-   No DS set of `zone` itself is relevant, since its parent has it (RFC 4035 section 2.4). An NS set
-   of the authority section is relevant in a referral alone (RFC 1034 section 4.3.2), with AA clear
-   and an owner below `zone`, or where NS was asked for: so the servers of a zone do not renew their
-   own delegation. A referral that comes again does renew its NS set. Who wants a delegation to end
-   with its first time to live peeks for that set, and skips the share of its name's part where an
-   unexpired set of the same data is held.
+   These RRsets are relevant:
+   - In the answer section, an RRset is relevant if its type is CNAME or the type of the question
+     (any type if that is ANY), and if its owner is the name of the question or one of at most 11
+     names to which CNAME records lead from there. A DNAME RRset above one of these names is
+     relevant too.
+   - In the authority section, the first RRset at or above the last of these names is relevant, for
+     each of the types NS, SOA and DS.
+   - In the additional section, the A and AAAA RRsets of hosts are relevant. The hosts are the first
+     20 names in the rdata of relevant NS, MX and SRV records, those of NS records first, otherwise
+     in the order of the message. A name that occurs twice counts once. A name that is out of
+     bailiwick counts, although its addresses are left out.
+   - The negative answer or the failure is always relevant.
 
-   No set with more than 16,384 octets of data is relevant, and of class IN none of type A in which
-   a datum has other than 4 octets, or of type AAAA other than 16.
+   These RRsets are not relevant:
+   - A DS RRset of `zone` itself is not relevant, because the parent of the zone has it (RFC 4035
+     section 2.4).
+   - An NS RRset of the authority section is relevant only if the question has type NS, or in a
+     referral (RFC 1034 section 4.3.2), which means that AA is clear and the owner is below `zone`.
+     So the servers of a zone do not renew their own delegation. A repeated referral does renew its
+     NS RRset. A caller that wants a delegation to end with its first TTL peeks for that RRset. If
+     an unexpired NS RRset with the same data is cached, the caller does not offer the share of that
+     part.
+   - An RRset with more than 16,384 octets of rdata is not relevant.
+   - In class IN, an RRset of type A is not relevant if a record has rdata of other than 4 octets,
+     and an RRset of type AAAA is not relevant if a record has rdata of other than 16 octets.
 
-   So a server of `example` that is asked for one name can replace what is held of another one in
-   three ways alone: its CNAME records lead the question there; its NS, MX or SRV records name the
-   other one as a host; or the other one is above the question's name, or above one that CNAME
-   records lead to, and the server sends its NS, SOA, DS or DNAME records, of which NS and DS are
-   bounded as above. */
+   So a server of `example` that is asked for one name can replace the cached data of another name
+   in only three ways. First, its CNAME records lead to the other name. Second, its NS, MX or SRV
+   records have the other name as a host. Third, the other name is above the name of the question,
+   or above a name to which CNAME records lead, and the server sends NS, SOA, DS or DNAME records of
+   the other name. NS and DS records are limited as described above. */
 static inline enum rrcache_status rrcache_read_response(struct rrcache_offers *offers,
                                                         const struct rrcache_response *response,
                                                         const struct rrcache_query *query,
@@ -1300,8 +1369,11 @@ static inline enum rrcache_status rrcache_read_response(struct rrcache_offers *o
         rrcache_octets(query->name, query->name_size), query->name_size, &terms, concerned);
 }
 
-/* Reads a response as `rrcache_read_response` does, but compares it with no query, and keeps in the
-   handle all that it offers within the zone. It is what a `response` line of a trace offers. */
+/* Reads a response as `rrcache_read_response` does, but does not compare it with a query. The
+   handle then holds all offers of the response that are in bailiwick. The call ignores `lowest_ttl`
+   and `clears_denied` of the response. A `response` line of a trace makes the same offers. The
+   errors are those of `rrcache_read_response`, except that RRCACHE_BAD_MESSAGE takes the place of
+   RRCACHE_OTHER_QUERY and RRCACHE_NO_QUESTION. Needs no lock. */
 static inline enum rrcache_status
 rrcache_read_message_unchecked(struct rrcache_offers *offers,
                                const struct rrcache_response *response,
@@ -1323,11 +1395,13 @@ rrcache_read_message_unchecked(struct rrcache_offers *offers,
         concerned);
 }
 
-/* Offers a shelf what was read of the names that lie in a part, counted from 0 and below the number
-   of parts that the message was read for, at the moment of the response. The offers stay in their
-   handle, so that a part may be offered again, and what the shelf keeps of them outlives the
-   handle. No name and no data are copied. A shelf of another seed than that of the parts is refused
-   (RRCACHE_OTHER_SEED), since no ask would look there. */
+/* Offers to a shelf the offers of one part, with the timestamp of the response. `share->part` is
+   counted from 0, and is below the number of parts for which the message was read. The handle keeps
+   the offers, so a part may be offered again. The shelf keeps the data that it stored even if the
+   handle is freed. No names or data are copied. `counts` has the number of offers with each
+   outcome, even if a later offer fails. Returns RRCACHE_BAD_RULES if there is no such part, and
+   RRCACHE_OTHER_SEED if the seed of the shelf is not the seed of the parts, because no ask would
+   find the data. Needs the write lock of the shelf. */
 static inline enum rrcache_status rrcache_offer_read(struct rrcache_shelf *shelf,
                                                      struct rrcache_offers *offers,
                                                      const struct rrcache_share *share,
@@ -1343,11 +1417,12 @@ static inline enum rrcache_status rrcache_offer_read(struct rrcache_shelf *shelf
     return (enum rrcache_status)rrc_offer_read(shelf, offers, share, counts);
 }
 
-/* Tells what the response says that a handle was read from: its RCODE, AA and TC, and what it comes
-   to for the question that the zone's servers were asked, by `enum rrcache_response_kind`. `name`
-   is made, under the seed that the response was read with, of the zone that a referral leads to,
-   and of the name that an alias leads on to; with any other kind it is as it was. It takes no
-   memory, and is refused only where the handle holds no offers (RRCACHE_NO_OFFERS). */
+/* Writes to `summary` the RCODE, AA and TC of a response that was read into a handle, and its kind
+   for the question (`enum rrcache_response_kind`). For a referral, the call writes to `name` the
+   zone of the referral, and for an alias the target of the alias. This name is made under the seed
+   with which the response was read. For any other kind `name` is unmodified. The call never
+   allocates, needs no lock, and its only errors are RRCACHE_NULL, RRCACHE_OVERLAP and
+   RRCACHE_NO_OFFERS. */
 static inline enum rrcache_status rrcache_tell_response(struct rrcache_offers *offers,
                                                         struct rrcache_name *name,
                                                         struct rrcache_summary *summary)
@@ -1360,19 +1435,23 @@ static inline enum rrcache_status rrcache_tell_response(struct rrcache_offers *o
     return (enum rrcache_status)rrc_tell_response(offers, name, summary);
 }
 
-/* Tells one of the offers that a handle holds, by its number: they are counted from 0, in the order
-   of the message, and RRCACHE_NO_OFFERS is returned where there is none with this number. It is
-   told as the reply that it makes at the moment of the response, with its whole TTL left. So a
-   client that waits can be answered by what no shelf keeps: data with a TTL of 0, or less trusted
-   than what is held. `name` is made, under the seed that the response was read with, from the name
-   that the offer is of: the owner of a set, or the name that is denied or that asking failed for.
-   Its `part` is where the offer lies.
+/* Writes one of the offers of a handle to `told`, `buffer` and `name`. Offers are numbered from 0,
+   in the order of the message. The offer has the form of the reply that it would give at the
+   timestamp of the response, with its whole TTL left. So a waiting client can be answered with data
+   that no shelf stores: data with TTL 0, or data of lower rank than the cached data. The call
+   writes to `name` the name of the offer: the owner of an RRset, or the name of a negative answer
+   or a failure. This name is made under the seed with which the response was read, and its `part`
+   is the part of the offer.
 
-   `told->rtype` is the offer's type, and 0 with RRCACHE_NXDOMAIN; `told->retry_from`, with
-   RRCACHE_FAILED, is when the failure is over; `told->entry` has rank, TTL and moment of the offer,
-   and 0 for what only a shelf can tell. All offers of a response are of the class of its question.
-   Where the buffer is too small RRCACHE_SMALL is returned, and `name` and `told` are told: 28,551
-   octets are always enough after `rrcache_read_response`. It takes no memory. */
+   `told->rtype` is the type of the offer, or 0 with RRCACHE_NXDOMAIN. With RRCACHE_FAILED,
+   `told->retry_from` is the timestamp at which the failure ends. `told->entry` has the rank, TTL
+   and timestamp of the offer; its other fields are 0, because only a shelf knows them. All offers
+   of a response have the class of its question.
+
+   Returns RRCACHE_NO_OFFERS if there is no offer with this number. Returns RRCACHE_SMALL if the
+   buffer is too small: `name` and `told` are written, and the buffer is unmodified. After
+   `rrcache_read_response` 28,551 octets are always enough. The call never allocates, and needs no
+   lock. */
 static inline enum rrcache_status rrcache_tell_offer(struct rrcache_offers *offers, uint64_t index,
                                                      struct rrcache_name *name,
                                                      struct rrcache_told *told, uint8_t *buffer,
@@ -1390,13 +1469,14 @@ static inline enum rrcache_status rrcache_tell_offer(struct rrcache_offers *offe
                                                buffer_size == 0 ? &none : buffer, buffer_size);
 }
 
-/* How many octets so many take that stand in a value, or in a block of its own. */
+/* Returns the octets that a name or rdata of this size use, inline or in a separate block. */
 static inline uint64_t rrcache_room(uint64_t size)
 {
     return RRCACHE_VALUE_OCTETS + (size <= RRCACHE_INLINE_OCTETS ? 0 : RRCACHE_BLOCK_OCTETS + size);
 }
 
-/* How many octets the data take that stand behind an owner, each behind its length. */
+/* Returns the octets that the data of an entry use, from the data that follow the owner in a
+   reply. */
 static inline uint64_t rrcache_data_room(const uint8_t *data, uint64_t size)
 {
     uint64_t at = 0, count = 0, octets = RRCACHE_SHARED_OCTETS;
@@ -1409,10 +1489,11 @@ static inline uint64_t rrcache_data_room(const uint8_t *data, uint64_t size)
     return octets + (count > 1 ? RRCACHE_VALUE_OCTETS + RRCACHE_BLOCK_OCTETS : 0);
 }
 
-/* Tells how many octets an offer takes that `rrcache_tell_offer` told, if it is kept as a key of
-   its own (`rrcache_sizes`), by its name and its buffer. One that takes more than a shelf is
-   trimmed to would drive all other keys out: `rrcache_offer_one` leaves such an offer out, and the
-   client that waits is answered by what was told. */
+/* Computes the octets that an offer uses if it is stored as a key of its own (`rrcache_sizes`). The
+   arguments are the output of `rrcache_tell_offer`. If an offer uses more octets than the limit to
+   which a shelf is trimmed, it would evict all other keys. A caller can offer only the other
+   offers, by `rrcache_offer_one`, and answer the waiting client from the output. Returns
+   RRCACHE_SMALL if `buffer_size` is less than the sizes in `told`. Needs no lock. */
 static inline enum rrcache_status rrcache_tell_octets(const struct rrcache_name *name,
                                                       const struct rrcache_told *told,
                                                       const uint8_t *buffer, size_t buffer_size,
@@ -1431,11 +1512,12 @@ static inline enum rrcache_status rrcache_tell_octets(const struct rrcache_name 
     return RRCACHE_DONE;
 }
 
-/* Offers a shelf one of the offers that a handle holds, by its number, and tells what became of it,
-   by a number of `enum rrcache_outcome`. So a caller that judges for itself, as one that validates,
-   takes some offers and leaves others. The shelf is to be that of the part where the offer lies,
-   which `rrcache_tell_offer` tells: nothing tests that. It is refused as by `rrcache_offer_read`,
-   and where there is no offer with this number by RRCACHE_NO_OFFERS. */
+/* Offers one of the offers of a handle to a shelf, and writes the outcome to `outcome` (`enum
+   rrcache_outcome`). So a caller that decides for itself, such as a validator, can store some
+   offers and not others. `pick->index` is counted from 0. The shelf has to be that of the part of
+   the offer, which `rrcache_tell_offer` returns; the call does not check this. Returns
+   RRCACHE_NO_OFFERS if there is no offer with this number, and RRCACHE_OTHER_SEED if the seed of
+   the shelf is not the seed of the parts. Needs the write lock of the shelf. */
 static inline enum rrcache_status rrcache_offer_one(struct rrcache_shelf *shelf,
                                                     struct rrcache_offers *offers,
                                                     const struct rrcache_offer_pick *pick,
@@ -1451,8 +1533,8 @@ static inline enum rrcache_status rrcache_offer_one(struct rrcache_shelf *shelf,
     return (enum rrcache_status)rrc_offer_one(shelf, offers, pick, outcome);
 }
 
-/* Frees the offers of a handle, which then holds none; what shelves kept of them stays. Where it
-   held none RRCACHE_NO_OFFERS is returned and nothing done. */
+/* Frees the offers of a handle. The handle then holds no offers. Shelves keep the data that they
+   stored. Returns RRCACHE_NO_OFFERS if the handle holds no offers. Needs no lock of a shelf. */
 static inline enum rrcache_status rrcache_free_offers(struct rrcache_offers *offers)
 {
     if (offers == NULL)
@@ -1460,11 +1542,14 @@ static inline enum rrcache_status rrcache_free_offers(struct rrcache_offers *off
     return (enum rrcache_status)rrc_free_offers(offers);
 }
 
-/* Offers all that a response from a server of this zone says: its RRsets at or below the zone, and
-   its negative answer or that asking failed. Keys of other names than this shelf's are offered as
-   well; where there are other shelves `rrcache_offer_part_unchecked` gives each its share. It
-   compares the response with no query, and one with TC set offers nothing: "What may be offered"
-   above tells more. */
+/* Offers all data of a response from a zone's server that are in bailiwick: its RRsets, and its
+   negative answer or failure. The call also offers the data of names that belong to other shelves.
+   If there are other shelves, use `rrcache_offer_part_unchecked` for each. The call does not
+   compare the response with a query, and ignores `lowest_ttl` and `clears_denied`. With TC set, a
+   response offers nothing ("What is stored" above). `counts` has the number of offers with each
+   outcome, even if a later offer fails. Returns RRCACHE_BAD_LIMITS if a limit is out of range,
+   RRCACHE_BAD_NAME if the zone is not in wire form, and RRCACHE_BAD_MESSAGE if the octets are not a
+   response that can be read. Needs the write lock. */
 static inline enum rrcache_status
 rrcache_offer_message_unchecked(struct rrcache_shelf *shelf,
                                 const struct rrcache_response *response, uint64_t line,
@@ -1483,9 +1568,11 @@ rrcache_offer_message_unchecked(struct rrcache_shelf *shelf,
         rrcache_octets(response->zone, response->zone_size), response->zone_size, &terms, counts);
 }
 
-/* Offers what a response says of the names that lie in one of so many parts, counted from 0: of
-   what `rrcache_offer_message_unchecked` offers, what lies in that part. What lies in other parts
-   is neither offered nor counted. */
+/* Offers the data of names in one part, counted from 0, out of all that
+   `rrcache_offer_message_unchecked` offers. Offers of other parts are neither made nor counted.
+   Returns RRCACHE_BAD_RULES if there is no such part or `parts->count` is not 1 to 64,
+   RRCACHE_BAD_SEED if the seed is all 0, RRCACHE_OTHER_SEED if the shelf has another seed, and the
+   errors of `rrcache_offer_message_unchecked`. Needs the write lock. */
 static inline enum rrcache_status
 rrcache_offer_part_unchecked(struct rrcache_shelf *shelf, const struct rrcache_response *response,
                              const struct rrcache_parts *parts, const struct rrcache_share *share,
@@ -1508,12 +1595,18 @@ rrcache_offer_part_unchecked(struct rrcache_shelf *shelf, const struct rrcache_r
         rrcache_octets(response->zone, response->zone_size), response->zone_size, &terms, counts);
 }
 
-/* Offers one set under its owner. With `ttl` 0, RRCACHE_AUTHORITATIVE_ANSWER and any data of the
-   type it clears what the shelf holds of the name, type and class, a set or that there are no such
-   data: so a key is flushed. `rrcache_offer_negative` with RRCACHE_NXDOMAIN, the same `trust`,
-   `ttl` 0 and any SOA record (the root as its owner, 22 octets of 0 as its data, will do) flushes
-   that the name does not exist. No call flushes all names below one. The data of a set are told as
-   they are offered: the caller leaves out repeats (RFC 2181 section 5). */
+/* Offers an RRset under its owner, and writes the outcome to `outcome` (`enum rrcache_outcome`). A
+   set with `ttl` 0, RRCACHE_AUTHORITATIVE_ANSWER and any data of the type clears the RRset or
+   NODATA that the shelf holds for the name, class and type: this flushes a key. To flush an
+   NXDOMAIN, call `rrcache_offer_negative` with RRCACHE_NXDOMAIN, the same `trust`, `ttl` 0 and any
+   SOA record, such as the root as its owner and 22 zero octets as its rdata. No call flushes all
+   names below a name. Replies have the data as they were offered, so the caller has to leave out
+   duplicate records (RFC 2181 section 5).
+
+   Returns RRCACHE_BAD_CHOICE if `trust` is not a rank, RRCACHE_BAD_TYPE if data of the type are not
+   kept in the class, RRCACHE_BAD_NAME if the owner is not in wire form, RRCACHE_BAD_DATA if the
+   data do not fill the layout of their type or are cut off, and RRCACHE_WRONG_BODY if there are no
+   data or `ttl` is above 2^31 - 1. Needs the write lock. */
 static inline enum rrcache_status
 rrcache_offer_set(struct rrcache_shelf *shelf, const struct rrcache_set *set, uint32_t *outcome)
 {
@@ -1538,8 +1631,12 @@ rrcache_offer_set(struct rrcache_shelf *shelf, const struct rrcache_set *set, ui
         rrcache_octets(set->data, set->data_size), set->data_size, outcome);
 }
 
-/* Offers that a name has no data of a type, or does not exist. A class has to be one of those that
-   are kept. */
+/* Offers a negative answer (RFC 2308): a name has no data of a type, or does not exist. Writes the
+   outcome to `outcome`. Returns RRCACHE_BAD_CHOICE if `trust` is not a rank or `kind` is neither
+   RRCACHE_NODATA nor RRCACHE_NXDOMAIN; RRCACHE_BAD_TYPE if the class is not kept, or for
+   RRCACHE_NODATA if data of the type are not kept in the class; RRCACHE_BAD_NAME if the name or the
+   owner of the SOA record is not in wire form; RRCACHE_BAD_DATA if `soa` is not the rdata of an SOA
+   record; and RRCACHE_WRONG_BODY if `ttl` is above 2^31 - 1. Needs the write lock. */
 static inline enum rrcache_status rrcache_offer_negative(struct rrcache_shelf *shelf,
                                                          const struct rrcache_negative *negative,
                                                          uint32_t *outcome)
@@ -1571,9 +1668,12 @@ static inline enum rrcache_status rrcache_offer_negative(struct rrcache_shelf *s
         rrcache_octets(negative->soa, negative->soa_size), negative->soa_size, outcome);
 }
 
-/* Offers that asking for data of a type failed. That is always kept. With `ttl` 0 it ends the
-   failure that the shelf holds, and is told by no ask. Where the shelf holds none it takes a key
-   all the same, and may evict another: make it only where RRCACHE_FAILED was told. */
+/* Offers a resolution failure of a name and a type (RFC 9520). A failure is always stored, so
+   `outcome` is RRCACHE_KEPT. A failure with `ttl` 0 ends the failure that the shelf holds, and no
+   ask returns it. If the shelf holds no failure, it still uses a key and may evict another one. So
+   offer `ttl` 0 only after RRCACHE_FAILED was returned. Returns RRCACHE_BAD_TYPE if data of the
+   type are not kept in the class, RRCACHE_BAD_NAME if the name is not in wire form, and
+   RRCACHE_WRONG_BODY if `ttl` is above 2^31 - 1. Needs the write lock. */
 static inline enum rrcache_status rrcache_offer_failure(struct rrcache_shelf *shelf,
                                                         const struct rrcache_failure *failure,
                                                         uint32_t *outcome)
@@ -1596,8 +1696,8 @@ static inline enum rrcache_status rrcache_offer_failure(struct rrcache_shelf *sh
                                                   failure->name_size, &terms, outcome);
 }
 
-/* Whether a reply may be told: RRCACHE_NULL where something that is needed is not there, and
-   RRCACHE_OVERLAP where something that is written overlaps anything else. */
+/* Checks the pointers of a call that returns a reply: RRCACHE_NULL if a required pointer is null,
+   RRCACHE_OVERLAP if an output overlaps anything else. */
 static inline enum rrcache_status rrcache_can_tell(const struct rrcache_shelf *shelf,
                                                    const struct rrcache_name *name,
                                                    const struct rrcache_question *question,
@@ -1615,14 +1715,21 @@ static inline enum rrcache_status rrcache_can_tell(const struct rrcache_shelf *s
     return RRCACHE_DONE;
 }
 
-/* Asks, which is one event: the reply is told and written to the buffer, and the entry that gives
-   it is moved to the front of those that go last when the shelf is full. Where the buffer is too
-   small RRCACHE_SMALL is returned, `told` tells the reply and its sizes, and no event is written. A
-   reply never takes more than 255 octets and those of its data. Of what `rrcache_read_response`
-   read 28,551 octets are always enough: an owner of 255, 16,384 of data, and two before each of at
-   most 5,956 data, for which a message has room. RRCACHE_SMALL comes before RRCACHE_HISTORY_FULL
-   and RRCACHE_MOMENT_TOO_LARGE, so that the call with room enough may still be refused. It takes no
-   memory while nothing is recorded, and RRCACHE_MEMORY does not come then. */
+/* Looks up the answer to a question, as one event, and moves the entry that gives the answer to the
+   front of the LRU order. The reply is written to `told` and to the buffer.
+
+   Returns RRCACHE_BAD_CHOICE if the question has an unknown purpose or mode, RRCACHE_BAD_TYPE if
+   its type is 0 or its class is not kept, RRCACHE_BAD_NAME if no name was made, RRCACHE_OTHER_SEED
+   if the name was made under another seed, and RRCACHE_SMALL if the buffer is too small: `told`
+   then has the reply and its sizes, and no event is written. RRCACHE_SMALL comes before
+   RRCACHE_HISTORY_FULL and RRCACHE_MOMENT_TOO_LARGE, so a second call with enough room may still
+   fail. While nothing is recorded, the call never allocates and never returns RRCACHE_MEMORY. Needs
+   the write lock.
+
+   A reply needs at most 255 octets for its owner and the octets of its data. For data that
+   `rrcache_read_response` read, 28,551 octets are always enough: 255 for the owner, 16,384 for the
+   rdata, and 2 before the rdata of each of at most 5,956 records, which is the most that fit in a
+   message. */
 static inline enum rrcache_status rrcache_ask(struct rrcache_shelf *shelf,
                                               const struct rrcache_name *name,
                                               const struct rrcache_question *question,
@@ -1640,8 +1747,10 @@ static inline enum rrcache_status rrcache_ask(struct rrcache_shelf *shelf,
                                         buffer_size == 0 ? &none : buffer, buffer_size);
 }
 
-/* What `rrcache_ask` would answer. No event is written and no key touched. It is not refused for
-   its moment, which may be above 2^40, nor where numbers are spent. It takes no memory. */
+/* Returns the reply that `rrcache_ask` would return, but writes no event and uses no key. The
+   errors are those of `rrcache_ask`, except RRCACHE_HISTORY_FULL, RRCACHE_MOMENT_TOO_LARGE and
+   RRCACHE_MEMORY: the timestamp may be above 2^40. The call never allocates, and needs only the
+   read lock. */
 static inline enum rrcache_status rrcache_peek(const struct rrcache_shelf *shelf,
                                                const struct rrcache_name *name,
                                                const struct rrcache_question *question,
@@ -1658,22 +1767,30 @@ static inline enum rrcache_status rrcache_peek(const struct rrcache_shelf *shelf
                                          buffer_size == 0 ? &none : buffer, buffer_size);
 }
 
-/* Asks as `rrcache_ask` does, which is one event, for data of the type or for the name's CNAME
-   record, and `told->rtype` tells which: 5 where the record is told. It is told where a question
-   for type CNAME would tell it, fresh, or stale where that will do, and it governs over what a
-   question for the type tells: where that is a miss; where the record was stored later, unless what
-   answers for the type is not past its time and trusted more; or where it was stored earlier, and
-   is not past its time and trusted more. So a record and what it replaced are told apart as an
-   RRset and RRCACHE_NXDOMAIN are, and no older address is told beside a newer alias (RFC 8767
-   section 7). In each other case the reply for the type is told, and always for types CNAME and ANY
-   (RFC 1034 section 4.3.2). The resolver then asks for the record's target, under the lock of that
-   name's shelf: the name in the first datum, for a name has one CNAME record (RFC 2181
-   section 10.1).
+/* Looks up data of the type or the CNAME record of the name, in one event as `rrcache_ask` does.
+   `told->rtype` is 5 if the reply is the CNAME record, and otherwise the type of the question. The
+   errors are those of `rrcache_ask`. Needs the write lock.
 
-   A failure is one of the name and type that were asked for. So with RRCACHE_STALE_IF_FAILED a
-   record is told as stale where asking for that type has failed recently, and not where asking for
-   type CNAME has; and the names that it leads to have no failure of their own. Where a peek at the
-   question with RRCACHE_NO_STALE tells RRCACHE_FAILED, ask for each name of its chain with
+   The reply is the CNAME record if a question for type CNAME would return the record, fresh or
+   acceptably stale, and if the record governs over the reply for the type. The record governs in
+   each of these cases:
+   - The reply for the type is a miss.
+   - The record was stored later than the entry for the type, unless that entry is unexpired and of
+     higher rank.
+   - The record was stored earlier than the entry for the type, and is unexpired and of higher rank.
+
+   So a CNAME record and the data that it replaced are compared like an RRset and an NXDOMAIN, and
+   no older address is returned beside a newer alias (RFC 8767 section 7). In every other case, and
+   always for types CNAME and ANY, the call returns the reply for the type (RFC 1034 section 4.3.2).
+
+   The resolver then asks for the target of the record, under the lock of that name's shelf. The
+   target is the name in the first rdata, because a name has one CNAME record (RFC 2181 section
+   10.1).
+
+   A failure belongs to the name and type of the question. So with RRCACHE_STALE_IF_FAILED the CNAME
+   record is returned stale if the type of the question has failed recently, and not if type CNAME
+   has failed. The targets of the CNAME record have no failures of their own. If a peek for the
+   question with RRCACHE_NO_STALE returns RRCACHE_FAILED, ask for each name of its chain with
    RRCACHE_STALE_NOW. */
 static inline enum rrcache_status rrcache_ask_alias(struct rrcache_shelf *shelf,
                                                     const struct rrcache_name *name,
@@ -1692,7 +1809,8 @@ static inline enum rrcache_status rrcache_ask_alias(struct rrcache_shelf *shelf,
                                               buffer_size == 0 ? &none : buffer, buffer_size);
 }
 
-/* What `rrcache_ask_alias` would answer, as `rrcache_peek` tells what `rrcache_ask` would. */
+/* Returns the reply that `rrcache_ask_alias` would return, as `rrcache_peek` does for
+   `rrcache_ask`. Needs only the read lock. */
 static inline enum rrcache_status rrcache_peek_alias(const struct rrcache_shelf *shelf,
                                                      const struct rrcache_name *name,
                                                      const struct rrcache_question *question,
@@ -1709,10 +1827,12 @@ static inline enum rrcache_status rrcache_peek_alias(const struct rrcache_shelf 
                                                buffer_size == 0 ? &none : buffer, buffer_size);
 }
 
-/* Tells what the shelf holds of a name and a class for a type, whether it is past its time or not
-   and whatever answers a question: a set of the type or that there are no such data, that the name
-   does not exist, that asking for the type failed. Of the question the type and the class alone are
-   read. No event is written and no key touched. It takes no memory. */
+/* Writes to `stored` the entries of a name, a class and a type: the RRset or NODATA of the type,
+   the NXDOMAIN of the name, and the failure of the type. An entry is returned even if it has
+   expired, and even if another entry answers the question. The call reads only the type and the
+   class of the question, writes no event and uses no key. Returns RRCACHE_BAD_TYPE if the type is 0
+   or the class is not kept, RRCACHE_BAD_NAME if no name was made, and RRCACHE_OTHER_SEED if the
+   name was made under another seed. The call never allocates, and needs only the read lock. */
 static inline enum rrcache_status rrcache_tell_stored(const struct rrcache_shelf *shelf,
                                                       const struct rrcache_name *name,
                                                       const struct rrcache_question *question,
@@ -1729,11 +1849,14 @@ static inline enum rrcache_status rrcache_tell_stored(const struct rrcache_shelf
     return (enum rrcache_status)rrc_stored(&look, name, question, stored);
 }
 
-/* Removes the keys that can answer no more at a moment, which is one event, and tells how many they
-   were. The first sweep of a shelf looks at all its keys, a later one at those that may have
-   expired since. Who leaves the shelf to evictions need not sweep. A key by which a name does not
-   exist keeps an older set of the name from being told, also after its own time; once it is removed
-   that set may be told again, fresh where its time is not over, else stale. `most` is not read. */
+/* Removes the keys that are fully expired at a timestamp, as one event, and writes their number to
+   `removed`. The first sweep of a shelf visits all its keys. A later sweep visits only keys that
+   may have expired since. A caller need not sweep, because eviction makes room. `sweep->most` is
+   ignored. Needs the write lock.
+
+   An NXDOMAIN hides an older RRset of the name, even after the NXDOMAIN has expired, unless the
+   RRset is unexpired and of higher rank. After a sweep removes the NXDOMAIN, the RRset may answer
+   again: fresh if it is unexpired, and otherwise stale. */
 static inline enum rrcache_status
 rrcache_sweep(struct rrcache_shelf *shelf, const struct rrcache_sweep_at *sweep, uint64_t *removed)
 {
@@ -1745,11 +1868,13 @@ rrcache_sweep(struct rrcache_shelf *shelf, const struct rrcache_sweep_at *sweep,
     return (enum rrcache_status)rrc_sweep(shelf, sweep, removed);
 }
 
-/* Tells a moment before which no key of the shelf is fully expired, so that no sweep before it
-   removes one; a sweep at it may remove none. Before the first sweep it is the soonest of all keys
-   that were kept. After a sweep at a moment, with no offer since and no chapter closed since, a
-   later one is told, so that sweeps as long as it is no later than now come to an end. It is
-   2^64 - 1 exactly where the shelf holds no key. No event is written. */
+/* Writes to `moment` a timestamp before which no key of the shelf is fully expired. A sweep before
+   this timestamp removes nothing, and a sweep at this timestamp may remove nothing. Before the
+   first sweep, the timestamp is the earliest full expiry of all keys that were stored. After a
+   sweep, the timestamp is later than that of the sweep, until an offer is made or a chapter is
+   closed. So this loop ends: as long as the timestamp is not later than now, sweep at the
+   timestamp. The timestamp is UINT64_MAX if and only if the shelf holds no key. The call writes no
+   event, and needs only the read lock. */
 static inline enum rrcache_status rrcache_next_expiry(const struct rrcache_shelf *shelf,
                                                       uint64_t *moment)
 {
@@ -1762,13 +1887,15 @@ static inline enum rrcache_status rrcache_next_expiry(const struct rrcache_shelf
     return (enum rrcache_status)rrc_next_expiry(&look, moment);
 }
 
-/* Sweeps in steps, so that no call is long: at each moment up to this one that
-   `rrcache_next_expiry` tells, from the earliest on, until `most` keys or more are removed, or
-   `most` sweeps made, where `most` is at least 1 (else RRCACHE_BAD_RULES is returned). It tells how
-   many keys were removed, and whether it came to its end: then no key is left that is fully expired
-   at this moment. Each step is a sweep of its own, which is one event, and may remove no key. Keys
-   that expire fully in one second go in one step. What the steps before a refusal removed stays
-   removed, and is told. A moment above 2^40 is refused before the first step. */
+/* Sweeps in steps, so that no call takes long. Each step is a sweep at the timestamp that
+   `rrcache_next_expiry` returns, and is one event. The call stops when that timestamp is later than
+   `moment`, when at least `most` keys are removed, or after `most` steps. Keys that fully expire in
+   the same second are removed in one step, and a step may remove no key. The call writes to `swept`
+   the number of keys that it removed, and whether no key is left that is fully expired at `moment`.
+
+   Returns RRCACHE_BAD_RULES if `most` is 0, and RRCACHE_MOMENT_TOO_LARGE before the first step if
+   `moment` is above 2^40. Keys that were removed before an error stay removed, and `swept` counts
+   them. Needs the write lock. */
 static inline enum rrcache_status rrcache_sweep_some(struct rrcache_shelf *shelf,
                                                      const struct rrcache_sweep_at *sweep,
                                                      struct rrcache_swept *swept)
@@ -1781,25 +1908,27 @@ static inline enum rrcache_status rrcache_sweep_some(struct rrcache_shelf *shelf
     return (enum rrcache_status)rrc_sweep_some(shelf, sweep, swept);
 }
 
-/* Bounds the memory of a shelf: removes keys, the one touched least recently first, until the keys
-   that are left take no more octets (`rrcache_sizes`) than `limit`, or `most` of them went, or none
-   is left. It tells how many went, and the octets that are left: where these are more than the
-   limit, call it again. Who calls it after each message that was offered has it remove about as
-   many octets as came, so that no call is long. A key that stays holds what it held.
+/* Limits the memory of a shelf. The call evicts the least recently used keys until the octets of
+   the remaining keys (`rrcache_sizes`) are at most `limit`, `most` keys are removed, or no key is
+   left. It writes to `trimmed` the number of keys that it removed, and the remaining octets: if
+   these are above the limit, call it again. A caller that trims after each message evicts about as
+   many octets as the message stored, so no call takes long. The entries of the remaining keys do
+   not change. Needs the write lock.
 
-   Each key that goes is an event in the history, an offer of what it held with a TTL of 0 that
-   clears it. A failure takes two: one that lasts no second in its place, and a sweep at moment 0,
-   which removes what has no time and nothing else. Where the shelf holds such a failure before, or
-   held one since its last sweep, that sweep comes first, and what it removes is not counted.
+   Each eviction is an event: an offer of the data of the key with TTL 0, which clears the key. The
+   eviction of a failure is two events: an offer of a failure with TTL 0, and a sweep at timestamp
+   0, which removes only entries with TTL 0. If the shelf already holds a failure with TTL 0, or has
+   held one since its last sweep, such a sweep comes first, and `trimmed` does not count the keys
+   that it removes.
 
-   Octets are not all memory. The first sweep of a shelf looks at all its keys, and from then on the
-   shelf keeps the times at which they expire, which are not counted. SECURITY.md tells how much
-   memory shelves took that were trimmed to a limit.
+   Octets are not the whole memory. The first sweep of a shelf visits all its keys, and from then on
+   the shelf keeps the times at which they expire, which are not counted. SECURITY.md says how much
+   memory trimmed shelves used.
 
-   Where `limit` or `most` is 0 RRCACHE_BAD_RULES is returned, and for a moment above 2^40
-   RRCACHE_MOMENT_TOO_LARGE, and nothing is done. RRCACHE_MEMORY and RRCACHE_HISTORY_FULL may come
-   later: what went before stays gone, and `trimmed` is as it was. In a shelf that records nothing
-   only such a sweep asks for memory. */
+   Returns RRCACHE_BAD_RULES if `limit` or `most` is 0, and RRCACHE_MOMENT_TOO_LARGE if the
+   timestamp is above 2^40; then nothing is done. RRCACHE_MEMORY and RRCACHE_HISTORY_FULL may come
+   later: keys that were removed before stay removed, and `trimmed` is unmodified. In a shelf that
+   does not record, only a sweep at timestamp 0 allocates. */
 static inline enum rrcache_status rrcache_trim(struct rrcache_shelf *shelf,
                                                const struct rrcache_trim_to *trim,
                                                struct rrcache_trimmed *trimmed)
@@ -1812,8 +1941,8 @@ static inline enum rrcache_status rrcache_trim(struct rrcache_shelf *shelf,
     return (enum rrcache_status)rrc_trim(shelf, trim, trimmed);
 }
 
-/* Takes the closed chapters and drops them, and tells how many they were, which is 0 while nothing
-   is recorded. No reply changes. Each event of these chapters is freed before the call returns. */
+/* Frees the closed chapters of the shelf with each of their events, and writes their number to
+   `dropped`, which is 0 while nothing is recorded. Replies do not change. Needs the write lock. */
 static inline enum rrcache_status rrcache_drop_chapters(struct rrcache_shelf *shelf,
                                                         uint64_t *dropped)
 {
@@ -1824,9 +1953,8 @@ static inline enum rrcache_status rrcache_drop_chapters(struct rrcache_shelf *sh
     return (enum rrcache_status)rrc_drop_chapters(shelf, dropped);
 }
 
-/* Whether the chapters of a shelf may be taken into a handle: RRCACHE_NULL where something that is
-   needed is not there, and RRCACHE_OVERLAP where something that is written overlaps anything
-   else. */
+/* Checks the pointers of a call that takes chapters: RRCACHE_NULL if a required pointer is null,
+   RRCACHE_OVERLAP if an output overlaps anything else. */
 static inline enum rrcache_status rrcache_can_take(const struct rrcache_shelf *shelf,
                                                    const struct rrcache_chapters *chapters,
                                                    const uint64_t *count)
@@ -1839,11 +1967,12 @@ static inline enum rrcache_status rrcache_can_take(const struct rrcache_shelf *s
     return RRCACHE_DONE;
 }
 
-/* Takes the closed chapters out of the shelf, the oldest first, into a handle that holds none, and
-   tells how many they are, which is 0 while nothing is recorded. No reply changes. It takes one
-   small block of memory, and no time that goes with the events. What becomes of the chapters then
-   needs no lock of the shelf. The handle is to be freed by `rrcache_free_chapters`, also where they
-   are 0. */
+/* Moves the closed chapters of the shelf, the oldest first, into a handle that holds no chapters,
+   and writes their number to `count`. `count` is 0 while nothing is recorded. Replies do not
+   change. The call allocates one small block, and its time does not grow with the number of events.
+   Calls on the chapters then need no lock of the shelf. Free the handle by `rrcache_free_chapters`,
+   even if `count` is 0. Returns RRCACHE_HAS_CHAPTERS if the handle holds chapters. Needs the write
+   lock. */
 static inline enum rrcache_status rrcache_take_chapters(struct rrcache_shelf *shelf,
                                                         struct rrcache_chapters *chapters,
                                                         uint64_t *count)
@@ -1854,15 +1983,17 @@ static inline enum rrcache_status rrcache_take_chapters(struct rrcache_shelf *sh
     return (enum rrcache_status)rrc_take_chapters(shelf, chapters, count);
 }
 
-/* Records nothing from here on, and takes what was recorded into a handle that holds no chapters:
-   those that were closed and not taken before, and behind them the one that was open, which it
-   closes. It tells how many they are, which is 0 where nothing was recorded. No reply changes, and
-   no key is lost. RRCACHE_HISTORY_FULL is returned where the chapter has the number 2^62; after it
-   and RRCACHE_MEMORY the history is recorded as before, and `rrcache_stop_and_drop` can end that.
-   Right after `rrcache_record` it takes one chapter with no event, whose lines tell all that the
-   shelf holds: so keys are listed and saved. No call here makes a shelf of such a chapter; a caller
-   may offer each entry to an empty one, with the moment, trust and time to live of its line, in the
-   order of their events' numbers. */
+/* Stops recording, and moves the recorded chapters into a handle that holds no chapters: first the
+   closed chapters that were not yet taken, and then the open chapter, which the call closes. Writes
+   their number to `count`, which is 0 if nothing was recorded. Replies do not change, and no key is
+   lost. Returns RRCACHE_HAS_CHAPTERS if the handle holds chapters, and RRCACHE_HISTORY_FULL if the
+   open chapter has the number 2^62. After RRCACHE_HISTORY_FULL and RRCACHE_MEMORY the history is
+   still recorded, and `rrcache_stop_and_drop` can stop the recording. Needs the write lock.
+
+   Right after `rrcache_record` there is one chapter without events. Its lines list all entries of
+   the shelf, so a caller can save the contents of the shelf. No call makes a shelf from such a
+   chapter. But a caller can offer each entry to an empty shelf, with the timestamp, rank and TTL of
+   its line, in the order of event numbers. */
 static inline enum rrcache_status rrcache_stop_recording(struct rrcache_shelf *shelf,
                                                          struct rrcache_chapters *chapters,
                                                          uint64_t *count)
@@ -1873,12 +2004,14 @@ static inline enum rrcache_status rrcache_stop_recording(struct rrcache_shelf *s
     return (enum rrcache_status)rrc_stop_recording(shelf, chapters, count);
 }
 
-/* Writes of a line of a chapter, both counted from 0, the octets from a place on to the front of
-   the buffer, as many as it has room for. It tells how many the line has, with its LF, and how many
-   were written: none where the place is at its end or behind it. A chapter has a line for what it
-   begins with, one for each key that was held then, and one for each event, which are those of an
-   archive. Behind the last one, and of a chapter that is not there, RRCACHE_NO_LINE is returned. It
-   takes memory for the whole line, and gives it back. */
+/* Writes the octets of a line of a chapter, starting at the octet `from`, to the front of the
+   buffer, as many as fit. Chapters and lines are counted from 0. The call writes to `told` the
+   number of octets of the line, with its LF, and the number of octets that it wrote: 0 if `from` is
+   at or after the end of the line. A chapter has a first line with its number and the rules of the
+   shelf, a line for each key that was cached when the chapter began, and a line for each event, in
+   the form of an archive. Returns RRCACHE_NO_CHAPTERS if the handle holds no chapters, and
+   RRCACHE_NO_LINE after the last line and if there is no such chapter. The call allocates memory
+   for the whole line, and frees it. Needs no lock. */
 static inline enum rrcache_status rrcache_chapter_line(struct rrcache_chapters *chapters,
                                                        const struct rrcache_place *place,
                                                        uint8_t *buffer, size_t buffer_size,
@@ -1896,9 +2029,10 @@ static inline enum rrcache_status rrcache_chapter_line(struct rrcache_chapters *
                                                  buffer_size, told);
 }
 
-/* Writes a line of a chapter, both counted from 0, with its LF, from the octet of the place on:
-   each RRCACHE_PIECE_OCTETS of it, and what is left, by one call of the sink. Where that returns
-   other than 0 RRCACHE_SINK is returned, and nothing more is written. */
+/* Writes a line of a chapter with its LF to `sink`, starting at the octet of `place`. Chapters and
+   lines are counted from 0. Each call of the sink gets RRCACHE_PIECE_OCTETS octets of the line, and
+   the last call gets the rest. Returns RRCACHE_SINK if the sink returns nonzero, and then writes
+   nothing more. The other errors are those of `rrcache_chapter_line`. Needs no lock. */
 static inline enum rrcache_status rrcache_write_line(struct rrcache_chapters *chapters,
                                                      const struct rrcache_place *place,
                                                      rrcache_sink sink, void *state)
@@ -1921,10 +2055,11 @@ static inline enum rrcache_status rrcache_write_line(struct rrcache_chapters *ch
     return RRCACHE_DONE;
 }
 
-/* Writes a chapter, counted from 0, as text: each of its lines by `rrcache_write_line`. All
-   chapters of one record, written one behind another in the order in which they were taken, are an
-   archive of the shelf's history. RRCACHE_NO_LINE is returned where there is no such chapter. The
-   sink may make no call with the handle of these chapters. */
+/* Writes a chapter, counted from 0, to `sink` as text: each of its lines as `rrcache_write_line`
+   does. All chapters of one record, written in the order in which they were taken, are an archive
+   of the history. The sink must not make a call with the handle of these chapters. Returns
+   RRCACHE_NO_LINE if there is no such chapter. The other errors are those of `rrcache_write_line`.
+   Needs no lock. */
 static inline enum rrcache_status rrcache_write_chapter(struct rrcache_chapters *chapters,
                                                         uint64_t chapter, rrcache_sink sink,
                                                         void *state)
@@ -1939,11 +2074,11 @@ static inline enum rrcache_status rrcache_write_chapter(struct rrcache_chapters 
         place.line += 1;
         status = rrcache_write_line(chapters, &place, sink, state);
     }
-    return status == RRCACHE_NO_LINE ? RRCACHE_DONE : status; /* it was behind the last line */
+    return status == RRCACHE_NO_LINE ? RRCACHE_DONE : status; /* there is no line left */
 }
 
-/* Frees the chapters of a handle, which then holds none: each of their events, one by one, and what
-   nothing else holds. Where it held none RRCACHE_NO_CHAPTERS is returned and nothing done. */
+/* Frees the chapters of a handle, with each of their events. The handle then holds no chapters.
+   Returns RRCACHE_NO_CHAPTERS if the handle holds no chapters. Needs no lock of a shelf. */
 static inline enum rrcache_status rrcache_free_chapters(struct rrcache_chapters *chapters)
 {
     if (chapters == NULL)
@@ -1951,23 +2086,25 @@ static inline enum rrcache_status rrcache_free_chapters(struct rrcache_chapters 
     return (enum rrcache_status)rrc_free_chapters(chapters);
 }
 
-/* Tells how many keys the shelf holds, those that are fully expired and not yet swept with them,
-   how many events of the open chapter are recorded, how many chapters are closed, both 0 while
-   nothing is recorded, and how many octets the keys take. A key is a name and a class with a type,
-   with no type where the name does not exist, or with a type that asking failed for.
+/* Writes the sizes of a shelf: the number of keys, including fully expired keys that were not
+   swept; the number of recorded events of the open chapter, and of closed chapters, both 0 while
+   nothing is recorded; and the octets that the keys use. A key is a name and a class with a type
+   (an RRset or NODATA), without a type (NXDOMAIN), or with a type that failed. Needs only the read
+   lock.
 
-   The octets are about those of memory. A key takes RRCACHE_ENTRY_OCTETS, and
-   - its name;
-   - of a set RRCACHE_SHARED_OCTETS and the data of each record, and where there are several records
-     RRCACHE_VALUE_OCTETS and RRCACHE_BLOCK_OCTETS beside;
-   - of a negative answer RRCACHE_SHARED_OCTETS and the data of its SOA record;
-   - the owner of these records, unless that is spelled as the key's name.
-   Data take RRCACHE_VALUE_OCTETS, and where they are more than RRCACHE_INLINE_OCTETS also
-   RRCACHE_BLOCK_OCTETS and as many as they are. A name takes RRCACHE_SHARED_OCTETS more than data
-   of its size. All are counted as keys come and go, so to tell them takes no longer where there are
-   more. What events and chapters keep of keys that were evicted, replaced or swept is not counted,
-   nor is what a shelf that is swept keeps of keys that were evicted: their names, and when they
-   would have expired, until that moment, of at most twice as many keys as are held and 64 more. */
+   The octets are approximately the memory that the keys use. A key uses RRCACHE_ENTRY_OCTETS and
+   its name. An RRset uses RRCACHE_SHARED_OCTETS and the rdata of each record. If it has several
+   records, it also uses RRCACHE_VALUE_OCTETS and RRCACHE_BLOCK_OCTETS. A negative answer uses
+   RRCACHE_SHARED_OCTETS and the rdata of its SOA record. RRsets and negative answers also use the
+   owner of their records, unless the owner is spelled like the name of the key. Rdata use
+   RRCACHE_VALUE_OCTETS. Rdata of more than RRCACHE_INLINE_OCTETS also use RRCACHE_BLOCK_OCTETS and
+   their own size. A name uses RRCACHE_SHARED_OCTETS more than rdata of its size.
+
+   The shelf updates these counts whenever keys change, so the time of the call does not grow with
+   the number of keys. Two things are not counted. Events and chapters keep the data of evicted,
+   replaced or swept keys. A shelf that is swept keeps the names and expiry times of evicted keys
+   until these keys would have expired, for at most twice as many keys as the shelf holds, and 64
+   more. */
 static inline enum rrcache_status rrcache_sizes(const struct rrcache_shelf *shelf,
                                                 struct rrcache_usage *sizes)
 {
@@ -1980,8 +2117,8 @@ static inline enum rrcache_status rrcache_sizes(const struct rrcache_shelf *shel
     return (enum rrcache_status)rrc_sizes(&look, sizes);
 }
 
-/* Tells why octets are no response, by a number of `enum rrcache_message_fault`, or
-   RRCACHE_NO_FAULT where they are one. */
+/* Writes to `fault` why octets are not a response that can be read (`enum rrcache_message_fault`),
+   or RRCACHE_NO_FAULT if they can be read. Needs no lock. */
 static inline enum rrcache_status rrcache_fault(const uint8_t *octets, size_t size, uint32_t *fault)
 {
     if (fault == NULL || !rrcache_is_there(octets, size))

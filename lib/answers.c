@@ -2,52 +2,26 @@
 /* answers.c: the RRsets of an answer, in its buffer. */
 #include "cache.h"
 
-#include <string.h>
-
-/* What stands before the owner and the data of an RRset. */
-struct head {
-    struct rrcache_told told;
-    uint16_t rclass;
-};
-
 enum { SOA = 6 };
 
-bool clear_answer(struct rrcache_answer *answer)
+enum rrcache_status insert_rrset(struct rrcache_answer *answer, size_t at,
+                                 const struct rrcache_told *told, const uint8_t *octets,
+                                 uint16_t rclass)
 {
-    answer->size = 0;
-    answer->kind = RRCACHE_MISS;
-    answer->aliases = 0;
-    answer->is_stale = false;
-    answer->is_endless = false;
-    answer->retry_from = 0;
-    answer->end.size = 0; /* it holds no name until one is made */
-    return answer->buffer != NULL || answer->room == 0;
-}
-
-enum rrcache_status end_answer(struct rrcache_answer *answer, enum rrcache_status status)
-{
-    if (status != RRCACHE_DONE && status != RRCACHE_SMALL)
-        clear_answer(answer);
-    return status;
-}
-
-uint8_t *begin_rrset(const struct rrcache_answer *answer, size_t *room)
-{
-    static uint8_t none; /* where there is no room nothing is written */
-    size_t left = answer->room - answer->size;
-    *room = left > sizeof(struct head) ? left - sizeof(struct head) : 0;
-    return *room == 0 ? &none : answer->buffer + answer->size + sizeof(struct head);
-}
-
-void end_rrset(struct rrcache_answer *answer, const struct rrcache_told *told, uint16_t rclass)
-{
-    struct head head = {.told = *told, .rclass = rclass};
-    memcpy(answer->buffer + answer->size, &head, sizeof head);
-    answer->size += sizeof head + (size_t)(told->owner_size + told->data_size);
+    const struct head head = {.told = *told, .rclass = rclass};
+    size_t size = (size_t)(told->owner_size + told->data_size), whole = sizeof head + size;
+    uint8_t *here = answer->buffer + at;
+    if (answer->room - answer->size < whole)
+        return RRCACHE_SMALL;
+    memmove(here + whole, here, answer->size - at);
+    memcpy(here, &head, sizeof head);
+    memcpy(here + sizeof head, octets, size);
+    answer->size += whole;
     answer->is_stale |= told->kind == RRCACHE_STALE;
+    return RRCACHE_DONE;
 }
 
-/* The name stands in the first datum of the alias, behind the two octets of its length. */
+/* The target is in the first rdata of the CNAME record, behind the two octets of their length. */
 enum rrcache_status follow_alias(const struct rrcache *cache, struct rrcache_answer *answer,
                                  const struct rrcache_told *told)
 {
@@ -65,13 +39,15 @@ bool rrcache_next(const struct rrcache_answer *answer, struct rrcache_rrset *rrs
     if (answer == NULL || rrset == NULL)
         return false;
     size_t at = rrset->next;
-    *rrset = none;
-    if (at >= answer->size)
+    if (at >= answer->size) {
+        *rrset = none;
         return false;
+    }
     memcpy(&head, answer->buffer + at, sizeof head);
     is_denial = head.told.kind == RRCACHE_NODATA || head.told.kind == RRCACHE_NXDOMAIN;
     rrset->kind = head.told.kind;
     rrset->trust = head.told.entry.trust;
+    rrset->entry = head.told.entry;
     rrset->set.owner = answer->buffer + at + sizeof head;
     rrset->set.owner_size = (size_t)head.told.owner_size;
     rrset->set.rtype = (uint16_t)(is_denial ? SOA : head.told.rtype);

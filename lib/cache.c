@@ -1,17 +1,15 @@
 /* SPDX-License-Identifier: MIT */
-/* cache.c: a cache is opened and closed, its locks, and what it did. */
-#include "cache.h"
+/* cache.c: a cache is opened and closed, how it keeps within its limits, and its statistics. */
+#include "memos.h"
 
 #include <inttypes.h>
-#include <stdatomic.h>
 #include <stdio.h>
 #include <stdlib.h>
-#include <string.h>
 #include <time.h>
 #include <unistd.h>
 
 enum { SHELVES = 64, READERS = 16, MOST_READERS = 64, SHELF_KEYS = 65536 };
-/* Events of a chapter, of histories that are recorded. */
+/* The events of a chapter, if histories are recorded. */
 enum { CHAPTER_EVENTS = 65536 };
 static const uint64_t OCTETS = UINT64_C(64) << 20, LEAST_OCTETS = 65536;
 static const uint64_t MOST_OCTETS = UINT64_C(1) << 46;
@@ -24,14 +22,14 @@ static uint64_t or_else(uint64_t number, uint64_t otherwise)
     return number != 0 ? number : otherwise;
 }
 
-/* As many threads as the machine runs at once, up to READERS. */
+/* The number of processors, but at most READERS. */
 static uint64_t readers_here(void)
 {
     long processors = sysconf(_SC_NPROCESSORS_ONLN);
     return processors < 1 ? 1 : processors < READERS ? (uint64_t)processors : READERS;
 }
 
-/* A config with each 0 replaced by what stands for it. */
+/* A config with its defaults in place of zeros. */
 static struct rrcache_config completed(const struct rrcache_config *given)
 {
     static const struct rrcache_config zeros = {0};
@@ -52,7 +50,8 @@ static bool are_good(const struct rrcache_limits *limits)
     return limits->cap <= 604800 && limits->negative_cap <= 604800 && limits->recheck <= 300;
 }
 
-/* Why no cache is made by a completed config. Of the rules of its shelves these say the rest. */
+/* Why no cache can be made from a completed config. The shelves check the other numbers of their
+   rules. */
 static enum rrcache_status refusal_of(const struct rrcache_config *config)
 {
     if (config->octets < LEAST_OCTETS || config->octets > MOST_OCTETS || config->shelves > SHELVES
@@ -61,32 +60,30 @@ static enum rrcache_status refusal_of(const struct rrcache_config *config)
     return are_good(&config->limits) ? RRCACHE_DONE : RRCACHE_BAD_LIMITS;
 }
 
-/* Makes the locks and the shelf of a part; where that is refused nothing of it is left. */
-static enum rrcache_status make_part(struct part *part, uint64_t readers,
+/* Makes the locks and the shelf of a part. If that fails, nothing of it is left. */
+static enum rrcache_status make_part(const struct rrcache *cache, struct part *part,
                                      const struct rrcache_rules *rules)
 {
     enum rrcache_status status = rrcache_make(&part->shelf, rules);
-    uint64_t made = 0;
-    if (status != RRCACHE_DONE)
+    if (status != RRCACHE_DONE || make_locks(cache, part))
         return status;
-    while (made < readers && pthread_mutex_init(&part->places[made].lock, NULL) == 0)
-        made++;
-    if (made == readers)
-        return RRCACHE_DONE;
-    while (made > 0)
-        pthread_mutex_destroy(&part->places[--made].lock);
     rrcache_free(&part->shelf);
     return RRCACHE_MEMORY;
 }
 
-static void free_part(struct part *part, uint64_t readers)
+static void free_part(struct part *part)
 {
-    for (uint64_t i = 0; i < readers; i++)
-        pthread_mutex_destroy(&part->places[i].lock);
+    free_locks(part);
     rrcache_free(&part->shelf);
 }
 
-/* Makes the parts of a cache, in its block. */
+/* The places of all readers, each with one more than there are parts (places.h). */
+static uint64_t place_count(const struct rrcache_config *config)
+{
+    return config->readers * (config->shelves + 1);
+}
+
+/* Makes the parts of a cache in its block. */
 static enum rrcache_status make_parts(struct rrcache *cache, const struct rrcache_config *config)
 {
     uint64_t count = config->shelves;
@@ -96,20 +93,22 @@ static enum rrcache_status make_parts(struct rrcache *cache, const struct rrcach
         .max_stale = config->max_stale,
     };
     struct rrcache_rules seeded = rules;
+    uint8_t *behind = (uint8_t *)(cache->places + place_count(config)) + memo_octets(cache);
+    uint64_t *owners = (uint64_t *)behind, words = owner_words(cache);
     memcpy(seeded.seed, cache->parts.seed, sizeof seeded.seed);
     for (uint64_t i = 0; i < count; i++) {
-        cache->part[i].places = (struct place *)(cache->part + count) + i * cache->readers;
-        enum rrcache_status status = make_part(&cache->part[i], cache->readers, &seeded);
+        place_owners(&cache->part[i], owners + 2 * i * words, words);
+        enum rrcache_status status = make_part(cache, &cache->part[i], &seeded);
         if (status == RRCACHE_DONE)
             continue;
         while (i > 0)
-            free_part(&cache->part[--i], cache->readers);
+            free_part(&cache->part[--i]);
         return status;
     }
     return RRCACHE_DONE;
 }
 
-/* Gives a cache its seed: that of the config, or the system's. */
+/* Sets the seed of a cache: that of the config, or one from the system. */
 static bool choose_seed(struct rrcache *cache, const struct rrcache_config *config)
 {
     static const uint8_t none[sizeof config->seed] = {0};
@@ -119,24 +118,28 @@ static bool choose_seed(struct rrcache *cache, const struct rrcache_config *conf
            || (getentropy(seed, sizeof none) == 0 && memcmp(seed, none, sizeof none) != 0);
 }
 
-/* Makes what of a cache is not zeros. */
+/* Fills in a cache that is zeros. */
 static enum rrcache_status make_cache(struct rrcache *cache, const struct rrcache_config *config)
 {
-    size_t octets =
-        config->shelves * (sizeof(struct part) + config->readers * sizeof(struct place));
     enum rrcache_status status;
     if (!choose_seed(cache, config))
         return RRCACHE_BAD_SEED;
     cache->parts.count = config->shelves;
     cache->limits = config->limits;
     cache->readers = config->readers;
+    cache->share_of_reader = ((UINT64_C(1) << 32) + config->readers - 1) / config->readers;
     cache->most_octets = config->octets / config->shelves;
     cache->most_keys = (config->keys + config->shelves - 1) / config->shelves;
     cache->exact_recency = config->exact_recency;
-    cache->block = calloc(1, octets + LINE);
+    size_t parts = config->shelves * sizeof(struct part);
+    size_t places = place_count(config) * sizeof(struct place), memos = memo_octets(cache);
+    size_t owners = config->shelves * 2 * owner_words(cache) * sizeof(uint64_t);
+    cache->block = calloc(1, LINE + parts + places + memos + owners);
     if (cache->block == NULL)
         return RRCACHE_MEMORY;
     cache->part = (void *)(((uintptr_t)cache->block + LINE - 1) / LINE * LINE);
+    cache->places = (struct place *)(cache->part + config->shelves);
+    place_memos(cache, cache->places + place_count(config));
     status = make_parts(cache, config);
     if (status != RRCACHE_DONE)
         free(cache->block);
@@ -159,7 +162,7 @@ enum rrcache_status rrcache_open(struct rrcache **cache, const struct rrcache_co
         free(made);
         return status;
     }
-    pthread_mutex_init(&made->recorder, NULL); /* of glibc it is never refused */
+    pthread_mutex_init(&made->recorder, NULL); /* in glibc this never fails */
     pthread_mutex_init(&made->sweeper, NULL);
     *cache = made;
     return RRCACHE_DONE;
@@ -170,48 +173,25 @@ void rrcache_close(struct rrcache *cache)
     if (cache == NULL)
         return;
     for (uint64_t i = 0; i < cache->parts.count; i++)
-        free_part(&cache->part[i], cache->readers);
+        free_part(&cache->part[i]);
     pthread_mutex_destroy(&cache->recorder);
     pthread_mutex_destroy(&cache->sweeper);
     free(cache->block);
     free(cache);
 }
 
-/* ---- Locks and moments. */
+/* ---- Timestamps and limits. */
 
-uint64_t moment_of(uint64_t moment)
+uint64_t moment_now(void)
 {
     struct timespec now;
-    if (moment != 0)
-        return moment;
     clock_gettime(CLOCK_BOOTTIME, &now);
     return (uint64_t)now.tv_sec;
 }
 
-struct place *place_of(const struct rrcache *cache, const struct part *part)
-{
-    static _Atomic uint64_t threads;
-    /* Of this thread, from 1 on. It is read at each look-up, with no call of the loader. */
-    static _Thread_local uint64_t number __attribute__((tls_model("initial-exec")));
-    if (number == 0)
-        number = 1 + atomic_fetch_add_explicit(&threads, 1, memory_order_relaxed);
-    return &part->places[number % cache->readers];
-}
-
-void lock_part(const struct rrcache *cache, struct part *part)
-{
-    for (uint64_t i = 0; i < cache->readers; i++)
-        pthread_mutex_lock(&part->places[i].lock);
-}
-
-void unlock_part(const struct rrcache *cache, struct part *part)
-{
-    for (uint64_t i = cache->readers; i > 0; i--)
-        pthread_mutex_unlock(&part->places[i - 1].lock);
-}
-
-/* The age up to which a look-up moves nothing. No key goes as long as there is room, and a quarter
-   of all room is enough for names that are asked for to come to the front. */
+/* The age up to which a look-up moves no entry. No key is evicted while there is room, so look-ups
+   need not move anything until three quarters of it are taken: the last quarter is enough for names
+   that are asked for to come to the front. */
 static uint64_t oldest_left(const struct rrcache *cache, const struct rrcache_usage *usage)
 {
     if (cache->exact_recency)
@@ -221,6 +201,9 @@ static uint64_t oldest_left(const struct rrcache *cache, const struct rrcache_us
     return has_room ? UINT64_MAX : usage->keys / 4;
 }
 
+/* A trim may remove failures without a TTL that it does not count, so the keys may be fewer than
+   are noted here until the next call; how many they are matters only if they may be all that there
+   may be. */
 void settle(const struct rrcache *cache, struct part *part, uint64_t moment)
 {
     const struct rrcache_trim_to trim = {
@@ -232,27 +215,36 @@ void settle(const struct rrcache *cache, struct part *part, uint64_t moment)
     struct rrcache_usage usage = {0};
     rrcache_sizes(&part->shelf, &usage);
     if (usage.octets > cache->most_octets) {
-        rrcache_trim(&part->shelf, &trim, &trimmed);
-        rrcache_sizes(&part->shelf, &usage);
+        bool is_done = rrcache_trim(&part->shelf, &trim, &trimmed) == RRCACHE_DONE;
+        usage.keys -= trimmed.removed;
+        if (!is_done || usage.keys >= cache->most_keys)
+            rrcache_sizes(&part->shelf, &usage);
+        else
+            usage.octets = trimmed.octets;
         part->evicted += trimmed.removed;
     }
+    part->keys = usage.keys;
+    renew_owners(part);
     part->oldest_left = oldest_left(cache, &usage);
 }
 
-/* ---- What a cache did. */
+/* ---- Statistics. */
 
 static void count_part(const struct rrcache *cache, struct part *part, struct rrcache_stats *stats)
 {
     struct rrcache_usage usage = {0};
+    uint64_t sum[KINDS] = {0};
     lock_part(cache, part);
     for (uint64_t i = 0; i < cache->readers; i++) {
-        const uint64_t *told = part->places[i].told;
-        stats->hits += told[RRCACHE_FRESH];
-        stats->stale += told[RRCACHE_STALE];
-        stats->negative += told[RRCACHE_NODATA] + told[RRCACHE_NXDOMAIN];
-        stats->misses += told[RRCACHE_MISS];
-        stats->failed += told[RRCACHE_FAILED];
+        const uint64_t *told = place_at(cache, part, i)->told;
+        for (int kind = 0; kind < KINDS; kind++)
+            sum[kind] += told[kind] + told_by_memos(cache, part, i, kind);
     }
+    stats->hits += sum[RRCACHE_FRESH];
+    stats->stale += sum[RRCACHE_STALE];
+    stats->negative += sum[RRCACHE_NODATA] + sum[RRCACHE_NXDOMAIN];
+    stats->misses += sum[RRCACHE_MISS];
+    stats->failed += sum[RRCACHE_FAILED];
     rrcache_sizes(&part->shelf, &usage);
     stats->kept += part->kept;
     stats->outranked += part->outranked;

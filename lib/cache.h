@@ -1,35 +1,55 @@
 /* SPDX-License-Identifier: MIT */
-/* cache.h: what the files of `struct rrcache` share. */
+/* cache.h: declarations that the files of `struct rrcache` share. */
 #ifndef CACHE_H
 #define CACHE_H
 
-#define _GNU_SOURCE /* of CLOCK_BOOTTIME and getentropy */
+#define _GNU_SOURCE /* for CLOCK_BOOTTIME, getentropy and adaptive mutexes */
 #include <pthread.h>
+#include <stdatomic.h>
+#include <stddef.h>
+#include <string.h>
 
 #include "rrcache.h"
 
-/* No two places share a line of a processor's cache. */
+/* The octets of a cache line of the processor. No two places share a cache line. */
 enum { LINE = 64 };
 
-/* Look-ups of one kind, by the number of `enum rrcache_kind`. */
+/* The kinds of replies, by which look-ups are counted. */
 enum { KINDS = RRCACHE_FAILED + 1 };
 
-/* Where one thread at a time looks up in a shelf. */
+/* A lock of a shelf, under which one thread at a time looks up in the shelf (places.h). */
 struct place {
-    _Alignas(LINE) pthread_mutex_t lock;
-    uint64_t told[KINDS]; /* look-ups by what they told: the place's own, so that none waits */
-    int moves;            /* how often look-ups moved what they found lately: 0 to MOST_MOVES */
+    _Alignas(LINE) atomic_uint is_taken;
+    int moves;            /* how often recent look-ups moved their entry: 0 to MOST_MOVES */
+    uint64_t told[KINDS]; /* look-ups by the kind of their replies. Each place counts its own
+                             look-ups, so no thread waits */
 };
 
-/* From MOVES_EXPECTED on a look-up begins with all places, as if it were to move what it finds. */
+/* From MOVES_EXPECTED on, a look-up takes all places at once, because it probably moves its
+   entry. */
 enum { MOVES_EXPECTED = 4, MOST_MOVES = 8 };
 
-/* A shelf with its places. Who writes into it holds them all, and who reads, one. */
+/* A filter of the names for which a part may hold a CNAME RRset. The hash of a name gives two bits.
+   If one of them is clear, the name is not an alias. Both bits are set before a CNAME RRset of the
+   name is stored, and when a look-up has moved that RRset to the front. */
+struct owners {
+    uint64_t *all, *late;   /* the bits of all names, and those that were set since `late` began */
+    uint64_t last;          /* the number of the last bit, which is a power of two minus 1 */
+    uint64_t keys, evicted; /* the keys that the part held, and those that it had evicted, when
+                               `late` began */
+};
+
+/* A shelf with its locks. A look-up reads the first two cache lines of the processor. A writer
+   changes the first and the last one. */
 struct part {
-    _Alignas(LINE) struct rrcache_shelf shelf;
-    struct place *places;
-    uint64_t oldest_left; /* the age up to which a look-up moves nothing */
+    _Alignas(LINE) atomic_uint_fast64_t turn; /* counted up when a writer begins and when it ends:
+                                                 it is odd while one changes the shelf */
+    struct rrcache_shelf shelf;
+    uint64_t oldest_left; /* a look-up does not move an entry whose age is at most this */
     bool is_recorded;
+    _Alignas(LINE) struct owners owners;
+    _Alignas(LINE) pthread_mutex_t writer; /* held by a writer */
+    uint64_t keys; /* the number of keys when `settle` last counted them, or a few more */
     uint64_t kept, outranked, evicted, expired;
 };
 
@@ -37,44 +57,172 @@ struct rrcache {
     struct rrcache_parts parts;
     struct rrcache_limits limits;
     uint64_t readers;
+    uint64_t share_of_reader;        /* 2^32 / readers, rounded up */
     uint64_t most_octets, most_keys; /* of one shelf */
     bool exact_recency;
-    pthread_mutex_t recorder; /* is held where records begin or end, and guards this: */
+    pthread_mutex_t recorder; /* held while recording starts or stops; guards `is_recorded` */
     bool is_recorded;
-    pthread_mutex_t sweeper; /* is held by a sweep, and guards this: */
-    uint64_t swept_part;     /* where the next sweep goes on */
-    void *block;             /* of memory, in which the parts and their places stand */
+    pthread_mutex_t sweeper; /* held by a sweep; guards `swept_part` */
+    uint64_t swept_part;     /* the part in which the next sweep continues */
+    void *block;             /* the memory of the parts and their places */
     struct part *part;
+    struct place *places; /* those of the first reader in all parts, then those of the next */
+    uint8_t *memos;       /* those of the first reader, then those of the next (memos.h), or null */
+    size_t octets_of_memos;
+    unsigned mark_shift; /* a mark has 32 bits, and those above these are the number of its slot */
 };
 
-/* The moment that a call is made at: the caller's, or now. */
-uint64_t moment_of(uint64_t moment);
+/* Returns the timestamp of a call: `moment`, or now if that is 0. */
+uint64_t moment_now(void);
+static inline uint64_t moment_of(uint64_t moment)
+{
+    return moment != 0 ? moment : moment_now();
+}
 
-/* The place of this thread in a part. */
-struct place *place_of(const struct rrcache *cache, const struct part *part);
+/* Make the locks of a part that is zeros, and free them. */
+bool make_locks(const struct rrcache *cache, struct part *part);
+void free_locks(struct part *part);
 
-/* Takes all places of a part, or gives them back. */
+/* Take a part to change it, and release it. No place of it is taken in between. */
 void lock_part(const struct rrcache *cache, struct part *part);
 void unlock_part(const struct rrcache *cache, struct part *part);
 
-/* Makes room for the octets of a part that something was stored in, which is locked, and notes how
-   old an entry may be that stays where it is. Where memory is refused for that, the next call makes
-   the room. */
+/* Evicts keys from a locked part until it meets its limit of octets, and sets `oldest_left`. Called
+   after each call that stores in the part. If malloc fails during the eviction, the next call
+   evicts the rest. */
 void settle(const struct rrcache *cache, struct part *part, uint64_t moment);
 
-/* Puts an RRset that was told into an answer: its owner and data stand behind the `told` of those
-   that are in it already, at `begin_rrset`. */
-uint8_t *begin_rrset(const struct rrcache_answer *answer, size_t *room);
-void end_rrset(struct rrcache_answer *answer, const struct rrcache_told *told, uint16_t rclass);
+/* Return the number of words of each of the two bit sets of a part, and set where they are. */
+uint64_t owner_words(const struct rrcache *cache);
+void place_owners(struct part *part, uint64_t *words, uint64_t count);
 
-/* Goes on at the target of the alias that an answer ends with, which was told. */
+enum { WORD_BITS = 64 };
+
+/* The second bit of a name; the first is given by the low bits of its hash. The high bits of the
+   hash chose the part, so the hash is mixed. */
+static inline uint64_t second_bit(const struct owners *owners, uint64_t hash)
+{
+    return hash * UINT64_C(0x9e3779b97f4a7c15) >> 32 & owners->last;
+}
+
+static inline bool is_set(const uint64_t *bits, uint64_t number)
+{
+    return bits[number / WORD_BITS] >> number % WORD_BITS & 1;
+}
+
+/* Whether a part may hold a CNAME RRset of a name. The caller holds a place of the part. */
+static inline bool may_be_alias(const struct part *part, const struct rrcache_name *name)
+{
+    const struct owners *owners = &part->owners;
+    return is_set(owners->all, name->hash & owners->last)
+           && is_set(owners->all, second_bit(owners, name->hash));
+}
+
+/* Sets the bits of a name in a locked part, before its CNAME RRset is stored, or when that RRset
+   has moved to the front. */
+void note_alias(struct part *part, const struct rrcache_name *name);
+
+/* Once a locked part has evicted as many keys as it held, clears the bits of names without a CNAME
+   RRset. */
+void renew_owners(struct part *part);
+
+/* What stands in front of the owner and the data of an RRset. */
+struct head {
+    struct rrcache_told told;
+    uint16_t rclass;
+};
+
+/* Append the RRset of a reply to an answer. The caller writes the owner and the rdata to the memory
+   that `begin_rrset` returns, and `end_rrset` writes the head before them. */
+static inline uint8_t *begin_rrset(const struct rrcache_answer *answer, size_t *room)
+{
+    static uint8_t none; /* if there is no room, nothing is written */
+    size_t left = answer->room - answer->size;
+    *room = left > sizeof(struct head) ? left - sizeof(struct head) : 0;
+    return *room == 0 ? &none : answer->buffer + answer->size + sizeof(struct head);
+}
+
+static inline void end_rrset(struct rrcache_answer *answer, const struct rrcache_told *told,
+                             uint16_t rclass)
+{
+    uint8_t *head = answer->buffer + answer->size;
+    memcpy(head + offsetof(struct head, told), told, sizeof *told);
+    memcpy(head + offsetof(struct head, rclass), &rclass, sizeof rclass);
+    answer->size += sizeof(struct head) + (size_t)(told->owner_size + told->data_size);
+    answer->is_stale |= told->kind == RRCACHE_STALE;
+}
+
+/* Inserts the RRset of a reply into an answer, before the RRset at the offset `at`. */
+enum rrcache_status insert_rrset(struct rrcache_answer *answer, size_t at,
+                                 const struct rrcache_told *told, const uint8_t *octets,
+                                 uint16_t rclass);
+
+enum { RRTYPE_CNAME = 5, RRTYPE_DNAME = 39, RRTYPE_ANY = 255 };
+
+/* How to look up the DNAME RRsets of an answer. `find` gets the DNAME RRset of a name. If the kind
+   of its reply is neither fresh nor stale, there is none. */
+struct dname_search {
+    enum rrcache_status (*find)(void *from, const struct rrcache_name *owner,
+                                struct rrcache_told *told, uint8_t *octets, size_t room);
+    void *from;
+    uint16_t rclass;
+    bool takes_stale; /* the CNAME record is stale, so the DNAME RRset may be stale too */
+    unsigned sought;  /* the number of names that were looked up */
+};
+
+/* Inserts the DNAME RRset from which a CNAME record was synthesized before that record, if `find`
+   returns it. The CNAME record is the last RRset of the answer, at the offset `at`, and `end` of
+   the answer is still its owner. */
+enum rrcache_status put_dname(const struct rrcache *cache, struct dname_search *search,
+                              struct rrcache_answer *answer, size_t at,
+                              const struct rrcache_told *alias);
+
+/* Returns an upper bound of the number of offers of a response. */
+size_t most_offers(const struct rrcache_response *response);
+
+/* Makes the answer that a response gives to its query, from its offers, and from its octets if the
+   offers have less than the response. May read the offers again. */
+enum rrcache_status tell_answer(const struct rrcache *cache, struct rrcache_offers *offers,
+                                const struct rrcache_summary *summary,
+                                const struct rrcache_query *query,
+                                const struct rrcache_response *response,
+                                struct rrcache_answer *answer);
+
+/* Whether no data of a type are kept, although queries may ask for the type (docs/RULES.md). */
+bool is_unkept(uint16_t rtype);
+
+/* Appends to an answer the records of a response that are not kept: those in the answer section
+   with the type of the query (any type if that is ANY) and with the name that the answer has
+   reached. Returns RRCACHE_BAD_DATA if one of them cannot be read. */
+enum rrcache_status put_unkept(const struct rrcache *cache, const struct rrcache_query *query,
+                               const struct rrcache_response *response, bool aa,
+                               struct rrcache_answer *answer);
+
+/* Sets `end` of an answer to the target of the CNAME record with which the answer ends. */
 enum rrcache_status follow_alias(const struct rrcache *cache, struct rrcache_answer *answer,
                                  const struct rrcache_told *told);
 
-/* Empties an answer but for its buffer; false where that is not there. */
-bool clear_answer(struct rrcache_answer *answer);
+/* Empties an answer, but keeps its buffer. Returns false if the buffer is missing. */
+static inline bool clear_answer(struct rrcache_answer *answer)
+{
+    answer->size = 0;
+    answer->kind = RRCACHE_MISS;
+    answer->aliases = 0;
+    answer->is_stale = false;
+    answer->is_endless = false;
+    answer->retry_from = 0;
+    answer->end.size = 0; /* it holds no name until one is made */
+    return answer->buffer != NULL || answer->room == 0;
+}
 
-/* Ends a call that makes an answer: one that is refused, but for want of room, leaves it empty. */
-enum rrcache_status end_answer(struct rrcache_answer *answer, enum rrcache_status status);
+/* Ends a call that fills an answer: empties the answer after any error except RRCACHE_SMALL.
+   Returns the status. */
+static inline enum rrcache_status end_answer(struct rrcache_answer *answer,
+                                             enum rrcache_status status)
+{
+    if (status != RRCACHE_DONE && status != RRCACHE_SMALL)
+        clear_answer(answer);
+    return status;
+}
 
 #endif

@@ -2,7 +2,7 @@
 /* histories.c: the histories of a cache's shelves are recorded and written, and what they hold. */
 #include "cache.h"
 
-/* The sink of a shelf's lines. */
+/* Where the lines of a shelf go. */
 struct line_sink {
     rrcache_shelf_sink sink;
     void *state;
@@ -15,7 +15,7 @@ static int write_octets(void *state, const void *octets, size_t size)
     return to->sink(to->state, to->shelf, octets, size);
 }
 
-/* Ends the record of a part, and takes its chapters out. */
+/* Stops recording a part, and takes its chapters out. */
 static enum rrcache_status take_record(struct rrcache *cache, struct part *part,
                                        struct rrcache_chapters *chapters, uint64_t *count)
 {
@@ -55,7 +55,7 @@ static enum rrcache_status write_chapters(struct rrcache_chapters *chapters, uin
     return status;
 }
 
-/* Ends the record of a part and writes it. */
+/* Stops recording a part, and writes what was recorded. */
 static enum rrcache_status write_record(struct rrcache *cache, struct line_sink *to)
 {
     struct rrcache_chapters chapters = {0};
@@ -68,7 +68,7 @@ static enum rrcache_status write_record(struct rrcache *cache, struct line_sink 
     return status;
 }
 
-/* Begins the records of all parts, or of none where one is refused. */
+/* Starts recording all parts, or none if one fails. */
 static enum rrcache_status begin_records(struct rrcache *cache)
 {
     for (uint64_t i = 0; i < cache->parts.count; i++) {
@@ -113,7 +113,7 @@ enum rrcache_status rrcache_stop_recording_all(struct rrcache *cache, rrcache_sh
     return status;
 }
 
-/* Writes what a part holds: the chapter that begins with it, and ends at once. */
+/* Writes what a part holds: a chapter that begins with it and ends at once. */
 static enum rrcache_status dump_part(struct rrcache *cache, struct line_sink *to)
 {
     struct part *part = &cache->part[to->shelf];

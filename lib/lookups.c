@@ -1,17 +1,15 @@
 /* SPDX-License-Identifier: MIT */
-/* lookups.c: what is looked up in a cache, name by name. */
-#include "cache.h"
-
-#include <string.h>
+/* lookups.c: names are looked up in a cache, one by one. */
+#include "memos.h"
 
 enum { NS = 2 };
-/* The last moment, which a peek does not ask for, and an ask does. */
+/* The greatest timestamp, which an ask checks and a peek does not. */
 static const uint64_t LAST_MOMENT = UINT64_C(1) << 40;
 
 /* ---- One name. */
 
-/* The calls of the library proper, since nothing here is null or overlaps. A look takes a copy of
-   the handle. */
+/* The exported functions are called directly, since nothing here is null or overlaps. A peek takes
+   a copy of the handle. */
 typedef uint32_t (*exported)(struct rrcache_shelf *, const struct rrcache_name *,
                              const struct rrcache_question *, struct rrcache_told *, uint8_t *,
                              uint64_t);
@@ -23,7 +21,7 @@ struct manner {
 static const struct manner BY_ITSELF = {rrc_peek, rrc_ask};
 static const struct manner WITH_ALIAS = {rrc_peek_alias, rrc_ask_alias};
 
-/* One name that is looked up. */
+/* One name to look up. */
 struct lookup {
     const struct manner *manner;
     const struct rrcache_name *name;
@@ -31,60 +29,79 @@ struct lookup {
     struct rrcache_told *told;
     uint8_t *buffer;
     size_t room;
+    uint64_t turn; /* gets that of the part if the reply is what a peek told, else NO_TURN */
 };
 
-/* Whether what was told is to be moved to the front: what is older has as many keys before it. */
+/* Whether the entry that was found has to move to the front: too many keys may be in front of
+   it. */
 static bool is_due(const struct part *part, const struct rrcache_told *told)
 {
     return told->entry.kind != 0 && told->entry.age > part->oldest_left;
 }
 
-/* Notes whether a look-up moved what it found. Where most do, as with names asked for at random, it
-   costs less to begin with all places than to peek first. */
+/* Notes whether a look-up moved what it found. If most do, as with names that are asked for at
+   random, it costs less to begin with all places than to peek first. */
 static void note_move(struct place *place, bool is_moved)
 {
     int moves = is_moved ? place->moves + 1 : place->moves - 2;
     place->moves = moves < 0 ? 0 : moves > MOST_MOVES ? MOST_MOVES : moves;
 }
 
-/* Peeks at the place of this thread; false where what is found is to be moved to the front, or may
-   be, or is to be recorded, and so is to be asked for. */
-static bool peek(struct part *part, struct place *place, const struct lookup *it,
+/* How to look up a name in a part. One that is no alias is looked up by itself: the reply is the
+   same. */
+static const struct manner *manner_of(const struct part *part, const struct lookup *it)
+{
+    return it->manner == &WITH_ALIAS && !may_be_alias(part, it->name) ? &BY_ITSELF : it->manner;
+}
+
+/* Peeks under a place. Returns false if the name has to be asked for instead,
+   because what is found has to move to the front, is expected to, or has to be recorded. */
+static bool peek(struct part *part, struct place *place, struct lookup *it,
                  enum rrcache_status *status)
 {
     struct rrcache_shelf shelf = part->shelf;
     if (part->is_recorded || place->moves >= MOVES_EXPECTED)
         return false;
-    *status = (enum rrcache_status)it->manner->peek(&shelf, it->name, it->question, it->told,
-                                                    it->buffer, it->room);
+    *status = (enum rrcache_status)manner_of(part, it)->peek(&shelf, it->name, it->question,
+                                                             it->told, it->buffer, it->room);
     if (*status == RRCACHE_DONE && it->question->moment > LAST_MOMENT)
         *status = RRCACHE_MOMENT_TOO_LARGE;
     if (*status == RRCACHE_DONE && is_due(part, it->told))
         return false;
     place->told[it->told->kind] += *status == RRCACHE_DONE;
     note_move(place, false);
+    it->turn = turn_here(part);
     return true;
 }
 
-/* Asks, with all places. */
+/* Whether a reply is the CNAME record of a name. */
+static bool is_cname(const struct rrcache_told *told)
+{
+    return (told->kind == RRCACHE_FRESH || told->kind == RRCACHE_STALE)
+           && told->rtype == RRTYPE_CNAME;
+}
+
+/* Asks under all places. */
 static enum rrcache_status ask(struct part *part, struct place *place, const struct lookup *it)
 {
-    enum rrcache_status status = (enum rrcache_status)it->manner->ask(
+    enum rrcache_status status = (enum rrcache_status)manner_of(part, it)->ask(
         &part->shelf, it->name, it->question, it->told, it->buffer, it->room);
+    if (status == RRCACHE_DONE && is_cname(it->told))
+        note_alias(part, it->name);
     place->told[it->told->kind] += status == RRCACHE_DONE;
     note_move(place, status == RRCACHE_DONE && is_due(part, it->told));
     return status;
 }
 
-/* Looks up one name: it is peeked at, and asked for where that is to be. */
-static enum rrcache_status look_up(struct rrcache *cache, const struct lookup *it)
+/* Looks up one name: peeks, and asks if that is needed. */
+static enum rrcache_status look_up(struct rrcache *cache, struct lookup *it)
 {
     struct part *part = &cache->part[it->name->part];
-    struct place *place = place_of(cache, part);
+    struct place *place = take_place(cache, part);
     enum rrcache_status status = RRCACHE_DONE;
-    pthread_mutex_lock(&place->lock);
+    it->turn = NO_TURN;
     bool is_told = peek(part, place, it, &status);
-    pthread_mutex_unlock(&place->lock);
+    leave_place(part, place);
     if (is_told)
         return status;
     lock_part(cache, part);
@@ -93,63 +110,88 @@ static enum rrcache_status look_up(struct rrcache *cache, const struct lookup *i
     return status;
 }
 
-/* ---- A chain of aliases. */
+/* ---- A CNAME chain. */
 
-/* On the way along the aliases of a name. */
+/* The way along the CNAME chain of a name. */
 struct walk {
     struct rrcache *cache;
     struct rrcache_answer *answer;
     struct rrcache_question question;
-    uint64_t retry_from; /* of the failure of the question, if one is known */
+    uint64_t retry_from; /* of the question's failure, if one is recent */
+    uint64_t turn;       /* of the part that gave the last reply, or NO_TURN */
+    struct dname_search dnames;
 };
 
-/* Looks up the name that was reached, and puts what is found into the answer. */
+/* Looks up the DNAME RRset of a name. */
+static enum rrcache_status find_dname(void *from, const struct rrcache_name *owner,
+                                      struct rrcache_told *told, uint8_t *octets, size_t room)
+{
+    const struct walk *walk = from;
+    struct rrcache_question question = walk->question;
+    struct lookup lookup = {&BY_ITSELF, owner, &question, told, octets, room, NO_TURN};
+    question.rtype = RRTYPE_DNAME;
+    if (walk->dnames.takes_stale)
+        question.mode = RRCACHE_STALE_NOW;
+    return look_up(walk->cache, &lookup);
+}
+
+/* Inserts the DNAME RRset of a CNAME record that begins at an octet of the answer. */
+static enum rrcache_status put_dname_above(struct walk *walk, size_t at,
+                                           const struct rrcache_told *told)
+{
+    walk->dnames.find = find_dname;
+    walk->dnames.from = walk;
+    walk->dnames.rclass = walk->question.rclass;
+    return put_dname(walk->cache, &walk->dnames, walk->answer, at, told);
+}
+
+/* Looks up the name that was reached, and appends what is found to the answer. */
 static enum rrcache_status take_step(struct walk *walk, struct rrcache_told *told)
 {
     struct rrcache_answer *answer = walk->answer;
-    size_t room;
+    size_t room, at = answer->size;
     uint8_t *buffer = begin_rrset(answer, &room);
-    const struct lookup lookup = {&WITH_ALIAS, &answer->end, &walk->question, told, buffer, room};
+    struct lookup lookup = {&WITH_ALIAS, &answer->end, &walk->question, told,
+                            buffer,      room,         NO_TURN};
     enum rrcache_status status = look_up(walk->cache, &lookup);
+    walk->turn = lookup.turn;
     if (status != RRCACHE_DONE)
         return status;
     if (told->kind != RRCACHE_MISS && told->kind != RRCACHE_FAILED)
         end_rrset(answer, told, walk->question.rclass);
-    return RRCACHE_DONE;
+    return is_cname(told) && answer->with_dnames ? put_dname_above(walk, at, told) : RRCACHE_DONE;
 }
 
-/* Whether what was told is an alias that leads on. */
+/* Whether a reply is a CNAME record that leads on. */
 static bool is_alias(const struct walk *walk, const struct rrcache_told *told)
 {
     return (told->kind == RRCACHE_FRESH || told->kind == RRCACHE_STALE)
            && told->rtype != walk->question.rtype;
 }
 
-/* Peeks at the type that was asked for, of the name that the chain begins with, and tells the event
-   that stored its failure, or 0. */
+/* Peeks for the question itself, and gets the number of the event that stored its failure, or 0. */
 static enum rrcache_status peek_failure(const struct walk *walk, struct rrcache_told *told,
                                         uint64_t *number)
 {
     const struct rrcache_name *asked = &walk->answer->end;
     struct part *part = &walk->cache->part[asked->part];
-    struct place *place = place_of(walk->cache, part);
     struct rrcache_question question = walk->question;
     struct rrcache_stored stored = {0};
     question.mode = RRCACHE_NO_STALE;
-    pthread_mutex_lock(&place->lock);
+    struct place *place = take_place(walk->cache, part);
     enum rrcache_status status = rrcache_peek(&part->shelf, asked, &question, told, NULL, 0);
     if (status == RRCACHE_DONE && told->kind == RRCACHE_FAILED)
         status = rrcache_tell_stored(&part->shelf, asked, &question, &stored);
-    pthread_mutex_unlock(&place->lock);
+    leave_place(part, place);
     *number = stored.failure.number;
     return status == RRCACHE_SMALL ? RRCACHE_DONE
-                                   : status; /* data are held, and no failure counts */
+                                   : status; /* there are data, so no failure counts */
 }
 
-/* Looks whether asking for the question failed, once it has turned out that its name is an alias,
-   and later than that was stored: then data past their time will do for each name of the chain,
-   where they may be told. Else they will do for a name for which asking failed, as for the one that
-   was asked for upstream. */
+/* Checks whether the question has failed recently, once its name has turned out to be an alias. If
+   it failed after the alias was stored, stale data are acceptable for every name of the chain, if
+   the mode allows them at all. Otherwise they are acceptable only for names that have failed
+   themselves, such as the one that was asked for upstream. */
 static enum rrcache_status find_failure(struct walk *walk, const struct rrcache_told *alias)
 {
     struct rrcache_told told = {0};
@@ -163,8 +205,7 @@ static enum rrcache_status find_failure(struct walk *walk, const struct rrcache_
     return RRCACHE_DONE;
 }
 
-/* Notes what stands at the end of the chain. Where that is a miss, asking for the question may have
-   failed. */
+/* Writes the end of the chain to the answer. If that is a miss, the question may have failed. */
 static void end_walk(const struct walk *walk, const struct rrcache_told *told)
 {
     struct rrcache_answer *answer = walk->answer;
@@ -204,23 +245,48 @@ static struct rrcache_question question_of(const struct rrcache_request *request
     };
 }
 
+/* ---- A question. */
+
+/* Whether one part gave an answer by itself. A CNAME record that is asked for may come with a DNAME
+   RRset of another part. */
+static bool is_of_one_part(const struct walk *walk)
+{
+    const struct rrcache_answer *answer = walk->answer;
+    return answer->size != 0 && answer->aliases == 0 && walk->question.rtype != RRTYPE_CNAME;
+}
+
+/* Walks from the name of a question, which was recalled or is made first, and keeps the answer if
+   it may. */
+static enum rrcache_status answer_by_walk(struct walk *walk, const struct recall *recall)
+{
+    const struct rrcache_request *request = recall->request;
+    enum rrcache_status status = RRCACHE_DONE;
+    if (recall->recalled == NOTHING)
+        status = rrcache_make_name(&walk->answer->end, request->name, request->name_size,
+                                   &walk->cache->parts);
+    if (status == RRCACHE_DONE)
+        status = walk_on(walk);
+    if (status == RRCACHE_DONE && recall->slot != NULL && is_of_one_part(walk))
+        keep(recall, walk->turn);
+    return end_answer(walk->answer, status);
+}
+
 enum rrcache_status rrcache_lookup(struct rrcache *cache, const struct rrcache_request *request,
                                    struct rrcache_answer *answer)
 {
     if (answer == NULL || !clear_answer(answer) || cache == NULL || request == NULL)
         return RRCACHE_NULL;
     struct walk walk = {.cache = cache, .answer = answer, .question = question_of(request)};
-    enum rrcache_status status =
-        rrcache_make_name(&answer->end, request->name, request->name_size, &cache->parts);
-    if (status == RRCACHE_DONE)
-        status = walk_on(&walk);
-    return end_answer(answer, status);
+    struct recall it = {
+        .cache = cache, .request = request, .question = &walk.question, .answer = answer};
+    recall(&it);
+    return it.recalled == ANSWER ? RRCACHE_DONE : answer_by_walk(&walk, &it);
 }
 
 /* ---- Delegations. */
 
-/* Looks up the NS RRset of a name; the answer has it where it is fresh. Of a denial nothing is
-   told, so that it needs no room. */
+/* Looks up the NS RRset of a name, and appends it to the answer if it is fresh. A negative answer
+   is left out, so it needs no room. */
 static enum rrcache_status find_servers(struct rrcache *cache,
                                         const struct rrcache_question *question,
                                         struct rrcache_answer *answer)
@@ -228,7 +294,7 @@ static enum rrcache_status find_servers(struct rrcache *cache,
     struct rrcache_told told = {0};
     size_t room;
     uint8_t *buffer = begin_rrset(answer, &room);
-    const struct lookup lookup = {&BY_ITSELF, &answer->end, question, &told, buffer, room};
+    struct lookup lookup = {&BY_ITSELF, &answer->end, question, &told, buffer, room, NO_TURN};
     enum rrcache_status status = look_up(cache, &lookup);
     if (status == RRCACHE_SMALL && told.kind != RRCACHE_FRESH)
         return RRCACHE_DONE;
@@ -248,7 +314,7 @@ enum rrcache_status rrcache_lookup_delegation(struct rrcache *cache,
     struct rrcache_request servers = *request;
     servers.rtype = NS;
     servers.mode = RRCACHE_NO_STALE;
-    servers.takes_glue = true; /* a referral's NS RRset answers no question */
+    servers.takes_glue = true; /* the NS RRset of a referral answers no question */
     const struct rrcache_question question = question_of(&servers);
     size_t at = 0;
     enum rrcache_status status;
@@ -259,7 +325,7 @@ enum rrcache_status rrcache_lookup_delegation(struct rrcache *cache,
             status = find_servers(cache, &question, answer);
         if (status != RRCACHE_DONE || answer->kind == RRCACHE_FRESH)
             return end_answer(answer, status);
-        at += request->name[at] + (size_t)1; /* behind its first label */
+        at += request->name[at] + (size_t)1; /* behind the first label */
     } while (at < request->name_size);
     return RRCACHE_DONE;
 }

@@ -1,96 +1,139 @@
 /* SPDX-License-Identifier: MIT */
-/* stores.c: what is stored in a cache, and what is forgotten and swept. */
-#include "cache.h"
+/* stores.c: storing in a cache, forgetting and sweeping. */
+#include "places.h"
 
-#include <string.h>
-
-enum { CNAME = 5, ANY = 255 };
-/* What an RRset of a response takes in a cache at most, but for its data: so many for each octet of
-   the response, of which a record has 11 or more and takes 64 beside its data, and so many for its
-   names and the rest. */
+/* The most that an RRset of a response takes in a cache, without its rdata: so many octets for each
+   octet of the response, since a record has 11 or more and takes 64 in addition to its rdata, and
+   so many for its names and the rest. */
 enum { OCTETS_FOR_ONE = 6, OCTETS_BESIDE = 2048 };
-/* What its data take: so many for each octet of the response, since two names of 255 may be
-   pointers in a record of 15, and at most as many as `rrcache_read_response` takes. */
+/* The most that its rdata take: so many octets for each octet of the response, since a record of 15
+   may have pointers to two names of 255, and in all what `rrcache_read_response` takes at most. */
 enum { DATA_FOR_ONE = 34, MOST_DATA = 16384 };
-/* Each RRset, denial or failure of a response that was read for a query has room in so many octets
-   (`rrcache_tell_offer`). */
+/* A buffer of this size has room for each RRset, negative answer or failure of a response that was
+   read for a query (`rrcache_tell_offer`). */
 enum { OFFER_OCTETS = 28551 };
-/* So many keys go in one step of a sweep. */
-enum { STEP_KEYS = 64 };
+/* The keys that go in one step of a sweep, and the types that one step of forgetting looks at. */
+enum { STEP_KEYS = 64, STEP_TYPES = 256 };
+enum { TYPES = 65536 };
 
-static bool is_same_name(const struct rrcache_name *one, const struct rrcache_name *other)
+/* The key of what is stored: an RRset and NODATA have the key of their name and type, a failure has
+   another one for these, and an NXDOMAIN has a key without a type. */
+struct key {
+    const struct rrcache_name *name;
+    uint32_t kind; /* enum rrcache_kind */
+    uint32_t rtype;
+    uint16_t rclass;
+};
+
+/* Whether a part holds a key. */
+static bool is_held(const struct part *part, const struct key *key)
 {
-    return one->hash == other->hash && one->size == other->size
-           && memcmp(one->octets, other->octets, one->size) == 0;
+    const struct rrcache_question question = {
+        .rtype = key->kind == RRCACHE_NXDOMAIN ? RRTYPE_ANY : (uint16_t)key->rtype,
+        .rclass = key->rclass,
+    };
+    struct rrcache_stored stored = {0};
+    rrcache_tell_stored(&part->shelf, key->name, &question, &stored);
+    const struct rrcache_entry *entry = key->kind == RRCACHE_NXDOMAIN ? &stored.nxdomain
+                                        : key->kind == RRCACHE_FAILED ? &stored.failure
+                                                                      : &stored.set;
+    return entry->kind != 0;
 }
 
-static void count_outcome(struct part *part, uint32_t outcome)
+/* Whether a locked part evicts a key if it keeps this one: it has as many as it may have, and does
+   not hold this one. */
+static bool will_evict(const struct rrcache *cache, const struct part *part, const struct key *key)
+{
+    return part->keys >= cache->most_keys && !is_held(part, key);
+}
+
+static void count_outcome(struct part *part, uint32_t outcome, bool evicts)
 {
     part->kept += outcome == RRCACHE_KEPT;
     part->outranked += outcome == RRCACHE_OUTRANKED;
+    part->evicted += outcome == RRCACHE_KEPT && evicts;
 }
 
 /* ---- Responses. */
 
-/* A response on its way into a cache. */
+/* A response that is being stored. */
 struct intake {
     struct rrcache *cache;
     struct rrcache_offers offers;
     struct rrcache_report report;
-    uint64_t concerned; /* the shelves, a bit for each */
+    uint64_t concerned;  /* a bit for each shelf */
+    uint64_t one_by_one; /* the shelves in which offers are stored one by one */
+    uint64_t most_keys;  /* an upper bound of the keys that it stores */
     uint64_t moment;
     uint16_t rclass;
 };
 
-static void add_counts(struct intake *intake, struct part *part,
-                       const struct rrcache_counts *counts)
+static void add_counts(struct intake *intake, const struct rrcache_counts *counts)
 {
     intake->report.counts.kept += counts->kept;
     intake->report.counts.cleared += counts->cleared;
     intake->report.counts.outranked += counts->outranked;
-    part->kept += counts->kept;
-    part->outranked += counts->outranked;
 }
 
-/* Stores each shelf's share of what was read. */
+/* Stores the share of a locked part in what was read. */
+static enum rrcache_status store_share(struct intake *intake, struct part *part,
+                                       const struct rrcache_share *share)
+{
+    struct rrcache_counts counts = {0};
+    enum rrcache_status status = rrcache_offer_read(&part->shelf, &intake->offers, share, &counts);
+    add_counts(intake, &counts);
+    part->kept += counts.kept;
+    part->outranked += counts.outranked;
+    settle(intake->cache, part, intake->moment);
+    return status;
+}
+
+/* Stores the share of each shelf in what was read, except in shelves in which it is stored one by
+   one. These include shelves that may reach their number of keys, so that evicted keys are counted.
+ */
 static enum rrcache_status store_shares(struct intake *intake)
 {
     struct rrcache_share share = {0};
     enum rrcache_status status = RRCACHE_DONE;
     for (; share.part < intake->cache->parts.count && status == RRCACHE_DONE; share.part++) {
         struct part *part = &intake->cache->part[share.part];
-        struct rrcache_counts counts = {0};
-        if ((intake->concerned >> share.part & 1) == 0)
+        if (((intake->concerned & ~intake->one_by_one) >> share.part & 1) == 0)
             continue;
         lock_part(intake->cache, part);
-        status = rrcache_offer_read(&part->shelf, &intake->offers, &share, &counts);
-        add_counts(intake, part, &counts);
-        settle(intake->cache, part, intake->moment);
+        if (part->keys + intake->most_keys > intake->cache->most_keys)
+            intake->one_by_one |= UINT64_C(1) << share.part;
+        else
+            status = store_share(intake, part, &share);
         unlock_part(intake->cache, part);
     }
     return status;
 }
 
-/* Stores one of what was read, by its number. */
-static enum rrcache_status store_one(struct intake *intake, uint64_t index, uint64_t number)
+/* Stores one of the offers that were read, by its number. */
+static enum rrcache_status store_one(struct intake *intake, uint64_t index, const struct key *key)
 {
     const struct rrcache_offer_pick pick = {.index = index};
-    struct part *part = &intake->cache->part[number];
+    struct part *part = &intake->cache->part[key->name->part];
     uint32_t outcome = 0;
     lock_part(intake->cache, part);
+    bool evicts = will_evict(intake->cache, part, key);
+    if (key->rtype == RRTYPE_CNAME)
+        note_alias(part, key->name);
     enum rrcache_status status = rrcache_offer_one(&part->shelf, &intake->offers, &pick, &outcome);
     const struct rrcache_counts counts = {
         .kept = outcome == RRCACHE_KEPT,
         .cleared = outcome == RRCACHE_CLEARED,
         .outranked = outcome == RRCACHE_OUTRANKED,
     };
-    add_counts(intake, part, &counts);
+    add_counts(intake, &counts);
+    count_outcome(part, outcome, evicts);
     settle(intake->cache, part, intake->moment);
     unlock_part(intake->cache, part);
     return status;
 }
 
-/* Stores one after another of what was read, but for what is too large for a shelf. */
+/* Stores offers one by one, in the shelves that are not stored in at once, except offers that are
+   too large for a shelf. */
 static enum rrcache_status store_what_fits(struct intake *intake)
 {
     uint8_t buffer[OFFER_OCTETS];
@@ -106,94 +149,16 @@ static enum rrcache_status store_what_fits(struct intake *intake)
             status = rrcache_tell_octets(&name, &told, buffer, sizeof buffer, &octets);
         if (status != RRCACHE_DONE)
             return status;
+        if ((intake->one_by_one >> name.part & 1) == 0)
+            continue;
+        const struct key key = {&name, told.kind, told.rtype, intake->rclass};
         bool fits = octets <= intake->cache->most_octets;
         intake->report.too_large += !fits;
         if (fits)
-            status = store_one(intake, index, name.part);
+            status = store_one(intake, index, &key);
         if (status != RRCACHE_DONE)
             return status;
     }
-}
-
-/* Whether it is data of the answer section that were told. */
-static bool is_answer(const struct rrcache_told *told)
-{
-    return told->kind == RRCACHE_FRESH
-           && (told->entry.trust == RRCACHE_AUTHORITATIVE_ANSWER
-               || told->entry.trust == RRCACHE_NON_AUTHORITATIVE_ANSWER);
-}
-
-/* Whether what was told of a name is of a type, any where that is ANY: data, that there are none,
-   that the name does not exist, that asking failed. */
-static bool is_of(const struct rrcache_told *told, uint16_t rtype)
-{
-    if (told->kind == RRCACHE_FRESH)
-        return is_answer(told) && (told->rtype == rtype || rtype == ANY);
-    return told->kind == RRCACHE_NXDOMAIN || told->rtype == rtype;
-}
-
-/* Finds what a response says of the name that its answer has reached, for a type, from a number on,
-   and puts it into the answer. Where it says nothing more, `told` tells a miss. */
-static enum rrcache_status take_said(struct intake *intake, struct rrcache_answer *answer,
-                                     uint16_t rtype, uint64_t *index, struct rrcache_told *told)
-{
-    struct rrcache_name name = {0};
-    size_t room;
-    uint8_t *buffer = begin_rrset(answer, &room);
-    enum rrcache_status status;
-    do {
-        status = rrcache_tell_offer(&intake->offers, (*index)++, &name, told, NULL, 0);
-        if (status == RRCACHE_NO_OFFERS) {
-            *told = (struct rrcache_told){.kind = RRCACHE_MISS};
-            return RRCACHE_DONE;
-        }
-    } while (!is_same_name(&name, &answer->end) || !is_of(told, rtype));
-    status = rrcache_tell_offer(&intake->offers, *index - 1, &name, told, buffer, room);
-    if (status == RRCACHE_DONE && told->kind != RRCACHE_FAILED)
-        end_rrset(answer, told, intake->rclass);
-    return status;
-}
-
-/* Puts what a response says of one name into its answer: of the type, all there is where that is
-   ANY, or else its alias. */
-static enum rrcache_status take_name(struct intake *intake, uint16_t rtype,
-                                     struct rrcache_answer *answer, struct rrcache_told *told)
-{
-    struct rrcache_told more = {0};
-    uint64_t index = 0;
-    enum rrcache_status status = take_said(intake, answer, rtype, &index, told);
-    more.kind = told->kind;
-    while (rtype == ANY && status == RRCACHE_DONE && more.kind == RRCACHE_FRESH)
-        status = take_said(intake, answer, rtype, &index, &more);
-    index = 0;
-    if (status == RRCACHE_DONE && told->kind == RRCACHE_MISS)
-        status = take_said(intake, answer, CNAME, &index, told);
-    return status;
-}
-
-/* Makes the answer of a response: the aliases of its name, and what stands at their end. */
-static enum rrcache_status answer_from(struct intake *intake, const struct rrcache_query *query,
-                                       struct rrcache_answer *answer)
-{
-    struct rrcache_told told = {0};
-    enum rrcache_status status =
-        rrcache_make_name(&answer->end, query->name, query->name_size, &intake->cache->parts);
-    while (status == RRCACHE_DONE) {
-        status = take_name(intake, query->rtype, answer, &told);
-        bool is_alias = told.rtype != query->rtype && query->rtype != ANY;
-        if (status != RRCACHE_DONE || told.kind != RRCACHE_FRESH || !is_alias)
-            break;
-        if (answer->aliases == RRCACHE_MOST_ALIASES) {
-            answer->is_endless = true;
-            return RRCACHE_DONE;
-        }
-        status = follow_alias(intake->cache, answer, &told);
-    }
-    if (status == RRCACHE_DONE) {
-        answer->kind = told.kind;
-        answer->retry_from = told.retry_from;
-    }
-    return status;
 }
 
 /* Whether all that octets of a response may say has room in a shelf, each by itself. */
@@ -206,7 +171,20 @@ static bool fits_surely(const struct rrcache *cache, const struct rrcache_respon
                   <= cache->most_octets;
 }
 
-/* A response with the cache's limits in place of those that are 0, and its moment. */
+/* Whether a response may have a CNAME record of a class. In a record the class follows the type. */
+static bool may_have_alias(const struct rrcache_response *response, uint16_t rclass)
+{
+    const uint8_t *at = response->octets + RRCACHE_HEADER_OCTETS,
+                  *end = response->octets + response->size;
+    while ((at = memchr(at, RRTYPE_CNAME, (size_t)(end - at))) != NULL) {
+        if (end - at > 2 && at[-1] == 0 && at[1] == rclass >> 8 && at[2] == (rclass & 255))
+            return true;
+        at++;
+    }
+    return false;
+}
+
+/* A response with the cache's limits in place of those that are 0, and with its timestamp. */
 static struct rrcache_response completed(const struct rrcache *cache,
                                          const struct rrcache_response *given)
 {
@@ -237,23 +215,29 @@ enum rrcache_status rrcache_store(struct rrcache *cache, const struct rrcache_qu
     if (status != RRCACHE_DONE)
         return status;
     rrcache_tell_response(&intake.offers, &intake.report.name, &intake.report.summary);
-    status = fits_surely(cache, &whole) ? store_shares(&intake) : store_what_fits(&intake);
+    bool is_plain = fits_surely(cache, &whole) && !may_have_alias(&whole, query->rclass);
+    intake.one_by_one = is_plain ? 0 : UINT64_MAX;
+    intake.most_keys = most_offers(&whole);
+    status = store_shares(&intake);
+    if (status == RRCACHE_DONE && intake.one_by_one != 0)
+        status = store_what_fits(&intake);
     if (status == RRCACHE_DONE && answer != NULL)
-        status = end_answer(answer, answer_from(&intake, query, answer));
+        status = end_answer(answer, tell_answer(cache, &intake.offers, &intake.report.summary,
+                                                query, &whole, answer));
     rrcache_free_offers(&intake.offers);
     *report = intake.report;
     return status;
 }
 
-/* ---- What the caller has of his own. */
+/* ---- What a caller has of its own. */
 
-/* What a key takes, by the owner and the room of its data (`rrcache_sizes`). */
+/* What a key takes, from its owner and the room of its data (`rrcache_sizes`). */
 static uint64_t key_octets(const struct rrcache_name *name, const uint8_t *owner, size_t owner_size,
                            uint64_t data_room)
 {
     uint64_t octets =
         RRCACHE_ENTRY_OCTETS + RRCACHE_SHARED_OCTETS + rrcache_room(name->size) + data_room;
-    if (!rrcache_are_same(owner, owner_size, name->octets, name->size))
+    if (owner_size != name->size || memcmp(owner, name->octets, owner_size) != 0)
         octets += RRCACHE_SHARED_OCTETS + rrcache_room(owner_size);
     return octets;
 }
@@ -275,10 +259,14 @@ enum rrcache_status rrcache_store_set(struct rrcache *cache, const struct rrcach
         > cache->most_octets)
         return RRCACHE_TOO_LARGE;
     struct part *part = &cache->part[name.part];
+    const struct key key = {&name, RRCACHE_FRESH, set->rtype, set->rclass};
     lock_part(cache, part);
+    bool evicts = will_evict(cache, part, &key);
+    if (set->rtype == RRTYPE_CNAME)
+        note_alias(part, &name);
     status = rrcache_offer_set(&part->shelf, &offered, outcome);
     if (status == RRCACHE_DONE)
-        count_outcome(part, *outcome);
+        count_outcome(part, *outcome, evicts);
     settle(cache, part, offered.moment);
     unlock_part(cache, part);
     return status;
@@ -303,10 +291,12 @@ enum rrcache_status rrcache_store_negative(struct rrcache *cache,
         > cache->most_octets)
         return RRCACHE_TOO_LARGE;
     struct part *part = &cache->part[name.part];
+    const struct key key = {&name, (uint32_t)negative->kind, negative->rtype, negative->rclass};
     lock_part(cache, part);
+    bool evicts = will_evict(cache, part, &key);
     status = rrcache_offer_negative(&part->shelf, &offered, outcome);
     if (status == RRCACHE_DONE)
-        count_outcome(part, *outcome);
+        count_outcome(part, *outcome, evicts);
     settle(cache, part, offered.moment);
     unlock_part(cache, part);
     return status;
@@ -325,10 +315,12 @@ enum rrcache_status rrcache_store_failure(struct rrcache *cache,
     if (status != RRCACHE_DONE)
         return status;
     struct part *part = &cache->part[name.part];
+    const struct key key = {&name, RRCACHE_FAILED, failure->rtype, failure->rclass};
     lock_part(cache, part);
+    bool evicts = will_evict(cache, part, &key);
     status = rrcache_offer_failure(&part->shelf, &offered, outcome);
     if (status == RRCACHE_DONE)
-        count_outcome(part, *outcome);
+        count_outcome(part, *outcome, evicts);
     settle(cache, part, offered.moment);
     unlock_part(cache, part);
     return status;
@@ -336,8 +328,8 @@ enum rrcache_status rrcache_store_failure(struct rrcache *cache,
 
 /* ---- Forgetting. */
 
-/* Clears that a name does not exist, or what is held of its type: an offer whose TTL is 0, trusted
-   most, of a denial with an SOA record of zeros. */
+/* Clears the NXDOMAIN of a name, or what is held for a type: offers a negative answer with TTL 0,
+   of the highest rank, and with an SOA record of zeros. */
 static enum rrcache_status clear(struct part *part, const struct rrcache_request *request,
                                  enum rrcache_kind kind, uint64_t moment)
 {
@@ -359,9 +351,12 @@ static enum rrcache_status clear(struct part *part, const struct rrcache_request
     return rrcache_offer_negative(&part->shelf, &negative, &outcome);
 }
 
+/* Clears a failure: replaces it by one with TTL 0, and removes that by a sweep at timestamp 0, at
+   which nothing else is expired. */
 static enum rrcache_status clear_failure(struct part *part, const struct rrcache_request *request,
                                          uint64_t moment)
 {
+    const struct rrcache_sweep_at sweep = {.moment = 0};
     const struct rrcache_failure failure = {
         .name = request->name,
         .name_size = request->name_size,
@@ -369,11 +364,13 @@ static enum rrcache_status clear_failure(struct part *part, const struct rrcache
         .rclass = request->rclass,
         .moment = moment,
     };
+    uint64_t removed;
     uint32_t outcome;
-    return rrcache_offer_failure(&part->shelf, &failure, &outcome);
+    enum rrcache_status status = rrcache_offer_failure(&part->shelf, &failure, &outcome);
+    return status == RRCACHE_DONE ? rrcache_sweep(&part->shelf, &sweep, &removed) : status;
 }
 
-/* Clears what a part, which is locked, holds of a name, a class and a type. */
+/* Clears what a locked part holds for a name, a class and a type. */
 static enum rrcache_status clear_all(struct part *part, const struct rrcache_name *name,
                                      const struct rrcache_request *request)
 {
@@ -390,6 +387,110 @@ static enum rrcache_status clear_all(struct part *part, const struct rrcache_nam
     return status;
 }
 
+/* Forgets what is held of a name, a class and a type. */
+static enum rrcache_status forget_type(struct rrcache *cache, const struct rrcache_name *name,
+                                       const struct rrcache_request *request)
+{
+    struct part *part = &cache->part[name->part];
+    lock_part(cache, part);
+    enum rrcache_status status = clear_all(part, name, request);
+    settle(cache, part, moment_of(request->moment));
+    unlock_part(cache, part);
+    return status;
+}
+
+/* Forgets what is held of a name, a class and a type and was stored before the name's NXDOMAIN. */
+static enum rrcache_status forget_hidden(struct rrcache *cache, const struct rrcache_name *name,
+                                         const struct rrcache_request *request)
+{
+    struct part *part = &cache->part[name->part];
+    const struct rrcache_question question = {.rtype = request->rtype, .rclass = request->rclass};
+    struct rrcache_stored stored = {0};
+    lock_part(cache, part);
+    enum rrcache_status status = rrcache_tell_stored(&part->shelf, name, &question, &stored);
+    if (status == RRCACHE_DONE && stored.set.kind != 0
+        && stored.set.number < stored.nxdomain.number)
+        status = clear(part, request, RRCACHE_NODATA, moment_of(request->moment));
+    unlock_part(cache, part);
+    return status;
+}
+
+/* Whether a name has an NXDOMAIN. */
+static bool is_denied(struct rrcache *cache, const struct rrcache_name *name, uint16_t rclass)
+{
+    struct part *part = &cache->part[name->part];
+    const struct rrcache_question question = {.rtype = RRTYPE_ANY, .rclass = rclass};
+    struct rrcache_stored stored = {0};
+    struct place *place = take_place(cache, part);
+    rrcache_tell_stored(&part->shelf, name, &question, &stored);
+    leave_place(part, place);
+    return stored.nxdomain.kind != 0;
+}
+
+/* Looks at up to STEP_TYPES types of a name, from `next` on. Returns whether a part holds something
+   for one of them, and sets `next` to the first such type. */
+static bool step_to_held(const struct part *part, const struct rrcache_name *name, uint16_t rclass,
+                         uint32_t *next)
+{
+    uint32_t end = *next + STEP_TYPES < TYPES ? *next + STEP_TYPES : TYPES;
+    struct rrcache_stored stored = {0};
+    for (; *next < end; ++*next) {
+        const struct rrcache_question question = {.rtype = (uint16_t)*next, .rclass = rclass};
+        rrcache_tell_stored(&part->shelf, name, &question, &stored);
+        if (stored.set.kind != 0 || stored.failure.kind != 0)
+            return true;
+    }
+    return false;
+}
+
+/* Finds the first type, from `next` on, for which something is held of a name. No call of a shelf
+   lists the types of a name, so it looks at each of them. It takes a place anew for each step, so
+   that no other thread waits long. */
+static bool find_held(struct rrcache *cache, const struct rrcache_name *name, uint16_t rclass,
+                      uint32_t *next)
+{
+    struct part *part = &cache->part[name->part];
+    bool is_held;
+    do {
+        struct place *place = take_place(cache, part);
+        is_held = step_to_held(part, name, rclass, next);
+        leave_place(part, place);
+    } while (!is_held && *next < TYPES);
+    return is_held;
+}
+
+/* Forgets what is held of a name and a class for each type, in a way. */
+static enum rrcache_status
+forget_types(struct rrcache *cache, const struct rrcache_name *name,
+             const struct rrcache_request *request,
+             enum rrcache_status (*forget)(struct rrcache *, const struct rrcache_name *,
+                                           const struct rrcache_request *))
+{
+    struct rrcache_request of_type = *request;
+    enum rrcache_status status = RRCACHE_DONE;
+    uint32_t next = 1;
+    while (status == RRCACHE_DONE && find_held(cache, name, request->rclass, &next)) {
+        of_type.rtype = (uint16_t)next++;
+        status = forget(cache, name, &of_type);
+    }
+    return status;
+}
+
+/* Forgets all that is held of a name and a class. What an NXDOMAIN hides goes before the NXDOMAIN,
+   so that no look-up finds it in between. */
+static enum rrcache_status forget_name(struct rrcache *cache, const struct rrcache_name *name,
+                                       const struct rrcache_request *request)
+{
+    enum rrcache_status status = RRCACHE_DONE;
+    if (is_denied(cache, name, request->rclass))
+        status = forget_types(cache, name, request, forget_hidden);
+    if (status == RRCACHE_DONE)
+        status = forget_type(cache, name, request); /* with ANY it is the NXDOMAIN only */
+    if (status == RRCACHE_DONE)
+        status = forget_types(cache, name, request, forget_type);
+    return status;
+}
+
 enum rrcache_status rrcache_forget(struct rrcache *cache, const struct rrcache_request *request)
 {
     struct rrcache_name name;
@@ -399,17 +500,13 @@ enum rrcache_status rrcache_forget(struct rrcache *cache, const struct rrcache_r
         rrcache_make_name(&name, request->name, request->name_size, &cache->parts);
     if (status != RRCACHE_DONE)
         return status;
-    struct part *part = &cache->part[name.part];
-    lock_part(cache, part);
-    status = clear_all(part, &name, request);
-    settle(cache, part, moment_of(request->moment));
-    unlock_part(cache, part);
-    return status;
+    return request->rtype == RRTYPE_ANY ? forget_name(cache, &name, request)
+                                        : forget_type(cache, &name, request);
 }
 
 /* ---- Sweeping. */
 
-/* Sweeps one part in steps, until so many keys went. */
+/* Sweeps one part in steps, until so many keys are removed. */
 static enum rrcache_status sweep_part(struct rrcache *cache, struct part *part, uint64_t moment,
                                       uint64_t most, struct rrcache_swept *swept)
 {
@@ -433,7 +530,7 @@ static enum rrcache_status sweep_part(struct rrcache *cache, struct part *part, 
     return status;
 }
 
-/* Sweeps one part after another, from the one on where the last sweep ended. */
+/* Sweeps one part after another, from the one in which the last sweep ended. */
 static enum rrcache_status sweep_parts(struct rrcache *cache, uint64_t moment, uint64_t most,
                                        struct rrcache_swept *swept)
 {

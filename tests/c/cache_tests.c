@@ -1147,6 +1147,106 @@ static void test_composed_answers(void)
     rrcache_close(to);
 }
 
+/* ---- Entries, by which a resolver sees when data are to be renewed. */
+
+/* Whether an entry is of this kind, trust and TTL, and was stored at a moment. */
+static bool is_entry(const struct rrcache_entry *entry, uint32_t kind, uint32_t trust, uint32_t ttl,
+                     uint64_t moment)
+{
+    return entry->kind == kind && entry->trust == trust && entry->ttl == ttl
+           && entry->moment == moment;
+}
+
+/* The TTL and the moment are those of storing, whatever time has passed since. */
+static void test_entries(void)
+{
+    struct rrcache *cache = open_small();
+    struct rrcache_answer answer;
+    struct rrcache_rrset rrset;
+    EXPECT(keep_at(cache, "www.example", 60, FIRST + 5, RRCACHE_NON_AUTHORITATIVE_ANSWER)
+               == RRCACHE_KEPT
+           && keep_alias(cache, "alias.example", "www.example", 90) == RRCACHE_KEPT
+           && deny(cache, "none.example", RRCACHE_NXDOMAIN, 40) == RRCACHE_KEPT);
+    answer = look(cache, "alias.example", A, FIRST + 55);
+    rrset = nth(&answer, 0);
+    EXPECT(rrset.set.ttl == 35 && rrset.trust == rrset.entry.trust
+           && is_entry(&rrset.entry, RRCACHE_FRESH, RRCACHE_AUTHORITATIVE_ANSWER, 90, FIRST));
+    rrset = nth(&answer, 1);
+    EXPECT(
+        rrset.set.ttl == 10
+        && is_entry(&rrset.entry, RRCACHE_FRESH, RRCACHE_NON_AUTHORITATIVE_ANSWER, 60, FIRST + 5));
+    answer = look_in(cache, "www.example", A, FIRST + 65, RRCACHE_STALE_NOW);
+    rrset = nth(&answer, 0);
+    EXPECT(
+        rrset.kind == RRCACHE_STALE
+        && is_entry(&rrset.entry, RRCACHE_FRESH, RRCACHE_NON_AUTHORITATIVE_ANSWER, 60, FIRST + 5));
+    answer = look(cache, "none.example", A, FIRST + 39);
+    rrset = nth(&answer, 0);
+    EXPECT(rrset.set.ttl == 1
+           && is_entry(&rrset.entry, RRCACHE_NXDOMAIN, RRCACHE_AUTHORITY, 40, FIRST));
+    EXPECT(keep_name(cache, "sub.example", NS, "ns.sub.example", 300) == RRCACHE_KEPT);
+    answer = delegation(cache, "host.sub.example", FIRST + 100);
+    rrset = nth(&answer, 0);
+    EXPECT(rrset.set.ttl == 200
+           && is_entry(&rrset.entry, RRCACHE_FRESH, RRCACHE_AUTHORITATIVE_ANSWER, 300, FIRST));
+    EXPECT(!rrcache_next(&answer, &rrset) && is_entry(&rrset.entry, 0, 0, 0, 0));
+    rrcache_close(cache);
+}
+
+/* Numbers tell the entries of a shelf apart, and an age is told as it was before the look-up. */
+static void test_entries_of_one_shelf(void)
+{
+    struct rrcache_config config = config_of(1);
+    config.exact_recency = true;
+    struct rrcache *cache = open_by(&config);
+    struct rrcache_answer answer;
+    struct rrcache_entry first, second;
+    EXPECT(keep(cache, "first.example", 60) == RRCACHE_KEPT
+           && keep(cache, "second.example", 60) == RRCACHE_KEPT);
+    answer = look(cache, "second.example", A, FIRST);
+    second = nth(&answer, 0).entry;
+    answer = look(cache, "first.example", A, FIRST);
+    first = nth(&answer, 0).entry;
+    EXPECT(first.number < second.number && first.age == 1 && second.age == 0);
+    answer = look(cache, "first.example", A, FIRST);
+    EXPECT(nth(&answer, 0).entry.age == 0 && nth(&answer, 0).entry.number == first.number);
+    answer = look(cache, "second.example", A, FIRST);
+    EXPECT(nth(&answer, 0).entry.age == 1 && nth(&answer, 0).entry.number == second.number);
+    EXPECT(keep(cache, "first.example", 60) == RRCACHE_KEPT);
+    answer = look(cache, "first.example", A, FIRST);
+    EXPECT(nth(&answer, 0).entry.number > second.number);
+    rrcache_close(cache);
+}
+
+/* Of a response the entry is as it is stored, with a TTL that the limits cut, and without what a
+   shelf alone tells. */
+static void test_entries_of_responses(void)
+{
+    static struct message message;
+    struct rrcache_config config = config_of(1);
+    config.limits.cap = 1000;
+    struct rrcache *cache = open_by(&config);
+    struct rrcache_answer answer;
+    struct rrcache_entry entry;
+    EXPECT(keep(cache, "other.example", 60) == RRCACHE_KEPT);
+    begin(&message, AA, "www.example", A);
+    add_answer(&message, "www.example", 5000);
+    store(cache, &message, "www.example", A, &answer);
+    entry = nth(&answer, 0).entry;
+    EXPECT(is_entry(&entry, RRCACHE_FRESH, RRCACHE_AUTHORITATIVE_ANSWER, 1000, FIRST)
+           && entry.number == 0 && entry.age == 0);
+    answer = look(cache, "www.example", A, FIRST + 900);
+    entry = nth(&answer, 0).entry;
+    EXPECT(is_entry(&entry, RRCACHE_FRESH, RRCACHE_AUTHORITATIVE_ANSWER, 1000, FIRST)
+           && entry.number > 0 && nth(&answer, 0).set.ttl == 100);
+    begin(&message, AA, "empty.example", A);
+    add_soa(&message, "example", 900);
+    store(cache, &message, "empty.example", A, &answer);
+    entry = nth(&answer, 0).entry;
+    EXPECT(is_entry(&entry, RRCACHE_NODATA, RRCACHE_AUTHORITATIVE_ANSWER, 60, FIRST));
+    rrcache_close(cache);
+}
+
 /* ---- Delegations. */
 
 static bool is_delegation(const struct rrcache_answer *answer, const char *zone, uint32_t ttl)
@@ -1428,6 +1528,331 @@ static void test_store_of_a_dname(void)
     EXPECT(answer.kind == RRCACHE_FRESH && answer.aliases == 1
            && kind_of(cache, "old.example", 39, FIRST) == RRCACHE_FRESH);
     rrcache_close(cache);
+}
+
+/* ---- DNAME records, told before the CNAME records that they made (RFC 6672 section 3.1). */
+
+enum { DNAME = 39 };
+
+/* Looks up with DNAME records, in a buffer of so many octets. */
+static enum rrcache_status look_with_dnames(struct rrcache *cache, const char *name, uint16_t rtype,
+                                            uint64_t moment, size_t room,
+                                            struct rrcache_answer *answer)
+{
+    struct wire wire = wire_of(name);
+    struct rrcache_request request = request_of(&wire, rtype, moment);
+    request.mode = RRCACHE_STALE_NOW;
+    *answer = blank();
+    answer->room = room;
+    answer->with_dnames = true;
+    return rrcache_lookup(cache, &request, answer);
+}
+
+static struct rrcache *open_with_dname(void)
+{
+    struct rrcache *cache = open_small();
+    NEED(keep_name(cache, "old.example", DNAME, "new.example", 300) == RRCACHE_KEPT
+         && keep_alias(cache, "w.x.old.example", "w.X.new.example", 200) == RRCACHE_KEPT
+         && keep(cache, "w.x.new.example", 100) == RRCACHE_KEPT);
+    return cache;
+}
+
+/* Whether an RRset is the DNAME record of `old.example`. */
+static bool is_dname(const struct rrcache_answer *answer, unsigned number, uint32_t ttl,
+                     uint32_t kind)
+{
+    struct rrcache_rrset rrset = nth(answer, number);
+    return is_rrset(&rrset, "old.example", DNAME, ttl, kind) && has_target(&rrset, "new.example");
+}
+
+static void test_dnames(void)
+{
+    struct rrcache *cache = open_with_dname();
+    struct rrcache_answer answer = look(cache, "w.x.old.example", A, FIRST);
+    EXPECT(answer.kind == RRCACHE_FRESH && answer.aliases == 1 && count_of(&answer) == 2);
+    EXPECT(look_with_dnames(cache, "W.x.old.example", A, FIRST + 9, sizeof space, &answer)
+           == RRCACHE_DONE);
+    struct rrcache_rrset alias = nth(&answer, 1), last = nth(&answer, 2);
+    EXPECT(answer.kind == RRCACHE_FRESH && answer.aliases == 1 && count_of(&answer) == 3
+           && is_dname(&answer, 0, 291, RRCACHE_FRESH) && !answer.is_stale
+           && is_rrset(&alias, "w.x.old.example", CNAME, 191, RRCACHE_FRESH)
+           && has_target(&alias, "w.X.new.example")
+           && is_rrset(&last, "w.x.new.example", A, 91, RRCACHE_FRESH)
+           && is_name(&answer.end, "w.x.new.example"));
+    EXPECT(look_with_dnames(cache, "w.x.old.example", CNAME, FIRST, sizeof space, &answer)
+           == RRCACHE_DONE);
+    EXPECT(answer.kind == RRCACHE_FRESH && answer.aliases == 0 && count_of(&answer) == 2
+           && is_dname(&answer, 0, 300, RRCACHE_FRESH));
+    rrcache_close(cache);
+}
+
+/* An alias to another name than the DNAME record would make, and one of the name that has it. */
+static void test_aliases_that_no_dname_made(void)
+{
+    struct rrcache *cache = open_with_dname();
+    struct rrcache_answer answer;
+    EXPECT(keep_alias(cache, "v.old.example", "v.other.example", 60) == RRCACHE_KEPT
+           && keep_alias(cache, "u.old.example", "v.new.example", 60) == RRCACHE_KEPT
+           && keep_alias(cache, "t.old.example", "t.x.new.example", 60) == RRCACHE_KEPT
+           && keep_alias(cache, "old.example", "new.example", 60) == RRCACHE_KEPT);
+    static const char *const NAMES[] = {"v.old.example", "u.old.example", "t.old.example",
+                                        "old.example"};
+    for (size_t i = 0; i < sizeof NAMES / sizeof *NAMES; i++)
+        EXPECT(look_with_dnames(cache, NAMES[i], A, FIRST, sizeof space, &answer) == RRCACHE_DONE
+               && answer.aliases == 1 && count_of(&answer) == 1);
+    rrcache_close(cache);
+}
+
+/* What is past its time is told with an alias that is. */
+static void test_stale_dnames(void)
+{
+    struct rrcache *cache = open_with_dname();
+    struct rrcache_answer answer;
+    EXPECT(look_with_dnames(cache, "w.x.old.example", A, FIRST + 400, sizeof space, &answer)
+           == RRCACHE_DONE);
+    EXPECT(answer.is_stale && answer.aliases == 1 && count_of(&answer) == 3
+           && is_dname(&answer, 0, 30, RRCACHE_STALE));
+    rrcache_close(cache);
+}
+
+/* With each room that is too small the call is refused, and what is told is whole. */
+static void test_rooms_of_dnames(void)
+{
+    struct rrcache *cache = open_with_dname();
+    struct rrcache_answer answer;
+    EXPECT(look_with_dnames(cache, "w.x.old.example", A, FIRST, sizeof space, &answer)
+           == RRCACHE_DONE);
+    size_t whole = answer.size;
+    for (size_t room = 0; room < whole; room++) {
+        EXPECT(look_with_dnames(cache, "w.x.old.example", A, FIRST, room, &answer)
+               == RRCACHE_SMALL);
+        EXPECT(answer.size <= room && count_of(&answer) < 3);
+    }
+    EXPECT(look_with_dnames(cache, "w.x.old.example", A, FIRST, whole, &answer) == RRCACHE_DONE
+           && count_of(&answer) == 3);
+    rrcache_close(cache);
+}
+
+/* Data that may be used once are told, and so is the DNAME record that stands behind its alias. */
+static void test_dnames_of_responses(void)
+{
+    static struct message message;
+    struct rrcache *cache = open_small();
+    struct wire target = wire_of("new.example");
+    struct rrcache_answer answer = blank();
+    struct rrcache_report report;
+    begin(&message, 0, "w.old.example", A);
+    add_alias(&message, "w.old.example", "w.new.example", 0);
+    add(&message, RRCACHE_ANSWER_SECTION, "old.example", DNAME, 0, target.octets, target.size);
+    add(&message, RRCACHE_ANSWER_SECTION, "other.example", DNAME, 0, target.octets, target.size);
+    add_answer(&message, "w.new.example", 0);
+    for (int with = 0; with < 2; with++) {
+        answer.with_dnames = with;
+        EXPECT(try_to_store(cache, &message, "w.old.example", A, &report, &answer) == RRCACHE_DONE);
+        EXPECT(answer.kind == RRCACHE_FRESH && answer.aliases == 1
+               && count_of(&answer) == 2u + (unsigned)with && keys(cache) == 0
+               && is_dname(&answer, 0, 0, RRCACHE_FRESH) == with);
+    }
+    rrcache_close(cache);
+}
+
+/* ---- Responses that say more than what is relevant, and so stored. */
+
+/* A response with a chain of so many aliases, and an address at its end. */
+static void write_chain(struct message *message, int aliases)
+{
+    begin(message, 0, link_of(0), A);
+    for (int i = 0; i < aliases; i++)
+        add_alias(message, link_of(i), link_of(i + 1), 60);
+    add_answer(message, link_of(aliases), 60);
+}
+
+/* At most 11 aliases are stored, and 16 are told. */
+static void test_store_of_a_long_chain(void)
+{
+    static struct message message;
+    struct rrcache *cache = open_small();
+    struct rrcache_answer answer;
+    write_chain(&message, RRCACHE_MOST_ALIASES);
+    store(cache, &message, link_of(0), A, &answer);
+    struct rrcache_rrset last = nth(&answer, RRCACHE_MOST_ALIASES);
+    EXPECT(answer.kind == RRCACHE_FRESH && answer.aliases == RRCACHE_MOST_ALIASES
+           && count_of(&answer) == RRCACHE_MOST_ALIASES + 1
+           && is_rrset(&last, link_of(RRCACHE_MOST_ALIASES), A, 60, RRCACHE_FRESH)
+           && last.trust == RRCACHE_NON_AUTHORITATIVE_ANSWER);
+    answer = look(cache, link_of(0), A, FIRST);
+    EXPECT(answer.kind == RRCACHE_MISS && answer.aliases < RRCACHE_MOST_ALIASES);
+    write_chain(&message, RRCACHE_MOST_ALIASES + 1);
+    store(cache, &message, link_of(0), A, &answer);
+    EXPECT(answer.kind == RRCACHE_MISS && answer.is_endless);
+    rrcache_close(cache);
+}
+
+/* 1,025 addresses of 16 octets are more than the 16,384 octets that are kept of an RRset. With
+   `lowest_ttl` they are told with the lowest of their TTLs, and else not, as AA is clear. */
+static void test_store_of_a_large_rrset(void)
+{
+    static struct message message;
+    enum { AAAA = 28, COUNT = 1025 };
+    struct rrcache *cache = open_small();
+    struct wire wire = wire_of("www.example");
+    struct rrcache_query query = query_of(&wire, AAAA);
+    struct rrcache_answer answer = blank();
+    struct rrcache_report report;
+    uint8_t address[16] = {0x20, 1, 0xd, 0xb8};
+    begin(&message, 0, "www.example", AAAA);
+    for (int i = 0; i < COUNT; i++) {
+        address[14] = (uint8_t)(i >> 8);
+        address[15] = (uint8_t)i;
+        add(&message, RRCACHE_ANSWER_SECTION, "www.example", AAAA, 40u + (i == 7), OF(address));
+    }
+    message.octets[6] = COUNT >> 8;
+    message.octets[7] = COUNT & 255;
+    struct rrcache_response response = response_of(&message);
+    EXPECT(rrcache_store(cache, &query, &response, &report, &answer) == RRCACHE_DONE
+           && answer.kind == RRCACHE_MISS && count_of(&answer) == 0);
+    response.lowest_ttl = true;
+    EXPECT(rrcache_store(cache, &query, &response, &report, &answer) == RRCACHE_DONE);
+    struct rrcache_rrset rrset = nth(&answer, 0);
+    EXPECT(answer.kind == RRCACHE_FRESH && count_of(&answer) == 1 && keys(cache) == 0
+           && is_rrset(&rrset, "www.example", AAAA, 40, RRCACHE_FRESH)
+           && rrset.trust == RRCACHE_NON_AUTHORITATIVE_ANSWER && rrset.set.data_size == COUNT * 18);
+    answer.room = 17 * COUNT;
+    EXPECT(rrcache_store(cache, &query, &response, &report, &answer) == RRCACHE_SMALL);
+    rrcache_close(cache);
+}
+
+/* ---- Types that no shelf keeps: each record is told as an RRset of its own. */
+
+enum { NXT = 30, NAPTR = 35, RRSIG = 46, WEEK = 604800 };
+/* The data of a NAPTR record (RFC 3403 section 4.1), whose name is a pointer to the question. */
+static const uint8_t POINTED[] = {0, 1, 0, 2, 1, 'u', 0, 5, '!', 'x', '!', 'y', '!', 0xc0, 12};
+/* The same with the name `a.example` in full (RFC 3597 section 4). */
+static const uint8_t EXPANDED[] = "\0\1\0\2\1u\0\5!x!y!\1a\7example";
+
+static void test_types_that_are_not_kept(void)
+{
+    static struct message message;
+    struct rrcache *cache = open_small();
+    struct rrcache_answer answer;
+    begin(&message, 0, "a.example", NAPTR);
+    add(&message, RRCACHE_ANSWER_SECTION, "b.example", NAPTR, 60, OF(POINTED));
+    add(&message, RRCACHE_ANSWER_SECTION, "a.example", RRSIG, 60, OF(ADDRESS));
+    add(&message, RRCACHE_ANSWER_SECTION, "A.Example", NAPTR, 0, OF(POINTED));
+    add(&message, RRCACHE_ANSWER_SECTION, "a.example", NAPTR, WEEK + 1, OF(POINTED));
+    store(cache, &message, "a.example", NAPTR, &answer);
+    struct rrcache_rrset first = nth(&answer, 0), second = nth(&answer, 1);
+    EXPECT(answer.kind == RRCACHE_FRESH && answer.aliases == 0 && count_of(&answer) == 2
+           && is_rrset(&first, "a.example", NAPTR, 0, RRCACHE_FRESH)
+           && has_datum(&first, OF(EXPANDED))
+           && is_rrset(&second, "a.example", NAPTR, WEEK, RRCACHE_FRESH)
+           && second.trust == RRCACHE_NON_AUTHORITATIVE_ANSWER && keys(cache) == 0);
+    /* Those of the name alone, and of any type. */
+    begin(&message, AA, "a.example", ANY);
+    add_answer(&message, "a.example", 60);
+    add(&message, RRCACHE_ANSWER_SECTION, "a.example", RRSIG, 60, OF(ADDRESS));
+    add(&message, RRCACHE_ANSWER_SECTION, "b.example", RRSIG, 60, OF(ADDRESS));
+    store(cache, &message, "a.example", ANY, &answer);
+    first = nth(&answer, 0);
+    second = nth(&answer, 1);
+    EXPECT(answer.kind == RRCACHE_FRESH && count_of(&answer) == 2
+           && is_rrset(&first, "a.example", A, 60, RRCACHE_FRESH)
+           && is_rrset(&second, "a.example", RRSIG, 60, RRCACHE_FRESH)
+           && has_datum(&second, OF(ADDRESS)) && second.trust == RRCACHE_AUTHORITATIVE_ANSWER);
+    rrcache_close(cache);
+}
+
+/* Behind an alias, and in each room that is too small. */
+static void test_types_that_are_not_kept_behind_an_alias(void)
+{
+    static struct message message;
+    struct rrcache *cache = open_small();
+    struct rrcache_answer answer;
+    struct rrcache_report report;
+    begin(&message, AA, "b.example", NAPTR);
+    add_alias(&message, "b.example", "a.example", 60);
+    add(&message, RRCACHE_ANSWER_SECTION, "a.example", NAPTR, 60, OF(POINTED));
+    store(cache, &message, "b.example", NAPTR, &answer);
+    struct rrcache_rrset last = nth(&answer, 1);
+    size_t whole = answer.size;
+    EXPECT(answer.kind == RRCACHE_FRESH && answer.aliases == 1 && count_of(&answer) == 2
+           && is_rrset(&last, "a.example", NAPTR, 60, RRCACHE_FRESH)
+           && last.trust == RRCACHE_NON_AUTHORITATIVE_ANSWER);
+    for (size_t room = 0; room < whole; room++) {
+        answer = blank();
+        answer.room = room;
+        EXPECT(try_to_store(cache, &message, "b.example", NAPTR, &report, &answer) == RRCACHE_SMALL
+               && answer.size <= room);
+    }
+    rrcache_close(cache);
+}
+
+/* That there are none is told by the SOA record of the zone, for its MINIMUM of 60 at most (RFC
+   2308 section 5), and not by another one. */
+static void test_absence_of_types_that_are_not_kept(void)
+{
+    static struct message message;
+    struct rrcache *cache = open_small();
+    struct rrcache_answer answer;
+    begin(&message, AA, "a.example", RRSIG);
+    add(&message, RRCACHE_AUTHORITY_SECTION, "b.example", SOA, 300, OF(SOA_DATA));
+    store(cache, &message, "a.example", RRSIG, &answer);
+    EXPECT(is_miss(&answer, 0, "a.example"));
+    add(&message, RRCACHE_AUTHORITY_SECTION, "example", SOA, 300, OF(SOA_DATA));
+    store(cache, &message, "a.example", RRSIG, &answer);
+    EXPECT(is_denial(&answer, RRCACHE_NODATA, 60));
+    begin(&message, AA, "a.example", RRSIG);
+    add(&message, RRCACHE_AUTHORITY_SECTION, "example", SOA, 30, OF(SOA_DATA));
+    store(cache, &message, "a.example", RRSIG, &answer);
+    EXPECT(is_denial(&answer, RRCACHE_NODATA, 30));
+    begin(&message, AA | NXDOMAIN, "a.example", RRSIG);
+    add(&message, RRCACHE_AUTHORITY_SECTION, "example", SOA, 300, OF(SOA_DATA));
+    store(cache, &message, "a.example", RRSIG, &answer);
+    EXPECT(is_denial(&answer, RRCACHE_NXDOMAIN, 60));
+    rrcache_close(cache);
+}
+
+/* A name in their data that cannot be read: it leads to itself, or behind the message, or is cut.
+ */
+static void test_types_that_are_not_kept_and_cannot_be_read(void)
+{
+    static struct message message;
+    static const uint8_t BROKEN[][2] = {{0xc0, 0}, {0xff, 0xff}, {0x40, 0}, {3, 'a'}};
+    struct rrcache *cache = open_small();
+    for (size_t i = 0; i < sizeof BROKEN / sizeof *BROKEN; i++) {
+        struct rrcache_answer answer = blank();
+        struct rrcache_report report;
+        begin(&message, AA, "a.example", NXT);
+        add(&message, RRCACHE_ANSWER_SECTION, "a.example", NXT, 60, BROKEN[i], 2);
+        if (i == 0)
+            message.octets[message.size - 1] = (uint8_t)(message.size - 2);
+        EXPECT(try_to_store(cache, &message, "a.example", NXT, &report, &answer) == RRCACHE_BAD_DATA
+               && answer.size == 0 && answer.kind == RRCACHE_MISS);
+        EXPECT(try_to_store(cache, &message, "a.example", NXT, &report, NULL) == RRCACHE_DONE);
+    }
+    rrcache_close(cache);
+}
+
+/* An alias and data of one name: as in a shelf the one counts that stands later. */
+static void test_store_of_an_alias_beside_data(void)
+{
+    static struct message message;
+    struct rrcache_answer answer;
+    for (int is_later = 0; is_later < 2; is_later++) {
+        struct rrcache *cache = open_small();
+        begin(&message, AA, "a.example", A);
+        if (is_later)
+            add_answer(&message, "a.example", 60);
+        add_alias(&message, "a.example", "b.example", 60);
+        if (!is_later)
+            add_answer(&message, "a.example", 60);
+        add_answer(&message, "b.example", 60);
+        store(cache, &message, "a.example", A, &answer);
+        EXPECT(answer.kind == RRCACHE_FRESH && answer.aliases == (uint32_t)is_later);
+        answer = look(cache, "a.example", A, FIRST);
+        EXPECT(answer.kind == RRCACHE_FRESH && answer.aliases == (uint32_t)is_later);
+        rrcache_close(cache);
+    }
 }
 
 /* Data that may be used once are told, and nothing of them is kept (RFC 1035 section 3.2.1). */
@@ -2036,9 +2461,9 @@ static void test_forget(void)
     EXPECT(forget(cache, "none.example", TXT) == RRCACHE_DONE
            && kind_of(cache, "none.example", A, FIRST) == RRCACHE_MISS && keys(cache) == 1);
     EXPECT(forget(cache, "bad.example", A) == RRCACHE_DONE
-           && kind_of(cache, "bad.example", A, FIRST) == RRCACHE_MISS);
-    EXPECT(forget(cache, "bad.example", A) == RRCACHE_DONE
-           && kind_of(cache, "bad.example", A, FIRST) == RRCACHE_MISS);
+           && kind_of(cache, "bad.example", A, FIRST) == RRCACHE_MISS && keys(cache) == 0
+           && stats_of(cache).octets == 0 && stats_of(cache).expired == 0);
+    EXPECT(forget(cache, "bad.example", A) == RRCACHE_DONE && keys(cache) == 0);
     rrcache_close(cache);
 }
 
@@ -2063,6 +2488,97 @@ static void test_forget_all(void)
     request = request_of(&wire, A, FIRST);
     request.rclass = 2;
     EXPECT(rrcache_forget(cache, &request) == RRCACHE_BAD_TYPE);
+    rrcache_close(cache);
+}
+
+/* Types of which something is held of a name: the first, the last, and others between these. */
+static const uint16_t HELD_TYPES[] = {1, 2, 16, 256, 257, 258, 512, 513, 65534, 65535};
+enum { HELD_TYPES_COUNT = sizeof HELD_TYPES / sizeof *HELD_TYPES };
+
+static void deny_type(struct rrcache *cache, const char *name, uint16_t rtype, uint16_t rclass)
+{
+    struct wire wire = wire_of(name);
+    struct rrcache_negative negative = negative_of(&wire, RRCACHE_NODATA, 60);
+    uint32_t outcome = 0;
+    negative.rtype = rtype;
+    negative.rclass = rclass;
+    NEED(rrcache_store_negative(cache, &negative, &outcome) == RRCACHE_DONE
+         && outcome == RRCACHE_KEPT);
+}
+
+static void fail_type(struct rrcache *cache, const char *name, uint16_t rtype, uint16_t rclass)
+{
+    struct wire wire = wire_of(name);
+    struct rrcache_failure failure = failure_of(&wire, 30, FIRST);
+    uint32_t outcome = 0;
+    failure.rtype = rtype;
+    failure.rclass = rclass;
+    NEED(rrcache_store_failure(cache, &failure, &outcome) == RRCACHE_DONE);
+}
+
+/* Each of what may be held of a name goes by type ANY, where it is held alone: of all types. */
+static void test_forget_any_type(void)
+{
+    struct rrcache *cache = open_small();
+    EXPECT(forget(cache, "www.example", ANY) == RRCACHE_DONE && keys(cache) == 0);
+    EXPECT(keep(cache, "www.example", 60) == RRCACHE_KEPT
+           && forget(cache, "WWW.Example", ANY) == RRCACHE_DONE && keys(cache) == 0);
+    EXPECT(keep_alias(cache, "www.example", "a.example", 60) == RRCACHE_KEPT
+           && forget(cache, "www.example", ANY) == RRCACHE_DONE && keys(cache) == 0);
+    EXPECT(deny(cache, "www.example", RRCACHE_NXDOMAIN, 60) == RRCACHE_KEPT
+           && forget(cache, "www.example", ANY) == RRCACHE_DONE && keys(cache) == 0);
+    for (int i = 0; i < HELD_TYPES_COUNT; i++) {
+        deny_type(cache, "www.example", HELD_TYPES[i], RRCACHE_IN);
+        EXPECT(keys(cache) == 1 && forget(cache, "www.example", ANY) == RRCACHE_DONE
+               && keys(cache) == 0);
+        fail_type(cache, "www.example", HELD_TYPES[i], RRCACHE_IN);
+        EXPECT(keys(cache) == 1 && forget(cache, "www.example", ANY) == RRCACHE_DONE
+               && keys(cache) == 0);
+    }
+    EXPECT(stats_of(cache).octets == 0 && stats_of(cache).expired == 0
+           && stats_of(cache).evicted == 0);
+    rrcache_close(cache);
+}
+
+/* With type ANY all goes that is held of a name in a class, also where it is past its time; what is
+   held of other names and of other classes stays. */
+static void test_forget_all_types(void)
+{
+    static const char *const OTHERS[] = {"example", "other.example", "a.www.example"};
+    struct rrcache *cache = open_small();
+    enum { STAY = 2 * HELD_TYPES_COUNT };
+    for (int i = 0; i < HELD_TYPES_COUNT; i++) {
+        deny_type(cache, "www.example", HELD_TYPES[i], RRCACHE_IN);
+        fail_type(cache, "www.example", HELD_TYPES[i], RRCACHE_IN);
+        deny_type(cache, "www.example", HELD_TYPES[i], RRCACHE_HS);
+        fail_type(cache, "www.example", HELD_TYPES[i], RRCACHE_HS);
+    }
+    EXPECT(keep_at(cache, "www.example", 1, 1, RRCACHE_AUTHORITATIVE_ANSWER) == RRCACHE_KEPT
+           && deny(cache, "www.example", RRCACHE_NXDOMAIN, 60) == RRCACHE_KEPT);
+    for (size_t i = 0; i < sizeof OTHERS / sizeof *OTHERS; i++)
+        EXPECT(keep(cache, OTHERS[i], 60) == RRCACHE_KEPT);
+    EXPECT(keys(cache) == 2 * STAY + 1 + 3);
+    EXPECT(forget(cache, "www.example", ANY) == RRCACHE_DONE && keys(cache) == STAY + 3);
+    for (int i = 0; i < HELD_TYPES_COUNT; i++)
+        EXPECT(kind_of(cache, "www.example", HELD_TYPES[i], FIRST) == RRCACHE_MISS);
+    for (size_t i = 0; i < sizeof OTHERS / sizeof *OTHERS; i++)
+        EXPECT(kind_of(cache, OTHERS[i], A, FIRST) == RRCACHE_FRESH);
+    rrcache_close(cache);
+}
+
+static void test_forget_any_refused(void)
+{
+    struct rrcache *cache = open_small();
+    struct wire wire = wire_of("www.example");
+    struct rrcache_request request = request_of(&wire, ANY, FIRST);
+    EXPECT(keep(cache, "www.example", 60) == RRCACHE_KEPT);
+    request.rclass = 2;
+    EXPECT(rrcache_forget(cache, &request) == RRCACHE_BAD_TYPE);
+    request = request_of(&wire, ANY, LATE);
+    EXPECT(rrcache_forget(cache, &request) == RRCACHE_MOMENT_TOO_LARGE);
+    request = request_of(&wire, ANY, FIRST);
+    request.name_size = 3;
+    EXPECT(rrcache_forget(cache, &request) == RRCACHE_BAD_NAME && keys(cache) == 1);
     rrcache_close(cache);
 }
 
@@ -2463,16 +2979,90 @@ static void test_keys(void)
     struct rrcache *cache = open_by(&config);
     for (int i = 0; i < 20; i++)
         EXPECT(keep(cache, link_of(i), 300) == RRCACHE_KEPT);
-    EXPECT(stats_of_shelf(cache, 0).keys == 2 && stats_of_shelf(cache, 1).keys == 2);
+    EXPECT(stats_of_shelf(cache, 0).keys == 2 && stats_of_shelf(cache, 1).keys == 2
+           && stats_of(cache).evicted == 16);
     rrcache_close(cache);
     /* With 0 there is room for as many as a shelf may hold. */
     config.shelves = 1;
     config.keys = 0;
     cache = open_by(&config);
-    for (int i = 0; i < 70000; i++)
+    for (int i = 0; i < 65536; i++)
         NEED(keep(cache, link_of(i), 300) == RRCACHE_KEPT);
     EXPECT(keys(cache) == 65536 && stats_of(cache).evicted == 0);
+    for (int i = 65536; i < 70000; i++)
+        NEED(keep(cache, link_of(i), 300) == RRCACHE_KEPT);
+    EXPECT(keys(cache) == 65536 && stats_of(cache).evicted == 70000 - 65536);
     rrcache_close(cache);
+}
+
+/* Of four keys one goes for each new one that is kept, and none for what is held already or is not
+   kept. */
+static void test_evicted_keys(void)
+{
+    struct rrcache_config config = config_of(1);
+    config.keys = 4;
+    struct rrcache *cache = open_by(&config);
+    EXPECT(keep(cache, "a.example", 60) == RRCACHE_KEPT
+           && deny(cache, "b.example", RRCACHE_NODATA, 60) == RRCACHE_KEPT
+           && deny(cache, "c.example", RRCACHE_NXDOMAIN, 60) == RRCACHE_KEPT
+           && fail(cache, "d.example", 30, FIRST) == RRCACHE_KEPT);
+    EXPECT(stats_of(cache).evicted == 0 && keys(cache) == 4);
+    /* What is held is replaced, NODATA by data too, or trusted more, or cleared. */
+    EXPECT(keep(cache, "a.example", 60) == RRCACHE_KEPT
+           && keep_at(cache, "a.example", 60, FIRST, RRCACHE_ADDITIONAL) == RRCACHE_OUTRANKED
+           && keep(cache, "b.example", 60) == RRCACHE_KEPT
+           && deny(cache, "c.example", RRCACHE_NXDOMAIN, 60) == RRCACHE_KEPT
+           && fail(cache, "d.example", 30, FIRST) == RRCACHE_KEPT
+           && keep(cache, "e.example", 0) == RRCACHE_CLEARED);
+    EXPECT(stats_of(cache).evicted == 0 && keys(cache) == 4);
+    /* Each of these has a key of its own. */
+    EXPECT(fail(cache, "a.example", 30, FIRST) == RRCACHE_KEPT && stats_of(cache).evicted == 1);
+    EXPECT(deny(cache, "b.example", RRCACHE_NXDOMAIN, 60) == RRCACHE_KEPT
+           && stats_of(cache).evicted == 2);
+    EXPECT(keep(cache, "c.example", 60) == RRCACHE_KEPT && stats_of(cache).evicted == 3);
+    EXPECT(deny(cache, "d.example", RRCACHE_NODATA, 60) == RRCACHE_KEPT
+           && stats_of(cache).evicted == 4 && keys(cache) == 4);
+    /* What is forgotten is not evicted, and has room for another one. */
+    EXPECT(forget(cache, "d.example", A) == RRCACHE_DONE && keys(cache) == 3
+           && keep(cache, "d.example", 60) == RRCACHE_KEPT && stats_of(cache).evicted == 4);
+    rrcache_close(cache);
+}
+
+/* The keys that responses drive out are counted too. Each brings two, an alias or a name server and
+   the address of what it leads to, and once more replaces them, where a shelf has room for both. */
+static void check_evicted_by_responses(uint64_t shelves, uint64_t most, bool has_alias)
+{
+    static struct message message;
+    const uint16_t rtype = has_alias ? A : NS, linking = has_alias ? CNAME : NS;
+    struct rrcache_config config = config_of(shelves);
+    struct rrcache_answer answer;
+    config.keys = most;
+    struct rrcache *cache = open_by(&config);
+    for (int i = 0; i < 200; i += 2) {
+        struct wire target = wire_of(link_of(i + 1));
+        begin(&message, AA, link_of(i), rtype);
+        add(&message, RRCACHE_ANSWER_SECTION, link_of(i), linking, 300, target.octets, target.size);
+        add(&message, has_alias ? RRCACHE_ANSWER_SECTION : RRCACHE_ADDITIONAL_SECTION,
+            link_of(i + 1), A, 300, OF(ADDRESS));
+        for (int times = most < 2 * shelves ? 1 : 2; times > 0; times--) {
+            EXPECT(store(cache, &message, link_of(i), rtype, &answer).counts.kept == 2);
+            EXPECT(keys(cache) + stats_of(cache).evicted == (uint64_t)i + 2);
+        }
+        EXPECT(answer.kind == RRCACHE_FRESH && answer.aliases == has_alias);
+    }
+    EXPECT(keys(cache) == most && stats_of(cache).evicted == 200 - most);
+    rrcache_close(cache);
+}
+
+static void test_evicted_by_responses(void)
+{
+    for (int has_alias = 0; has_alias < 2; has_alias++) {
+        check_evicted_by_responses(1, 1, has_alias);
+        check_evicted_by_responses(1, 2, has_alias);
+        check_evicted_by_responses(1, 50, has_alias);
+        check_evicted_by_responses(4, 4, has_alias);
+        check_evicted_by_responses(4, 80, has_alias);
+    }
 }
 
 /* A name that is asked for often stays, however many others come. */
@@ -2500,6 +3090,121 @@ static void test_recency(void)
     check_recency(true);
     check_hot_name(false);
     check_hot_name(true);
+}
+
+/* ---- Which names may be aliases. Of the others no CNAME record is looked for. */
+
+/* Whether a question for an address is told a name's CNAME record exactly where one for type CNAME
+   is, which looks for it whatever the name is. */
+static bool is_alias_told(struct rrcache *cache, const char *name)
+{
+    bool is_told = look(cache, name, A, FIRST).aliases == 1;
+    return is_told == (kind_of(cache, name, CNAME, FIRST) == RRCACHE_FRESH);
+}
+
+/* Stores an alias that leads nowhere: by a response, or the caller's own. */
+static void store_alias(struct rrcache *cache, int number)
+{
+    static struct message message;
+    struct rrcache_answer answer;
+    if (number % 2 == 0) {
+        NEED(keep_alias(cache, link_of(number), "nowhere.example", 300) == RRCACHE_KEPT);
+        return;
+    }
+    begin(&message, AA, link_of(number), A);
+    add_alias(&message, link_of(number), "nowhere.example", 300);
+    NEED(store(cache, &message, link_of(number), A, &answer).counts.kept == 1);
+}
+
+/* Aliases and other names come and go, many times as many as there is room for. One alias is asked
+   for all the time, by a type, and so is held all the time. */
+static void check_aliases(const struct rrcache_config *config, uint16_t asked, bool is_recorded)
+{
+    struct rrcache *cache = open_by(config);
+    unsigned told = 0, held = 0;
+    EXPECT(!is_recorded || rrcache_record_all(cache) == RRCACHE_DONE);
+    EXPECT(keep_alias(cache, "hot.example", "nowhere.example", 300) == RRCACHE_KEPT);
+    for (int i = 0; i < 3000; i++) {
+        if (i % 3 == 0)
+            NEED(keep(cache, link_of(i), 300) == RRCACHE_KEPT);
+        else
+            store_alias(cache, i);
+        told += look(cache, "hot.example", asked, FIRST).size != 0;
+        int other = i - i * 11 % 151; /* of all ages, some with more keys behind them than stay */
+        held += look(cache, link_of(other), A, FIRST).aliases;
+        NEED(is_alias_told(cache, link_of(other)));
+    }
+    EXPECT(told == 3000 && held > 1000 && is_alias_told(cache, "hot.example")
+           && stats_of(cache).evicted > 2000);
+    rrcache_close(cache);
+}
+
+static void test_aliases_come_and_go(void)
+{
+    struct rrcache_config config = config_of(1);
+    for (int by = 0; by < 16; by++) {
+        config.octets = (by & 1) != 0 ? 65536 : 0;
+        config.keys = (by & 1) != 0 ? 0 : 128;
+        config.exact_recency = (by & 2) != 0;
+        check_aliases(&config, (by & 4) != 0 ? A : CNAME, (by & 8) != 0);
+    }
+}
+
+/* An alias that nobody asks for is told as long as it is held, and once it was stored anew. */
+static void test_aliases_that_nobody_asks_for(void)
+{
+    struct rrcache_config config = config_of(1);
+    config.keys = 16;
+    struct rrcache *cache = open_by(&config);
+    for (int age = 0; age < 40; age++) {
+        int first = 100 * age;
+        store_alias(cache, first);
+        for (int i = 1; i <= age; i++)
+            NEED(keep(cache, link_of(first + i), 300) == RRCACHE_KEPT);
+        EXPECT(look(cache, link_of(first), A, FIRST).aliases == (age < 16));
+        store_alias(cache, first);
+        EXPECT(look(cache, link_of(first), A, FIRST).aliases == 1);
+    }
+    rrcache_close(cache);
+}
+
+/* What is forgotten, cleared or denied is no alias, and may be one again. */
+static void test_aliases_that_end(void)
+{
+    struct rrcache *cache = open_small();
+    for (int i = 0; i < 40; i++) {
+        store_alias(cache, 7);
+        EXPECT(look(cache, link_of(7), A, FIRST).aliases == 1);
+        EXPECT(i % 2 == 0 ? forget(cache, link_of(7), CNAME) == RRCACHE_DONE
+                          : keep_alias(cache, link_of(7), "other.example", 0) == RRCACHE_CLEARED);
+        EXPECT(look(cache, link_of(7), A, FIRST).aliases == 0 && keys(cache) == 0);
+    }
+    rrcache_close(cache);
+}
+
+/* An alias of another class, and one whose owner is written by a pointer and in other letters. */
+static void test_aliases_of_responses(void)
+{
+    static const uint8_t record[] = {0xc0, 12, 0, CNAME, 0, RRCACHE_CH, 0, 0, 0, 60, 0, 1, 0};
+    static struct message message;
+    struct rrcache *cache = open_small();
+    struct wire wire = wire_of("A.example");
+    struct rrcache_query query = query_of(&wire, A);
+    struct rrcache_request request = request_of(&wire, A, FIRST);
+    struct rrcache_answer answer = blank();
+    struct rrcache_report report;
+    query.rclass = request.rclass = RRCACHE_CH;
+    begin(&message, AA, "a.EXAMPLE", A);
+    message.octets[message.size - 1] = RRCACHE_CH;
+    put(&message, OF(record));
+    message.octets[7] = 1;
+    struct rrcache_response response = response_of(&message);
+    EXPECT(rrcache_store(cache, &query, &response, &report, NULL) == RRCACHE_DONE
+           && report.counts.kept == 1);
+    EXPECT(rrcache_lookup(cache, &request, &answer) == RRCACHE_DONE && answer.aliases == 1);
+    request.rclass = RRCACHE_IN;
+    EXPECT(rrcache_lookup(cache, &request, &answer) == RRCACHE_DONE && answer.aliases == 0);
+    rrcache_close(cache);
 }
 
 #ifdef REFUSE
@@ -2830,6 +3535,38 @@ static void test_refused_room(void)
     }
     EXPECT(met > 0);
 }
+
+/* Forgets all that is held of a name, with one allocation refused. Then a part may stay, which a
+   second call forgets. */
+static enum rrcache_status forget_refused(long refused, bool is_recorded)
+{
+    struct rrcache *cache = open_small();
+    EXPECT(deny(cache, "www.example", RRCACHE_NXDOMAIN, 60) == RRCACHE_KEPT
+           && keep(cache, "www.example", 60) == RRCACHE_KEPT
+           && keep(cache, "other.example", 60) == RRCACHE_KEPT);
+    deny_type(cache, "www.example", TXT, RRCACHE_IN);
+    fail_type(cache, "www.example", A, RRCACHE_IN);
+    fail_type(cache, "www.example", 65535, RRCACHE_IN);
+    EXPECT(!is_recorded || rrcache_record_all(cache) == RRCACHE_DONE);
+    granted = refused;
+    enum rrcache_status status = forget(cache, "www.example", ANY);
+    granted = -1;
+    EXPECT(status == RRCACHE_DONE
+           || (status == RRCACHE_MEMORY && forget(cache, "www.example", ANY) == RRCACHE_DONE));
+    EXPECT(keys(cache) == 1 && kind_of(cache, "other.example", A, FIRST) == RRCACHE_FRESH);
+    rrcache_close(cache);
+    return status;
+}
+
+static void test_refused_forgetting(void)
+{
+    for (int is_recorded = 0; is_recorded < 2; is_recorded++) {
+        long refused = 0;
+        while (refused < 200 && forget_refused(refused, is_recorded) == RRCACHE_MEMORY)
+            refused++;
+        EXPECT(refused > 2 && refused < 200);
+    }
+}
 #endif
 
 /* ---- Archives, which the program `rrcache` audits. */
@@ -2898,6 +3635,9 @@ static void (*const TESTS[])(void) = {
     test_clock,
     test_next,
     test_composed_answers,
+    test_entries,
+    test_entries_of_one_shelf,
+    test_entries_of_responses,
     test_delegations,
     test_small_delegations,
     test_referral,
@@ -2908,6 +3648,18 @@ static void (*const TESTS[])(void) = {
     test_store_that_clears,
     test_store_of_another_class,
     test_store_of_a_dname,
+    test_dnames,
+    test_aliases_that_no_dname_made,
+    test_stale_dnames,
+    test_rooms_of_dnames,
+    test_dnames_of_responses,
+    test_store_of_a_long_chain,
+    test_store_of_a_large_rrset,
+    test_types_that_are_not_kept,
+    test_types_that_are_not_kept_behind_an_alias,
+    test_absence_of_types_that_are_not_kept,
+    test_types_that_are_not_kept_and_cannot_be_read,
+    test_store_of_an_alias_beside_data,
     test_store_of_no_time,
     test_store_outranked,
     test_store_failure_of_a_server,
@@ -2930,6 +3682,9 @@ static void (*const TESTS[])(void) = {
     test_own_failures_refused,
     test_forget,
     test_forget_all,
+    test_forget_any_type,
+    test_forget_all_types,
+    test_forget_any_refused,
     test_sweeps,
     test_sweeps_of_a_second,
     test_sweeps_go_on,
@@ -2940,11 +3695,18 @@ static void (*const TESTS[])(void) = {
     test_records,
     test_failed_sinks,
     test_recency,
+    test_aliases_come_and_go,
+    test_aliases_that_nobody_asks_for,
+    test_aliases_that_end,
+    test_aliases_of_responses,
     test_keys,
+    test_evicted_keys,
+    test_evicted_by_responses,
 #ifdef REFUSE
     test_refused_memory,
     test_lookups_take_no_memory,
     test_refused_room,
+    test_refused_forgetting,
 #endif
 };
 

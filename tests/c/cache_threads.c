@@ -17,8 +17,10 @@
    where all is recorded, `parts`, where one thread begins and ends records, or `loose`, where
    threads do so at random and nothing is written. The status is 1 where a reply was wrong.
 
-   With -Dpthread_mutex_lock=no_lock and the same of pthread_mutex_unlock, when lib/lookups.c alone
-   is compiled, look-ups take no place. What watches threads has to catch that. */
+   Many look-ups are made again at once, in lower case, so that memos answer (lib/memos.h).
+
+   If lib/lookups.c or lib/memos.c is compiled so that no exchange of atomic numbers is made,
+   look-ups take no place or no table of memos. What watches threads has to catch that. */
 #define _GNU_SOURCE
 #include <pthread.h>
 #include <stdatomic.h>
@@ -33,7 +35,7 @@ enum { THREADS = 8, MOST_SHELVES = 16, KINDS = RRCACHE_FAILED + 1 };
 /* In the place of a kind: a miss, or a failure of that name. With an answer that has aliases a
    caller is not told whether it is the question that failed, or the name at the end. */
 enum { UNSURE = 0 };
-enum { CNAME = 5, NS = 2, SOA = 6, AAAA = 28, NO_ERROR = 0, SERVFAIL = 2, NX = 3 };
+enum { CNAME = 5, NS = 2, SOA = 6, AAAA = 28, ANY = 255, NO_ERROR = 0, SERVFAIL = 2, NX = 3 };
 /* Names of each family, and those that an alias may lead to, which stand first. */
 enum { HOSTS = 96, DENIED = 32, ALIASES = 48, ZONES = 16, GLUE = ZONES, FAILING = 16 };
 enum { TARGETS = HOSTS + DENIED + ALIASES, SUBJECTS = TARGETS + ZONES + GLUE + FAILING };
@@ -44,7 +46,7 @@ enum { BEGIN = 1000, MOST_TICKS = 500000, LONG_TTL = 604800, MAX_STALE = 50 };
 /* Of failures of hosts and aliases, and of the family that has failures alone: there the version is
    added to it. */
 enum { FAILURE_TTL = 30, FAILING_TTL = 1000000 };
-enum { REFUSED = 64, ENOUGH_RECORDS = 6 };
+enum { REFUSED = 64, ENOUGH_RECORDS = 6, REPEATED = 4 };
 
 enum family { HOST, DENIAL, ALIAS, ZONE, ADDRESS_OF_ZONE, FAILURE };
 
@@ -155,13 +157,6 @@ static uint32_t mix(uint32_t one, uint32_t other)
 static struct subject *any_subject(struct worker *worker)
 {
     return &subjects[draw(worker) % SUBJECTS];
-}
-
-/* What lookups.c calls in place of taking a lock, in the control. */
-int no_lock(pthread_mutex_t *lock);
-int no_lock(pthread_mutex_t *lock)
-{
-    return lock == NULL;
 }
 
 /* ---- What each version is. */
@@ -478,6 +473,28 @@ static void expect_beginning(const struct look *look, const struct rrcache_answe
     }
 }
 
+/* Looks up a name, into a buffer that may be too small. */
+static void look_up_name(struct worker *worker, struct subject *subject,
+                         struct rrcache_request *request, bool is_narrow)
+{
+    struct rrcache_answer answer = {
+        .buffer = worker->buffer,
+        .room = is_narrow ? draw(worker) % 1024 : sizeof worker->buffer,
+    };
+    const struct look look = {worker, request, subject, true};
+    note_before(worker, subject);
+    request->moment = seen(&now);
+    enum rrcache_status status = rrcache_lookup(cache, request, &answer);
+    expect(status == RRCACHE_DONE || (is_narrow && status == RRCACHE_SMALL), "a look-up is done");
+    if (request->rtype == CNAME)
+        expect(answer.aliases == 0, "of aliases themselves none is followed");
+    if (status == RRCACHE_DONE)
+        expect_answer(&look, &answer);
+    else
+        expect_beginning(&look, &answer);
+}
+
+/* Looks up any name: once in any case of letters, or a few times in lower case. */
 static void look_up(struct worker *worker)
 {
     uint8_t name[NAME];
@@ -490,23 +507,10 @@ static void look_up(struct worker *worker)
         .mode = 1 + draw(worker) % 3,
         .takes_glue = draw(worker) % 2,
     };
-    bool is_narrow = draw(worker) % 64 == 0;
-    struct rrcache_answer answer = {
-        .buffer = worker->buffer,
-        .room = is_narrow ? draw(worker) % 1024 : sizeof worker->buffer,
-    };
-    const struct look look = {worker, &request, subject, true};
-    spell(subject, draw(worker), name);
-    note_before(worker, subject);
-    request.moment = seen(&now);
-    enum rrcache_status status = rrcache_lookup(cache, &request, &answer);
-    expect(status == RRCACHE_DONE || (is_narrow && status == RRCACHE_SMALL), "a look-up is done");
-    if (request.rtype == CNAME)
-        expect(answer.aliases == 0, "of aliases themselves none is followed");
-    if (status == RRCACHE_DONE)
-        expect_answer(&look, &answer);
-    else
-        expect_beginning(&look, &answer);
+    bool is_repeated = draw(worker) % 2;
+    spell(subject, is_repeated ? 0 : draw(worker), name);
+    for (int left = is_repeated ? REPEATED : 1; left > 0; left--)
+        look_up_name(worker, subject, &request, draw(worker) % 64 == 0);
 }
 
 /* Notes a look-up of each name on the way from the one that was asked up to the delegation. */
@@ -655,11 +659,12 @@ static bool store_failing(const struct subject *subject, uint32_t version)
     return true;
 }
 
+/* Forgets a name, now and then with all that is held of it, of each type. */
 static bool forget(struct worker *worker, const struct subject *subject)
 {
     const struct rrcache_request request = {.name = worker->body.owner,
                                             .name_size = NAME,
-                                            .rtype = subject->rtype,
+                                            .rtype = draw(worker) % 16 == 0 ? ANY : subject->rtype,
                                             .rclass = RRCACHE_IN,
                                             .moment = seen(&now)};
     expect(rrcache_forget(cache, &request) == RRCACHE_DONE, "a name is forgotten");
@@ -1185,6 +1190,7 @@ int main(int count, char **words)
     if (!is_large) {
         config.octets = 65536;
         config.shelves = 4;
+        config.keys = 100;
     }
     prepare();
     work_all(!is_whole && !is_loose);

@@ -19,6 +19,20 @@ def test_cache(build, libraries, tmp_path, capsys):
         build, capsys)
 
 
+@pytest.mark.parametrize("build", ["archive", "sanitized"])
+def test_owners(build, libraries, tmp_path, capsys):
+    """owner_tests.c sees the inside of lib/."""
+    run(built("owner_tests.c", build, libraries, tmp_path, f"-I{TOP / 'lib'}", *MORE["sanitized"],
+              standard="c11"), build, capsys)
+
+
+@pytest.mark.parametrize("build", ["archive", "sanitized"])
+def test_memos(build, libraries, tmp_path, capsys):
+    """memo_tests.c uses one function inside lib/."""
+    run(built("memo_tests.c", build, libraries, tmp_path, f"-I{TOP / 'lib'}", *MORE["sanitized"],
+              standard="c11"), build, capsys)
+
+
 def test_archives_are_legal(libraries, tmp_path, request):
     program = request.config.getoption("program")
     if not program.exists():

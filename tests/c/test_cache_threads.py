@@ -1,8 +1,8 @@
 # SPDX-License-Identifier: MIT
 """Threads that make every call of rrcache.h at once (cache_threads.c), each reply checked: plainly,
 under ThreadSanitizer, which sees lib/*.c, and under helgrind, which sees the shelves too. Both have
-to catch the control, in which look-ups take no lock. The archives of the shelves are audited by the
-program, and hold the replies that the cache counted."""
+to catch the controls, in which look-ups take no lock. The archives of the shelves are audited by
+the program, and hold the replies that the cache counted."""
 import os
 import shutil
 import subprocess
@@ -16,8 +16,10 @@ FLAGS = ["-std=c11", "-O1", "-g", "-Wall", "-Wextra", "-Werror", "-pthread",
          f"-I{TOP / 'include'}"]
 THREADS = "-fsanitize=thread"
 HELGRIND = ["valgrind", "--tool=helgrind", "-q", "--fair-sched=try", "--error-exitcode=3"]
-# The control: for lib/lookups.c alone these are a function of the test, which takes no lock.
-NO_LOCKS = [f"-Dpthread_mutex_{it}=no_lock" for it in ("lock", "unlock")]
+# What tells helgrind of the locks of lib/, since it does not know them (lib/watched.h).
+WATCHED = ["-DWATCHED"]
+# The controls: in one file of lib/ locks look free, and are not taken; helgrind is not told either.
+NO_LOCKS = ["-include", TOP / "tests" / "c" / "unlocked.h"]
 # Readers of the config and size of the cache. There are 8 threads.
 CACHES = [(1, "small"), (2, "large"), (8, "small"), (8, "large")]
 # The share of the seconds that all these caches get together.
@@ -30,13 +32,13 @@ SUPPRESSED = "race_top:free$\n"
 DATA_RACE, AUDITED = "ThreadSanitizer: data race", ("record-*", "dump-*")
 
 
-def objects(folder, words, lookups):
-    """lib/*.c compiled with more words for the compiler, and lookups.c with further ones."""
+def objects(folder, words, unlocked):
+    """lib/*.c compiled with more words for the compiler, and one file with no locks."""
     made = []
     for source in sorted((TOP / "lib").glob("*.c")):
         made.append(folder / f"{source.stem}.o")
-        further = lookups if source.stem == "lookups" else []
-        subprocess.run(["cc", *FLAGS, *words, *further, "-c", source, "-o", made[-1]], check=True)
+        how = words if source.stem != unlocked else [*NO_LOCKS, *(set(words) - set(WATCHED))]
+        subprocess.run(["cc", *FLAGS, *how, "-c", source, "-o", made[-1]], check=True)
     return made
 
 
@@ -46,16 +48,16 @@ def compiled(library, tmp_path_factory):
     lib/*.c comes before the same of the archive."""
     programs = {}
 
-    def program(*words, lookups=()):
-        if (words, tuple(lookups)) not in programs:
+    def program(*words, unlocked=None):
+        if (words, unlocked) not in programs:
             folder = tmp_path_factory.mktemp("threads")
             made = folder / "cache_threads"
             subprocess.run(["cc", *FLAGS, *words, TOP / "tests" / "c" / "cache_threads.c",
-                            *objects(folder, words, lookups),
+                            *objects(folder, words, unlocked),
                             library.with_name("librrcache.a"), "-Wl,--allow-multiple-definition",
                             "-o", made], check=True)
-            programs[words, tuple(lookups)] = made
-        return programs[words, tuple(lookups)]
+            programs[words, unlocked] = made
+        return programs[words, unlocked]
     return program
 
 
@@ -103,7 +105,7 @@ def audited(request, tmp_path):
 def counted(archive):
     """What an archive says that its shelf told and stored, as `rrcache_stats_of` counts it. What a
     trim and `rrcache_forget` write is not counted: failures with no time to live. Keys that go by a
-    sweep at moment 0 may be a trim's: how many go by others, and by all, is told."""
+    sweep at moment 0 may be those: how many go by others, and by all, is told."""
     counts = Counter()
     for line in archive.read_text().splitlines():
         event, _, _, moment, *fields = line.split(" ")
@@ -111,7 +113,9 @@ def counted(archive):
             kind = fields[4]
             counts["failed" if kind == "miss" and len(fields) == 6 else kind] += 1
         elif event == "offer":
-            counts[fields[4 if fields[2] == "failure" else 7]] += fields[2:4] != ["failure", "0"]
+            at = 4 if fields[2] == "failure" else 7
+            counts[fields[at]] += fields[2:4] != ["failure", "0"]
+            counts["driven out"] += len(fields) > at + 1
         elif event == "sweep":
             counts["swept"] += len(fields) // 2
             counts["swept later"] += len(fields) // 2 * (moment != "0")
@@ -149,6 +153,9 @@ def test_what_threads_were_told_is_legal(how, cache, compiled, ran, audited, tmp
                 "kept": counts["kept"], "outranked": counts["less"]}
         assert {name: stats[name] for name in told} == told
         assert counts["swept later"] <= stats["expired"] <= counts["swept"]
+        # The others went by trims, and such events are those of what is forgotten too.
+        assert counts["driven out"] <= stats["evicted"] <= sum(
+            counts[it] for it in ("driven out", "cleared", "swept"))
     assert len(shelves) == {"small": 4, "large": 16}[cache[1]]
     assert audited() == len(shelves)
 
@@ -156,25 +163,36 @@ def test_what_threads_were_told_is_legal(how, cache, compiled, ran, audited, tmp
 @pytest.mark.parametrize("cache", CACHES[::3], ids=str)
 @pytest.mark.parametrize("how", SHARE)
 def test_records_begin_and_end_among_calls(how, cache, compiled, ran, audited, seconds):
-    """One thread records for a while, again and again, and dumps what is held in between."""
+    """One thread records for a while, again and again, and dumps what is held in between. Where the
+    machine does so much else that it does so not even once, it gets more time."""
     program = compiled(*[THREADS] * (how == THREADS))
-    run = ran([program], seconds / 100, FOREVER, cache, "parts")
-    assert is_right(run), said(run)
-    assert audited() >= 2 * {"small": 4, "large": 16}[cache[1]]
+    for share in (1 / 100, 1 / 10, 1):
+        run = ran([program], share * seconds, FOREVER, cache, "parts")
+        assert is_right(run), said(run)
+        if audited() >= 2 * {"small": 4, "large": 16}[cache[1]]:
+            return
+    pytest.fail("too few archives")
 
 
 @pytest.mark.parametrize("cache", CACHES[::3], ids=str)
 def test_look_ups_with_no_locks_are_caught(cache, compiled, ran):
-    run = ran([compiled(THREADS, lookups=NO_LOCKS)], LONG, FOREVER, cache, "loose",
+    run = ran([compiled(THREADS, unlocked="lookups")], LONG, FOREVER, cache, "loose",
               "halt_on_error=1")
     assert run.returncode != 0 and DATA_RACE in run.stderr and "look_up" in run.stderr, said(run)
 
 
+def test_memos_with_no_locks_are_caught(compiled, ran):
+    """Here 8 threads share the memos of one reader."""
+    run = ran([compiled(THREADS, unlocked="memos")], LONG, FOREVER, (1, "large"), "loose",
+              "halt_on_error=1")
+    assert run.returncode != 0 and DATA_RACE in run.stderr and "memo" in run.stderr, said(run)
+
+
 @pytest.mark.skipif(shutil.which("valgrind") is None, reason="valgrind is not installed")
-@pytest.mark.parametrize("lookups, rounds, status", [((), 2.5, 0), (NO_LOCKS, 0.5, 3)],
+@pytest.mark.parametrize("unlocked, rounds, status", [(None, 2.5, 0), ("lookups", 0.5, 3)],
                          ids=["locks", "no locks"])
-def test_helgrind_says_the_same(lookups, rounds, status, compiled, ran, seconds):
+def test_helgrind_says_the_same(unlocked, rounds, status, compiled, ran, seconds):
     """So many rounds for each second, and at least one."""
-    run = ran([*HELGRIND, compiled(lookups=lookups)], LONG, 1 + int(rounds * seconds), (2, "small"),
-              "parts")
+    run = ran([*HELGRIND, compiled(*WATCHED, unlocked=unlocked)], LONG, 1 + int(rounds * seconds),
+              (2, "small"), "parts")
     assert run.returncode == status, said(run)

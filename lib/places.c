@@ -1,0 +1,127 @@
+/* SPDX-License-Identifier: MIT */
+/* places.c: the locks of parts: writers, and readers that have to wait. */
+#include "places.h"
+
+#include <sched.h>
+#include <time.h>
+
+/* How often a thread looks again before it gives up its processor, and before it sleeps. */
+enum { PAUSES = 64, YIELDS = 128 };
+/* Numbers of threads begin anew behind this one. Up to 2^26 `reader_here` is exact: what the share
+   is rounded up by is less than 64, and its multiple by the number has to stay below 2^32. */
+enum { MOST_THREADS = 1 << 20 };
+
+_Thread_local uint32_t thread_number __attribute__((tls_model("initial-exec")));
+
+uint32_t number_thread(void)
+{
+    static atomic_uint threads;
+    uint32_t before = atomic_fetch_add_explicit(&threads, 1, memory_order_relaxed);
+    return thread_number = 1 + before % MOST_THREADS;
+}
+
+/* ---- Waiting. */
+
+static void pause_processor(void)
+{
+#if defined __x86_64__ || defined __i386__
+    __builtin_ia32_pause();
+#elif defined __aarch64__
+    __asm__ __volatile__("yield");
+#endif
+}
+
+/* Lets some time pass for a thread that has looked so many times whether it may go on. What it
+   waits for is short, unless the thread that does it has lost its processor. */
+static void rest(unsigned looked)
+{
+    const struct timespec moment = {.tv_nsec = 50000};
+    if (looked < PAUSES)
+        pause_processor();
+    else if (looked < YIELDS)
+        sched_yield();
+    else
+        nanosleep(&moment, NULL);
+}
+
+/* ---- Readers. */
+
+/* Takes any place of a part, from this thread's on, or returns null. */
+static struct place *try_places(const struct rrcache *cache, struct part *part)
+{
+    uint64_t own = reader_here(cache);
+    for (uint64_t i = 0; i < cache->readers; i++) {
+        struct place *place = place_at(cache, part, (own + i) % cache->readers);
+        bool is_free = atomic_load_explicit(&place->is_taken, memory_order_relaxed) == 0;
+        if (is_free && try_place(part, place))
+            return place;
+    }
+    return NULL;
+}
+
+/* A reader first waits on its processor. Then it waits as a writer does, so writers cannot keep it
+   out for long. While it holds their lock, the part is not changed. */
+struct place *wait_for_place(const struct rrcache *cache, struct part *part)
+{
+    struct place *place = NULL;
+    for (unsigned looked = 0; looked < PAUSES && place == NULL; looked++) {
+        if (atomic_load_explicit(&part->turn, memory_order_relaxed) % 2 == 0)
+            place = try_places(cache, part);
+        if (place == NULL)
+            rest(looked);
+    }
+    if (place != NULL)
+        return place;
+    pthread_mutex_lock(&part->writer);
+    for (unsigned looked = 0; (place = try_places(cache, part)) == NULL; looked++)
+        rest(looked);
+    pthread_mutex_unlock(&part->writer);
+    return place;
+}
+
+/* ---- Writers. */
+
+/* A writer that waits for another one spins a while before it sleeps, since writing is short. */
+bool make_locks(const struct rrcache *cache, struct part *part)
+{
+    pthread_mutexattr_t spins;
+    if (pthread_mutexattr_init(&spins) != 0)
+        return false;
+    bool is_made = pthread_mutexattr_settype(&spins, PTHREAD_MUTEX_ADAPTIVE_NP) == 0
+                   && pthread_mutex_init(&part->writer, &spins) == 0;
+    pthread_mutexattr_destroy(&spins);
+    WATCH_NO(&part->turn, sizeof part->turn);
+    for (uint64_t i = 0; i < cache->readers; i++)
+        WATCH_NO(&place_at(cache, part, i)->is_taken, sizeof(atomic_uint));
+    return is_made;
+}
+
+void free_locks(struct part *part)
+{
+    pthread_mutex_destroy(&part->writer);
+}
+
+void lock_part(const struct rrcache *cache, struct part *part)
+{
+    pthread_mutex_lock(&part->writer);
+    uint64_t turn = atomic_load_explicit(&part->turn, memory_order_relaxed);
+    atomic_store_explicit(&part->turn, turn + 1, memory_order_seq_cst);
+    for (uint64_t i = 0; i < cache->readers; i++) {
+        struct place *place = place_at(cache, part, i);
+        for (unsigned looked = 0; atomic_load_explicit(&place->is_taken, memory_order_seq_cst) != 0;
+             looked++)
+            rest(looked);
+        WATCH_TAKEN(place, true);
+    }
+    WATCH_TAKEN(part, true);
+}
+
+void unlock_part(const struct rrcache *cache, struct part *part)
+{
+    uint64_t turn = atomic_load_explicit(&part->turn, memory_order_relaxed);
+    WATCH_LEFT(part);
+    for (uint64_t i = 0; i < cache->readers; i++)
+        WATCH_LEFT(place_at(cache, part, i));
+    atomic_store_explicit(&part->turn, turn + 1, memory_order_release);
+    pthread_mutex_unlock(&part->writer);
+}

@@ -1,0 +1,319 @@
+/* SPDX-License-Identifier: MIT */
+/* responses.c: the answer that a response has by itself, whatever of it is kept. */
+#include "cache.h"
+
+#include <stdlib.h>
+
+enum { SOA = 6, ANY = 255 };
+/* In the third octet of a message (RFC 1035 section 4.1.1). */
+enum { AA = 0x04 };
+
+/* What a response says: its offers, and what it comes to. */
+struct said {
+    const struct rrcache *cache;
+    struct rrcache_offers *offers;
+    const struct rrcache_summary *summary;
+    uint16_t rclass;
+    bool is_raised;   /* it was read as if AA were set */
+    uint64_t *hashes; /* of the name of each offer, where these may be thousands; else null */
+    uint64_t count;
+};
+
+static bool is_same_name(const struct rrcache_name *one, const struct rrcache_name *other)
+{
+    return one->hash == other->hash && one->size == other->size
+           && memcmp(one->octets, other->octets, one->size) == 0;
+}
+
+/* Whether a reply is an RRset of the answer section. */
+static bool is_answer(const struct rrcache_told *told)
+{
+    return told->kind == RRCACHE_FRESH
+           && (told->entry.trust == RRCACHE_AUTHORITATIVE_ANSWER
+               || told->entry.trust == RRCACHE_NON_AUTHORITATIVE_ANSWER);
+}
+
+/* Whether a reply is for a type, or for any if that is ANY: an RRset, NODATA, NXDOMAIN or a
+   failure. */
+static bool is_of(const struct rrcache_told *told, uint16_t rtype)
+{
+    if (told->kind == RRCACHE_FRESH)
+        return is_answer(told) && (told->rtype == rtype || rtype == ANY);
+    return told->kind == RRCACHE_NXDOMAIN || told->rtype == rtype;
+}
+
+/* Finds the next offer of a response, from a number on, that is for a name and a type. If there is
+   none, `told` is a miss. */
+static enum rrcache_status find_said(struct said *said, const struct rrcache_name *wanted,
+                                     uint16_t rtype, uint64_t *index, struct rrcache_told *told,
+                                     uint8_t *buffer, size_t room)
+{
+    struct rrcache_name name = {0};
+    enum rrcache_status status;
+    do {
+        while (*index < said->count && said->hashes[*index] != wanted->hash)
+            ++*index;
+        status = rrcache_tell_offer(said->offers, (*index)++, &name, told, NULL, 0);
+        if (status == RRCACHE_NO_OFFERS) {
+            *told = (struct rrcache_told){.kind = RRCACHE_MISS};
+            return RRCACHE_DONE;
+        }
+    } while (!is_same_name(&name, wanted) || !is_of(told, rtype));
+    status = rrcache_tell_offer(said->offers, *index - 1, &name, told, buffer, room);
+    if (said->is_raised)
+        told->entry.trust =
+            told->kind == RRCACHE_FRESH ? RRCACHE_NON_AUTHORITATIVE_ANSWER : RRCACHE_ADDITIONAL;
+    return status;
+}
+
+/* Finds the next offer that is for the name that the answer of a response has reached, and appends
+   it to that answer. */
+static enum rrcache_status take_said(struct said *said, struct rrcache_answer *answer,
+                                     uint16_t rtype, uint64_t *index, struct rrcache_told *told)
+{
+    size_t room;
+    uint8_t *buffer = begin_rrset(answer, &room);
+    enum rrcache_status status = find_said(said, &answer->end, rtype, index, told, buffer, room);
+    if (status == RRCACHE_DONE && told->kind != RRCACHE_MISS && told->kind != RRCACHE_FAILED)
+        end_rrset(answer, told, said->rclass);
+    return status;
+}
+
+/* Whether a response has an alias of a name instead of a type: it has nothing of the type, or has
+   that before the alias, since the later of both would govern in a shelf. */
+static bool is_aliased(struct said *said, const struct rrcache_name *name, uint16_t rtype)
+{
+    struct rrcache_told told;
+    uint64_t of_type = 0, of_alias = 0;
+    find_said(said, name, RRTYPE_CNAME, &of_alias, &told, NULL, 0);
+    if (told.kind != RRCACHE_FRESH || rtype == RRTYPE_CNAME || rtype == ANY)
+        return false;
+    find_said(said, name, rtype, &of_type, &told, NULL, 0);
+    return told.kind == RRCACHE_MISS || of_type < of_alias;
+}
+
+/* Appends what a response says of one name to its answer: what it has for the type, everything if
+   that is ANY, or the alias instead. */
+static enum rrcache_status take_name(struct said *said, uint16_t rtype,
+                                     struct rrcache_answer *answer, struct rrcache_told *told)
+{
+    struct rrcache_told more = {0};
+    uint64_t index = 0;
+    if (is_aliased(said, &answer->end, rtype))
+        return take_said(said, answer, RRTYPE_CNAME, &index, told);
+    enum rrcache_status status = take_said(said, answer, rtype, &index, told);
+    more.kind = told->kind;
+    while (rtype == ANY && status == RRCACHE_DONE && more.kind == RRCACHE_FRESH)
+        status = take_said(said, answer, rtype, &index, &more);
+    return status;
+}
+
+/* Finds the DNAME RRset that a response has for a name. */
+static enum rrcache_status find_dname(void *from, const struct rrcache_name *owner,
+                                      struct rrcache_told *told, uint8_t *octets, size_t room)
+{
+    uint64_t index = 0;
+    return find_said(from, owner, RRTYPE_DNAME, &index, told, octets, room);
+}
+
+/* Appends what a response says of the name that its answer has reached, and inserts the DNAME RRset
+   of a CNAME record in front of that, if the caller wants it. */
+static enum rrcache_status take_step(struct said *said, uint16_t rtype, struct dname_search *dnames,
+                                     struct rrcache_answer *answer, struct rrcache_told *told)
+{
+    size_t at = answer->size;
+    enum rrcache_status status = take_name(said, rtype, answer, told);
+    bool is_cname = told->kind == RRCACHE_FRESH && told->rtype == RRTYPE_CNAME && rtype != ANY;
+    if (status == RRCACHE_DONE && is_cname && answer->with_dnames)
+        status = put_dname(said->cache, dnames, answer, at, told);
+    return status;
+}
+
+/* Makes the answer of a response: the CNAME chain of its question, and what stands at its end. */
+static enum rrcache_status answer_from(struct said *said, const struct rrcache_query *query,
+                                       struct rrcache_answer *answer)
+{
+    struct rrcache_told told = {0};
+    struct dname_search dnames = {.find = find_dname, .from = said, .rclass = query->rclass};
+    enum rrcache_status status =
+        rrcache_make_name(&answer->end, query->name, query->name_size, &said->cache->parts);
+    while (status == RRCACHE_DONE) {
+        status = take_step(said, query->rtype, &dnames, answer, &told);
+        bool is_alias = told.rtype != query->rtype && query->rtype != ANY;
+        if (status != RRCACHE_DONE || told.kind != RRCACHE_FRESH || !is_alias)
+            break;
+        if (answer->aliases == RRCACHE_MOST_ALIASES) {
+            answer->is_endless = true;
+            return RRCACHE_DONE;
+        }
+        status = follow_alias(said->cache, answer, &told);
+    }
+    if (status == RRCACHE_DONE) {
+        answer->kind = told.kind;
+        answer->retry_from = told.retry_from;
+    }
+    return status;
+}
+
+/* An RRset has a record of 11 octets or more, and there may be a negative answer besides. */
+size_t most_offers(const struct rrcache_response *response)
+{
+    return response->size / 11 + 1;
+}
+
+/* Notes the hash of the name of each offer, so that the names of an answer are found fast. */
+static void note_hashes(struct said *said, uint64_t most)
+{
+    struct rrcache_name name = {0};
+    struct rrcache_told told;
+    while (said->count < most
+           && rrcache_tell_offer(said->offers, said->count, &name, &told, NULL, 0)
+                  != RRCACHE_NO_OFFERS)
+        said->hashes[said->count++] = name.hash;
+}
+
+/* Reads a response again, in a block of memory, without limits on the aliases that are followed and
+   on the size of an RRset. Such a reading leaves out RRsets whose TTLs differ if AA is clear. So if
+   `lowest_ttl` is chosen, AA is set first. */
+static enum rrcache_status read_whole(struct said *said, void *block,
+                                      const struct rrcache_response *response)
+{
+    struct rrcache_response raised = *response;
+    said->hashes = block;
+    uint8_t *octets = (uint8_t *)(said->hashes + most_offers(response));
+    rrcache_free_offers(said->offers);
+    said->is_raised = response->lowest_ttl && !said->summary->aa;
+    memcpy(octets, response->octets, response->size);
+    if (said->is_raised)
+        octets[2] |= AA;
+    raised.octets = octets;
+    uint64_t concerned;
+    enum rrcache_status status =
+        rrcache_read_message_unchecked(said->offers, &raised, &said->cache->parts, &concerned);
+    if (status == RRCACHE_DONE)
+        note_hashes(said, most_offers(response));
+    return status;
+}
+
+/* Makes the answer of a response from everything that it says. */
+static enum rrcache_status answer_from_whole(struct said *said, const struct rrcache_query *query,
+                                             const struct rrcache_response *response,
+                                             struct rrcache_answer *answer)
+{
+    void *block = malloc(most_offers(response) * sizeof *said->hashes + response->size);
+    if (block == NULL)
+        return RRCACHE_MEMORY;
+    enum rrcache_status status = read_whole(said, block, response);
+    clear_answer(answer);
+    if (status == RRCACHE_DONE)
+        status = answer_from(said, query, answer);
+    free(block);
+    said->count = 0; /* the hashes are gone */
+    return status;
+}
+
+/* ---- Types that no shelf keeps. */
+
+/* Whether a name is at or below the apex of a zone. */
+static bool is_in(const struct rrcache_name *name, const struct rrcache_name *zone)
+{
+    size_t at = 0;
+    while (name->size - at > zone->size)
+        at += name->octets[at] + (size_t)1;
+    return name->size - at == zone->size
+           && memcmp(name->octets + at, zone->octets, zone->size) == 0;
+}
+
+/* Finds the SOA record of a zone that a name is in, in the authority section: the number of its
+   offer. Where there is none a miss is told. */
+static uint64_t find_soa(const struct said *said, const struct rrcache_name *name,
+                         struct rrcache_told *told)
+{
+    struct rrcache_name zone = {0};
+    uint64_t index = 0;
+    enum rrcache_status status;
+    do {
+        status = rrcache_tell_offer(said->offers, index++, &zone, told, NULL, 0);
+    } while (status != RRCACHE_NO_OFFERS
+             && (told->kind != RRCACHE_FRESH || told->rtype != SOA || is_answer(told)
+                 || !is_in(name, &zone)));
+    if (status == RRCACHE_NO_OFFERS)
+        *told = (struct rrcache_told){.kind = RRCACHE_MISS};
+    return index - 1;
+}
+
+/* Makes an SOA record that was told a denial (RFC 2308 sections 2.2 and 5): it lives for MINIMUM,
+   its last four octets, where that is less than its TTL. Of more records than one the first counts.
+ */
+static void make_denial(struct rrcache_told *told, const uint8_t *data, uint32_t cap)
+{
+    size_t size = 2 + ((size_t)data[0] << 8 | data[1]);
+    const uint8_t *last = data + size - 4;
+    uint32_t minimum =
+        (uint32_t)last[0] << 24 | (uint32_t)last[1] << 16 | (uint32_t)last[2] << 8 | last[3];
+    uint32_t most = minimum < cap ? minimum : cap;
+    told->kind = RRCACHE_NODATA;
+    told->data_size = size;
+    told->left = told->left < most ? told->left : most;
+}
+
+/* Puts into an answer that there are no data of a type, where an SOA record says so. */
+static enum rrcache_status put_absence(const struct said *said,
+                                       const struct rrcache_response *response,
+                                       struct rrcache_answer *answer)
+{
+    struct rrcache_name zone = {0};
+    struct rrcache_told told;
+    size_t room;
+    uint8_t *buffer = begin_rrset(answer, &room);
+    uint64_t index = find_soa(said, &answer->end, &told);
+    if (told.kind == RRCACHE_MISS)
+        return RRCACHE_DONE;
+    enum rrcache_status status =
+        rrcache_tell_offer(said->offers, index, &zone, &told, buffer, room);
+    if (status != RRCACHE_DONE)
+        return status;
+    make_denial(&told, buffer + told.owner_size, response->limits.negative_cap);
+    end_rrset(answer, &told, said->rclass);
+    answer->kind = RRCACHE_NODATA;
+    return RRCACHE_DONE;
+}
+
+/* Puts the records of types that no shelf keeps into an answer, or that there are none. */
+static enum rrcache_status put_rest(const struct said *said, const struct rrcache_query *query,
+                                    const struct rrcache_response *response,
+                                    struct rrcache_answer *answer)
+{
+    size_t before = answer->size;
+    enum rrcache_status status =
+        put_unkept(said->cache, query, response, said->summary->aa, answer);
+    if (status == RRCACHE_DONE && answer->size != before)
+        answer->kind = RRCACHE_FRESH;
+    if (status == RRCACHE_DONE && answer->kind == RRCACHE_MISS && said->summary->rcode == 0)
+        status = put_absence(said, response, answer);
+    return status;
+}
+
+/* ---- The whole answer. */
+
+/* What is relevant may be less than what a response says, as of a long chain of aliases or of a
+   large RRset: where that has no answer, all that it says may. */
+enum rrcache_status tell_answer(const struct rrcache *cache, struct rrcache_offers *offers,
+                                const struct rrcache_summary *summary,
+                                const struct rrcache_query *query,
+                                const struct rrcache_response *response,
+                                struct rrcache_answer *answer)
+{
+    struct said said = {
+        .cache = cache, .offers = offers, .summary = summary, .rclass = query->rclass};
+    bool has_answer = summary->kind != RRCACHE_RESPONSE_REFERRAL
+                      && summary->kind != RRCACHE_RESPONSE_FAILURE && !summary->tc;
+    enum rrcache_status status = answer_from(&said, query, answer);
+    if (status == RRCACHE_DONE && has_answer && answer->kind == RRCACHE_MISS && !answer->is_endless)
+        status = answer_from_whole(&said, query, response, answer);
+    bool may_have_more = answer->kind == RRCACHE_MISS || query->rtype == ANY;
+    if (status == RRCACHE_DONE && has_answer && may_have_more && !answer->is_endless
+        && is_unkept(query->rtype))
+        status = put_rest(&said, query, response, answer);
+    return status;
+}

@@ -1,0 +1,72 @@
+# SPDX-License-Identifier: MIT
+"""examples/lookup.c, the example of README.md, on loopback, beside a name server that is made here,
+under the sanitizers of addresses and of undefined behaviour."""
+import subprocess
+from pathlib import Path
+
+import pytest
+from dns.rcode import NXDOMAIN, SERVFAIL
+
+from tests.c.test_stub import FLAGS
+from tests.forwarder.harness import Server, aliases, told
+
+TOP = Path(__file__).resolve().parents[2]
+
+
+@pytest.fixture(scope="module")
+def program(library, tmp_path_factory):
+    made = tmp_path_factory.mktemp("lookup") / "lookup"
+    subprocess.run(["cc", *FLAGS, TOP / "examples" / "lookup.c",
+                    library.with_name("librrcache.a"), "-o", made], check=True)
+    return made
+
+
+@pytest.fixture
+def server():
+    made = Server(tcp=False)
+    yield made
+    made.stop()
+
+
+@pytest.fixture
+def look_up(program, server):
+    """Looks names up, and returns the status, the addresses that are printed and their TTLs."""
+    def look_up(*names):
+        ran = subprocess.run([program, "127.0.0.1", str(server.port), *names], text=True,
+                             capture_output=True, timeout=60)
+        assert ran.stderr == ""
+        words = [line.split(" TTL ") for line in ran.stdout.splitlines()]
+        return ran.returncode, [address for address, _ in words], [int(ttl) for _, ttl in words]
+    return look_up
+
+
+def test_a_name_is_asked_for_once(look_up, server):
+    status, addresses, ttls = look_up("a7.example", "A7.example.", "a8.example")
+    assert (status, addresses) == (0, ["192.0.2.7", "192.0.2.7", "192.0.2.8"])
+    assert all(30 <= it <= 60 for it in ttls)
+    assert server.times("a7.example") == server.times("a8.example") == 1
+
+
+def test_an_alias_and_its_addresses(look_up, server):
+    server.answer = told(*aliases(["c.example", "d.example"]), "d.example 30 A 192.0.2.3",
+                         "d.example 30 A 192.0.2.4")
+    status, addresses, _ = look_up("c.example", "c.example", "d.example")
+    assert (status, addresses) == (0, ["192.0.2.3", "192.0.2.4"] * 3)
+    assert len(server.asked) == 1
+
+
+@pytest.mark.parametrize("rcode", [NXDOMAIN, SERVFAIL])
+def test_what_is_not_found(rcode, look_up, server):
+    server.answer = told(rcode=rcode)  # a denial with no SOA record is stored nowhere
+    assert look_up("n.example") == (1, [], [])
+
+
+def test_a_denial_is_an_answer(look_up, server):
+    assert look_up("b.example", "b.example") == (0, [], [])
+    assert server.times("b.example") == 1
+
+
+@pytest.mark.parametrize("name", ["a..example", "a" * 64 + ".example", "", "." * 300])
+def test_a_text_that_is_no_name(name, look_up):
+    status, addresses, _ = look_up(name)
+    assert status in (0, 1) and not addresses
