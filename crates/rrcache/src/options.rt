@@ -81,7 +81,7 @@ fn audit_history<'a>(alloc: Global) -> Result<Arg<'a>, AllocError> {
 }
 
 /// The version of the package, as the file VERSION has it, and the kit that proved it.
-const VERSION: &str = "2.0.0\nproved with rattle-kit-13b logic dac8208d650f15bf";
+const VERSION: &str = "2.1.0\nproved with rattle-kit-13f logic dac8208d650f15bf";
 
 fn program<'a>(alloc: Global) -> Command<'a> {
     Command::new(alloc, "rrcache").version(VERSION).about(

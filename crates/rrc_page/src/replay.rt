@@ -1,0 +1,92 @@
+// SPDX-License-Identifier: MIT
+ghost use Rattle.std.specs.Prelude.{◌≡◌, ◌<◌, length, IfOk, IfErr};
+ghost use Rattle.rrc_report.specs.Reports.{IsCollated};
+ghost use Rattle.rrc_page.specs.Replay.{IsFaultOf, IsOfReplay, IsTheReport};
+
+use crate::answers::answer;
+use crate::own_cache::OwnCache;
+use rrc_cache::Refusal;
+use rrc_name::Sequence;
+use rrc_report::{Answered, Done, Report, collate, one_report_by_one_worker};
+use rrc_script::Config;
+use rrc_trace::{ReplayFault, Trace, one_trace_or_fault, read_trace};
+use std::alloc::Global;
+
+/// As what a refusal of a line's call is told, of so many lines. No line has a moment that is too
+/// large.
+fn fault_of(lines: usize, line: usize, refusal: Refusal) -> ReplayFault
+    requires { line < lines }
+    ensures { IsOfReplay lines result }
+{
+    match refusal {
+        Refusal::HistoryFull => ReplayFault::Spent(line as u64),
+        Refusal::MomentTooLarge => ReplayFault::Strayed,
+        Refusal::Memory => ReplayFault::Memory,
+    }
+}
+
+/// What a line got.
+fn answered(
+    alloc: Global,
+    cache: &mut OwnCache,
+    config: &Config,
+    trace: &Trace,
+    line: usize,
+) -> Result<Answered, ReplayFault>
+    requires { line < length trace.now }
+    ensures { IfErr result (IsOfReplay (length trace.now)) }
+{
+    match answer(alloc, cache, &config.limits, trace, line) {
+        Ok(answer) => Ok(Answered { line, answer }),
+        Err(refusal) => Err(fault_of(trace.lines.len(), line, refusal)),
+    }
+}
+
+/// What the lines of a trace got, one after another.
+fn done_alone(
+    alloc: Global,
+    cache: &mut OwnCache,
+    config: &Config,
+    trace: &Trace,
+) -> Result<Done, ReplayFault>
+    ensures { IfErr result (IsOfReplay (length trace.now)) }
+{
+    let mut answers = Sequence::new(alloc);
+    for line in 0..trace.lines.len() {
+        answers.push(answered(alloc, cache, config, trace, line)?)?;
+    }
+    Ok(Done { answers })
+}
+
+/// Replays a trace by the one worker that this thread is, and holds what it did against the
+/// histories of the parts.
+fn replay_alone(alloc: Global, trace: &Trace, config: &Config) -> Result<Report, ReplayFault>
+    ensures collated { IfOk result (IsCollated config.now trace.now) }
+    ensures err { IfErr result (IsOfReplay (length trace.now)) }
+{
+    let Ok(mut cache) = OwnCache::new(alloc, config.parts, config.rules) else {
+        return Err(ReplayFault::Memory);
+    };
+    let own = done_alone(alloc, &mut cache, config, trace)?;
+    let mut done = Vec::with_capacity(alloc, 1)?;
+    done.push(own)?;
+    collate(alloc, trace, config, cache.into_shelves(), done)
+}
+
+/// Reads a trace, and makes the report of it by one worker.
+#[tactic(auto, using(crate::proofs::OneReport::the_report))]
+pub(crate) fn report_of(
+    alloc: Global,
+    octets: &[u8],
+    config: &Config,
+) -> Result<Report, ReplayFault>
+    requires { config.now.workers ≡ 1 }
+    ensures ok { IfOk result (IsTheReport config.now octets.now) }
+    ensures err { IfErr result (IsFaultOf octets.now) }
+{
+    one_trace_or_fault();
+    one_report_by_one_worker();
+    let mut reader = octets;
+    let trace = read_trace(alloc, &mut reader)?;
+    replay_alone(alloc, &trace, config)
+}
