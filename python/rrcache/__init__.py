@@ -1,17 +1,19 @@
 # SPDX-License-Identifier: MIT
-"""The RRset cache of a recursive DNS resolver (RFC 2181, RFC 2308, RFC 8767), over its library for
+"""The RRset cache of a recursive DNS resolver (RFC 2181, RFC 2308, RFC 8767), over the library for
 C.
 
-A `Shelf` is one part of the cache, for one thread at a time, or for any number of threads that only
-look (`peek`, `peek_alias`, `stored`, `sizes`, `next_expiry`). A `Cache` is several of them with
-their locks, for any number of threads. Names are text, as "www.example.", or octets in wire form
-(RFC 1035 section 3.1); moments and TTLs are seconds; data are octets, as records carry them, with
-no name compressed. A call that is refused raises a `Refused`.
+A `SharedCache` is a cache that threads share: it does its own locking and limits its memory. A
+`Shelf` is one shard of a cache. One thread at a time may use a shelf, or any number of threads that
+make only read-only calls (`peek`, `peek_alias`, `stored`, `sizes`, `next_expiry`). A `Cache` is
+several shelves, each with a Python lock. Names are text, such as "www.example.", or octets in wire
+form (RFC 1035 section 3.1). Timestamps (`moment`) and TTLs are in seconds. Rdata (`data`) are
+octets without compressed names. A call that fails raises a subclass of `Refused`.
 
-The library is the one that the environment variable RRCACHE_LIBRARY names, else the one that was
-installed with this package, else build/librrcache.so of the repository that it lies in, else what
-the system's loader finds. It is loaded by the first call of it.
+The first call loads the library: the file that the environment variable RRCACHE_LIBRARY names;
+otherwise the file that was installed with this package; otherwise build/librrcache.so of the
+repository that contains this package; otherwise the file that the system's loader finds.
 """
+from .answers import Answer, AnswerSet
 from .cache import Cache
 from .choices import Class, Kind, MessageFault, Mode, Outcome, Purpose, ResponseKind, Trust
 from .composing import ParsedSet, compose_response
@@ -22,22 +24,25 @@ from .names import NameFault, to_text, to_wire
 from .offers import Offers, Summary, octets_of, read_message_unchecked, read_response
 from .parts import AnyName, Name, Parts, make_name
 from .refusals import (BadChoice, BadData, BadLimits, BadMessage, BadName, BadRules, BadSeed,
-                       BadType, HasOffers, HistoryFull, Memory, MomentTooLarge, NoOffers,
-                       NoQuestion, NoShelf, OtherQuery, OtherSeed, Refused, Status, Wide, WrongBody)
+                       BadType, HasChapters, HasOffers, HistoryFull, Memory, MomentTooLarge,
+                       NoOffers, NoQuestion, NoShelf, OtherQuery, OtherSeed, Refused, Status,
+                       TooLarge, Wide, WrongBody)
 from .replies import (BLOCK_OCTETS, ENTRY_OCTETS, INLINE_OCTETS, SHARED_OCTETS, VALUE_OCTETS,
                       Counts, Limits, Query, Reply, Sizes, Stored, StoredEntry, Swept, Trimmed)
+from .shared import Report, SharedCache, Stats
 from .shelf import Shelf
 
-__version__ = "2.0.0"
+__version__ = "2.1.0"
 __all__ = [
-    "AnyName", "ArchiveFault", "Ask", "BLOCK_OCTETS", "BadChoice", "BadData", "BadLimits",
-    "BadMessage", "BadName", "BadRules", "BadSeed", "BadType", "Body", "Cache", "Chapter", "Class",
-    "Counts", "ENTRY_OCTETS", "Entry", "Event", "Failure", "HasOffers", "HistoryFull",
-    "INLINE_OCTETS", "Key", "Kind", "Limits", "Memory", "MessageFault", "Mode", "MomentTooLarge",
-    "Name", "NameFault", "Negative", "NoOffers", "NoQuestion", "NoShelf", "Offer", "Offers",
-    "OtherQuery", "OtherSeed", "Outcome", "ParsedSet", "Parts", "Purpose", "Query", "RRset",
-    "Refused", "Reply", "ResponseKind", "SHARED_OCTETS", "Shelf", "Sizes", "Slot", "Status",
-    "Stored", "StoredEntry", "Summary", "Sweep", "Swept", "Trimmed", "Trust", "VALUE_OCTETS",
-    "Wide", "WrongBody", "compose_response", "fault", "library_version", "make_name", "octets_of",
-    "read_archive", "read_message_unchecked", "read_response", "to_text", "to_wire",
+    "Answer", "AnswerSet", "AnyName", "ArchiveFault", "Ask", "BLOCK_OCTETS", "BadChoice", "BadData",
+    "BadLimits", "BadMessage", "BadName", "BadRules", "BadSeed", "BadType", "Body", "Cache",
+    "Chapter", "Class", "Counts", "ENTRY_OCTETS", "Entry", "Event", "Failure", "HasChapters",
+    "HasOffers", "HistoryFull", "INLINE_OCTETS", "Key", "Kind", "Limits", "Memory", "MessageFault",
+    "Mode", "MomentTooLarge", "Name", "NameFault", "Negative", "NoOffers", "NoQuestion", "NoShelf",
+    "Offer", "Offers", "OtherQuery", "OtherSeed", "Outcome", "ParsedSet", "Parts", "Purpose",
+    "Query", "RRset", "Refused", "Reply", "Report", "ResponseKind", "SHARED_OCTETS", "SharedCache",
+    "Shelf", "Sizes", "Slot", "Stats", "Status", "Stored", "StoredEntry", "Summary", "Sweep",
+    "Swept", "TooLarge", "Trimmed", "Trust", "VALUE_OCTETS", "Wide", "WrongBody",
+    "compose_response", "fault", "library_version", "make_name", "octets_of", "read_archive",
+    "read_message_unchecked", "read_response", "to_text", "to_wire",
 ]

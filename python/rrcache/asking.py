@@ -1,5 +1,5 @@
 # SPDX-License-Identifier: MIT
-"""How a shelf is asked: what a call is handed, and what it writes as objects of Python."""
+"""Look-ups in a shelf: the arguments of the calls, and their results as Python objects."""
 from __future__ import annotations
 
 import itertools
@@ -14,7 +14,7 @@ from .parts import Name
 from .refusals import Status, refusal
 from .replies import Reply, Stored, StoredEntry
 
-# The octets that are enough for a reply of what `read_response` read (rrcache_shelf.h).
+# A buffer of this size has room for a reply with data that `read_response` read (rrcache_shelf.h).
 ROOM = 28_551
 KINDS = {int(it): it for it in Kind}
 TRUSTS = {int(it): it for it in Trust}
@@ -22,7 +22,7 @@ QUESTION, TOLD, ENTRY = map(structs.packer, (structs.Question, structs.Told, str
 
 
 class Work:
-    """What one call that asks is handed beside the shelf and the name."""
+    """The arguments of one look-up, other than the shelf and the name."""
 
     __slots__ = ("question", "told", "stored", "buffer")
 
@@ -32,13 +32,14 @@ class Work:
         self.buffer: Any = create_string_buffer(ROOM)
 
 
-# What no call has now. A call takes one out and puts it back, so that no two calls have the same,
-# of threads or of a handler of signals within another call; a list does either in one step.
+# Objects that no call uses now. A call removes one and puts it back, so two calls never use the
+# same object, even if they are in different threads, or one is in a signal handler that interrupts
+# the other. Each list operation is atomic.
 _idle: list[Work] = []
 
 
 def taken() -> Work:
-    """What no other call has."""
+    """Returns an object that no other call uses."""
     try:
         return _idle.pop()
     except IndexError:
@@ -46,7 +47,8 @@ def taken() -> Work:
 
 
 def data_of(octets: bytes, at: int) -> tuple[bytes, ...]:
-    """Data that stand one behind another from a place on, each behind its length of two octets."""
+    """Returns the rdata in `octets` from the offset `at` on. Two octets of length precede each
+    rdata."""
     data, end = [], len(octets)
     while at < end:
         behind = at + 2 + (octets[at] << 8 | octets[at + 1])
@@ -55,14 +57,14 @@ def data_of(octets: bytes, at: int) -> tuple[bytes, ...]:
     return tuple(data)
 
 
-# A frozen dataclass is made of all of its fields by its dictionary: its own constructor calls a
-# function for each, and takes three times as long.
+# Makes a frozen dataclass by its dictionary. Its own constructor calls a function for each field,
+# and takes three times as long.
 new = object.__new__
 
 
 def entry_of(kind: int, trust: int, ttl: int, moment: int, number: int,
              age: int) -> StoredEntry | None:
-    """An entry of its numbers, None where nothing is stored."""
+    """Returns an entry made from its numbers, or None if nothing is stored."""
     if not kind:
         return None
     entry = new(StoredEntry)
@@ -73,7 +75,7 @@ def entry_of(kind: int, trust: int, ttl: int, moment: int, number: int,
 
 
 def reply_of(told: structs.Told, buffer: Any) -> Reply:
-    """The reply that was told and written to a buffer."""
+    """Returns the reply that a call wrote to `told` and to the buffer."""
     (kind, rtype, left, retry_from, owner_size, data_size, stored, trust, ttl, moment, number,
      age) = TOLD.unpack_from(told)
     octets = buffer[:owner_size + data_size]
@@ -87,13 +89,13 @@ def reply_of(told: structs.Told, buffer: Any) -> Reply:
 
 
 def room_for(told: structs.Told) -> Any:
-    """A buffer with room for a reply that one was too small for."""
+    """Returns a buffer that is large enough for the reply in `told`."""
     return create_string_buffer(told.owner_size + told.data_size)
 
 
 def told_offer(handle: structs.Offers, index: int) -> tuple[Name, Reply] | None:
-    """The offer with a number of those that were read: the name that it is of, and the reply that
-    it makes. None is answered where there is no such offer."""
+    """Returns an offer by its number: its name, and the reply that it gives. Returns None if there
+    is no such offer."""
     work, made = taken(), structs.Name()
     try:
         tell, buffer = library().rrc_tell_offer, work.buffer
@@ -110,8 +112,8 @@ def told_offer(handle: structs.Offers, index: int) -> tuple[Name, Reply] | None:
 
 def answered(export: str, handle: structs.Shelf, name: Name, moment: int, line: int, rtype: int,
              rclass: int, purpose: int, mode: int) -> Reply:
-    """The reply to a question of a call that asks. A reply that has no room is asked for again,
-    since no event was written."""
+    """Makes a look-up call, and returns its reply. If the buffer is too small, no event was
+    written, and the call is repeated with a larger one."""
     work = taken()
     try:
         QUESTION.pack_into(work.question, 0, moment, line, rtype, rclass, purpose, mode)
@@ -129,7 +131,7 @@ def answered(export: str, handle: structs.Shelf, name: Name, moment: int, line: 
 
 
 def stored_under(handle: structs.Shelf, name: Name, rtype: int, rclass: int) -> Stored:
-    """The three entries that are held of a name and a class for a type."""
+    """Returns the three entries of a name, a class and a type."""
     work = taken()
     try:
         QUESTION.pack_into(work.question, 0, 0, 0, rtype, rclass, 0, 0)

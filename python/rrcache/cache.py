@@ -1,5 +1,5 @@
 # SPDX-License-Identifier: MIT
-"""A cache of several parts, for any number of threads."""
+"""A cache of several shelves, for any number of threads."""
 from __future__ import annotations
 
 import os
@@ -17,10 +17,14 @@ LINKS_MOST = 16
 
 
 class Cache(Closing):
-    """1 to 64 shelves, each with a lock: all that is known of a name lies in one of them. Which one
-    that is goes by a random seed of the cache's own, or by the one that is given. `capacity` is the
-    most keys of each; the other arguments are those of `Shelf`. `BadRules` or `BadSeed` is raised
-    where one of them is none. The cache remembers the names that it was asked for last.
+    """1 to 64 shelves, each with a Python lock. All data of a name are in one shelf. A hash under a
+    seed chooses the shelf; the seed is random unless the caller passes one. `capacity` is the most
+    keys of each shelf, and the other arguments are those of `Shelf`. Raises `BadRules` or `BadSeed`
+    if an argument is out of range. The cache keeps the folded form of recently used names.
+
+    New programs use a `SharedCache`, in which threads look up at the same time, and which limits
+    its memory. A `Cache` returns a reply for each name of a CNAME chain, and has `line` and the
+    calls of a shelf.
 
     >>> with Cache(parts=4) as cache:
     ...     cache.ask("www.example.", 1, moment=1000).kind.name
@@ -35,15 +39,15 @@ class Cache(Closing):
         self._shelves = [(threading.Lock(), Shelf(seed=octets, **rules)) for _ in range(parts)]
 
     def _found(self, name: AnyName) -> tuple[Name, threading.Lock, Shelf]:
-        """The library's name, the part that it lies in, and the lock of that."""
+        """Returns the name in the library's form, the lock of its shelf, and the shelf."""
         found = self._made(name.octets if isinstance(name, Name) else name)
         return found, *self._shelves[found.part]
 
     def ask(self, name: AnyName, rtype: int, moment: int, *,
             purpose: Purpose | int = Purpose.QUESTION, mode: Mode | int = Mode.NO_STALE,
             line: int = 0, rclass: Class | int = Class.IN) -> Reply:
-        """Asks the part of the name, as `Shelf.ask` does. Of a name that `make_name` made, under
-        whatever seed, the cache takes the octets.
+        """Looks up a name in its shelf, as `Shelf.ask` does. A name that `make_name` made under
+        another seed is allowed too: the cache uses its octets.
 
         >>> with Cache() as cache:
         ...     reply = cache.ask("www.example.", 1, moment=1000, mode=Mode.STALE_IF_FAILED)
@@ -56,7 +60,7 @@ class Cache(Closing):
 
     def _has_failed(self, name: AnyName, rtype: int, moment: int, purpose: Purpose | int,
                     rclass: Class | int) -> bool:
-        """Whether asking for it has failed recently, and nothing fresh is held."""
+        """Whether the question has failed recently, and no fresh answer is cached."""
         found, lock, shelf = self._found(name)
         with lock:
             return shelf.peek(found, rtype, moment, purpose, rclass=rclass).kind is Kind.FAILED
@@ -64,11 +68,12 @@ class Cache(Closing):
     def follow(self, name: AnyName, rtype: int, moment: int, *,
                purpose: Purpose | int = Purpose.QUESTION, mode: Mode | int = Mode.NO_STALE,
                line: int = 0, rclass: Class | int = Class.IN) -> list[Reply]:
-        """The reply to a question, or where the name is an alias those along the chain: a CNAME
-        record's for each alias, and last what the chain ends with (RFC 1034 section 3.6.2). Which
-        of both a name has `Shelf.ask_alias` says. They are at most 16; those of a chain that has
-        more, or leads back, end with an alias. Each is one event. A failure of the question is one
-        for all of its chain. It takes and raises what `Shelf.ask` does.
+        """Follows the CNAME chain of a question (RFC 1034 section 3.6.2). Returns the reply for
+        each name of the chain: a CNAME record for each alias, and then the reply for the end of the
+        chain. `Shelf.ask_alias` chooses between a CNAME record and data of the type. There are at
+        most 16 replies. If the chain is a loop or longer than that, the last reply is a CNAME
+        record. Each reply is one event. If the question has failed recently, this counts for every
+        name of its chain. The arguments and the exceptions are those of `Shelf.ask`.
 
         >>> from rrcache import ParsedSet, compose_response
         >>> query = Query("www.example.", 1, id=0x1234)
@@ -98,7 +103,7 @@ class Cache(Closing):
                 return replies
 
     def _offer(self, offers: Offers, line: int) -> Counts:
-        """Offers each part its share of what was read, and frees it."""
+        """Offers to each shelf its share of the offers, and frees the offers."""
         total = Counts(0, 0, 0)
         with offers:
             for part in offers.concerned:
@@ -110,10 +115,10 @@ class Cache(Closing):
     def offer_response(self, message: bytes, zone: str | bytes, query: Query, moment: int,
                        limits: Limits = Limits(), line: int = 0, *, lowest_ttl: bool = False,
                        clears_denied: bool = False) -> Counts:
-        """Offers a response of a server of a zone to a query: to each part what it says of that
-        part's names, of what is relevant to the query. It is read once, under no lock, as
-        `read_response` does. Where one part refuses its share, that is raised, and what other parts
-        took stays.
+        """Stores the response of a zone's server to a query. The message is read once, without a
+        lock, as `read_response` does, and each shelf gets the relevant offers of its names. If the
+        call of one shelf fails, its exception is raised, and the data that other shelves stored
+        stay.
 
         >>> from rrcache import ParsedSet, compose_response
         >>> query = Query("www.example.", 1, id=0x1234)
@@ -131,8 +136,8 @@ class Cache(Closing):
 
     def offer_message_unchecked(self, message: bytes, zone: str | bytes, moment: int,
                                 limits: Limits = Limits(), line: int = 0) -> Counts:
-        """The same of all that a response says within the zone. It compares the response with no
-        query: that is the caller's to do.
+        """Stores all data of a response that are in bailiwick. Unlike `offer_response`, it does not
+        compare the response with a query. The caller compares them first.
 
         >>> from rrcache import ParsedSet, compose_response
         >>> answer = [ParsedSet(it, 1, 60, [bytes(4)]) for it in ("a.example.", "b.example.")]
@@ -145,8 +150,8 @@ class Cache(Closing):
         return self._offer(offers, line)
 
     def sweep(self, moment: int) -> int:
-        """Sweeps each part, one after another, and tells how many keys were removed. Of a history
-        that is recorded the closed chapters of each part are dropped.
+        """Sweeps each shelf, one after another, and returns the number of keys that were removed.
+        If the history is recorded, the closed chapters of each shelf are dropped.
 
         >>> with Cache() as cache:
         ...     cache.sweep(moment=1000)
@@ -160,10 +165,10 @@ class Cache(Closing):
         return removed
 
     def trim(self, moment: int, limit: int, most: int = KEYS_MOST) -> Trimmed:
-        """Bounds the memory of the cache: trims each part, one after another, to the same share of
-        `limit`, of at most `most` keys each (`Shelf.trim`), and tells what that came to in all. Of
-        a history that is recorded the closed chapters of each part are dropped. `BadRules` is
-        raised where `limit` is less than the number of parts, or `most` is 0.
+        """Limits the memory of the cache. Trims each shelf, one after another, to an equal share of
+        `limit`, and removes at most `most` keys from each (`Shelf.trim`). Returns the total. If the
+        history is recorded, the closed chapters of each shelf are dropped. Raises `BadRules` if
+        `limit` is less than the number of shelves, or `most` is 0.
 
         >>> with Cache(parts=4) as cache:
         ...     cache.trim(moment=1000, limit=64_000_000)

@@ -1,10 +1,10 @@
 # SPDX-License-Identifier: MIT
-"""The words of the cache, with the numbers that the library for C has for them."""
+"""The enumerations of the cache, with the numbers of the library for C."""
 from enum import IntEnum
 
 
 class Class(IntEnum):
-    """The classes of which data are kept (RFC 1035 section 3.2.4)."""
+    """The classes whose data are kept (RFC 1035 section 3.2.4)."""
 
     IN = 1
     CH = 3
@@ -12,16 +12,16 @@ class Class(IntEnum):
 
 
 class Purpose(IntEnum):
-    """What an answer is for: anything, where glue will do, or to answer a question, where it will
-    not (RFC 2181 section 5.4.1)."""
+    """The purpose of an answer (RFC 2181 section 5.4.1): anything, for which additional data such
+    as glue are acceptable, or a client's question, which additional data must not answer."""
 
     ANYTHING = 1
     QUESTION = 2
 
 
 class Mode(IntEnum):
-    """Whether a stale answer will do (RFC 8767 section 5): no; where a failure is held by which a
-    miss would be FAILED; at once."""
+    """When a stale answer is acceptable (RFC 8767 section 5): never; only if a failure is recent,
+    so that a miss would be FAILED; with or without a failure."""
 
     NO_STALE = 1
     STALE_IF_FAILED = 2
@@ -29,7 +29,7 @@ class Mode(IntEnum):
 
 
 class Trust(IntEnum):
-    """How far data are trusted (RFC 2181 section 5.4.1), from low to high."""
+    """The rank of data (RFC 2181 section 5.4.1), from low to high."""
 
     ADDITIONAL = 1
     NON_AUTHORITATIVE_ANSWER = 2
@@ -38,8 +38,8 @@ class Trust(IntEnum):
 
 
 class Outcome(IntEnum):
-    """What became of an offer: it is kept; its TTL was 0 and the key holds nothing; the key holds
-    what is trusted more."""
+    """The outcome of an offer. KEPT: the data were stored. CLEARED: the TTL was 0, and the key now
+    holds nothing. OUTRANKED: the key holds data of higher rank, so nothing was stored."""
 
     KEPT = 1
     CLEARED = 2
@@ -47,11 +47,11 @@ class Outcome(IntEnum):
 
 
 class Kind(IntEnum):
-    """What a reply is, and what is stored, which is FRESH of an RRset whether it is past its TTL or
-    not, NODATA, NXDOMAIN or FAILED. NODATA says that the name has no data of the type (RFC 2308
-    section 2.2), and NXDOMAIN that the name does not exist (section 2.1). With FAILED nothing will
-    do, and a failure is held that is not past its time and later than what else is held: a resolver
-    answers SERVFAIL (RFC 9520)."""
+    """The kind of a reply or of a stored entry. FRESH and STALE are an unexpired and an expired
+    RRset; the entry of an RRset is always FRESH. NODATA means that the name has no data of the type
+    (RFC 2308 section 2.2), and NXDOMAIN that the name does not exist (section 2.1). MISS means that
+    nothing may answer. FAILED means the same with a recent failure: it is unexpired, and was stored
+    later than all other entries for the question. A resolver then answers SERVFAIL (RFC 9520)."""
 
     FRESH = 1
     STALE = 2
@@ -62,12 +62,20 @@ class Kind(IntEnum):
 
 
 class ResponseKind(IntEnum):
-    """What a response comes to for its question (RFC 1034 section 5.3.3), when a zone's servers
-    were asked: it has data of the type; it has, and they are left out, since their TTLs differ and
-    AA is clear; the name has no data of the type (RFC 2308 section 2.2), or does not exist (section
-    2.1); the servers of a zone below are named; an alias leads on to a name of which the response
-    has nothing, or which is outside the zone; RCODE is neither NOERROR nor NXDOMAIN; nothing that
-    can be used, as where TC is set."""
+    """The kind of a response for its question, when the servers of a zone were asked (RFC 1034
+    section 5.3.3).
+
+    - ANSWER: the response has data of the type.
+    - UNEQUAL_TTLS: the response has data of the type, which are left out, because their TTLs differ
+      and AA is clear.
+    - NODATA: the name has no data of the type (RFC 2308 section 2.2).
+    - NXDOMAIN: the name does not exist (RFC 2308 section 2.1).
+    - REFERRAL: the response names the servers of a zone below that contains the name.
+    - ALIAS: a CNAME chain leads to a name that is out of bailiwick, or of which the response has no
+      data.
+    - FAILURE: the RCODE is neither NOERROR nor NXDOMAIN.
+    - UNUSABLE: none of these, such as a response with TC set.
+    """
 
     ANSWER = 1
     UNEQUAL_TTLS = 2
@@ -80,10 +88,18 @@ class ResponseKind(IntEnum):
 
 
 class MessageFault(IntEnum):
-    """Why octets are no response: they end too soon; a length octet has reserved bits; a pointer
-    leads to no lower place; a name has more than 255 octets; data do not fill their layout; QR is
-    clear; there is not one question; they are more than 65,535. NO_FAULT, which is false, where
-    they are one."""
+    """Why octets are not a response that can be read.
+
+    - NO_FAULT, which is false: they can be read.
+    - SHORT: the message ends too soon.
+    - RESERVED_BITS: a length octet of a name has reserved bits.
+    - POINTER: a compression pointer does not lead to an earlier offset.
+    - LONG_NAME: a name has more than 255 octets.
+    - LAYOUT: rdata do not fill the layout of their type exactly.
+    - NO_RESPONSE: QR is clear.
+    - NOT_ONE_QUESTION: there is not exactly one question.
+    - LONG_MESSAGE: there are more than 65,535 octets.
+    """
 
     NO_FAULT = 0
     SHORT = 1

@@ -1,17 +1,18 @@
 # SPDX-License-Identifier: MIT
-"""What a resolver parsed of a response itself, as a message that `read_response` reads."""
+"""Messages from responses that a resolver parsed itself, for `read_response`."""
 from __future__ import annotations
 
 import struct
 from collections.abc import Iterable
 from typing import NamedTuple
 
+from .answers import AnswerSet
 from .choices import Class
 from .names import LABEL_MOST, NAME_MOST, to_wire
 from .refusals import BadChoice, BadName, BadType, WrongBody
 from .replies import Query
 
-# The fields of a message (RFC 1035 section 4.1), and where no pointer leads to any more.
+# The fields of a message (RFC 1035 section 4.1), and the first offset that no pointer can reach.
 HEADER, QUESTION, RECORD, POINTER = map(struct.Struct, (">6H", ">2H", ">2HIH", ">H"))
 POINTER_BIT, POINTERS_END = 0xC000, 0x4000
 QR, AA, TC, RA = 0x8000, 0x0400, 0x0200, 0x0080
@@ -19,8 +20,8 @@ RCODES, MESSAGE_MOST = 16, 65_535
 
 
 class ParsedSet(NamedTuple):
-    """An RRset of a response that a resolver parsed itself: its data are octets with no name
-    compressed.
+    """An RRset of a response that a resolver parsed itself. `data` are rdata without compressed
+    names.
 
     >>> ParsedSet("www.example.", 1, ttl=60, data=[bytes([192, 0, 2, 1])]).rclass.name
     'IN'
@@ -34,7 +35,8 @@ class ParsedSet(NamedTuple):
 
 
 def whole_name(name: str | bytes) -> bytes:
-    """The wire form of a name; `BadName` is raised where octets are none."""
+    """Returns the wire form of a name. Raises `BadName` if octets are not the wire form of a
+    name."""
     wire, at = to_wire(name), 0
     while at < len(wire) and 0 < wire[at] <= LABEL_MOST:
         at += 1 + wire[at]
@@ -43,8 +45,12 @@ def whole_name(name: str | bytes) -> bytes:
     return wire
 
 
-def put_set(message: bytearray, asked: bytes, one: ParsedSet) -> int:
-    """Writes the records of a set behind a message, and tells how many they are."""
+# The RRsets from which a message is made.
+AnySet = ParsedSet | AnswerSet
+
+
+def put_set(message: bytearray, asked: bytes, one: AnySet) -> int:
+    """Appends the records of an RRset to a message, and returns their number."""
     owner, data = whole_name(one.owner), list(one.data)
     if not (one.rtype and one.rclass):
         raise BadType
@@ -61,8 +67,8 @@ def put_set(message: bytearray, asked: bytes, one: ParsedSet) -> int:
     return len(data)
 
 
-def put_message(query: Query, flags: int, sections: Iterable[Iterable[ParsedSet]]) -> bytes:
-    """The message of these flags and sections."""
+def put_message(query: Query, flags: int, sections: Iterable[Iterable[AnySet]]) -> bytes:
+    """Returns the message with these flags and sections."""
     asked = whole_name(query.name)
     if not (query.rtype and query.rclass):
         raise BadType
@@ -74,21 +80,23 @@ def put_message(query: Query, flags: int, sections: Iterable[Iterable[ParsedSet]
     return bytes(message)
 
 
-def compose_response(query: Query, answer: Iterable[ParsedSet] = (),
-                     authority: Iterable[ParsedSet] = (), additional: Iterable[ParsedSet] = (), *,
+def compose_response(query: Query, answer: Iterable[AnySet] = (),
+                     authority: Iterable[AnySet] = (), additional: Iterable[AnySet] = (), *,
                      rcode: int = 0, aa: bool = False, tc: bool = False, ra: bool = False) -> bytes:
-    """What a resolver parsed of a response itself, as a message, which is then handed to
-    `read_response` with the same query like any response: the RRsets of its three sections, the
-    RCODE of its header and three of its flags.
+    """Makes a message from a response that a resolver parsed itself: the RRsets of its three
+    sections, its RCODE and three of its flags. Pass the message to `read_response` with the same
+    query, like any other response.
 
-    The caller compares the response with its query first (RFC 5452 section 9.1): QR, the opcode,
-    the identifier and the question. The message has those of the query, whatever the response had.
-    A set whose records have several TTLs is handed in as several sets, one for each record.
+    The caller first compares the response with its query (RFC 5452 section 9.1): QR, the opcode,
+    the identifier and the question. The message has the identifier and question of the query, even
+    if the response had others. If the records of an RRset have different TTLs, pass one set for
+    each record.
 
-    `BadChoice` is raised of an RCODE above 15, `BadType` of a type or a class of 0, `BadName` of
-    octets that are no name, `WrongBody` of a set with no data, and `ValueError` of a number that
-    its field has no room for, and where the message would have more than 65,535 octets. That may be
-    so of a response that had fewer, since of its names owners alone are compressed.
+    Raises `BadChoice` if the RCODE is above 15, `BadType` if a type or a class is 0, `BadName` if
+    octets are not the wire form of a name, `WrongBody` if a set has no data, and `ValueError` if a
+    number is too large for its field. Also raises `ValueError` if the message would have more than
+    65,535 octets. The message may be too large although the response was not, because only owners
+    are compressed in the message.
 
     >>> from rrcache import Parts, Query, read_response
     >>> query, parts = Query("www.example.", 1, id=0x1234), Parts(1, seed=bytes(range(16)))
@@ -104,4 +112,4 @@ def compose_response(query: Query, answer: Iterable[ParsedSet] = (),
     try:
         return put_message(query, flags, (answer, authority, additional))
     except struct.error as fault:
-        raise ValueError(f"a number is out of its range: {fault}") from fault
+        raise ValueError(f"a number is out of range: {fault}") from fault

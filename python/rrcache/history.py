@@ -1,6 +1,5 @@
 # SPDX-License-Identifier: MIT
-"""The history of a shelf as objects: what archives say, which are its chapters as text
-(docs/FORMATS.md)."""
+"""The history of a shelf as Python objects, read from archives (docs/FORMATS.md)."""
 from __future__ import annotations
 
 import re
@@ -22,12 +21,12 @@ KINDS = {"fresh": Kind.FRESH, "stale": Kind.STALE, "nodata": Kind.NODATA,
 SLOT = re.compile("(?:(failed)?(0|[1-9][0-9]*)|nx)(?:/(0|[1-9][0-9]*))?")
 NUMBER = re.compile("0|[1-9][0-9]{0,19}")
 ITEM = re.compile("-|(?:[0-9a-f]{2})+")
-# The least and the most keys, events of a chapter, and seconds of max-stale.
+# The ranges of the number of keys, of the events of a chapter, and of max-stale in seconds.
 RANGES = {"capacity": (1, 65_536), "chapter": (1, 1_048_576), "max_stale": (0, 604_800)}
 
 
 class ArchiveFault(ValueError):
-    """A text is no archive: `line` is the number of its first line that is none, from 0.
+    """A text is not an archive. `line` is the number of the first wrong line, counted from 0.
 
     >>> try:
     ...     read_archive("chapter 1 0 1024 4096\\n")
@@ -42,8 +41,8 @@ class ArchiveFault(ValueError):
 
 
 class Slot(IntEnum):
-    """What of a name a key is for: an RRset, or that it has none of the type; that the name does
-    not exist; that asking for the type failed."""
+    """What a key is for: SET for an RRset or NODATA of a type, NX for an NXDOMAIN, and FAILED for a
+    resolution failure of a type."""
 
     SET = 0
     NX = 1
@@ -52,7 +51,7 @@ class Slot(IntEnum):
 
 @dataclass(frozen=True)
 class Key:
-    """A key of the cache: a name in lower case, a slot, its type, 0 of NX, and the class.
+    """A key of the cache: a name in lower case, a slot, its type, which is 0 for NX, and the class.
 
     >>> Key("www.example.", Slot.NX).rtype
     0
@@ -66,7 +65,8 @@ class Key:
 
 @dataclass(frozen=True)
 class RRset:
-    """All records of one owner, class and type. The owner is spelled as it was received.
+    """All records of one owner, class and type. The owner has the spelling in which it was
+    received.
 
     >>> RRset(Trust.AUTHORITY, 60, "www.Example.", (bytes([192, 0, 2, 1]),)).data[0].hex()
     'c0000201'
@@ -80,7 +80,7 @@ class RRset:
 
 @dataclass(frozen=True)
 class Negative:
-    """A negative answer (RFC 2308), with the owner and the data of its SOA record.
+    """A negative answer (RFC 2308), with the owner and the rdata of its SOA record.
 
     >>> Negative(Trust.AUTHORITATIVE_ANSWER, 300, "example.", b"").owner
     'example.'
@@ -94,7 +94,7 @@ class Negative:
 
 @dataclass(frozen=True)
 class Failure:
-    """That asking failed (RFC 9520).
+    """A resolution failure (RFC 9520).
 
     >>> Failure(30).ttl
     30
@@ -108,7 +108,8 @@ Body = RRset | Negative | Failure
 
 @dataclass(frozen=True)
 class Entry:
-    """What a key held when a chapter began, and the event that stored it: its number and moment.
+    """The entry of a key when a chapter began, with the number and timestamp of the event that
+    stored it.
 
     >>> Entry(3, 1000, Key("a.", Slot.FAILED, 1), Failure(30)).body.ttl
     30
@@ -122,8 +123,8 @@ class Entry:
 
 @dataclass(frozen=True)
 class Offer:
-    """An offer, what became of it, and the key that it evicted, if it evicted one. `line` and
-    `place` are the caller's own words for the call.
+    """An offer, its outcome, and the key that it evicted, if any. `line` and `place` are numbers
+    that the caller chose for the call.
 
     >>> Offer(7, 0, 1000, Key("a.", Slot.FAILED, 1), Failure(30), Outcome.KEPT).evicted is None
     True
@@ -140,7 +141,7 @@ class Offer:
 
 @dataclass(frozen=True)
 class Ask:
-    """An ask of a name in lower case, and its reply.
+    """An ask for a name in lower case, and its reply.
 
     >>> Ask(7, 1, 1000, "a.", 1, Class.IN, Purpose.QUESTION, Mode.NO_STALE,
     ...     Reply(Kind.MISS)).reply.is_miss
@@ -160,7 +161,7 @@ class Ask:
 
 @dataclass(frozen=True)
 class Sweep:
-    """A sweep, and the keys that it removed, in the order of keys.
+    """A sweep, and the keys that it removed, in the canonical order of keys.
 
     >>> Sweep(7, 2, 1000, (Key("a.", Slot.FAILED, 1),)).removed[0].name
     'a.'
@@ -177,9 +178,9 @@ Event = Offer | Ask | Sweep
 
 @dataclass(frozen=True)
 class Chapter:
-    """A chapter of a history: its number, that of its first event, the rules of the shelf, what the
-    keys held when it began, the key touched last first, the events, the oldest first, and all of
-    this as text.
+    """A chapter of a history: its number, the number of its first event, and the rules of the
+    shelf. `entries` are the entries when the chapter began, the most recently used first. `events`
+    are its events, the oldest first. `text` is the chapter as text.
 
     >>> [chapter] = read_archive("chapter 1 0 1024 4096 86400\\nsweep 7 0 1000\\n")
     >>> chapter.capacity, len(chapter.entries), chapter.events[0].moment
@@ -200,7 +201,7 @@ class Chapter:
 
 
 class _NoLine(ValueError):
-    """A text is no line of an archive."""
+    """A text is not a line of an archive."""
 
 
 def _none() -> NoReturn:
@@ -208,7 +209,7 @@ def _none() -> NoReturn:
 
 
 class _Fields:
-    """The fields of a line, which are taken one after another."""
+    """The fields of a line, which are read one after another."""
 
     def __init__(self, text: str) -> None:
         self._left = text.split(" ")[::-1]
@@ -223,7 +224,7 @@ class _Fields:
         return _number(self.word(), end)
 
     def name(self) -> str:
-        """A name, spelled as names are printed."""
+        """Reads a name in the spelling in which names are printed."""
         text = self.word()
         try:
             return text if text and to_text(to_wire(text)) == text else _none()
@@ -231,13 +232,13 @@ class _Fields:
             raise _NoLine from fault
 
     def folded(self) -> str:
-        """A name in lower case."""
+        """Reads a name in lower case."""
         name = self.name()
-        # an escape has digits, or what is no letter
+        # an escape has digits, or a character that is not a letter
         return name if name == name.lower() else _none()
 
     def slot(self) -> tuple[Slot, int, Class | int]:
-        """A slot, its type and the class, which is not written where it is IN."""
+        """Reads a slot, its type and its class. Class IN is not written."""
         found = SLOT.fullmatch(self.word()) or _none()
         rclass = _class(found[3]) if found[3] else Class.IN
         if found[2] is None:
@@ -262,7 +263,7 @@ class _Fields:
         return Failure(self.number(2 ** 32)) if word == "failure" else _none()
 
     def reply(self, rtype: int) -> Reply:
-        """The reply to an ask of a type."""
+        """Reads the reply to an ask for a type."""
         kind = KINDS.get(self.word()) or _none()
         if kind == Kind.MISS and self:
             return Reply(Kind.FAILED, retry_from=self.number(), rtype=rtype)
@@ -335,7 +336,7 @@ EVENTS: dict[str, Callable[[_Fields], Event]] = {"offer": _offer, "ask": _ask, "
 
 
 class _Draft:
-    """A chapter of which the first lines were read."""
+    """A chapter whose first lines were read."""
 
     def __init__(self, fields: _Fields) -> None:
         self.numbers = [fields.number() for _ in range(5)]
@@ -354,7 +355,7 @@ class _Draft:
 
 
 def _add(drafts: list[_Draft], text: str) -> None:
-    """Takes a line behind those before it: of a chapter the entries before the events."""
+    """Adds the next line. In a chapter, entries precede events."""
     fields = _Fields(text)
     word = fields.word()
     if word == "chapter":
@@ -371,9 +372,9 @@ def _add(drafts: list[_Draft], text: str) -> None:
 
 
 def read_archive(text: str) -> list[Chapter]:
-    """The chapters that an archive tells (docs/FORMATS.md). Whether they are those of a legal
-    history is not looked at: `rrcache --audit-history` does that. `ArchiveFault` tells the first
-    line at which a text is none.
+    """Returns the chapters of an archive (docs/FORMATS.md). Does not check whether they are a legal
+    history: `rrcache --audit-history` does. Raises `ArchiveFault` with the first wrong line if the
+    text is not an archive.
 
     >>> [chapter] = read_archive("chapter 1 0 1024 4096 86400\\n"
     ...                          "ask 7 0 1000 www.example. 1 answer none miss\\n")

@@ -1,10 +1,12 @@
 # SPDX-License-Identifier: MIT
-"""The library for C by ctypes: where it is, what its calls take, and calls without a shelf."""
+"""The library for C by ctypes: its file, the arguments of its functions, and calls without a
+shelf."""
 from __future__ import annotations
 
 import functools
 import os
-from ctypes import CDLL, POINTER, Structure, byref, c_char_p, c_size_t, c_uint32, c_uint64
+from ctypes import (CDLL, CFUNCTYPE, POINTER, Structure, byref, c_bool, c_char_p, c_int, c_size_t,
+                    c_uint32, c_uint64, c_void_p)
 from pathlib import Path
 from typing import Any, ClassVar, TypeVar
 
@@ -12,10 +14,11 @@ from . import structs
 from .choices import MessageFault
 from .refusals import Status, refusal
 
-# The version of the header that the package is written for. A library of another major version, or
-# of an older minor one, may lack what that declares.
-MAJOR, MINOR, SONAME = 2, 0, "librrcache.so.2"
-# What calls take beside structs: octets and how many they are, and the numbers that they write.
+# The version of the header for which this package is written. A library with another major version,
+# or with an older minor version, may lack functions that the header declares.
+MAJOR, MINOR, SONAME = 2, 1, "librrcache.so.2"
+# The arguments of calls other than structs: octets with their number, and the numbers that calls
+# write.
 OCTETS: list[Any] = [c_char_p, c_size_t]
 NUMBER, WIDE_NUMBER = POINTER(c_uint32), POINTER(c_uint64)
 SHELF, OFFERS = POINTER(structs.Shelf), POINTER(structs.Offers)
@@ -60,10 +63,37 @@ CALLS: dict[str, list[Any]] = {
     "rrc_version": [],
 }
 
+# The calls of rrcache.h. `struct rrcache` is opaque.
+CACHE, SINK = c_void_p, CFUNCTYPE(c_int, c_void_p, c_uint64, c_void_p, c_size_t)
+REQUEST, ANSWER = POINTER(structs.Request), POINTER(structs.Answer)
+SHARED_CALLS: dict[str, list[Any]] = {
+    "rrcache_open": [POINTER(CACHE), POINTER(structs.Config)],
+    "rrcache_close": [CACHE],
+    "rrcache_lookup": [CACHE, REQUEST, ANSWER],
+    "rrcache_lookup_delegation": [CACHE, REQUEST, ANSWER],
+    "rrcache_next": [ANSWER, POINTER(structs.Rrset)],
+    "rrcache_store": [CACHE, POINTER(structs.Query), POINTER(structs.Response),
+                      POINTER(structs.Report), ANSWER],
+    "rrcache_store_set": [CACHE, POINTER(structs.Set), NUMBER],
+    "rrcache_store_negative": [CACHE, POINTER(structs.Negative), NUMBER],
+    "rrcache_store_failure": [CACHE, POINTER(structs.Failure), NUMBER],
+    "rrcache_forget": [CACHE, REQUEST],
+    "rrcache_sweep_all": [CACHE, c_uint64, c_uint64, POINTER(structs.Swept)],
+    "rrcache_stats": [CACHE, POINTER(structs.Stats)],
+    "rrcache_stats_of": [CACHE, c_uint64, POINTER(structs.Stats)],
+    "rrcache_stats_text": [POINTER(structs.Stats), c_char_p, c_size_t],
+    "rrcache_record_all": [CACHE],
+    "rrcache_stop_recording_all": [CACHE, SINK, c_void_p],
+    "rrcache_dump": [CACHE, SINK, c_void_p],
+}
+# The results of the calls that do not return a status.
+RESULTS: dict[str, Any] = {"rrcache_close": None, "rrcache_next": c_bool}
+
 
 def path() -> str:
-    """Where the library is: where the environment says, beside these modules if they are installed,
-    in the repository that they lie in, or where the system's loader looks."""
+    """Returns the path of the library: the path in the environment; otherwise the file beside these
+    modules, if they are installed; otherwise the file in the repository that contains them;
+    otherwise a name for the system's loader."""
     folder = Path(__file__).resolve().parent
     places = folder / "librrcache.so", folder.parents[1] / "build" / "librrcache.so"
     found = next((str(it) for it in places if it.exists()), SONAME)
@@ -71,12 +101,13 @@ def path() -> str:
 
 
 def parts_of_version(number: int) -> tuple[int, int, int]:
-    """Major, minor and patch."""
+    """Returns the major, minor and patch version."""
     return number >> 16, number >> 8 & 255, number & 255
 
 
 def loaded_from(place: str) -> CDLL:
-    """The library of a place; ImportError where there is none, or one of another version."""
+    """Loads the library from a path. Raises ImportError if it cannot be loaded or has another
+    version."""
     try:
         loaded = CDLL(place)
     except OSError as fault:
@@ -91,35 +122,35 @@ def loaded_from(place: str) -> CDLL:
 
 @functools.cache
 def library() -> CDLL:
-    """The library, with what its calls take. It is loaded when it is called first."""
+    """Returns the library, with the types of its functions. The first call loads it."""
     loaded = loaded_from(path())
-    for name, types in CALLS.items():
+    for name, types in (CALLS | SHARED_CALLS).items():
         export = getattr(loaded, name)
-        export.argtypes, export.restype = types, c_uint32
+        export.argtypes, export.restype = types, RESULTS.get(name, c_uint32)
     return loaded
 
 
 def call(name: str, *arguments: Any) -> None:
-    """Makes a call, and raises its refusal."""
+    """Makes a call, and raises an exception if it returns an error."""
     if status := getattr(library(), name)(*arguments):
         raise refusal(status)
 
 
 def told(name: str, number: type[c_uint32] | type[c_uint64], *arguments: Any) -> int:
-    """The number that a call writes behind its other arguments."""
+    """Makes a call whose last argument is an output, and returns the number that it writes."""
     out = number()
     call(name, *arguments, byref(out))
     return int(out.value)
 
 
 def sized(octets: bytes) -> tuple[bytes, int]:
-    """Octets and how many they are, for a call."""
+    """Returns octets and their number, as arguments of a call."""
     return bytes(octets), len(octets)
 
 
 def seed_of(octets: bytes) -> bytes:
-    """A seed, as structs have it: `BadSeed` is raised where octets are not 16. That not all are 0
-    the library sees to."""
+    """Returns a seed for a struct. Raises `BadSeed` if it does not have 16 octets. The library
+    checks that not all octets are 0."""
     if len(octets) != structs.SEED_OCTETS:
         raise refusal(Status.BAD_SEED)
     return bytes(octets)
@@ -129,7 +160,7 @@ T = TypeVar("T", bound="Closing")
 
 
 class Closing:
-    """What a `with` closes at its end."""
+    """An object that a `with` statement closes at its end."""
 
     def close(self) -> None:
         raise NotImplementedError
@@ -142,7 +173,8 @@ class Closing:
 
 
 class Held(Closing):
-    """What the library holds for a handle, which begins as zeros and holds nothing then."""
+    """An object of the library behind a handle. The handle is initialized to zeros, and then holds
+    nothing."""
 
     _kind: ClassVar[type[Structure]]
     _freed_by: ClassVar[str]
@@ -151,7 +183,7 @@ class Held(Closing):
         self._handle: Any = self._kind()
 
     def close(self) -> None:
-        """Frees it; it may be closed again. Calls after that are refused."""
+        """Frees the object. Later calls on it fail, except `close`."""
         if self._handle.is_live:
             call(self._freed_by, self._handle)
 
@@ -161,7 +193,8 @@ class Held(Closing):
 
 
 def fault(message: bytes) -> MessageFault:
-    """The first fault of a response's octets, NO_FAULT (0, which is false) where they have none.
+    """Returns the first fault of the octets of a response, or NO_FAULT (0, which is false) if there
+    is none.
 
     >>> fault(b"").name
     'SHORT'
@@ -170,7 +203,7 @@ def fault(message: bytes) -> MessageFault:
 
 
 def library_version() -> tuple[int, int, int]:
-    """The version of the library: major, minor and patch.
+    """Returns the version of the library: major, minor and patch.
 
     >>> library_version() >= (2, 0, 0)
     True

@@ -5,14 +5,14 @@ from __future__ import annotations
 import re
 
 LABEL_MOST, NAME_MOST = 63, 255
-# A backslash and what it escapes, or any other octet but a dot.
+# A backslash and the octet that it escapes, or any other octet except a dot.
 LABEL = re.compile(rb"(?:\\.|[^.\\])+", re.S)
 NAME = re.compile(rb"(?:%b\.)*(?:%b)?" % (LABEL.pattern, LABEL.pattern), re.S)
 ESCAPE = re.compile(rb"\\([0-9]{3}|.)", re.S)
 
 
 class NameFault(ValueError):
-    """A text is the text of no name.
+    """A text is not a name.
 
     >>> try:
     ...     to_wire("www..example.")
@@ -23,7 +23,7 @@ class NameFault(ValueError):
 
 
 def octet_of(escape: re.Match[bytes]) -> bytes:
-    """The octet that an escape spells, \\DDD or \\c."""
+    """Returns the octet of an escape, \\DDD or \\c."""
     spelled = escape[1]
     if len(spelled) == 1:
         return spelled
@@ -33,7 +33,7 @@ def octet_of(escape: re.Match[bytes]) -> bytes:
 
 
 def labels_of(text: bytes) -> list[bytes]:
-    """The labels that a text spells, of any size, without the root's."""
+    """Returns the labels of a text, of any size, without the root label."""
     if text == b".":
         return []
     if not NAME.fullmatch(text):
@@ -42,13 +42,13 @@ def labels_of(text: bytes) -> list[bytes]:
 
 
 def wire_of(labels: list[bytes]) -> bytes:
-    """The wire form of labels, with the root behind them."""
+    """Returns the wire form of labels, with the root label at the end."""
     return b"".join(bytes([len(it)]) + it for it in labels) + b"\0"
 
 
 def to_wire(name: str | bytes) -> bytes:
-    """The wire form of a name: text with or without its last dot, each character an octet; octets
-    are taken to be the wire form already.
+    """Returns the wire form of a name. In text, the last dot is optional, and each character is one
+    octet. Octets are returned unchanged: they must be in wire form already.
 
     >>> to_wire("www.example.")
     b'\\x03www\\x07example\\x00'
@@ -60,7 +60,7 @@ def to_wire(name: str | bytes) -> bytes:
     try:
         labels = labels_of(name.encode("latin-1"))
     except UnicodeEncodeError as fault:
-        raise NameFault("a character is no octet: give its A-label (RFC 5890)") from fault
+        raise NameFault("a character is not an octet: use A-labels (RFC 5890)") from fault
     if any(len(it) > LABEL_MOST for it in labels):
         raise NameFault("a label has more than 63 octets")
     wire = wire_of(labels)
@@ -70,7 +70,7 @@ def to_wire(name: str | bytes) -> bytes:
 
 
 def labels_in(wire: bytes) -> list[bytes]:
-    """The labels of a name in wire form, without the root's."""
+    """Returns the labels of a name in wire form, without the root label."""
     labels, place = [], 0
     while size := wire[place]:
         labels.append(wire[place + 1:place + 1 + size])
@@ -85,7 +85,7 @@ def octet_text(octet: int) -> str:
 
 
 def to_text(wire: bytes) -> str:
-    """The text of a name in wire form, with its last dot.
+    """Returns the text of a name in wire form, with its last dot.
 
     >>> to_text(b"\\x03w.w\\x07example\\x00")
     'w\\\\.w.example.'

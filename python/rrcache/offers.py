@@ -1,5 +1,5 @@
 # SPDX-License-Identifier: MIT
-"""The offers of a message that was read once, for several parts."""
+"""The offers of a message, which is read once for several shelves."""
 from __future__ import annotations
 
 import itertools
@@ -18,9 +18,9 @@ from .replies import (BLOCK_OCTETS, ENTRY_OCTETS, INLINE_OCTETS, SHARED_OCTETS, 
 
 
 class Summary(NamedTuple):
-    """What a response says beside what it offers: what it comes to for its question; the RCODE of
-    its header, without the upper octet that an OPT record has; AA and TC; and of a referral the
-    zone that it leads to, of an alias the name that it leads on to, else None."""
+    """What a response says in addition to its offers: its kind; the RCODE of its header, without
+    the upper bits in an OPT record; AA and TC; and in `name` the zone of a referral or the target
+    of an alias, otherwise None."""
 
     kind: ResponseKind
     rcode: int
@@ -29,15 +29,21 @@ class Summary(NamedTuple):
     name: Name | None
 
 
-class Offers(Held):
-    """What a response says that servers of a zone sent, read once and for no shelf, by
-    `read_response`: `Shelf.offer_read` then offers the share of a part. It is for one thread at a
-    time. A `with` frees it at its end, and offering it after that raises `NoOffers`.
+def summary_of(said: structs.Summary, made: structs.Name) -> Summary:
+    """Returns the summary that the library wrote, with the name, if it made one."""
+    return Summary(ResponseKind(said.kind), said.rcode, said.aa, said.tc,
+                   Name(made) if made.size else None)
 
-    `concerned` are the parts, counted from 0, that the response has something for. To go through
-    the offers tells of each, in the order of the message, the name that it is of, whose `part` is
-    where it lies, and the reply that it makes at the moment of the response, with its whole TTL
-    left, also where no shelf will keep it.
+
+class Offers(Held):
+    """The offers of a response from a zone's servers, which `read_response` reads once for all
+    shelves. `Shelf.offer_read` offers the share of one part. One thread at a time may use the
+    object. A `with` statement frees it at its end; later calls raise `NoOffers`.
+
+    `concerned` lists the parts, counted from 0, that have offers. Iterating over the object returns
+    each offer, in the order of the message, as a name and a reply. `part` of the name is the part
+    of the offer. The reply is the one that the offer would give at the timestamp of the response,
+    with its whole TTL left, even if no shelf will store the offer.
     """
 
     _kind, _freed_by = structs.Offers, "rrc_free_offers"
@@ -55,8 +61,7 @@ class Offers(Held):
 
     @property
     def summary(self) -> Summary:
-        """What the response says beside what it offers. It tells of a referral the zone and of an
-        alias the name that is to be asked for.
+        """What the response says in addition to its offers.
 
         >>> from rrcache import ParsedSet, compose_response
         >>> query, parts = Query("www.example.", 1, id=0x1234), Parts(1, seed=bytes(range(16)))
@@ -67,26 +72,26 @@ class Offers(Held):
         """
         made, said = structs.Name(), structs.Summary()
         call("rrc_tell_response", self._handle, made, said)
-        name = Name(made) if made.size else None
-        return Summary(ResponseKind(said.kind), said.rcode, said.aa, said.tc, name)
+        return summary_of(said, made)
 
     def _read(self, export: str, count: int, *arguments: Any) -> Offers:
-        """Reads them, for so many parts."""
+        """Reads the offers, for `count` parts."""
         bits = told(export, c_uint64, self._handle, *arguments)
         self.concerned = [part for part in range(count) if bits >> part & 1]
         return self
 
 
 def room(octets: bytes) -> int:
-    """How many octets of memory a name or rdata take."""
+    """Returns the octets of memory that a name or rdata use."""
     size = len(octets)
     return VALUE_OCTETS + (0 if size <= INLINE_OCTETS else BLOCK_OCTETS + size)
 
 
 def octets_of(name: Name, reply: Reply) -> int:
-    """How many octets of memory an offer takes, if it is kept as a key of its own: one that going
-    through `Offers` told. One that takes more than a shelf is trimmed to would drive all other keys
-    out: who bounds memory leaves it out, by `Shelf.offer_one` of the others.
+    """Returns the octets of memory that an offer uses if it is stored as a key of its own. The
+    arguments are those that iterating over `Offers` returns. If an offer uses more octets than the
+    limit to which a shelf is trimmed, it would evict all other keys. A caller that limits memory
+    leaves out such an offer, and passes the others to `Shelf.offer_one`.
 
     >>> from rrcache import make_name
     >>> name = make_name("www.example.", Parts(1, seed=bytes(range(16))))
@@ -105,7 +110,8 @@ def octets_of(name: Name, reply: Reply) -> int:
 def terms(moment: int, limits: Limits, line: int = 0, parts: Parts | None = None, part: int = 0,
           query: Query | None = None, lowest_ttl: bool = False,
           clears_denied: bool = False) -> structs.ResponseTerms:
-    """`struct rrc_response`: what a call is handed beside the octets of a response."""
+    """Returns a `struct rrc_response`: the arguments of a call other than the octets of a
+    response."""
     count, seed = parts or (0, bytes(structs.SEED_OCTETS))
     asked = (query.id, query.rtype, query.rclass, query.with_case) if query else (0, 0, 0, 0)
     return structs.fill(structs.ResponseTerms(), moment, line, count, seed_of(seed), part, *limits,
@@ -115,16 +121,18 @@ def terms(moment: int, limits: Limits, line: int = 0, parts: Parts | None = None
 def read_response(message: bytes, zone: str | bytes, query: Query, parts: Parts, moment: int,
                   limits: Limits = Limits(), *, lowest_ttl: bool = False,
                   clears_denied: bool = False) -> Offers:
-    """Reads a response of a server of a zone to a query, once for all of these parts: what is
-    relevant to the query. The caller checks from which address and port it came.
+    """Reads the response of a zone's server to a query, once for all `parts`, and returns the
+    offers that are relevant to the query. The caller checks the address and port that the response
+    came from.
 
-    With `lowest_ttl` an RRset whose TTLs differ is taken where AA is clear, with the lowest of
-    them; without, it is left out (RFC 2181 section 5.2). With `clears_denied` an authoritative
-    NXDOMAIN clears A, AAAA and CNAME of the name that it denies, and the type that was asked for.
+    With `lowest_ttl`, an RRset with different TTLs is offered with the lowest of them if AA is
+    clear. Otherwise such an RRset is left out (RFC 2181 section 5.2). With `clears_denied`, an
+    authoritative NXDOMAIN clears the data of the denied name for the types A, AAAA and CNAME and
+    for the type of the question.
 
-    `OtherQuery` is raised of octets with another identifier or question, whatever stands behind
-    that: the caller drops them and waits on. `BadMessage` is raised of octets alone that answer the
-    query and cannot be read, and `NoQuestion` of a header without a question that refuses it.
+    Raises `OtherQuery` if the octets have another identifier or question, whatever follows: the
+    caller then drops them and keeps waiting. Raises `BadMessage` only if the octets answer the
+    query but cannot be read, and `NoQuestion` if the response is a header without a question.
 
     >>> import os
     >>> message = bytes([0x12, 0x34, 0x84, 0, 0, 1, 0, 0, 0, 0, 0, 0])
@@ -141,8 +149,8 @@ def read_response(message: bytes, zone: str | bytes, query: Query, parts: Parts,
 
 def read_message_unchecked(message: bytes, zone: str | bytes, parts: Parts, moment: int,
                            limits: Limits = Limits()) -> Offers:
-    """The same of all that a response says within the zone. It compares the response with no query:
-    that is the caller's to do.
+    """Reads a response, and returns the offers of all its data that are in bailiwick. Unlike
+    `read_response`, it does not compare the response with a query. The caller compares them first.
 
     >>> from rrcache import ParsedSet, compose_response
     >>> query, parts = Query("www.example.", 1, id=0), Parts(1, seed=bytes(range(16)))

@@ -1,5 +1,6 @@
 # SPDX-License-Identifier: MIT
-"""Names as the library has them, which a caller makes once of each, and how they are divided."""
+"""Names in the library's form, which a caller makes once for each name, and the division of names
+among shelves."""
 from __future__ import annotations
 
 import functools
@@ -10,28 +11,28 @@ from . import structs
 from .library import call, seed_of, sized
 from .names import to_text, to_wire
 
-# Where a name's octets begin in `struct rrcache_name`.
+# The offset of a name's octets in `struct rrcache_name`.
 OCTETS_AT = structs.Name.octets.offset
-# How many names a shelf or a cache remembers, of some 500 octets each.
+# How many names a shelf or a cache keeps in folded form, of about 500 octets each.
 NAMES_MOST = 4096
 
 
 class Parts(NamedTuple):
-    """How names are divided among shelves: how many shelves there are, 1 to 64, and the seed, which
-    all of them have: 16 random octets that nobody else knows, not all 0."""
+    """How names are divided among shelves: `count` is the number of shelves, 1 to 64, and `seed` is
+    the seed of all of them: 16 secret random octets, not all 0."""
 
     count: int  # type: ignore[assignment]  # for which the method of tuples goes
     seed: bytes
 
     def struct(self) -> structs.Parts:
-        """`struct rrcache_parts`."""
+        """Returns a `struct rrcache_parts`."""
         return structs.fill(structs.Parts(), self.count, seed_of(self.seed))
 
 
 @final
 class Name:
-    """A name that was folded and hashed under a seed (`make_name`), for all that is asked of it.
-    Any number of threads may have it at once."""
+    """A name that was folded and hashed under a seed (`make_name`), for any number of calls. Any
+    number of threads may use it at once."""
 
     __slots__ = ("_made", "part")
 
@@ -41,7 +42,7 @@ class Name:
 
     @property
     def octets(self) -> bytes:
-        """Its wire form, in lower case.
+        """The wire form of the name, in lower case.
 
         >>> make_name("WWW.example.", Parts(1, seed=bytes(range(16)))).octets
         b'\\x03www\\x07example\\x00'
@@ -52,15 +53,20 @@ class Name:
         return f"Name({to_text(self.octets)!r})"
 
 
-# Where a name is wanted: text, its wire form, or what `make_name` made.
+# A name as an argument: text, wire form, or a `Name` from `make_name`.
 AnyName = str | bytes | Name
 
 
+def wire_form(name: AnyName) -> bytes:
+    """Returns the wire form of a name in any form."""
+    return name.octets if isinstance(name, Name) else to_wire(name)
+
+
 def make_name(name: str | bytes, parts: Parts) -> Name:
-    """Folds and hashes a name, once for all that is asked of it. `part` of the result is the shelf
-    that all of it lies in, counted from 0. `NameFault` is raised where a text is none of a name,
-    `BadName` where octets are none, `BadRules` where there cannot be so many parts, `BadSeed` where
-    the seed is none.
+    """Folds and hashes a name, once for any number of calls. `part` of the result is the number of
+    the shelf that holds all data of the name, counted from 0. Raises `NameFault` if a text is not a
+    name, `BadName` if octets are not the wire form of a name, `BadRules` if `parts.count` is out of
+    range, and `BadSeed` if the seed is all 0 or does not have 16 octets.
 
     >>> import os
     >>> parts = Parts(16, seed=os.urandom(16))
@@ -73,6 +79,5 @@ def make_name(name: str | bytes, parts: Parts) -> Name:
 
 
 def names_under(parts: Parts) -> Callable[[str | bytes], Name]:
-    """`make_name` for these parts, which remembers what it made of the names that it was given
-    last."""
+    """Returns `make_name` for these parts, with a cache of recent results."""
     return functools.lru_cache(NAMES_MOST)(functools.partial(make_name, parts=parts))

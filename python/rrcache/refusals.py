@@ -1,5 +1,5 @@
 # SPDX-License-Identifier: MIT
-"""Why a call is refused: an exception for each status of the library for C."""
+"""The exceptions that calls raise: one for each error status of the library for C."""
 from __future__ import annotations
 
 from enum import IntEnum
@@ -8,8 +8,8 @@ from .replies import Counts, Swept
 
 
 class Status(IntEnum):
-    """What calls of the library answer (include/rrcache_shelf.h). NULL, SINK and OVERLAP are told
-    by the header's own functions alone, and so to no caller of this package."""
+    """The statuses that calls of the library return (include/rrcache_shelf.h). This package never
+    raises NULL, SINK or OVERLAP."""
 
     DONE = 0
     NO_SHELF = 1
@@ -43,9 +43,9 @@ class Status(IntEnum):
 
 
 class Refused(Exception):
-    """A call was refused, and left what is held and the history as they were. Only of a message
-    some offers may have been made, and of a sweep in steps some steps: `counts` and `swept` have
-    these, and are None of any other call."""
+    """A call failed, and left the contents and the history unchanged. There are two exceptions: a
+    call that stores a message may have made some of its offers, which `counts` has, and a sweep may
+    have made some of its steps, which `swept` has. For all other calls both are None."""
 
     status: Status
     reason: str
@@ -56,114 +56,114 @@ class Refused(Exception):
 
 
 class NoShelf(Refused):
-    """The shelf was closed."""
+    """The shelf or the cache is closed."""
 
     status, reason = Status.NO_SHELF, "the handle holds no shelf"
 
 
 class HasShelf(Refused):
-    """The handle holds a shelf already."""
+    """The handle already holds a shelf."""
 
-    status, reason = Status.HAS_SHELF, "the handle holds a shelf already"
+    status, reason = Status.HAS_SHELF, "the handle already holds a shelf"
 
 
 class Memory(Refused):
-    """Memory was refused."""
+    """Memory allocation failed."""
 
-    status, reason = Status.MEMORY, "memory was refused"
+    status, reason = Status.MEMORY, "out of memory"
 
 
 class HistoryFull(Refused):
-    """The numbers of events or of chapters, 2^62 each, are spent."""
+    """Event numbers or chapter numbers are spent: the next one would be 2^62."""
 
-    status, reason = Status.HISTORY_FULL, "the numbers of events are spent"
+    status, reason = Status.HISTORY_FULL, "the event numbers are spent"
 
 
 class MomentTooLarge(Refused):
-    """The moment is above 2^40."""
+    """The timestamp is above 2^40."""
 
-    status, reason = Status.MOMENT_TOO_LARGE, "the moment is too large"
+    status, reason = Status.MOMENT_TOO_LARGE, "the timestamp is too large"
 
 
 class BadRules(Refused):
-    """A capacity, a chapter, a maximum stale time, a number of parts, a part or how much is swept
-    or trimmed is out of its range."""
+    """One of these is out of range: a capacity, a chapter size, a max-stale, the number of parts,
+    shelves, readers, octets or keys, a part, a shelf, or the limits of a sweep or a trim."""
 
-    status, reason = Status.BAD_RULES, "a number of the rules is not in its range"
+    status, reason = Status.BAD_RULES, "a number of the rules is out of range"
 
 
 class BadSeed(Refused):
-    """The seed has not 16 octets, or all of them are 0."""
+    """The seed does not have 16 octets, or all of them are 0."""
 
     status, reason = Status.BAD_SEED, "the seed is all zeros"
 
 
 class BadLimits(Refused):
-    """A number of the limits is out of its range."""
+    """A field of `Limits` is out of range."""
 
-    status, reason = Status.BAD_LIMITS, "a limit is not in its range"
+    status, reason = Status.BAD_LIMITS, "a limit is out of range"
 
 
 class BadName(Refused):
-    """Octets are not the wire form of a name."""
+    """The octets are not the wire form of a name."""
 
-    status, reason = Status.BAD_NAME, "the octets are not a name"
+    status, reason = Status.BAD_NAME, "the octets are not the wire form of a name"
 
 
 class BadMessage(Refused):
-    """Octets are no response that can be read: `fault` tells why."""
+    """The octets are not a response that can be read. The function `fault` returns why."""
 
-    status, reason = Status.BAD_MESSAGE, "the octets are no response that can be read"
+    status, reason = Status.BAD_MESSAGE, "the octets are not a response that can be read"
 
 
 class BadChoice(Refused):
-    """No purpose, mode, denial, trust or RCODE of a header has this number."""
+    """No purpose, mode, kind, rank, section or RCODE has this number."""
 
     status = Status.BAD_CHOICE
-    reason = "no purpose, mode, kind, trust, section or RCODE has this number"
+    reason = "no purpose, mode, kind, rank, section or RCODE has this number"
 
 
 class BadType(Refused):
-    """Of an offer: data of this type are not kept in this class. Of a question: nothing is kept in
-    its class, or its type is 0."""
+    """In an offer: data of this type are not kept in this class. In a question: its class is not
+    kept, or its type is 0."""
 
-    status, reason = Status.BAD_TYPE, "nothing of this type or class is kept"
+    status, reason = Status.BAD_TYPE, "this type or class is not supported"
 
 
 class BadData(Refused):
-    """Data do not fill the layout of their type."""
+    """The rdata do not fill the layout of their type."""
 
-    status, reason = Status.BAD_DATA, "the data do not fill the layout of their type"
+    status, reason = Status.BAD_DATA, "the rdata are malformed for their type"
 
 
 class WrongBody(Refused):
-    """A set has no data, or a TTL is above 2^31 - 1."""
+    """An RRset has no data, or a TTL is above 2^31 - 1."""
 
-    status, reason = Status.WRONG_BODY, "the set has no data, or its time to live is too large"
+    status, reason = Status.WRONG_BODY, "the RRset has no data, or its TTL is too large"
 
 
 class Wide(Refused):
-    """A datum of the reply has more than 65,535 octets."""
+    """The rdata of a record of the reply have more than 65,535 octets."""
 
-    status, reason = Status.WIDE, "the reply cannot be told"
+    status, reason = Status.WIDE, "the reply has too many octets of rdata"
 
 
 class NoOffers(Refused):
-    """The offers were freed."""
+    """The offers were freed, or there is no offer with this number."""
 
     status, reason = Status.NO_OFFERS, "the handle holds no offers, or none with this number"
 
 
 class HasOffers(Refused):
-    """The handle holds offers already."""
+    """The handle already holds offers."""
 
-    status, reason = Status.HAS_OFFERS, "the handle holds offers already"
+    status, reason = Status.HAS_OFFERS, "the handle already holds offers"
 
 
 class OtherQuery(Refused):
-    """The octets have another identifier or question than the query, or are a query themselves."""
+    """The octets have another identifier or question than the query, or are themselves a query."""
 
-    status, reason = Status.OTHER_QUERY, "the octets answer no query, or another one"
+    status, reason = Status.OTHER_QUERY, "the octets do not answer the query"
 
 
 class NoChapters(Refused):
@@ -173,9 +173,9 @@ class NoChapters(Refused):
 
 
 class HasChapters(Refused):
-    """The handle holds chapters already."""
+    """The handle already holds chapters. A dump raises this while histories are recorded."""
 
-    status, reason = Status.HAS_CHAPTERS, "the handle holds chapters already"
+    status, reason = Status.HAS_CHAPTERS, "the handle already holds chapters"
 
 
 class NoLine(Refused):
@@ -185,22 +185,29 @@ class NoLine(Refused):
 
 
 class OtherSeed(Refused):
-    """The name was made, or the message was read, under another seed than the shelf's."""
+    """The name was made, or the message was read, under another seed than that of the shelf."""
 
-    status, reason = Status.OTHER_SEED, "the name or the message is of another seed than the shelf"
+    status, reason = Status.OTHER_SEED, "the name or the message has another seed than the shelf"
 
 
 class NoQuestion(Refused):
-    """The response is a header without a question, of a server that could or would not read the
-    query: its RCODE, the low four bits of its fourth octet, is FORMERR (1), NOTIMP (4) or REFUSED
-    (5)."""
+    """The response is a header without a question, from a server that could not or would not read
+    the query. Its RCODE, the low four bits of its fourth octet, is FORMERR (1), NOTIMP (4) or
+    REFUSED (5)."""
 
     status, reason = Status.NO_QUESTION, "the response has no question"
+
+
+class TooLarge(Refused):
+    """The data to store would use more memory than a shelf of the cache may use."""
+
+    status = Status.TOO_LARGE
+    reason = "the data would use more memory than a shelf may use"
 
 
 BY_STATUS: dict[int, type[Refused]] = {it.status: it for it in Refused.__subclasses__()}
 
 
 def refusal(status: int, counts: Counts | None = None, swept: Swept | None = None) -> Refused:
-    """The exception of a status."""
+    """Returns the exception for a status."""
     return BY_STATUS[status](counts, swept)

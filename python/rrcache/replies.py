@@ -1,5 +1,5 @@
 # SPDX-License-Identifier: MIT
-"""What calls are handed and what they answer. Moments and TTLs are in seconds."""
+"""Arguments and results of calls. Timestamps (`moment`) and TTLs are in seconds."""
 from __future__ import annotations
 
 from dataclasses import dataclass, field
@@ -10,15 +10,15 @@ from .names import to_text
 
 
 class Counts(NamedTuple):
-    """What became of the offers of a message: kept, cleared by a TTL of 0, or outranked by what
-    their keys hold, which is trusted more."""
+    """The number of offers of a message with each outcome: stored (`kept`), cleared by a TTL of 0,
+    or not stored because the key holds data of higher rank (`outranked`)."""
 
     kept: int
     cleared: int
     outranked: int
 
     def plus(self, other: Counts) -> Counts:
-        """Both together.
+        """Returns the sum of both.
 
         >>> Counts(2, 0, 1).plus(Counts(1, 1, 0))
         Counts(kept=3, cleared=1, outranked=1)
@@ -27,10 +27,10 @@ class Counts(NamedTuple):
                       self.outranked + other.outranked)
 
 
-# What `Sizes.octets` counts of a key: the key itself, with its places in the order of touch, the
-# table and the queue of expiries; a name or rdata, which have room in themselves for some octets;
-# what a block of its own adds where there are more; and what a name, or the data of a key, takes
-# since several may own it.
+# The numbers of octets that `Sizes.octets` adds up: for a key, with its places in the LRU order,
+# the map and the expiry queue; for a name or rdata, and the size up to which they are inline; for
+# the separate block of a larger name or larger rdata; and for the reference count of a name or of
+# the data of a key.
 ENTRY_OCTETS = 160
 VALUE_OCTETS = 48
 INLINE_OCTETS = 32
@@ -39,18 +39,18 @@ SHARED_OCTETS = 32
 
 
 class Sizes(NamedTuple):
-    """How many keys a shelf holds, how many events of its open chapter are recorded, how many
-    chapters are closed, both 0 where nothing is recorded, and how many octets the keys take, about
-    those of memory. A key takes `ENTRY_OCTETS`, and
+    """The sizes of a shelf: the number of keys; the number of recorded events in the open chapter,
+    and of closed chapters, both 0 while nothing is recorded; and the approximate octets of memory
+    that the keys use. A key uses `ENTRY_OCTETS` and
 
     - its name;
-    - of an RRset `SHARED_OCTETS` and the rdata of each record, and where there are several records
-      `VALUE_OCTETS` and `BLOCK_OCTETS` beside;
-    - of a negative answer `SHARED_OCTETS` and its SOA record's rdata;
-    - the owner of these records, unless that is spelled as the key's name.
+    - for an RRset, `SHARED_OCTETS` and the rdata of each record, and if there are several records
+      also `VALUE_OCTETS` and `BLOCK_OCTETS`;
+    - for a negative answer, `SHARED_OCTETS` and the rdata of its SOA record;
+    - the owner of these records, unless it is spelled like the name of the key.
 
-    Rdata take `VALUE_OCTETS`, and where they are more than `INLINE_OCTETS` also `BLOCK_OCTETS` and
-    as many as they are. A name takes `SHARED_OCTETS` more than rdata of its size."""
+    Rdata use `VALUE_OCTETS`. Rdata of more than `INLINE_OCTETS` also use `BLOCK_OCTETS` and their
+    own size. A name uses `SHARED_OCTETS` more than rdata of its size."""
 
     keys: int
     events: int
@@ -59,16 +59,16 @@ class Sizes(NamedTuple):
 
 
 class Swept(NamedTuple):
-    """How many keys a sweep in steps removed, and whether none is left that is fully expired at its
-    moment."""
+    """The number of keys that a sweep removed, and whether no key is left that is fully expired at
+    its timestamp."""
 
     removed: int
     is_done: bool
 
 
 class Trimmed(NamedTuple):
-    """How many keys a trim removed, and how many octets (`Sizes.octets`) those take that are
-    left."""
+    """The number of keys that a trim removed, and the octets (`Sizes.octets`) of the remaining
+    keys."""
 
     removed: int
     octets: int
@@ -76,12 +76,17 @@ class Trimmed(NamedTuple):
 
 @dataclass(frozen=True)
 class StoredEntry:
-    """What is stored under a key: its kind; how far it is trusted, None of a failure; its TTL when
-    it was stored, and that moment; the number of the event that stored it, which no other entry of
-    the shelf has; and its age, which is how many touches came after its own last one. An ask that
-    it answers touches it, where it is not in front already, and so the age is 0 then; a peek
-    touches nothing. A resolver renews data before `ttl` seconds from `moment` on are over, where
-    they are asked for late in that time.
+    """The entry of a key.
+
+    - `kind`: FRESH for an RRset, NODATA, NXDOMAIN, or FAILED for a failure.
+    - `trust`: the rank, or None for a failure.
+    - `ttl`: the TTL as it was stored.
+    - `moment`: the timestamp at which the entry was stored. To prefetch, a resolver renews an entry
+      that is asked for shortly before `ttl` seconds have passed since `moment`.
+    - `number`: the number of the event that stored the entry; no other entry of the shelf has it.
+    - `age`: the number of uses of keys after the last use of this key. An ask uses the entry that
+      answers it, unless the entry is already at the front of the LRU order (age 0). A peek uses no
+      entry.
 
     >>> entry = StoredEntry(Kind.FRESH, Trust.AUTHORITY, ttl=60, moment=1000, number=0, age=0)
     >>> entry.moment + entry.ttl
@@ -97,8 +102,8 @@ class StoredEntry:
 
 
 class Stored(NamedTuple):
-    """What is stored of a name and a class for a type, each None where nothing is: an RRset or that
-    there is none (`kind` FRESH or NODATA), that the name does not exist, that asking failed."""
+    """The entries of a name, a class and a type: the RRset or NODATA (`kind` FRESH or NODATA), the
+    NXDOMAIN of the name, and the failure. Each is None if nothing is stored."""
 
     set: StoredEntry | None
     nxdomain: StoredEntry | None
@@ -106,8 +111,8 @@ class Stored(NamedTuple):
 
 
 class Query(NamedTuple):
-    """A query that was sent: the name and type that it asks for, its identifier, its class, and
-    whether the response has to repeat the letters of the name in their case.
+    """A query that was sent: its name, type, identifier and class, and whether the response has to
+    repeat the letters of the name in the same case (`with_case`).
 
     >>> Query("wWw.eXample.", 1, id=0x1234, with_case=True).rclass.name
     'IN'
@@ -121,9 +126,9 @@ class Query(NamedTuple):
 
 
 class Limits(NamedTuple):
-    """How long what a response says may be kept, in seconds: data (1 to 604,800, RFC 8767 section
-    4), negative answers (1 to 604,800, RFC 2308 section 5) and failures (1 to 300, RFC 9520 section
-    3.2).
+    """The limits of how long data of a response may be cached, in seconds: the greatest TTL (1 to
+    604,800, RFC 8767 section 4), the greatest TTL of a negative answer (1 to 604,800, RFC 2308
+    section 5), and the TTL of a failure (1 to 300, RFC 9520 section 3.2).
 
     >>> Limits(cap=86_400).negative_cap
     10800
@@ -136,12 +141,17 @@ class Limits(NamedTuple):
 
 @dataclass(frozen=True)
 class Reply:
-    """What a shelf answers: the kind; for how many seconds it holds, 0 with a miss; the owner's
-    wire form as it was received, and the data of the set or the SOA record's alone; with FAILED the
-    moment from which asking may be tried again, and else 0; the type that is answered, which is
-    that of the question, or CNAME (5) where `Shelf.ask_alias` tells the name's CNAME record; and
-    the entry that gives it, None with a miss and in an archive. Replies are equal where they are
-    but for their entries.
+    """The reply of a shelf. Replies are equal if all their fields except `entry` are equal.
+
+    - `kind`: the kind of the reply.
+    - `left`: for how many seconds the reply may be used: the remaining TTL, 30 for STALE, 0 for a
+      miss.
+    - `owner`: the owner in wire form, as it was received.
+    - `data`: the rdata of the RRset, or of the SOA record of a negative answer.
+    - `retry_from`: for FAILED the timestamp from which to try again, otherwise 0.
+    - `rtype`: the type of the reply: the type of the question, or CNAME (5) if `Shelf.ask_alias`
+      returns the CNAME record of the name.
+    - `entry`: the entry that gives the reply. It is None for a miss, and in an archive.
 
     >>> reply = Reply(Kind.FRESH, 50, b"\\3www\\7example\\0", (bytes([192, 0, 2, 1]),), rtype=1)
     >>> reply.owner_text, reply.is_miss, reply.is_negative
@@ -158,15 +168,15 @@ class Reply:
 
     @property
     def is_miss(self) -> bool:
-        """Whether nothing was found that will do."""
+        """Whether nothing answers the question."""
         return self.kind in (Kind.MISS, Kind.FAILED)
 
     @property
     def is_negative(self) -> bool:
-        """Whether it says that the name or its data of the type do not exist (RFC 2308)."""
+        """Whether this is a negative answer: NODATA or NXDOMAIN (RFC 2308)."""
         return self.kind in (Kind.NODATA, Kind.NXDOMAIN)
 
     @property
     def owner_text(self) -> str:
-        """The owner as text, empty with a miss."""
+        """The owner as text; empty for a miss."""
         return to_text(self.owner) if self.owner else ""

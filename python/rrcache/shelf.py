@@ -1,5 +1,5 @@
 # SPDX-License-Identifier: MIT
-"""One part of the cache."""
+"""One shelf of the cache."""
 from __future__ import annotations
 
 import itertools
@@ -19,14 +19,14 @@ from .parts import AnyName, Name, Parts, names_under
 from .refusals import Status, refusal
 from .replies import Counts, Limits, Reply, Sizes, Stored, Swept, Trimmed
 
-# The octets that most lines of a chapter have at most.
+# A buffer of this size has room for most lines of a chapter.
 LINE_ROOM = 4096
 # The most keys that a shelf may hold.
 KEYS_MOST = 65_536
 
 
 def line_at(chapters: structs.Chapters, chapter: int, line: int, room: int = LINE_ROOM) -> bytes:
-    """A line of a chapter with its LF, of a handle that holds chapters; nothing behind the last."""
+    """Returns a line of a chapter with its LF, or nothing after the last line."""
     buffer, size = create_string_buffer(room), structs.Line()
     place = structs.fill(structs.Place(), chapter, line, 0)
     status = library().rrc_chapter_line(chapters, place, buffer, room, size)
@@ -38,41 +38,44 @@ def line_at(chapters: structs.Chapters, chapter: int, line: int, room: int = LIN
 
 
 def text_of(chapters: structs.Chapters, chapter: int) -> bytes:
-    """The text of a chapter, of a handle that holds chapters."""
+    """Returns the text of a chapter."""
     lines = (line_at(chapters, chapter, it) for it in itertools.count())
     return b"".join(itertools.takewhile(bool, lines))
 
 
 def with_lengths(data: Iterable[bytes]) -> bytes:
-    """Data one behind another, each behind its length of two octets."""
+    """Returns rdata one after another, with two octets of length before each."""
     try:
         return b"".join(len(it).to_bytes(2, "big") + it for it in data)
     except OverflowError as fault:
-        raise ValueError("a datum has more than 65,535 octets") from fault
+        raise ValueError("rdata of a record have more than 65,535 octets") from fault
 
 
 class ChaptersHeld(Held):
-    """Chapters that left their shelf."""
+    """Chapters that were taken from their shelf."""
 
     _kind, _freed_by = structs.Chapters, "rrc_free_chapters"
 
 
 class Shelf(Held):
-    """A part of the cache, for one thread at a time, or for any number of threads that only look:
-    ctypes lets other threads of Python run within a call, so two threads need a lock. A `with`
-    closes it at its end, and calls after that raise `NoShelf`.
+    """One shard of a cache. One thread at a time may use it, or any number of threads that make
+    only read-only calls. Other Python threads run during a call, so threads that share a shelf need
+    a lock. A `with` statement closes the shelf at its end, and later calls raise `NoShelf`.
 
-    `capacity` is the most keys (1 to 65,536), `chapter` the most events of a chapter that is
-    recorded (1 to 1,048,576), `max_stale` for how many seconds past its TTL a set may answer (0 to
-    604,800, RFC 8767 section 4), `seed` the 16 secret octets by which names are hashed, of which
-    one is not 0, random where none are given. `BadRules` or `BadSeed` is raised where one of them
-    is none. With `record` its history is recorded from the start (`Shelf.record`).
+    Raises `BadRules` or `BadSeed` if an argument is out of range:
 
-    Names are text, octets in wire form, or what `make_name` made under the seed of the shelf; of
-    the others the shelf remembers those that came last. Types and classes are numbers of 16 bits,
-    TTLs seconds, moments seconds up to 2^40, and `line` is a number of 64 bits of the caller's own
-    that the event of a call is kept with. A number that is larger than its field raises a
-    `ValueError`.
+    - `capacity`: the most keys, 1 to 65,536.
+    - `chapter`: the most events of a recorded chapter, 1 to 1,048,576.
+    - `max_stale`: for how many seconds past its TTL an RRset may be served, 0 to 604,800 (RFC 8767
+      section 4).
+    - `seed`: 16 secret octets, not all 0, under which names are hashed. The default is random.
+    - `record`: whether the history is recorded from the start (`Shelf.record`).
+
+    Names are text, octets in wire form, or the result of `make_name` under the seed of the shelf.
+    The shelf keeps the folded form of recent names. Types and classes are numbers of 16 bits. TTLs
+    and timestamps (`moment`) are in seconds, and a timestamp is at most 2^40. `line` is a number of
+    64 bits that the caller chooses, and which is kept with the event of the call. A number that is
+    too large for its field raises `ValueError`.
 
     >>> with Shelf() as shelf:
     ...     outcome = shelf.offer_set("www.example.", 1, Trust.AUTHORITATIVE_ANSWER, 60,
@@ -108,9 +111,10 @@ class Shelf(Held):
 
     def offer_message_unchecked(self, message: bytes, zone: str | bytes, moment: int,
                                 limits: Limits = Limits(), line: int = 0) -> Counts:
-        """Offers all that a response from servers of a zone says within that zone. It compares the
-        response with no query: that is the caller's to do. `read_response` does it. `BadMessage`,
-        `BadName` (the zone), `BadLimits` or `MomentTooLarge` is raised.
+        """Offers all data of a response that are in bailiwick, which means at or below the zone.
+        Unlike `read_response`, it does not compare the response with a query. The caller compares
+        them first. Raises `BadMessage`, `BadName` if the zone is not in wire form, `BadLimits` or
+        `MomentTooLarge`.
 
         >>> from rrcache import ParsedSet, Query, compose_response
         >>> answer = [ParsedSet("www.example.", 1, 60, [bytes(4)])]
@@ -124,8 +128,8 @@ class Shelf(Held):
 
     def offer_part_unchecked(self, message: bytes, zone: str | bytes, parts: Parts, part: int,
                              moment: int, limits: Limits = Limits(), line: int = 0) -> Counts:
-        """The same of what it says of the names that lie in one of these parts, counted from 0.
-        `BadRules` is raised where there is no such part.
+        """Offers what `offer_message_unchecked` offers, but only the data of names in one part,
+        counted from 0. Raises `BadRules` if there is no such part.
 
         >>> from rrcache import ParsedSet, Query, compose_response, make_name
         >>> answer = [ParsedSet("www.example.", 1, 60, [bytes(4)])]
@@ -140,9 +144,9 @@ class Shelf(Held):
                            terms(moment, limits, line, parts, part))
 
     def offer_read(self, offers: Offers, part: int, line: int = 0) -> Counts:
-        """Offers what was read of the names that lie in a part, counted from 0 and below the number
-        of parts that the message was read for, at the moment of the response. `BadRules` or
-        `NoOffers` is raised.
+        """Offers the share of one part, with the timestamp of the response. The part is counted
+        from 0, and is below the number of parts for which the message was read. Raises `BadRules`,
+        `NoOffers` or `OtherSeed`.
 
         >>> from rrcache import ParsedSet, Query, compose_response, read_response
         >>> query, parts = Query("www.example.", 1, id=0x1234), Parts(4, seed=bytes(range(16)))
@@ -158,9 +162,10 @@ class Shelf(Held):
                            structs.fill(structs.Share(), part, line))
 
     def offer_one(self, offers: Offers, index: int, line: int = 0) -> Outcome:
-        """Offers one of the offers that were read, counted from 0 as they are gone through, so that
-        a caller may judge each for itself. The shelf is to be that of its name's part. `NoOffers`
-        is raised where there is none with this number, `OtherSeed` or `MomentTooLarge`.
+        """Offers one of the offers, counted from 0 in the order of iteration. So a caller can
+        decide for each offer whether to store it. The shelf has to be that of the part of the
+        offer's name. Raises `NoOffers` if there is no offer with this number, `OtherSeed` or
+        `MomentTooLarge`.
 
         >>> from rrcache import ParsedSet, Query, compose_response, read_response
         >>> query, parts = Query("www.example.", 1, id=0x1234), Parts(1, seed=bytes(range(16)))
@@ -178,9 +183,9 @@ class Shelf(Held):
     def offer_set(self, owner: str | bytes, rtype: int, trust: Trust | int, ttl: int,
                   data: Iterable[bytes], moment: int, line: int = 0,
                   rclass: Class | int = Class.IN) -> Outcome:
-        """Offers one RRset, whose data are octets with no name compressed. With the highest trust
-        and a TTL of 0 it clears what the shelf holds of the name and type. `BadName`, `BadType`,
-        `BadChoice` (the trust), `BadData` or `WrongBody` is raised.
+        """Offers an RRset. `data` are rdata without compressed names. With the highest rank and
+        `ttl` 0, it clears the RRset or NODATA of the name and type. Raises `BadName`, `BadType`,
+        `BadChoice` if `trust` is not a rank, `BadData` or `WrongBody`.
 
         >>> trust, data = Trust.AUTHORITATIVE_ANSWER, [bytes([192, 0, 2, 1])]
         >>> with Shelf() as shelf:
@@ -197,9 +202,9 @@ class Shelf(Held):
     def offer_negative(self, name: str | bytes, rtype: int, kind: Kind | int, trust: Trust | int,
                        ttl: int, soa_owner: str | bytes, soa: bytes, moment: int, line: int = 0,
                        rclass: Class | int = Class.IN) -> Outcome:
-        """Offers that a name has no data of a type (`kind` NODATA) or does not exist (NXDOMAIN, for
-        which `rtype` is not looked at), with the SOA record that says so (RFC 2308). `BadName`,
-        `BadType`, `BadChoice` (the kind or the trust), `BadData` or `WrongBody` is raised.
+        """Offers a negative answer with its SOA record (RFC 2308): the name has no data of the type
+        (`kind` NODATA), or does not exist (NXDOMAIN, which ignores `rtype`). Raises `BadName`,
+        `BadType`, `BadChoice` (`kind` or `trust`), `BadData` or `WrongBody`.
 
         >>> soa = b"\\0\\0" + bytes(20)
         >>> with Shelf() as shelf:
@@ -216,8 +221,8 @@ class Shelf(Held):
 
     def offer_failure(self, name: str | bytes, rtype: int, ttl: int, moment: int, line: int = 0,
                       rclass: Class | int = Class.IN) -> Outcome:
-        """Offers that asking for data of a type failed, for `ttl` seconds (RFC 9520). With a TTL of
-        0 it ends the failure that is held. `BadName`, `BadType` or `WrongBody` is raised.
+        """Offers a resolution failure of a name and type for `ttl` seconds (RFC 9520). With `ttl`
+        0, the stored failure ends. Raises `BadName`, `BadType` or `WrongBody`.
 
         >>> with Shelf() as shelf:
         ...     _ = shelf.offer_failure("www.example.", 1, 30, moment=1000)
@@ -232,19 +237,19 @@ class Shelf(Held):
     # ---- asks
 
     def _name(self, name: AnyName) -> Name:
-        """The library's name."""
+        """Returns a name in the library's form."""
         return name if isinstance(name, Name) else self._made(name)
 
     def _look(self) -> structs.Shelf:
-        """A copy of the handle, for a call that only looks: it writes into the copy."""
+        """Returns a copy of the handle for a read-only call, which writes to the copy."""
         return structs.Shelf.from_buffer_copy(self._handle)
 
     def ask(self, name: AnyName, rtype: int, moment: int,
             purpose: Purpose | int = Purpose.QUESTION, mode: Mode | int = Mode.NO_STALE,
             line: int = 0, rclass: Class | int = Class.IN) -> Reply:
-        """Asks, which is one event. It follows no alias: `ask_alias` tells of one. `BadChoice` (the
-        purpose or the mode), `BadType` (the type is 0, or nothing is kept in the class), `BadName`,
-        `OtherSeed` or `MomentTooLarge` is raised.
+        """Looks up the answer to a question, as one event. It does not follow CNAME records: use
+        `ask_alias`. Raises `BadChoice` (the purpose or the mode), `BadType` if the type is 0 or the
+        class is not kept, `BadName`, `OtherSeed` or `MomentTooLarge`.
 
         >>> with Shelf() as shelf:
         ...     _ = shelf.offer_set("www.example.", 1, Trust.AUTHORITY, 60, [bytes(4)], moment=1000)
@@ -259,11 +264,16 @@ class Shelf(Held):
     def ask_alias(self, name: AnyName, rtype: int, moment: int,
                   purpose: Purpose | int = Purpose.QUESTION, mode: Mode | int = Mode.NO_STALE,
                   line: int = 0, rclass: Class | int = Class.IN) -> Reply:
-        """Asks, which is one event, for data of the type or for the name's CNAME record: `rtype` of
-        the reply is CNAME (5) where it is the record. That is told where it is fresh, or stale and
-        that will do, and what would be told of the type is a miss, or was stored earlier, unless
-        what answers for the type is not past its TTL and trusted more (RFC 8767 section 7). For the
-        types CNAME and ANY the reply is `ask`'s. It raises what `ask` does.
+        """Looks up data of the type or the CNAME record of the name, as one event. `rtype` of the
+        reply is CNAME (5) if the reply is the CNAME record. For types CNAME and ANY the reply is
+        that of `ask`.
+
+        The reply is the CNAME record if the record is fresh, or acceptably stale, and one of these
+        is true (RFC 8767 section 7). First, the reply for the type is a miss. Second, the record
+        was stored later than the entry for the type, unless that entry is unexpired and of higher
+        rank. Third, the record was stored earlier, and is unexpired and of higher rank.
+
+        Raises the exceptions of `ask`.
 
         >>> with Shelf() as shelf:
         ...     _ = shelf.offer_set("www.example.", 5, Trust.AUTHORITATIVE_ANSWER, 60,
@@ -278,7 +288,8 @@ class Shelf(Held):
     def peek(self, name: AnyName, rtype: int, moment: int,
              purpose: Purpose | int = Purpose.QUESTION, mode: Mode | int = Mode.NO_STALE,
              rclass: Class | int = Class.IN) -> Reply:
-        """What `ask` would answer; no event is written, and no moment is too large.
+        """Returns the reply that `ask` would return, but writes no event. No timestamp is too
+        large.
 
         >>> with Shelf(record=True) as shelf:
         ...     shelf.peek("www.example.", 1, moment=1000).kind.name, shelf.sizes().events
@@ -290,7 +301,7 @@ class Shelf(Held):
     def peek_alias(self, name: AnyName, rtype: int, moment: int,
                    purpose: Purpose | int = Purpose.QUESTION, mode: Mode | int = Mode.NO_STALE,
                    rclass: Class | int = Class.IN) -> Reply:
-        """What `ask_alias` would answer, as `peek` tells what `ask` would.
+        """Returns the reply that `ask_alias` would return, as `peek` does for `ask`.
 
         >>> with Shelf() as shelf:
         ...     shelf.peek_alias("www.example.", 1, moment=1000).kind.name
@@ -300,9 +311,9 @@ class Shelf(Held):
                         purpose, mode)
 
     def stored(self, name: AnyName, rtype: int, rclass: Class | int = Class.IN) -> Stored:
-        """What the shelf holds of a name for a type, whether it is past its time or not and
-        whatever answers a question: an RRset or that there is none, that the name does not exist,
-        that asking for the type failed. `BadType`, `BadName` or `OtherSeed` is raised.
+        """Returns the entries of a name and type: the RRset or NODATA of the type, the NXDOMAIN of
+        the name, and the failure of the type. An entry is returned even if it has expired, and even
+        if another entry answers the question. Raises `BadType`, `BadName` or `OtherSeed`.
 
         >>> with Shelf() as shelf:
         ...     _ = shelf.offer_failure("www.example.", 1, 30, moment=1000)
@@ -315,8 +326,8 @@ class Shelf(Held):
     # ---- housekeeping
 
     def sweep(self, moment: int, line: int = 0) -> int:
-        """Removes the keys that can answer no more, and tells how many. A key by which a name does
-        not exist keeps an older set of the name from being told until it is removed.
+        """Removes the fully expired keys, and returns their number. An NXDOMAIN hides an older
+        RRset of the name, even after the NXDOMAIN has expired, until a sweep removes the NXDOMAIN.
 
         >>> with Shelf(max_stale=0) as shelf:
         ...     _ = shelf.offer_set("www.example.", 1, Trust.AUTHORITY, 60, [bytes(4)], moment=1000)
@@ -327,9 +338,10 @@ class Shelf(Held):
                     structs.fill(structs.SweepAt(), moment, line, 0))
 
     def next_expiry(self) -> int | None:
-        """A moment before which no key is fully expired, so that no sweep before it removes one; a
-        sweep at it may remove none. After a sweep, with no offer since and no chapter closed since,
-        it is later than the sweep's. It is None exactly where the shelf holds no key.
+        """Returns a timestamp before which no key is fully expired. A sweep before this timestamp
+        removes nothing, and a sweep at this timestamp may remove nothing. After a sweep, the
+        timestamp is later than that of the sweep, until an offer is made or a chapter is closed.
+        Returns None if and only if the shelf holds no key.
 
         >>> with Shelf(max_stale=0) as shelf:
         ...     shelf.next_expiry() is None
@@ -342,12 +354,12 @@ class Shelf(Held):
         return None if moment == 2 ** 64 - 1 else moment
 
     def sweep_some(self, moment: int, most: int, line: int = 0) -> Swept:
-        """Sweeps in steps, so that no call is long: at each moment up to this one that
-        `next_expiry` tells, from the earliest on, until `most` keys or more are removed, or `most`
-        sweeps made, where `most` is at least 1. Each step is one event. It tells how many keys were
-        removed, and whether it came to its end: then no key is left that is fully expired. Where a
-        step is refused, what those before it removed stays removed, and `swept` of the exception
-        tells it. `BadRules` (`most` is 0) or `MomentTooLarge` is raised before the first step.
+        """Sweeps in steps, so that no call takes long. Each step is a sweep at the timestamp that
+        `next_expiry` returns, and is one event. The call stops when that timestamp is later than
+        `moment`, when at least `most` keys are removed, or after `most` steps. Returns the number
+        of keys that were removed, and whether no key is left that is fully expired. Raises
+        `BadRules` if `most` is 0, or `MomentTooLarge`, before the first step. Keys that were
+        removed before another exception stay removed, and `swept` of the exception counts them.
 
         >>> with Shelf(max_stale=0) as shelf:
         ...     for ttl in 10, 20, 30:
@@ -366,12 +378,13 @@ class Shelf(Held):
         return result
 
     def trim(self, moment: int, limit: int, most: int = KEYS_MOST, line: int = 0) -> Trimmed:
-        """Bounds the memory of the shelf: removes keys, the one touched least recently first, until
-        those that are left take no more octets (`Sizes.octets`) than `limit`, or `most` of them
-        went, or none is left. It tells how many went, and the octets that are left. Each is one
-        event, and of a failure two. A failure with a TTL of 0 goes before all others, and is not
-        counted. `BadRules` (`limit` or `most` is 0) or `MomentTooLarge` is raised before a key
-        goes. Where `Memory` is raised, what went before stays gone.
+        """Limits the memory of the shelf. Evicts the least recently used keys until the octets of
+        the remaining keys (`Sizes.octets`) are at most `limit`, `most` keys are removed, or no key
+        is left. Returns the number of keys that were removed, and the remaining octets. Each
+        eviction is one event, and the eviction of a failure is two. Failures with TTL 0 are removed
+        first, and are not counted. Raises `BadRules` if `limit` or `most` is 0, or
+        `MomentTooLarge`, before it removes a key. If `Memory` is raised, keys that were removed
+        before stay removed.
 
         >>> with Shelf() as shelf:
         ...     for name in "a.example.", "b.example.", "c.example.":
@@ -388,8 +401,8 @@ class Shelf(Held):
         return Trimmed(*structs.numbers_in(trimmed))
 
     def record(self) -> None:
-        """Records the history from here on. No reply depends on it. Where it is recorded already
-        nothing is done.
+        """Starts to record the history. No reply depends on this. If the history is already
+        recorded, nothing is done.
 
         >>> with Shelf() as shelf:
         ...     shelf.ask("www.example.", 1, moment=1000).kind.name, shelf.sizes().events
@@ -401,8 +414,8 @@ class Shelf(Held):
         call("rrc_record", self._handle)
 
     def stop_and_drop(self) -> None:
-        """Records nothing from here on, and drops what was recorded. No reply depends on it. Where
-        nothing is recorded nothing is done.
+        """Stops recording, and drops the recorded history. No reply depends on this. If nothing is
+        recorded, nothing is done.
 
         >>> with Shelf(record=True) as shelf:
         ...     _ = shelf.ask("www.example.", 1, moment=1000)
@@ -413,8 +426,8 @@ class Shelf(Held):
         call("rrc_stop_and_drop", self._handle)
 
     def drop_chapters(self) -> int:
-        """Drops the closed chapters of the history, and tells how many: none where nothing is
-        recorded.
+        """Drops the closed chapters of the history, and returns their number, which is 0 while
+        nothing is recorded.
 
         >>> with Shelf(chapter=1, record=True) as shelf:
         ...     for moment in 1000, 1001:
@@ -425,17 +438,17 @@ class Shelf(Held):
         return told("rrc_drop_chapters", c_uint64, self._handle)
 
     def _chapters(self, export: str) -> list[Chapter]:
-        """The chapters that a call hands out."""
+        """Returns the chapters that a call takes from the shelf."""
         with ChaptersHeld() as held:
             count = told(export, c_uint64, self._handle, held._handle)
             text = b"".join(text_of(held._handle, it) for it in range(count))
         return read_archive(text.decode("ascii"))
 
     def take_chapters(self) -> list[Chapter]:
-        """Takes the closed chapters of the history out of the shelf: none where nothing is
-        recorded. The texts of all chapters of one record, one behind another, are an archive. What
-        came before the record is a chapter of its own, which is not there. Where `Memory` is raised
-        chapters may be lost.
+        """Takes the closed chapters of the history from the shelf: none while nothing is recorded.
+        The texts of all chapters of one record, one after another, are an archive. Events before
+        the record are in an earlier chapter, which is not returned. If `Memory` is raised, chapters
+        may be lost.
 
         >>> with Shelf(chapter=1, record=True) as shelf:
         ...     for moment in 1000, 1001:
@@ -448,8 +461,8 @@ class Shelf(Held):
         return self._chapters("rrc_take_chapters")
 
     def stop_recording(self) -> list[Chapter]:
-        """Records nothing from here on, and takes all chapters, the open one last. Right after
-        `record` that is one chapter, whose `entries` are all that the shelf holds.
+        """Stops recording, and returns all recorded chapters, the open one last. Right after
+        `record` there is one chapter, whose `entries` are the contents of the shelf.
 
         >>> with Shelf(record=True) as shelf:
         ...     _ = shelf.ask("WWW.example.", 1, moment=1000, line=7)
@@ -460,7 +473,7 @@ class Shelf(Held):
         return self._chapters("rrc_stop_recording")
 
     def sizes(self) -> Sizes:
-        """How large the shelf is.
+        """Returns the sizes of the shelf.
 
         >>> with Shelf() as shelf:
         ...     _ = shelf.offer_failure("www.example.", 1, 30, moment=1000)

@@ -1,6 +1,6 @@
 # SPDX-License-Identifier: MIT
-"""What the package says of the library for C, compared with include/rrcache_shelf.h: its
-enumerations, structs, calls, numbers and words."""
+"""What the package says of the library for C, compared with include/rrcache_shelf.h and
+include/rrcache.h: its enumerations, structs, calls, numbers and words."""
 import re
 import shutil
 import subprocess
@@ -11,25 +11,26 @@ from itertools import count
 import pytest
 
 import rrcache
-from rrcache import library, refusals, structs
+from rrcache import answers, library, refusals, shared, structs
 from tests.forwarder.harness import BUILD
 from tools.captures import memory
 
 INCLUDE = BUILD.parent / "include"
-HEADER = re.sub(r"/\*.*?\*/", " ", (INCLUDE / "rrcache_shelf.h").read_text(), flags=re.S)
+HEADER = re.sub(r"/\*.*?\*/", " ", "".join(
+    (INCLUDE / it).read_text() for it in ("rrcache_shelf.h", "rrcache.h")), flags=re.S)
 # The classes of the package that are enumerations of the header.
 ENUMS = {"status": rrcache.Status, "kind": rrcache.Kind, "class": rrcache.Class,
          "purpose": rrcache.Purpose, "mode": rrcache.Mode, "trust": rrcache.Trust,
          "outcome": rrcache.Outcome, "response_kind": rrcache.ResponseKind,
          "message_fault": rrcache.MessageFault}
 # Those that are read by the header's inline functions alone, of which the package has none.
-INLINE = {f"rrcache_{it}" for it in ("query", "response", "set", "negative", "failure",
-                                     "parsed_set", "parsed_response", "draft")}
-TOLD_IN_C = {rrcache.Status.NULL, rrcache.Status.SINK, rrcache.Status.OVERLAP,
-             rrcache.Status.TOO_LARGE}
+INLINE = {"rrcache_parsed_response", "rrcache_draft"}
+TOLD_IN_C = {rrcache.Status.NULL, rrcache.Status.SINK, rrcache.Status.OVERLAP}
 TYPES = {"void *": c_void_p, "bool": c_bool, "uint8_t": c_uint8, "uint16_t": c_uint16,
          "uint32_t": c_uint32, "uint64_t": c_uint64, "size_t": c_size_t, "uint8_t *": c_char_p,
-         "uint32_t *": POINTER(c_uint32), "uint64_t *": POINTER(c_uint64)}
+         "uint32_t *": POINTER(c_uint32), "uint64_t *": POINTER(c_uint64), "char *": c_char_p,
+         "struct rrcache *": c_void_p, "struct rrcache **": POINTER(c_void_p), "void": None,
+         "rrcache_shelf_sink": library.SINK}
 
 
 def c_name(name):
@@ -46,7 +47,9 @@ STRUCTS = {c_name(name): it for name, it in vars(structs).items()
 def type_of(text):
     """The type of a field or an argument, as ctypes has it."""
     text = text.replace("const ", "").strip()
-    if not text.startswith("struct "):
+    if text.startswith("enum "):
+        return c_uint32
+    if text in TYPES:
         return TYPES[text]
     name, pointer = re.fullmatch(r"struct (\w+)( \*)?", text).groups()
     return POINTER(STRUCTS[name]) if pointer else STRUCTS[name]
@@ -61,9 +64,11 @@ def enums():
 
 
 def fields_of(text):
-    """The fields of a struct in C."""
-    for kind, name, size in re.findall(r"((?:struct )?\w+(?: \*|\s))\s*(\w+)(?:\[(\d+)\])?;", text):
-        yield name, type_of(kind) * int(size) if size else type_of(kind)
+    """The fields of a struct in C. The package keeps addresses of octets as numbers there."""
+    field = r"((?:struct |enum )?\w+(?: \*|\s))\s*(\w+)(?:\[(\d+)\])?;"
+    for kind, name, size in re.findall(field, text):
+        one = c_void_p if kind == "uint8_t *" else type_of(kind)
+        yield name, one * int(size) if size else one
 
 
 def structs_of_header():
@@ -72,11 +77,12 @@ def structs_of_header():
     return {name: [*fields_of(text)] for name, text in found if name not in INLINE}
 
 
-def calls_of_header():
-    """The types of what each call of the library takes."""
-    found = re.findall(r"^uint32_t (rrc_\w+)\(([^)]*)\);", HEADER, re.M)
-    return {name: [type_of(re.sub(r"\w+$", "", " ".join(it.split())))
-                   for it in text.split(",") if it != "void"] for name, text in found}
+def calls_of_header(declared):
+    """What each call of the library returns, and the types of what it takes."""
+    found = re.findall(rf"^{declared}\(([^)]*)\);", HEADER, re.M)
+    return {name: (type_of(result), [type_of(re.sub(r"\w+$", "", " ".join(it.split())))
+                                     for it in text.split(",") if it != "void"])
+            for result, name, text in found}
 
 
 def test_enumerations():
@@ -97,7 +103,7 @@ def test_fields_of_structs():
 @pytest.mark.skipif(shutil.which("cc") is None, reason="there is no compiler of C here")
 def test_layouts_of_structs():
     """The size of each struct, and the place and the size of each of its fields, by a compiler."""
-    lines = ['#include "rrcache_shelf.h"']
+    lines = ['#include "rrcache.h"']
     for name, it in STRUCTS.items():
         lines.append(f"_Static_assert(sizeof(struct {name}) == {sizeof(it)}, \"{name}\");")
         for field, _ in it._fields_:
@@ -121,18 +127,22 @@ def leaves(it):
 
 
 @pytest.mark.parametrize("name", sorted(set(STRUCTS) - {
-    f"rrcache_{it}" for it in ("shelf", "offers", "chapters", "name")}))
+    f"rrcache_{it}" for it in ("shelf", "offers", "chapters")}))
 def test_numbers_are_filled_and_read_in_their_places(name):
     made, numbers = STRUCTS[name](), count(1)
-    given = [bytes([next(numbers)] * 16) if isinstance(it, bytes)
+    given = [bytes([next(numbers)] * len(it)) if isinstance(it, bytes)
              else next(numbers) > 0 if isinstance(it, bool) else next(numbers)
              for it in leaves(made)]
     assert structs.fill(made, *given) is made
     assert [*leaves(made)] == given == [*structs.numbers_in(made)]
 
 
-def test_calls():
-    assert calls_of_header() == library.CALLS
+@pytest.mark.parametrize("declared, calls", [
+    (r"(uint32_t) (rrc_\w+)", library.CALLS),
+    (r"RRCACHE_API ([\w ]+?)\s+(rrcache_\w+)", library.SHARED_CALLS)], ids=["shelves", "caches"])
+def test_calls(declared, calls):
+    assert calls_of_header(declared) == {
+        name: (library.RESULTS.get(name, c_uint32), types) for name, types in calls.items()}
 
 
 def test_numbers():
@@ -142,6 +152,12 @@ def test_numbers():
     assert library.SONAME == f"librrcache.so.{library.MAJOR}"
     limits = re.search(r"define RRCACHE_LIMITS[\s\\]+\{[\s\\]+([\d, ]+)", HEADER)[1]
     assert tuple(map(int, limits.split(","))) == rrcache.Limits()
+
+
+@pytest.mark.parametrize("name, number", [("ANSWER", answers.ANSWER_OCTETS),
+                                          ("STATS", shared.STATS_OCTETS)])
+def test_rooms(name, number):
+    assert int(re.search(rf"RRCACHE_{name}_OCTETS = (\d+)", HEADER)[1]) == number
 
 
 @pytest.mark.parametrize("name", ["ENTRY", "VALUE", "INLINE", "BLOCK", "SHARED"])

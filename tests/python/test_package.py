@@ -1,6 +1,6 @@
 # SPDX-License-Identifier: MIT
-"""The examples of the package's docstrings, its version, where it finds the library, and the
-package once it is installed."""
+"""The examples of the package's docstrings, its types, its version, where it finds the library, and
+the package once it is installed."""
 import doctest
 import importlib.util
 import os
@@ -25,7 +25,14 @@ def test_docstrings():
     modules = [importlib.import_module(f"rrcache.{it.name}")
                for it in pkgutil.iter_modules(rrcache.__path__)]
     results = [doctest.testmod(it) for it in modules]
-    assert [sum(it) for it in zip(*results)] == [0, 119]
+    assert [sum(it) for it in zip(*results)] == [0, 166]
+
+
+def test_types():
+    """The package has no faults by the strict rules of mypy."""
+    pytest.importorskip("mypy", reason="bin/setup installs mypy")
+    told = ran("-m", "mypy", "--strict", "--cache-dir", os.devnull, PACKAGE / "rrcache").stdout
+    assert told.startswith("Success: no issues found"), told
 
 
 @pytest.fixture

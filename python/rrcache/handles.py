@@ -1,0 +1,61 @@
+# SPDX-License-Identifier: MIT
+"""The library's pointer to a shared cache, and the arguments of its calls."""
+from __future__ import annotations
+
+import itertools
+from ctypes import Structure, byref, c_char_p, c_void_p, cast
+from typing import Any, TypeVar
+
+from . import structs
+from .library import library
+from .refusals import NoShelf, Refused, Status, refusal
+from .replies import Counts, Swept
+
+T = TypeVar("T", bound=Structure)
+
+
+class Handle(c_void_p):
+    """A pointer to a `struct rrcache`, which is closed when the last reference to this object is
+    gone. Each call holds a reference, so no thread closes a cache while another thread is in a
+    call."""
+
+    close: Any = None
+
+    def __del__(self) -> None:
+        if self.value:
+            self.close(self)
+
+
+CLOSED = Handle()
+
+
+def refused(status: int, counts: Counts | None = None, swept: Swept | None = None) -> Refused:
+    """Returns the exception for a status that a call on a cache returned. NULL means that the cache
+    was closed."""
+    return NoShelf() if status == Status.NULL else refusal(status, counts, swept)
+
+
+def done(status: int, counts: Counts | None = None, swept: Swept | None = None) -> None:
+    """Raises the exception for a status, unless the status is DONE."""
+    if status:
+        raise refused(status, counts, swept)
+
+
+def place_in(octets: bytes) -> tuple[int, int]:
+    """Returns the address of octets, and their number."""
+    return cast(c_char_p(octets), c_void_p).value or 0, len(octets)
+
+
+def handed(kind: type[T], values: tuple[Any, ...]) -> T:
+    """Returns a struct with these values, as the argument of a call. For octets it has their
+    address and size, so the caller keeps the values until the call returns."""
+    places = (place_in(it) if isinstance(it, bytes) else (it,) for it in values)
+    return structs.fill(kind(), *itertools.chain.from_iterable(places))
+
+
+def opened(config: structs.Config) -> Handle:
+    """Opens a cache."""
+    handle = Handle()
+    done(library().rrcache_open(byref(handle), config))
+    handle.close = library().rrcache_close
+    return handle

@@ -1,0 +1,54 @@
+# SPDX-License-Identifier: MIT
+"""The texts that a shared cache writes for each shelf: histories and dumps."""
+from __future__ import annotations
+
+import functools
+import os
+from collections.abc import Callable
+from contextlib import ExitStack
+from ctypes import string_at
+from pathlib import Path
+from typing import BinaryIO
+
+from .handles import Handle, done
+from .library import SINK, library
+
+# A function that gets the number of a shelf and octets of that shelf.
+Take = Callable[[int, bytes], object]
+
+
+def written(export: str, cache: Handle, take: Take) -> None:
+    """Makes a call of the library that passes octets to a function, with the number of their shelf.
+    An exception of the function ends the call, and is raised again."""
+    faults: list[BaseException] = []
+
+    def sink(_: int | None, shelf: int, octets: int, size: int) -> bool:
+        try:
+            take(shelf, string_at(octets, size))
+        except BaseException as fault:
+            faults.append(fault)
+        return bool(faults)
+
+    status = getattr(library(), export)(cache, SINK(sink), None)
+    if faults:
+        raise faults[0]
+    done(status)
+
+
+def texts_of(export: str, cache: Handle, shelves: int) -> list[str]:
+    """Returns the text that a call writes for each shelf."""
+    pieces: list[list[bytes]] = [[] for _ in range(shelves)]
+    written(export, cache, lambda shelf, octets: pieces[shelf].append(octets))
+    return [b"".join(it).decode("ascii") for it in pieces]
+
+
+def files_of(export: str, cache: Handle, folder: str | os.PathLike[str]) -> list[Path]:
+    """Writes the texts of a call to files of a folder, each named after the number of its shelf."""
+    paths: list[Path] = []
+    with ExitStack() as files:
+        @functools.cache
+        def file_of(shelf: int) -> BinaryIO:
+            paths.append(Path(folder) / f"{shelf:02}")
+            return files.enter_context(paths[-1].open("wb"))
+        written(export, cache, lambda shelf, octets: file_of(shelf).write(octets))
+    return paths
