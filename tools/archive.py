@@ -1,9 +1,10 @@
 # SPDX-License-Identifier: MIT
-"""python3 -m tools.archive [--capacity N] [--chapter N] [--stale N] < TRACE: the history of a part,
-as an archive (docs/FORMATS.md).
+"""python3 -m tools.archive [--capacity N] [--chapter N] [--stale N] < TRACE: prints the history of
+a part as an archive (docs/FORMATS.md).
 
-The trace is replayed by the model of the rules (model.py), which is apart from the program, by one
-worker and on one part. All chapters are printed, the open one last. The options are the program's.
+The model of the rules (model.py), which is independent of the program, replays the trace with one
+worker and one part. All chapters are printed, the open one last. The options are those of the
+program.
 """
 import argparse
 import sys

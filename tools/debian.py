@@ -1,5 +1,5 @@
 # SPDX-License-Identifier: MIT
-"""Libraries of Debian's, which apt-get installs for Debian's own Python alone."""
+"""Debian's libraries for Python, which apt-get installs for Debian's own Python alone."""
 import importlib.util
 import os
 import sys
@@ -14,14 +14,14 @@ def has(module):
 
 
 def go_to_debian(module):
-    """Runs the script by Debian's Python instead, where this one lacks a library."""
+    """Goes on in Debian's Python, if this one lacks a library."""
     if not has(module) and os.path.exists(DEBIAN) and not os.environ.get(AGAIN):
         os.environ[AGAIN] = "1"
         os.execv(DEBIAN, [DEBIAN, *sys.argv])
 
 
 def needs(module, package):
-    """Ends the script with one line where a library is nowhere."""
+    """Ends the command with one line, if a library is in neither."""
     go_to_debian(module)
     if not has(module):
         sys.exit(f"{Path(sys.argv[0]).name}: {sys.executable} has no {module}:"

@@ -2,16 +2,17 @@
 """The man pages of the library for C, made of the headers' own comments (include/), so that the two
 cannot differ. bin/install-c installs them.
 
-`pages()` gives each page's name with its text in the macros of man(7): rrcache(3) and
-rrcache_shelf(3), each of the whole of one header, and one page for each group of calls, under the
-name of its first call.
+`pages()` returns each page by the name of its file: rrcache(3) and rrcache_shelf(3), each of the
+whole of one header, and one page for each group of calls, under the name of its first call.
+`command_pages()` does the same for the commands, in section 1.
 """
 import re
-import textwrap
 from pathlib import Path
 
-from tools.version import VERSION
+from tools.command_manual import command_pages
+from tools.roff import filled, listed, page, verbatim
 
+__all__ = ["EXAMPLES", "calls", "command_pages", "pages"]
 TOP = Path(__file__).resolve().parent.parent
 # What the page of each header is about.
 ABOUT = {
@@ -22,40 +23,40 @@ HEADERS = {name: (TOP / "include" / f"{name}.h").read_text() for name in ABOUT}
 # Each group of calls of a header: their names without rrcache_, and what its page is about.
 CACHE_GROUPS = {
     "open close": "open and close a cache that threads share",
-    "lookup lookup_delegation next": "look up what answers a question",
-    "store store_set store_negative store_failure": "store what a response says, or an RRset",
-    "forget sweep_all": "forget a name and type, remove what is expired",
-    "stats stats_of stats_text": "tell what a cache did and holds",
-    "record_all stop_recording_all dump": "write histories, and what is held",
+    "lookup lookup_delegation next": "look up the answer to a question",
+    "store store_set store_negative store_failure": "store a response, or an RRset",
+    "forget sweep_all": "remove the data of a name, or expired data",
+    "stats stats_of stats_text": "get the statistics of a cache",
+    "record_all stop_recording_all dump": "record histories, or write the contents of a cache",
 }
 SHELF_GROUPS = {
     "make free": "make and free a shelf",
-    "make_name": "make a name, for all that is asked of it",
+    "make_name": "make a name to look up in shelves",
     "compose_response read_response tell_response tell_offer tell_octets offer_read offer_one "
     "free_offers":
-        "read a response once, tell what it offers and offer it to several shelves",
-    "offer_set offer_negative offer_failure": "offer a set, a negative answer or a failure",
+        "read a response once, list its offers, and offer it to several shelves",
+    "offer_set offer_negative offer_failure": "offer an RRset, a negative answer or a failure",
     "read_message_unchecked offer_message_unchecked offer_part_unchecked":
-        "offer what a response says, compared with no query",
-    "ask ask_alias peek peek_alias tell_stored": "ask a shelf",
-    "sweep next_expiry sweep_some trim sizes": "sweep or trim a shelf, tell its sizes",
-    "record stop_and_drop drop_chapters": "record the history of a shelf, or not",
+        "offer the data of a response, without comparing it with a query",
+    "ask ask_alias peek peek_alias tell_stored": "look up a question in a shelf",
+    "sweep next_expiry sweep_some trim sizes": "sweep or trim a shelf, get its sizes",
+    "record stop_and_drop drop_chapters": "record the history of a shelf, or drop it",
     "take_chapters stop_recording write_chapter write_line chapter_line free_chapters":
-        "take the chapters of a shelf's history out and write them",
+        "take the chapters of the history of a shelf, and write them",
     "fault status_text version":
-        "tell a message's fault, what a status says and the library's version",
+        "get the fault of a message, the text of a status, the version of the library",
 }
 GROUPS = {"rrcache": CACHE_GROUPS, "rrcache_shelf": SHELF_GROUPS}
 # The example of each header's page, behind the line of its licence.
 EXAMPLES = {header: (TOP / "examples" / name).read_text().partition("\n")[2]
             for header, name in (("rrcache", "stub.c"), ("rrcache_shelf", "first.c"))}
-# What a page says of the statuses that a header's calls return.
-STATUSES = {
-    "rrcache": "It is one that the text above names, or one of the calls of a shelf that are made. "
-               "`rrcache_shelf`(3) has them all, and `rrcache`(3) tells what a refusal leaves.",
-    "rrcache_shelf": "`rrcache_shelf`(3) has them all, with the order in which they are told, and "
-                     "with what a refusal leaves.",
-}
+# How a point of a list in a comment begins.
+POINT = re.compile(r"(?:^| )- (?=[A-Z`])")
+# What is said of the value of a call that returns no status, by its type.
+VALUES = {"void": "nothing", "bool": "true or false", "uint32_t": "a number",
+          "const char *": "a text"}
+# A status, its number and its comment.
+STATUS = r"^    (RRCACHE_\w+) = (\d+),? +/\* (.*?) \*/"
 # A call with a comment of its own, by the first words of its declaration: that comment, the rest of
 # its prototype, and its name. Inline functions that look at what others are handed, rrcache_can_..,
 # are no calls.
@@ -87,27 +88,15 @@ def calls(header):
             for comment, prototype, name in re.findall(call, HEADERS[header], re.S)}
 
 
-def roff(text):
-    """Text as man(7) takes it: no macro and no escape is in it, and words in code are bold."""
-    text = text.replace("\\", "\\e").replace("-", "\\-")
-    text = re.sub(r"`([^`]*)`", r"\\fB\1\\fR", text)
-    text = re.sub(r"\*(\w+)\*", r"\\fI\1\\fR", text)
-    return re.sub(r"^([.'])", r"\\&\1", text, flags=re.M)
-
-
-def filled(texts):
-    """Paragraphs."""
-    return "".join(roff("\n".join(textwrap.wrap(it, 72))) + "\n.PP\n" for it in texts)
-
-
-def verbatim(text):
-    return f".nf\n{roff(text.rstrip())}\n.fi\n"
-
-
 def blocks(comment):
     """A comment's parts between empty lines, each as its lines."""
     return [[it.strip() for it in block.strip().splitlines()]
             for block in re.split(r"\n\s*\n", comment)]
+
+
+def paragraphs(comment):
+    """A comment's paragraphs, among which are the points of its lists."""
+    return [it for lines in blocks(comment) for it in POINT.split(" ".join(lines)) if it]
 
 
 def overview(header):
@@ -116,52 +105,68 @@ def overview(header):
     for lines in blocks(re.search(rf"/\* {header}\.h: (.*?)\*/", HEADERS[header], re.S)[1]):
         if len(lines) > 1 and lines[1].startswith("- "):
             title = lines[0]
-            points = re.split(r"(?:^| )- (?=[A-Z`])", " ".join(lines[1:]))
-            sections[title] = [it for it in points if it]
+            sections[title] = [it for it in POINT.split(" ".join(lines[1:])) if it]
         else:
             sections.setdefault(title, []).append(" ".join(lines))
-    return sections
+    first, *others = sections[""]
+    return {**sections, "": [first[0].upper() + first[1:], *others]}
 
 
-def page(name, about, header, text):
-    """A page with this text between its head and the names of the other pages."""
+def page_of(name, about, header, synopsis, sections):
+    """A page of a header's: its head, these sections, and the names of the other pages."""
     names = [*HEADERS, *(f"rrcache_{it.split()[0]}" for groups in GROUPS.values() for it in groups)]
     others = " ,\n".join(f".BR {it} (3)" for it in names if it != name)
-    return (f'.TH {name.upper()} 3 "" "rrcache {VERSION}" "rrcache"\n.SH NAME\n'
-            f"{about}\n.SH LIBRARY\nThe RRset cache of a DNS resolver (\\fIlibrrcache\\fR, "
-            "\\fI\\-lrrcache\\fR)\n.SH SYNOPSIS\n"
-            f".B #include <{header}.h>\n{text}.SH SEE ALSO\n{others}\n")
+    return page(name, 3, {
+        "NAME": f"{about}\n",
+        "LIBRARY": "The RRset cache of a DNS resolver (\\fIlibrrcache\\fR, "
+                   "\\fI\\-lrrcache\\fR)\n",
+        "SYNOPSIS": f".B #include <{header}.h>\n{synopsis}", **sections,
+        "SEE ALSO": f"{others}\n"})
 
 
-def returns(names, found, header):
-    """What calls return, of which most return a status."""
-    others = [f"`{it}`" for it in names if not found[it][0].startswith("enum rrcache_status")]
+def prototypes(names, found):
+    """The calls of these names as they are declared."""
+    return "".join(f".PP\n{verbatim(found[it][0])}" for it in names)
+
+
+def returns(names, found):
+    """What calls return: most return a status."""
+    kinds = {it: found[it][0].partition(it)[0].strip() for it in names}
+    others = [f"`{it}` returns {VALUES[kind]}" for it, kind in kinds.items() if kind in VALUES]
     if len(others) == len(names):
-        return ""
-    but = f", but for {' and '.join(others)}" if others else ""
-    return ".SH RETURN VALUE\n" + filled(
-        [f"A status, RRCACHE_DONE or the reason of a refusal{but}. {STATUSES[header]}"])
+        return f"{' and '.join(others)}."
+    but = f"; {' and '.join(others)}" if others else ""
+    return f"A status, which is RRCACHE_DONE (0) or an error{but}."
+
+
+def statuses():
+    """The reasons of refusals, each with its meaning."""
+    enum = re.search(r"enum rrcache_status \{\n(.*?)\n\};", HEADERS["rrcache_shelf"], re.S)[1]
+    return [(f"\\fB{name}\\fR ({number})", " ".join(meaning.split()))
+            for name, number, meaning in re.findall(STATUS, enum, re.M | re.S)]
 
 
 def group_page(names, about, header):
     """The page of a group of a header's calls."""
     found = calls(header)
-    text = "".join(f".PP\n{verbatim(found[it][0])}" for it in names) + ".SH DESCRIPTION\n"
-    for name in names:
-        text += f".SS {name}\n" + filled(map(" ".join, blocks(found[name][1])))
-    text += returns(names, found, header)
-    return page(names[0], f"{', '.join(names)} \\- {about}", header, text)
+    described = "".join(f".SS {name}\n" + filled(paragraphs(found[name][1])) for name in names)
+    returned = returns(names, found)
+    if returned.startswith("A status"):
+        returned += f" `{header}`(3) has all statuses, and says what an error leaves unmodified."
+    return page_of(names[0], f"{', '.join(names)} \\- {about}", header, prototypes(names, found),
+                   {"DESCRIPTION": described, "RETURN VALUE": filled([returned])})
 
 
 def whole_page(header):
     """The page of the whole of a header."""
-    text = ".SH DESCRIPTION\n"
-    for title, points in overview(header).items():
-        text += (f".SS {title}\n" if title else "") + filled(points)
+    found = calls(header)
+    described = "".join((f".SS {title}\n" if title else "") + filled(points)
+                        for title, points in overview(header).items())
     types = re.search(TYPES[header], HEADERS[header], re.S)[1].strip()
-    for title, shows in (("TYPES", types), ("EXAMPLES", EXAMPLES[header])):
-        text += f".SH {title}\n{verbatim(shows)}"
-    return page(header, f"{header} \\- {ABOUT[header]}", header, text)
+    returned = filled([returns(list(found), found), "The errors are these:"])
+    return page_of(header, f"{header} \\- {ABOUT[header]}", header, prototypes(found, found), {
+        "DESCRIPTION": described, "RETURN VALUE": returned + listed(statuses()),
+        "TYPES": verbatim(types), "EXAMPLES": verbatim(EXAMPLES[header])})
 
 
 def pages():

@@ -1,105 +1,74 @@
 # SPDX-License-Identifier: MIT
 """The library for C as bin/install-c installs it to a fresh folder.
 
-What pkg-config tells is enough to compile the examples: that of shelves in C and in C++, with the
-shared library and with the archive, which is run too, the stub resolver (tests/c runs that) and the
-forwarder. README.md has a part of the stub resolver. Versions, soname, exports and man pages have
-to fit.
+What pkg-config prints, and what CMake finds, is enough to compile the examples: that of shelves in
+C and in C++, with the shared library and with the archive, which is run too, the stub resolver
+(tests/c runs that) and the forwarder. README.md has a part of lookup.c. Versions, soname,
+exports and man pages have to fit. What is uninstalled leaves the folder as it was.
 """
 import os
 import re
 import shutil
 import subprocess
-from pathlib import Path
 
 import pytest
 
-from tools.manual import EXAMPLES, calls, pages
+from tests.install.places import (EXAMPLES, FIRST, HAS_CMAKE, HAS_PKG_CONFIG, LANGUAGES, LINKAGES,
+                                  TOP, WARNINGS, Place, copy_repository, said)
+from tools.manual import calls, pages
 from tools.version import SONAME, VERSION
 
-TOP = Path(__file__).resolve().parents[2]
 INSTALL = TOP / "bin" / "install-c"
-# In C++ `{0}` is told to leave fields out, which it fills with zeros all the same.
-LANGUAGES = {
-    "C": ["cc", "-std=c99", "-xc"],
-    "C++": ["c++", "-std=c++11", "-Wno-missing-field-initializers", "-xc++"],
-}
-WARNINGS = ["-Wall", "-Wextra", "-Werror"]
 # The headers, each of which has a page.
 HEADERS = ["rrcache", "rrcache_shelf"]
-# What the example of a page prints, where it comes to an end: the set has a TTL of 60 and is asked
-# for 10 seconds later.
-WANTED = {"rrcache_shelf": "TTL 50\n"}
-pytestmark = pytest.mark.skipif(shutil.which("pkg-config") is None,
-                                reason="there is no pkg-config here (bin/setup installs it)")
-
-
-def said(*words, source=None, **more):
-    """What a command prints, that reads this text, and has further words in its environment."""
-    return subprocess.run(words, check=True, stdout=subprocess.PIPE, text=True, input=source,
-                          env={**os.environ, **more}).stdout
-
-
-class Installed:
-    """What bin/install-c put below a folder."""
-
-    def __init__(self, prefix):
-        self.prefix, self.lib = prefix, prefix / "lib"
-        said(INSTALL, prefix)
-
-    def told(self, *words):
-        """What pkg-config tells."""
-        return said("pkg-config", *words, "rrcache", PKG_CONFIG_PATH=f"{self.lib}/pkgconfig")
-
-    def flags(self, *words):
-        return self.told("--cflags", "--libs", *words).split()
-
-    def linked(self, library):
-        """The words that link with the shared library or with the archive."""
-        if library == "shared":
-            return self.flags()
-        words = [word for word in self.flags("--static") if word != "-lrrcache"]
-        return [*words, self.lib / "librrcache.a"]
-
-    def header(self, name):
-        return (self.prefix / "include" / f"{name}.h").read_text()
-
-    def run(self, source, folder, compiler, words):
-        """What a program prints, compiled so."""
-        said(*compiler, *WARNINGS, "-", "-xnone", *words, "-o", folder / "program", source=source)
-        return said(folder / "program", LD_LIBRARY_PATH=f"{self.lib}")
 
 
 @pytest.fixture(scope="module")
 def it(tmp_path_factory):
-    return Installed(tmp_path_factory.mktemp("installed"))
+    prefix = tmp_path_factory.mktemp("installed")
+    said(INSTALL, prefix)
+    return Place(prefix)
 
 
-@pytest.mark.parametrize("page", WANTED)
-@pytest.mark.parametrize("library", ["shared", "static"])
+@HAS_PKG_CONFIG
+@pytest.mark.parametrize("linkage", LINKAGES)
 @pytest.mark.parametrize("language", LANGUAGES)
-def test_example(language, library, page, it, tmp_path):
-    words = it.linked(library)
-    assert it.run(EXAMPLES[page], tmp_path, LANGUAGES[language], words) == WANTED[page]
+def test_example(language, linkage, it, tmp_path):
+    assert it.first(language, linkage, tmp_path) == FIRST
 
 
-@pytest.mark.parametrize("library", ["shared", "static"])
-def test_stub(library, it, tmp_path):
-    said("cc", "-std=gnu11", *WARNINGS, TOP / "examples" / "stub.c", *it.linked(library), "-o",
+@HAS_PKG_CONFIG
+@pytest.mark.parametrize("linkage", LINKAGES)
+def test_stub(linkage, it, tmp_path):
+    said("cc", "-std=gnu11", *WARNINGS, EXAMPLES / "stub.c", *it.linked(linkage), "-o",
          tmp_path / "stub")
 
 
+@HAS_PKG_CONFIG
 def test_forwarder(it, tmp_path):
-    sources = sorted((TOP / "examples" / "forwarder").glob("*.c"))
+    sources = sorted((EXAMPLES / "forwarder").glob("*.c"))
     said("cc", "-std=gnu11", "-D_GNU_SOURCE", "-pthread", *sources, *it.flags(), "-o",
          tmp_path / "forwarder")
 
 
+@HAS_CMAKE
+def test_cmake(it, tmp_path):
+    assert set(it.by_cmake(VERSION, tmp_path).values()) == {FIRST}
+
+
+@HAS_CMAKE
+@pytest.mark.parametrize("version", ["1.9", "3.0", "2.999"])
+def test_cmake_refuses_another_version(version, it, tmp_path):
+    with pytest.raises(subprocess.CalledProcessError):
+        it.by_cmake(version, tmp_path)
+
+
 def test_readme():
     shown = re.findall(r"^```c\n(.*?)^```", (TOP / "README.md").read_text(), re.M | re.S)
-    assert len(shown) == 1 and shown[0] in (TOP / "examples" / "stub.c").read_text()
+    assert len(shown) == 1 and shown[0] in (EXAMPLES / "lookup.c").read_text()
 
 
+@HAS_PKG_CONFIG
 def test_versions(it, tmp_path):
     assert it.told("--modversion").strip() == VERSION
     parts = [re.search(rf"RRCACHE_VERSION_{name} (\d+)", it.header("rrcache_shelf"))[1]
@@ -135,20 +104,74 @@ def test_manual(it):
         assert told.returncode == 0 and not told.stderr
 
 
+@HAS_PKG_CONFIG
 def test_again(it, tmp_path):
     said(INSTALL, "--strip", it.prefix)
-    for page, wanted in WANTED.items():
-        assert it.run(EXAMPLES[page], tmp_path, LANGUAGES["C"], it.flags()) == wanted
+    assert it.first("C", "shared", tmp_path) == FIRST
 
 
 def test_below_destdir(tmp_path):
     said(INSTALL, "--libdir", "/usr/lib64", "/usr", DESTDIR=str(tmp_path))
     pc = (tmp_path / "usr/lib64/pkgconfig/rrcache.pc").read_text()
-    assert "prefix=/usr\n" in pc and "libdir=/usr/lib64\n" in pc
+    assert "prefix=/usr\n" in pc and "libdir=${prefix}/lib64\n" in pc
+    assert (tmp_path / "usr/lib64/cmake/rrcache/rrcache-config.cmake").exists()
     for header in HEADERS:
         assert (tmp_path / "usr" / "include" / f"{header}.h").exists()
+    said(INSTALL, "--uninstall", "--libdir", "/usr/lib64", "/usr", DESTDIR=str(tmp_path))
+    assert not [path for path in tmp_path.rglob("*") if not path.is_dir()]
 
 
-def test_uninstall(it):
-    said(INSTALL, "--uninstall", it.prefix)
-    assert not [path for path in it.prefix.rglob("*") if not path.is_dir()]
+def content(folder):
+    """The paths below a folder."""
+    return {str(path.relative_to(folder)) for path in folder.rglob("*")}
+
+
+def test_uninstall_leaves_what_was_there(tmp_path):
+    (tmp_path / "share" / "man").mkdir(parents=True)
+    (tmp_path / "include").mkdir()
+    (tmp_path / "include" / "another.h").touch()
+    before = content(tmp_path)
+    for words in ([], ["--strip"]):
+        said(INSTALL, *words, tmp_path)
+        assert f"lib/{SONAME}" in content(tmp_path)
+    said(INSTALL, "--uninstall", tmp_path)
+    assert content(tmp_path) == before
+
+
+def test_all_may_read_it(tmp_path):
+    """Whatever the mask of who installs it."""
+    tmp_path.chmod(0o755)
+    said("sh", "-c", f"umask 077; exec {INSTALL} {tmp_path}/all/may")
+    modes = {it.stat().st_mode & 0o777 for it in tmp_path.rglob("*") if it.is_dir()}
+    assert modes == {0o755}
+    assert {it.stat().st_mode & 0o044 for it in tmp_path.rglob("*")} == {0o044}
+
+
+def test_uninstall_removes_an_older_version(tmp_path):
+    prefix = tmp_path / "new"
+    said(INSTALL, prefix)
+    older = prefix / "lib" / "librrcache.so.1.9.9"
+    older.touch()
+    with (prefix / "share" / "rrcache" / "installed").open("a") as record:
+        record.write(f"{older}\n")
+    said(INSTALL, "--uninstall", prefix)
+    assert content(tmp_path) == set()
+
+
+def refused(checkout, prefix):
+    """What bin/install-c of a checkout says that installs nothing."""
+    ran = subprocess.run([checkout / "bin" / "install-c", prefix], capture_output=True, text=True)
+    assert ran.returncode == 1 and not ran.stdout and not prefix.exists()
+    return ran.stderr
+
+
+def test_nothing_is_built(tmp_path):
+    checkout, prefix = copy_repository(tmp_path / "checkout"), tmp_path / "installed"
+    assert refused(checkout, prefix) == \
+        "install-c: there is no build/librrcache.a: bin/build-c makes it\n"
+    for name in ("librrcache.a", "librrcache.so"):
+        shutil.copy(TOP / "build" / name, checkout / "build")
+    (checkout / "include" / "rrcache.h").write_text("newer")
+    os.utime(checkout / "build" / "librrcache.so", (0, 0))
+    assert refused(checkout, prefix) == (
+        "install-c: include/rrcache.h is newer than the library: bin/build-c makes it again\n")

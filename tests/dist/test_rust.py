@@ -1,0 +1,35 @@
+# SPDX-License-Identifier: MIT
+"""The crate for Rust of a release, over the library of its archive."""
+import os
+import subprocess
+
+import dns.message
+import dns.query
+import pytest
+
+from tests.rust.test_rust import pytestmark  # noqa: F401
+
+
+@pytest.fixture(scope="module")
+def crate(release, tmp_path_factory):
+    folder = tmp_path_factory.mktemp("crate")
+    [archive] = release.glob("*-rust.tar.gz")
+    subprocess.run(["tar", "-xzf", archive, "-C", folder], check=True)
+    [root] = folder.iterdir()
+    return root
+
+
+def test_example(crate, unpacked):
+    """The example answers a query for the name that its cache has."""
+    around = {**os.environ, "PKG_CONFIG_PATH": f"{unpacked}/lib/pkgconfig",
+              "LD_LIBRARY_PATH": f"{unpacked}/lib"}
+    with subprocess.Popen(["cargo", "run", "--offline", "--quiet", "--example", "answer",
+                           "127.0.0.1:0"], cwd=crate, env=around, stdout=subprocess.PIPE,
+                          text=True) as answering:
+        try:
+            port = int(answering.stdout.readline().rpartition(":")[2])
+            asked = dns.message.make_query("www.example.", "A", use_edns=False)
+            answer = dns.query.udp(asked, "127.0.0.1", timeout=5, port=port).answer
+        finally:
+            answering.terminate()
+    assert [it.to_text() for rrset in answer for it in rrset] == ["192.0.2.1"]
