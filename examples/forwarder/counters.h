@@ -24,28 +24,18 @@ enum counter {
     DISPLACED,   /* fetches that gave way to others */
     CONNECTIONS, /* of clients */
     OCTETS,      /* sent to clients */
-    SWEPT,       /* keys that were fully expired */
-    KEYS,        /* that are held, at the last sweep */
-    HELD,        /* the octets of these keys, as rrcache_sizes tells them */
     COUNTERS
 };
 
-/* The parts of the cache, each a shelf. */
-enum { PARTS = 16 };
-
 void count(enum counter which, uint64_t by);
-void set_counter(enum counter which, uint64_t value);
-uint64_t counted(enum counter which);
 
-/* How many keys a part of the cache holds, below `PARTS`. */
-void set_part(uint64_t part, uint64_t keys);
-
-/* Prints all counters in one line on standard output, and at its end the keys of each part. Where
-   the line cannot be written at once it is dropped, here and below. */
+/* Prints all counters in one line on standard output, and behind them what the cache holds, the
+   memory of queries and replies that wait, and the keys of each shelf of the cache. A line that
+   cannot be written at once is dropped, here and below. */
 void print_counters(void);
 
 /* Prints on standard error what was done since the last call, in so many seconds. */
-void log_counters(unsigned seconds);
+void log_counters(uint64_t seconds);
 
 /* Milliseconds of a clock that nobody sets, and that goes on while the machine is suspended: what
    is kept ages in that time too. */

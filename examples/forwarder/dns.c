@@ -7,25 +7,15 @@
 enum { QR = 0x80, OPCODE = 0x78, TC = 0x02, RD = 0x01, RA = 0x80, CD = 0x10, RCODE = 0x0f };
 enum { POINTER = 0xc0, MOST_LABEL = 63, MOST_LABELS = 127 };
 enum { RECORD = 10 };        /* what stands before the data */
-enum { DNSSEC_OK = 0x8000 }; /* in the ttl of an OPT record (RFC 3225) */
+enum { DNSSEC_OK = 0x8000 }; /* in the TTL of an OPT record (RFC 3225) */
+enum { FIRST_META = 128 };   /* of the types that stand for no data of their own, up to ANY */
 
-/* A record that stands in a message: where its owner and its data begin and where it ends. */
+/* A record that stands in a message: where its owner and its data begin, and where it ends. */
 struct record {
     size_t owner, data, behind;
     unsigned type, class;
     uint32_t ttl;
 };
-
-static uint32_t long_at(const uint8_t *octets)
-{
-    return (uint32_t)word_at(octets) << 16 | word_at(octets + 2);
-}
-
-static void write_word(uint8_t *octets, unsigned word)
-{
-    octets[0] = (uint8_t)(word >> 8);
-    octets[1] = (uint8_t)word;
-}
 
 /* ---- Names. */
 
@@ -49,14 +39,32 @@ bool is_same_question(const struct question *one, const struct question *other)
            && is_same_name(one->name, one->size, other->name, other->size);
 }
 
+/* How many labels the domain of a name has. Below in-addr.arpa it is that of a /24, below ip6.arpa
+   that of a /48, as networks have them mostly. Below a country's label one of at most three letters
+   mostly stands for a kind of domains, as in `co.uk`. */
+static size_t domain_labels(const uint8_t *name, size_t size, size_t last, size_t last_but_one)
+{
+    static const struct {
+        uint8_t name[16];
+        size_t size, labels;
+    } REVERSED[] = {{"\7in-addr\4arpa", 14, 5}, {"\3ip6\4arpa", 10, 14}};
+    for (size_t i = 0; i < sizeof REVERSED / sizeof *REVERSED; i++)
+        if (is_same_name(name + last_but_one, size - last_but_one, REVERSED[i].name,
+                         REVERSED[i].size))
+            return REVERSED[i].labels;
+    return name[last] == 2 && name[last_but_one] <= 3 ? 3 : 2;
+}
+
 size_t domain_of(const uint8_t *name, size_t size)
 {
-    size_t last = 0, last_but_one = 0;
-    for (size_t at = 0; at < size && name[at] != 0; at += name[at] + 1u) {
-        last_but_one = last;
-        last = at;
-    }
-    return last_but_one;
+    uint8_t starts[MOST_LABELS];
+    size_t count = 0;
+    for (size_t at = 0; at < size && name[at] != 0; at += name[at] + 1u)
+        starts[count++] = (uint8_t)at;
+    if (count <= 2)
+        return 0;
+    size_t labels = domain_labels(name, size, starts[count - 1], starts[count - 2]);
+    return count <= labels ? 0 : starts[count - labels];
 }
 
 /* The size of the name that begins at a place, with no pointer in it; 0 where there is none. */
@@ -67,31 +75,6 @@ static size_t name_size(const uint8_t *octets, size_t size, size_t start)
         at += octets[at] + 1u;
     bool is_whole = at < size && octets[at] == 0 && at - start < NAME;
     return is_whole ? at - start + 1 : 0;
-}
-
-/* Reads the name at a place of a message, and moves the place behind it. It may go on behind
-   pointers (RFC 1035 section 4.1.4), of which no more are followed than a name has labels. Answers
-   its size, or 0 where there is none. */
-static size_t expand(const uint8_t *message, size_t size, size_t *place, uint8_t name[NAME])
-{
-    size_t got = 0, at = *place, behind = 0;
-    for (int pointers = 0; at + 1 < size && message[at] != 0;) {
-        size_t length = message[at] + 1u;
-        if (message[at] >= POINTER && pointers++ < MOST_LABELS) {
-            behind = behind == 0 ? at + 2 : behind;
-            at = word_at(message + at) & 0x3fff;
-        } else if (length <= MOST_LABEL + 1 && at + length < size && got + length < NAME) {
-            memcpy(name + got, message + at, length);
-            got += length;
-            at += length;
-        } else {
-            return 0;
-        }
-    }
-    bool is_whole = at < size && message[at] == 0;
-    name[got] = 0;
-    *place = behind == 0 ? at + 1 : behind;
-    return is_whole ? got + 1 : 0;
 }
 
 /* ---- Records. */
@@ -110,7 +93,7 @@ static bool read_record(const uint8_t *message, size_t size, size_t at, struct r
         return false;
     record->type = word_at(message + at);
     record->class = word_at(message + at + 2);
-    record->ttl = long_at(message + at + 4);
+    record->ttl = (uint32_t)word_at(message + at + 4) << 16 | word_at(message + at + 6);
     record->data = at + RECORD;
     record->behind = record->data + word_at(message + at + 8);
     return record->behind <= size;
@@ -183,10 +166,8 @@ enum rcode read_query(const uint8_t *octets, size_t size, struct query *query)
     enum rcode rcode = behind == 0 ? FORMERR : read_additional(octets, size, behind, query);
     if (rcode != NOERROR)
         return rcode;
-    if (question->type == 0 || question->type == OPT
-        || (question->type >= META && question->type < ANY))
-        return NOTIMP;
-    return question->class != IN ? REFUSED : NOERROR;
+    bool is_meta = question->type >= FIRST_META && question->type < ANY;
+    return question->type == 0 || question->type == OPT || is_meta ? NOTIMP : NOERROR;
 }
 
 static void write_opt(uint8_t *octets, unsigned extended, bool is_dnssec_ok)
@@ -222,143 +203,62 @@ size_t write_query(const struct upstream_query *query, uint8_t *octets)
 
 /* ---- Replies. */
 
-static void put(struct reply *reply, const void *octets, size_t size)
+void refuse(struct reply *reply, enum rcode rcode)
 {
-    reply->is_cut |= size > sizeof reply->octets - reply->size;
-    if (reply->is_cut)
-        return;
-    memcpy(reply->octets + reply->size, octets, size);
-    reply->size += size;
-}
-
-static void put_word(struct reply *reply, unsigned word)
-{
-    uint8_t octets[2];
-    write_word(octets, word);
-    put(reply, octets, sizeof octets);
-}
-
-/* How many octets of a reply its header and its question take. */
-static size_t front_of(const struct question *question)
-{
-    return question->size == 0 ? HEADER : HEADER + question->size + 4;
-}
-
-void begin_reply(struct reply *reply, const struct question *question)
-{
-    reply->size = HEADER;
-    reply->answers = reply->authority = 0;
-    reply->rcode = NOERROR;
-    reply->is_cut = false;
-    if (question->size == 0)
-        return;
-    put(reply, question->name, question->size);
-    put_word(reply, question->type);
-    put_word(reply, question->class);
-}
-
-uint16_t put_records(struct reply *reply, const uint8_t *owner, size_t owner_size, unsigned type,
-                     uint32_t ttl, const uint8_t *data, size_t size)
-{
-    uint16_t count = 0;
-    for (size_t at = 0, behind; at < size && !reply->is_cut; at = behind, count++) {
-        behind = at + 2 + word_at(data + at);
-        put(reply, owner, owner_size);
-        put_word(reply, type);
-        put_word(reply, IN);
-        put_word(reply, ttl >> 16);
-        put_word(reply, ttl & 0xffff);
-        put(reply, data + at, behind - at);
-    }
-    return count;
-}
-
-void refuse(struct reply *reply, const struct question *question, enum rcode rcode)
-{
-    begin_reply(reply, question);
     reply->rcode = rcode;
+    reply->count = 0;
 }
 
-/* Whether the cache keeps no data of a type (docs/RULES.md). */
-static bool is_unkept(unsigned type)
+/* Composes a reply, or what is left where it has no room. Its owner is spelled as the question's
+   name where it is that: so it is written as a pointer to it. */
+static enum rrcache_status compose(const struct reply *reply, const struct query *query,
+                                   bool is_cut, uint8_t *octets, size_t room, size_t *size)
 {
-    return type == SIG || type == NXT || type == NAPTR || type == RRSIG
-           || (type >= META && type <= ANY);
-}
-
-/* Where the name begins that may be compressed in the data of a record of such a type (RFC 3597
-   section 4); the place behind them where there is none. */
-static size_t name_in(const uint8_t *message, const struct record *record)
-{
-    size_t at = record->data + (record->type == SIG ? 18 : record->type == NAPTR ? 4 : 0);
-    for (int strings = record->type == NAPTR ? 3 : 0; strings > 0 && at < record->behind; strings--)
-        at += message[at] + 1u;
-    bool has_name = record->type == SIG || record->type == NXT || record->type == NAPTR;
-    return has_name && at < record->behind ? at : record->behind;
-}
-
-/* Copies the data of a record of such a type behind their length, with that name in full. Answers
-   the size of both, or 0 where it cannot be read. */
-static size_t copy_data(const uint8_t *message, const struct record *record,
-                        uint8_t data[2 + MESSAGE + NAME])
-{
-    size_t at = name_in(message, record), size = 2 + at - record->data;
-    memcpy(data + 2, message + record->data, at - record->data);
-    if (at < record->behind) {
-        size_t name = expand(message, record->behind, &at, data + size);
-        size_t rest = record->behind - at;
-        if (name == 0 || at > record->behind)
-            return 0;
-        memcpy(data + size + name, message + at, rest);
-        size += name + rest;
+    const struct question *question = &query->question;
+    struct rrcache_parsed_set sets[MOST_SETS];
+    const struct rrcache_query asked = {.name = question->name,
+                                        .name_size = question->size,
+                                        .id = (uint16_t)word_at(query->id),
+                                        .rtype = question->type,
+                                        .rclass = question->class};
+    const struct rrcache_parsed_response response = {.rcode = reply->rcode & RCODE,
+                                                     .tc = is_cut,
+                                                     .ra = true,
+                                                     .sets = sets,
+                                                     .count = is_cut ? 0 : reply->count};
+    for (size_t i = 0; i < response.count; i++) {
+        sets[i] = reply->sets[i];
+        if (is_same_name(sets[i].owner, sets[i].owner_size, question->name, question->size))
+            sets[i].owner = question->name;
     }
-    write_word(data, (unsigned)size - 2);
-    return size - 2 <= MESSAGE ? size : 0;
+    return rrcache_compose_response(&asked, &response, octets, room, size);
 }
 
-void put_unkept(struct reply *reply, const struct unkept *wanted, const uint8_t *message,
-                size_t size)
-{
-    struct record record = {.behind = front_of(wanted->question)};
-    unsigned type = wanted->question->type, left = word_at(message + 6);
-    uint8_t owner[NAME], pointer[2], data[2 + MESSAGE + NAME];
-    write_word(pointer, POINTER << 8 | (unsigned)wanted->place);
-    for (; left > 0 && read_record(message, size, record.behind, &record); left--) {
-        size_t at = record.owner;
-        if (!is_unkept(record.type) || (type != record.type && type != ANY) || record.class != IN
-            || !is_same_name(owner, expand(message, size, &at, owner), wanted->name->octets,
-                             wanted->name->size))
-            continue;
-        uint32_t ttl = record.ttl < wanted->cap ? record.ttl : wanted->cap;
-        size_t copied = copy_data(message, &record, data);
-        reply->is_cut |= copied == 0;
-        reply->answers +=
-            put_records(reply, pointer, sizeof pointer, record.type, ttl, data, copied);
-    }
-}
-
-/* Writes the header of a reply but for its id, and its question as it was spelled. */
-static void write_front(const struct reply *reply, const struct query *query, bool is_cut,
-                        uint8_t *octets)
+/* Writes a header alone, where there is no question that can be repeated. */
+static size_t write_header(const struct reply *reply, const struct query *query, uint8_t *octets)
 {
     memset(octets, 0, HEADER);
-    octets[2] = (uint8_t)(QR | (query->flags[0] & (OPCODE | RD)) | (is_cut ? TC : 0));
-    octets[3] = (uint8_t)(RA | (query->flags[1] & CD) | (reply->rcode & RCODE));
-    octets[5] = query->question.size != 0;
-    write_word(octets + 6, is_cut ? 0 : reply->answers);
-    write_word(octets + 8, is_cut ? 0 : reply->authority);
-    memcpy(octets + HEADER, query->question.name, query->question.size);
+    memcpy(octets, query->id, sizeof query->id);
+    octets[2] = QR;
+    octets[3] = (uint8_t)(RA | (reply->rcode & RCODE));
+    return HEADER;
 }
 
 size_t write_reply(const struct reply *reply, const struct query *query, size_t most,
                    uint8_t *octets)
 {
-    size_t tail = query->has_edns ? OPT_RECORD : 0;
-    bool is_cut = reply->size + tail > most;
-    size_t size = is_cut ? front_of(&query->question) : reply->size;
-    memcpy(octets, reply->octets, size);
-    write_front(reply, query, is_cut, octets);
-    memcpy(octets, query->id, 2);
+    size_t room = most - (query->has_edns ? OPT_RECORD : 0), size = 0;
+    enum rrcache_status status = compose(reply, query, false, octets, room, &size);
+    if (status == RRCACHE_SMALL) {
+        bool fits = size <= MESSAGE - OPT_RECORD; /* over TCP */
+        status = compose(reply, query, true, octets, room, &size);
+        if (!fits)
+            write_word(octets + 2, QR << 8 | RA | SERVFAIL);
+    }
+    if (status != RRCACHE_DONE)
+        size = write_header(reply, query, octets);
+    octets[2] |= query->flags[0] & (OPCODE | RD);
+    octets[3] |= query->flags[1] & CD;
     if (!query->has_edns)
         return size;
     octets[11] = 1;
@@ -405,7 +305,7 @@ enum verdict judge(const struct upstream_query *query, const uint8_t *message, s
     if (!is_about(message, size, query->question))
         return STRAY;
     struct record opt = {0};
-    bool is_whole = read_records(message, size, front_of(query->question), &opt);
+    bool is_whole = read_records(message, size, HEADER + query->question->size + 4, &opt);
     if (wants_plain && opt.type != OPT) /* else the upstream knows OPT records */
         return WANTS_PLAIN;
     if (message[2] & TC)

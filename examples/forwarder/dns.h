@@ -1,7 +1,7 @@
 /* SPDX-License-Identifier: MIT */
 /* dns.h: DNS messages as octets (RFC 1035 section 4). Queries of clients are read, replies to them
-   are built, and responses of upstreams are looked at. Nothing here takes memory, waits, or calls
-   sockets or the cache.
+   are written, and it is judged what responses are. What a response says, the library tells
+   (answers.h). Nothing here takes memory, waits, or calls sockets or the cache.
 
    Names are in wire form (RFC 1035 section 3.1), whole, at most 255 octets with the zero octet at
    their end. */
@@ -28,29 +28,14 @@ enum {
    else, as many as no path of today takes apart. */
 enum { PLAIN_PAYLOAD = 512, PAYLOAD = 1232 };
 
-/* So many aliases are followed, one after another. */
-enum { MOST_ALIASES = 16 };
-
 enum rcode { NOERROR, FORMERR, SERVFAIL, NXDOMAIN, NOTIMP, REFUSED, BADVERS = 16 };
-enum type {
-    CNAME = 5,
-    SOA = 6,
-    SIG = 24,
-    NXT = 30,
-    NAPTR = 35,
-    DNAME = 39,
-    OPT = 41,
-    RRSIG = 46,
-    META = 128,
-    ANY = 255
-};
-enum class { IN = 1 };
+enum type { TXT = 16, OPT = 41, ANY = 255 };
 
 struct question {
     uint8_t name[NAME]; /* as it was spelled */
     size_t size;        /* of the name; 0: there is no question */
     uint16_t type, class;
-    struct rrcache_name key; /* what the cache knows the name by (cache.h) */
+    uint64_t hash; /* of the name, in whatever case, under a seed that nobody knows (answers.h) */
 };
 
 /* What a client sent. */
@@ -61,22 +46,15 @@ struct query {
     bool has_edns, is_dnssec_ok;
 };
 
-/* A reply to a question, for whoever asked it. `write_reply` makes its header, and adds an OPT
-   record where there is to be one, for which room is left. */
-struct reply {
-    uint8_t octets[MESSAGE - OPT_RECORD];
-    size_t size;
-    uint16_t answers, authority;
-    enum rcode rcode;
-    bool is_cut; /* not all of it fits in a message */
-};
+/* So many RRsets, and so many octets of them, a reply has at most. */
+enum { MOST_SETS = 256, REPLY_ROOM = 2 * RRCACHE_ANSWER_OCTETS };
 
-/* Which records of a response are passed on though the cache keeps no data of their type. */
-struct unkept {
-    const struct question *question; /* of the response */
-    const struct rrcache_name *name;
-    size_t place; /* of the name in the reply */
-    uint32_t cap; /* no time to live is above it */
+/* A reply, for all who asked the same. */
+struct reply {
+    enum rcode rcode;
+    size_t count; /* of the sets */
+    struct rrcache_parsed_set sets[MOST_SETS];
+    uint8_t buffer[REPLY_ROOM]; /* where their owners and data stand */
 };
 
 /* A query that is sent upstream. */
@@ -101,49 +79,43 @@ static inline unsigned word_at(const uint8_t *octets)
     return octets[0] * 256u + octets[1];
 }
 
-/* ---- Names. */
+static inline void write_word(uint8_t *octets, unsigned word)
+{
+    octets[0] = (uint8_t)(word >> 8);
+    octets[1] = (uint8_t)word;
+}
+
+/* ---- Names and records. */
 
 /* Whether two names are the same but for the case of letters (RFC 4343 section 3). */
 bool is_same_name(const uint8_t *one, size_t one_size, const uint8_t *other, size_t other_size);
 
 bool is_same_question(const struct question *one, const struct question *other);
 
-/* How many octets of a name stand before its last two labels, as `example.com`; 0 where it has no
-   more than these. */
+/* How many octets of a name stand before its domain: the last two labels, as `example.com`, or more
+   where these are shared by many, as of `example.co.uk` and of addresses that are turned round. */
 size_t domain_of(const uint8_t *name, size_t size);
 
 /* ---- Queries. */
 
-/* Reads what a client sent, a header and more. Answers NOERROR, or the RCODE of a refusal: FORMERR
-   where the octets are no query with one question, NOTIMP for other opcodes and
-   for types that are asked for by no query of this kind, BADVERS for a version of EDNS above 0 (RFC
-   6891 section 6.1.3), REFUSED for classes other than IN. */
+/* Reads what a client sent, a header and more. Returns NOERROR, or the RCODE of a refusal: FORMERR
+   where the octets are no query with one question, NOTIMP for other opcodes and for types that are
+   asked for by no query of this kind, BADVERS for a version of EDNS above 0 (RFC 6891 section
+   6.1.3). */
 enum rcode read_query(const uint8_t *octets, size_t size, struct query *query);
 
-/* Writes a query for an upstream, with RD set, and answers its size: at most QUERY octets. */
+/* Writes a query for an upstream, with RD set, and returns its size: at most QUERY octets. */
 size_t write_query(const struct upstream_query *query, uint8_t *octets);
 
 /* ---- Replies. */
 
-/* Begins a reply to a question, which may be none. */
-void begin_reply(struct reply *reply, const struct question *question);
-
-/* Puts records of one owner, type and time to live, and answers how many. `data` has the data of
-   each behind their length of two octets. */
-uint16_t put_records(struct reply *reply, const uint8_t *owner, size_t owner_size, unsigned type,
-                     uint32_t ttl, const uint8_t *data, size_t size);
-
-/* A reply with no records. */
-void refuse(struct reply *reply, const struct question *question, enum rcode rcode);
-
-/* Puts the records of a question's type, if the cache keeps no data of it, that the answer section
-   of a response to it has of a name. With ANY these are all such types. */
-void put_unkept(struct reply *reply, const struct unkept *wanted, const uint8_t *message,
-                size_t size);
+/* Makes a reply with no records. */
+void refuse(struct reply *reply, enum rcode rcode);
 
 /* Writes a reply as one who asked gets it: under the id of the query, with the question as it was
    spelled there, and with an OPT record where the query had one. Where it has more than `most`
-   octets it has no records, and TC is set (RFC 2181 section 9). Answers the size. */
+   octets it has no records, and TC is set (RFC 2181 section 9), or, where no message has room for
+   them, it is SERVFAIL. Returns the size. */
 size_t write_reply(const struct reply *reply, const struct query *query, size_t most,
                    uint8_t *octets);
 

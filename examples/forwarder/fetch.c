@@ -1,7 +1,6 @@
 /* SPDX-License-Identifier: MIT */
 #include "fetch.h"
 
-#include <arpa/inet.h>
 #include <errno.h>
 #include <pthread.h>
 #include <stdatomic.h>
@@ -11,12 +10,13 @@
 #include <sys/socket.h>
 #include <unistd.h>
 
-#include "cache.h"
+#include "answers.h"
 
 enum { BUCKETS = 64, BURST = 64, PORT_TRIES = 8, FIRST_PORT = 1024, LENGTH = 2 };
+enum { MOST_UPSTREAMS = 8 };
 
 struct upstream {
-    struct sockaddr_in address;
+    union address address;
     _Atomic uint64_t plain_until; /* it gets no OPT record before, in milliseconds */
 };
 
@@ -34,7 +34,7 @@ struct fetch {
     /* The rest is the thread's that began it. */
     struct fetcher *fetcher;
     bool is_live; /* else the place is free */
-    unsigned domain, turn, tries;
+    unsigned client, domain, turn, tries;
     unsigned asked, refused; /* a bit for each upstream that this socket asked, or that said no */
     uint64_t began, try_ends;
     struct upstream *upstream;   /* the one that was asked last */
@@ -54,19 +54,24 @@ struct bucket {
 static struct bucket under_way[BUCKETS] = {[0 ... BUCKETS - 1] = {PTHREAD_MUTEX_INITIALIZER, {0}}};
 static struct upstream upstreams[MOST_UPSTREAMS];
 static unsigned upstream_count;
-static _Atomic unsigned preferred; /* the upstream that answered last */
+static _Atomic unsigned preferred;   /* the upstream that answered last */
+static sa_family_t family = AF_INET; /* of the sockets that ask them */
 
-bool add_upstream(const struct sockaddr_in *address)
+/* One socket of a fetch asks all of them, so where one is of IPv6 it speaks both. */
+void set_upstreams(const union address *addresses, size_t count)
 {
-    if (upstream_count == MOST_UPSTREAMS)
-        return false;
-    upstreams[upstream_count++].address = *address;
-    return true;
+    for (size_t i = 0; i < count; i++)
+        if (addresses[i].any.sa_family == AF_INET6)
+            family = AF_INET6;
+    for (size_t i = 0; i < count; i++)
+        upstreams[i].address = family == AF_INET6 ? mapped_address(&addresses[i]) : addresses[i];
+    upstream_count = (unsigned)count;
 }
 
 bool make_fetcher(struct fetcher *fetcher, size_t places)
 {
-    *fetcher = (struct fetcher){calloc(places, sizeof *fetcher->fetches), places, {0}};
+    *fetcher =
+        (struct fetcher){.fetches = calloc(places, sizeof *fetcher->fetches), .places = places};
     return fetcher->fetches != NULL;
 }
 
@@ -74,7 +79,7 @@ bool make_fetcher(struct fetcher *fetcher, size_t places)
 
 static struct bucket *bucket_of(const struct question *question)
 {
-    return &under_way[question->key.hash % BUCKETS];
+    return &under_way[question->hash % BUCKETS];
 }
 
 /* The fetch of a question that is under way, or NULL. The bucket's lock is held. */
@@ -102,21 +107,31 @@ static struct asker *take_askers(struct fetch *fetch, bool is_over)
     return askers;
 }
 
+static void free_asker(struct asker *asker)
+{
+    give_back(asker->client, asker, sizeof *asker);
+}
+
 static void tell(struct asker *askers, const struct reply *reply, enum counter what)
 {
     for (struct asker *next; askers != NULL; askers = next) {
         next = askers->next;
         send_reply(askers, reply, what);
-        free(askers);
+        free_asker(askers);
     }
 }
 
 /* ---- How a fetch ends. */
 
+static void free_message(const struct fetch *fetch, uint8_t *message)
+{
+    give_back(fetch->client, message, word_at(fetch->length) + 1u);
+}
+
 static void close_socket(struct fetch *fetch)
 {
     close(fetch->sock); /* below 0 it is none */
-    free(fetch->message);
+    free_message(fetch, fetch->message);
     fetch->sock = -1;
     fetch->message = NULL;
     fetch->got = 0;
@@ -128,7 +143,8 @@ static void end_fetch(struct fetch *fetch, const struct reply *reply, enum count
     struct asker *askers = take_askers(fetch, true);
     close_socket(fetch);
     fetch->is_live = false;
-    fetch->fetcher->held[fetch->domain]--;
+    fetch->fetcher->by_client[fetch->client]--;
+    fetch->fetcher->by_domain[fetch->domain]--;
     tell(askers, reply, what);
 }
 
@@ -137,9 +153,7 @@ static void give_up(struct fetch *fetch)
 {
     struct reply reply;
     enum outcome outcome = look_up(&fetch->question, RRCACHE_STALE_NOW, &reply);
-    if (!is_found(outcome))
-        refuse(&reply, &fetch->question, SERVFAIL);
-    end_fetch(fetch, &reply, is_found(outcome) ? counter_of(outcome) : FAILED);
+    end_fetch(fetch, &reply, counter_of(outcome));
 }
 
 /* Ends a fetch of which all tries failed, which is remembered. */
@@ -174,13 +188,25 @@ static unsigned bit_of(const struct upstream *upstream)
 
 static bool bind_anywhere(int sock)
 {
-    struct sockaddr_in here = {.sin_family = AF_INET};
-    for (int i = 0; i < PORT_TRIES; i++)
-        if (getentropy(&here.sin_port, sizeof here.sin_port) == 0
-            && ntohs(here.sin_port) >= FIRST_PORT
-            && bind(sock, (struct sockaddr *)&here, sizeof here) == 0)
+    union address here = {.any = {.sa_family = family}};
+    uint16_t port;
+    for (int i = 0; i < PORT_TRIES; i++) {
+        if (getentropy(&port, sizeof port) != 0 || port < FIRST_PORT)
+            continue;
+        set_port(&here, port);
+        if (bind(sock, &here.any, address_size(&here)) == 0)
             return true;
+    }
     return false;
+}
+
+/* Makes a socket of both families, where one is wanted, and has it tell of errors. */
+static bool set_options(int sock)
+{
+    bool is_ready = family == AF_INET
+                    || (set_option(sock, IPPROTO_IPV6, IPV6_V6ONLY, 0)
+                        && set_option(sock, IPPROTO_IPV6, IPV6_RECVERR, 1));
+    return is_ready && set_option(sock, IPPROTO_IP, IP_RECVERR, 1);
 }
 
 static bool draw_id(struct fetch *fetch)
@@ -192,30 +218,30 @@ static bool draw_id(struct fetch *fetch)
    asks one after another; IP_RECVERR has it tell nevertheless which one's port is closed. */
 static bool open_socket(struct fetch *fetch)
 {
-    int yes = 1;
     if (fetch->way == BY_UDP && fetch->sock >= 0)
         return true;
     close_socket(fetch);
     fetch->asked = 0;
-    fetch->sock = socket(AF_INET, SOCK_DGRAM | SOCK_NONBLOCK | SOCK_CLOEXEC, 0);
-    return fetch->sock >= 0 && bind_anywhere(fetch->sock) && draw_id(fetch)
-           && setsockopt(fetch->sock, IPPROTO_IP, IP_RECVERR, &yes, sizeof yes) == 0;
+    fetch->sock = socket(family, SOCK_DGRAM | SOCK_NONBLOCK | SOCK_CLOEXEC, 0);
+    return fetch->sock >= 0 && set_options(fetch->sock) && bind_anywhere(fetch->sock)
+           && draw_id(fetch);
 }
 
 /* Sends to the upstream. A call may tell of an older datagram's error, and is made again then. */
 static bool send_octets(struct fetch *fetch, const uint8_t *octets, size_t size)
 {
-    const struct sockaddr_in *to = fetch->way == BY_UDP ? &fetch->upstream->address : NULL;
+    const union address *to = &fetch->upstream->address;
+    bool is_named = fetch->way == BY_UDP; /* else the socket is connected to it */
     ssize_t sent = -1;
     for (int i = 0; i < 2 && sent < 0; i++)
         sent = sendto(fetch->sock, octets, size, MSG_NOSIGNAL | MSG_DONTWAIT,
-                      (const struct sockaddr *)to, to == NULL ? 0 : sizeof *to);
+                      is_named ? &to->any : NULL, is_named ? address_size(to) : 0);
     return sent == (ssize_t)size;
 }
 
 static void begin_try(struct fetch *fetch)
 {
-    fetch->try_ends = milliseconds() + TRY_MS + LONGER_MS * (fetch->tries - 1);
+    fetch->try_ends = milliseconds() + TRY_MS + (uint64_t)LONGER_MS * (fetch->tries - 1);
 }
 
 /* Sends the query. Over TCP its length stands before it. */
@@ -225,8 +251,7 @@ static bool send_query(struct fetch *fetch)
     fetch->query.question = &fetch->question;
     fetch->query.has_edns = milliseconds() >= fetch->upstream->plain_until;
     size_t size = write_query(&fetch->query, octets + LENGTH);
-    octets[0] = (uint8_t)(size >> 8);
-    octets[1] = (uint8_t)size;
+    write_word(octets, (unsigned)size);
     size_t skipped = fetch->way == BY_UDP ? LENGTH : 0; /* all of it fits into an empty buffer */
     begin_try(fetch);
     count(SENT, 1);
@@ -282,13 +307,13 @@ static void refused(struct fetch *fetch, const struct upstream *upstream)
 /* Asks the upstream again, over TCP (RFC 7766 section 5). */
 static void upgrade(struct fetch *fetch)
 {
-    const struct sockaddr_in *address = &fetch->upstream->address;
+    const union address *address = &fetch->upstream->address;
     close_socket(fetch);
     begin_try(fetch);
-    fetch->sock = socket(AF_INET, SOCK_STREAM | SOCK_NONBLOCK | SOCK_CLOEXEC, 0);
+    fetch->sock = socket(family, SOCK_STREAM | SOCK_NONBLOCK | SOCK_CLOEXEC, 0);
     fetch->way = CONNECTS;
     if (fetch->sock >= 0
-        && (connect(fetch->sock, (const struct sockaddr *)address, sizeof *address) == 0
+        && (connect(fetch->sock, &address->any, address_size(address)) == 0
             || errno == EINPROGRESS))
         return;
     if (fetch->sock < 0 || is_lack())
@@ -307,15 +332,20 @@ static void ask_plainly(struct fetch *fetch)
 
 /* ---- What comes back. */
 
+/* Ends a fetch by what came, or by what the cache knows since then, where that is more. */
 static void take_answer(struct fetch *fetch, const uint8_t *message, size_t size)
 {
-    struct reply reply;
-    if (!keep(&fetch->question, message, size, &reply)) {
+    struct reply said, held;
+    const struct reply *reply = &said;
+    enum kept kept = keep(&fetch->question, message, size, &said);
+    if (kept == IS_USELESS) {
         refused(fetch, fetch->upstream);
         return;
     }
+    if (kept == IS_PARTIAL && is_found(look_up(&fetch->question, RRCACHE_NO_STALE, &held)))
+        reply = &held;
     preferred = (unsigned)(fetch->upstream - upstreams);
-    end_fetch(fetch, &reply, reply.rcode == SERVFAIL ? FAILED : FETCHED);
+    end_fetch(fetch, reply, FETCHED);
 }
 
 /* Takes a message of an upstream that was asked; true where it was a stray, behind which the answer
@@ -348,11 +378,10 @@ static bool would_block(void)
 }
 
 /* The upstream at an address, if this socket asked it, or NULL. */
-static struct upstream *asked_at(const struct fetch *fetch, const struct sockaddr_in *address)
+static struct upstream *asked_at(const struct fetch *fetch, const union address *address)
 {
     for (struct upstream *it = upstreams; it < upstreams + upstream_count; it++)
-        if ((fetch->asked & bit_of(it)) != 0 && it->address.sin_port == address->sin_port
-            && it->address.sin_addr.s_addr == address->sin_addr.s_addr)
+        if ((fetch->asked & bit_of(it)) != 0 && is_same_address(&it->address, address))
             return it;
     return NULL;
 }
@@ -361,10 +390,9 @@ static void read_datagrams(struct fetch *fetch)
 {
     uint8_t message[MESSAGE];
     for (int i = 0; i < BURST; i++) {
-        struct sockaddr_in from = {0};
+        union address from = {0};
         socklen_t from_size = sizeof from;
-        ssize_t got =
-            recvfrom(fetch->sock, message, sizeof message, 0, (struct sockaddr *)&from, &from_size);
+        ssize_t got = recvfrom(fetch->sock, message, sizeof message, 0, &from.any, &from_size);
         struct upstream *upstream = got < 0 ? NULL : asked_at(fetch, &from);
         if (got < 0 || (upstream != NULL && !take_stray(fetch, upstream, message, (size_t)got)))
             return;
@@ -376,12 +404,11 @@ static void read_datagrams(struct fetch *fetch)
 static void read_error(struct fetch *fetch)
 {
     uint8_t query[QUERY];
-    struct sockaddr_in to = {0};
+    union address to = {0};
     socklen_t to_size = sizeof to, error_size = sizeof(int);
     int error = 0;
     getsockopt(fetch->sock, SOL_SOCKET, SO_ERROR, &error, &error_size);
-    ssize_t got =
-        recvfrom(fetch->sock, query, sizeof query, MSG_ERRQUEUE, (struct sockaddr *)&to, &to_size);
+    ssize_t got = recvfrom(fetch->sock, query, sizeof query, MSG_ERRQUEUE, &to.any, &to_size);
     struct upstream *upstream = got < 0 ? NULL : asked_at(fetch, &to);
     if (upstream != NULL && error == ECONNREFUSED)
         refused(fetch, upstream);
@@ -409,7 +436,7 @@ static bool read_more(struct fetch *fetch)
         return got < 0 && would_block();
     fetch->got += (size_t)got;
     if (fetch->got == LENGTH && !has_length)
-        fetch->message = malloc(word_at(fetch->length) + 1u);
+        fetch->message = take_share(fetch->client, word_at(fetch->length) + 1u);
     return fetch->got < LENGTH || fetch->message != NULL;
 }
 
@@ -442,7 +469,7 @@ static void read_stream(struct fetch *fetch)
     fetch->got = 0;
     if (take_stray(fetch, fetch->upstream, message, size))
         refused(fetch, fetch->upstream);
-    free(message);
+    free_message(fetch, message);
 }
 
 void poll_fetches(const struct fetcher *fetcher, struct pollfd *polled)
@@ -477,61 +504,56 @@ void tend_fetches(struct fetcher *fetcher, const struct pollfd *polled, uint64_t
             tend(&fetcher->fetches[i], polled[i].revents, now);
 }
 
-/* ---- Places. */
+/* ---- Places. Where none is free, a fetch gives way to a new one by its weight: how many places
+   its client holds, and how many its domain does. So neither a client who asks for much
+   that nobody answers, nor a domain whose servers are dead, keeps others from a place. */
 
 static unsigned domain_number(const struct question *question)
 {
     size_t skipped = domain_of(question->name, question->size);
-    struct rrcache_name domain = {0};
-    make_key(&domain, question->name + skipped, question->size - skipped);
-    return (unsigned)(domain.hash % DOMAINS);
+    return (unsigned)(hash_of(question->name + skipped, question->size - skipped) % DOMAINS);
 }
 
-/* The domain that holds most places. */
-static unsigned fullest(const struct fetcher *fetcher)
+static unsigned weight_of(const struct fetcher *fetcher, const struct fetch *fetch)
 {
-    unsigned most = 0;
-    for (unsigned i = 1; i < DOMAINS; i++)
-        if (fetcher->held[i] > fetcher->held[most])
-            most = i;
-    return most;
+    return 0u + fetcher->by_client[fetch->client] + fetcher->by_domain[fetch->domain];
 }
 
-/* A free place; where there is none, that of the fetch which began first, of a domain or of all. */
-static struct fetch *first_place(const struct fetcher *fetcher, unsigned domain)
+static struct fetch *free_place(const struct fetcher *fetcher)
 {
-    struct fetch *first = NULL;
-    for (struct fetch *it = fetcher->fetches; it < fetcher->fetches + fetcher->places; it++) {
+    for (struct fetch *it = fetcher->fetches; it < fetcher->fetches + fetcher->places; it++)
         if (!it->is_live)
             return it;
-        bool counts = domain == DOMAINS || it->domain == domain;
-        if (counts && (first == NULL || it->began < first->began))
+    return NULL;
+}
+
+/* The fetch that gives way to a new one, or NULL: the first of those that weigh most, if that is
+   more than the new one would; else the first of those that weigh as much, if it had its time. */
+static struct fetch *least_needed(const struct fetcher *fetcher, const struct fetch *added)
+{
+    struct fetch *heaviest = fetcher->fetches, *first = NULL;
+    unsigned weight = weight_of(fetcher, added), most = 0;
+    for (struct fetch *it = fetcher->fetches; it < fetcher->fetches + fetcher->places; it++) {
+        unsigned its = weight_of(fetcher, it);
+        if (its > most || (its == most && it->began < heaviest->began)) {
+            heaviest = it;
+            most = its;
+        }
+        if (its >= weight && (first == NULL || it->began < first->began))
             first = it;
     }
-    return first;
+    if (most > weight + 2) /* the new one would count itself in both */
+        return heaviest;
+    return first != NULL && added->began >= first->began + GRACE_MS ? first : NULL;
 }
 
-/* The fetch that gives way to one of a domain, or NULL: the first of the domain that holds most, if
-   the other holds less even with one more; else the first of all, if it had its time. A domain that
-   has its share has nobody give way. So names whose servers are dead keep others from no place. */
-static struct fetch *least_needed(const struct fetcher *fetcher, unsigned domain)
+/* A place for a new fetch; NULL: there is none. */
+static struct fetch *place_for(struct fetcher *fetcher, const struct fetch *added)
 {
-    unsigned most = fullest(fetcher);
-    if (fetcher->held[domain] > fetcher->places / DOMAIN_SHARE)
-        return NULL;
-    if (fetcher->held[most] > fetcher->held[domain] + 1)
-        return first_place(fetcher, most);
-    struct fetch *first = first_place(fetcher, DOMAINS);
-    return milliseconds() >= first->began + GRACE_MS ? first : NULL;
-}
-
-/* A place for a fetch of a domain; NULL: there is none. */
-static struct fetch *place_for(struct fetcher *fetcher, unsigned domain)
-{
-    struct fetch *place = first_place(fetcher, DOMAINS);
-    if (!place->is_live)
+    struct fetch *place = free_place(fetcher);
+    if (place != NULL)
         return place;
-    place = least_needed(fetcher, domain);
+    place = least_needed(fetcher, added);
     if (place != NULL) {
         count(DISPLACED, 1);
         give_up(place);
@@ -548,31 +570,38 @@ static bool is_under_way(const struct question *question)
     return is_there;
 }
 
-/* Begins a fetch in a place. The bucket's lock is held. */
-static void begin(struct fetcher *fetcher, struct fetch *place, struct bucket *bucket,
-                  const struct question *question)
+static struct fetch new_fetch(struct fetcher *fetcher, const struct asker *asker)
 {
-    *place = (struct fetch){.fetcher = fetcher,
-                            .is_live = true,
-                            .question = *question,
-                            .domain = domain_number(question),
-                            .turn = preferred,
-                            .began = milliseconds(),
-                            .sock = -1};
-    fetcher->held[place->domain]++;
+    const struct question *question = &asker->query.question;
+    return (struct fetch){.fetcher = fetcher,
+                          .is_live = true,
+                          .question = *question,
+                          .client = asker->client,
+                          .domain = domain_number(question),
+                          .turn = preferred,
+                          .began = milliseconds(),
+                          .sock = -1};
+}
+
+/* Begins a fetch in a place. The bucket's lock is held. */
+static void begin(struct fetch *place, const struct fetch *added, struct bucket *bucket)
+{
+    *place = *added;
+    place->fetcher->by_client[place->client]++;
+    place->fetcher->by_domain[place->domain]++;
     LIST_INSERT_HEAD(&bucket->fetches, place, others);
 }
 
 /* Whose place one who asks by UDP takes: that of the same query, which was sent again, or, where
-   its address has its share, of the one that asked first. NULL: nobody's. */
+   its client has its share, of the one that asked first. NULL: nobody's. */
 static struct asker *older_of(const struct fetch *fetch, const struct asker *asker)
 {
     struct asker *first = NULL;
     unsigned count = 0;
     for (struct asker *it = fetch->askers; it != NULL && asker->connection == NULL; it = it->next) {
-        if (it->connection != NULL || it->from.sin_addr.s_addr != asker->from.sin_addr.s_addr)
+        if (it->connection != NULL || it->client != asker->client)
             continue;
-        bool is_again = it->from.sin_port == asker->from.sin_port
+        bool is_again = is_same_address(&it->from, &asker->from)
                         && memcmp(it->query.id, asker->query.id, sizeof it->query.id) == 0;
         if (is_again)
             return it;
@@ -589,7 +618,7 @@ static bool add_asker(struct fetch *fetch, struct asker *added)
     if (older != NULL) {
         added->next = older->next;
         *older = *added;
-        free(added);
+        free_asker(added);
         return true;
     }
     if (fetch->count == MOST_ASKERS)
@@ -604,24 +633,24 @@ bool await_fetch(struct fetcher *fetcher, const struct asker *asker, bool though
 {
     const struct question *question = &asker->query.question;
     struct bucket *bucket = bucket_of(question);
-    struct asker *added = malloc(sizeof *added);
+    struct asker *added = take_share(asker->client, sizeof *added);
     if (added == NULL)
         return false;
     *added = *asker;
-    struct fetch *place =
-        is_under_way(question) ? NULL : place_for(fetcher, domain_number(question));
+    const struct fetch new = new_fetch(fetcher, asker);
+    struct fetch *place = is_under_way(question) ? NULL : place_for(fetcher, &new);
     pthread_mutex_lock(&bucket->lock);
     struct fetch *fetch = find(bucket, question);
     bool is_new = fetch == NULL && place != NULL;
     if (is_new) {
         fetch = place;
-        begin(fetcher, fetch, bucket, question);
+        begin(fetch, &new, bucket);
     }
     bool waits = fetch != NULL && (though_late || !fetch->is_late) && add_asker(fetch, added);
     pthread_mutex_unlock(&bucket->lock);
     count(JOINED, waits && !is_new);
     if (!waits)
-        free(added);
+        free_asker(added);
     if (is_new)
         ask_next(fetch);
     return waits;

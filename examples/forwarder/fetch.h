@@ -15,31 +15,29 @@
 #include "dns.h"
 
 enum {
-    MOST_UPSTREAMS = 8,
     TRIES = 4,
     TRY_MS = 800,
     LONGER_MS = 100,
     LATE_MS = 1800,
     MOST_ASKERS = 256, /* of a fetch */
-    ASKER_SHARE = 4,   /* one address has a fourth of these at most */
+    ASKER_SHARE = 4,   /* one client has a fourth of these at most */
     PLAIN_MS = 900000, /* so long an upstream that wants no OPT record gets none */
-    DOMAINS = 256,
-    DOMAIN_SHARE = 4, /* with a fourth of all places, a domain has others give way no more */
-    GRACE_MS = 200    /* so long a fetch gives way to no domain that holds as much */
+    DOMAINS = 1 << 16,
+    GRACE_MS = 200 /* so long a fetch gives way to none that weighs as much */
 };
 
 struct fetch;
 
-/* The fetches that a thread began. Of them so many are of names of each domain, as `example.com`;
-   domains are told apart by a hash. */
+/* The fetches that a thread began, of which there are at most 255. Of them so many were begun by
+   each client, and are of names of each domain, as `example.com`, which a hash tells apart. */
 struct fetcher {
     struct fetch *fetches;
     size_t places;
-    unsigned held[DOMAINS];
+    uint8_t by_client[CLIENTS], by_domain[DOMAINS];
 };
 
-/* Adds an upstream to those of all threads, before the first of these begins. */
-bool add_upstream(const struct sockaddr_in *address);
+/* Tells the upstreams to all threads, before the first of these begins: at most 8. */
+void set_upstreams(const union address *addresses, size_t count);
 
 bool make_fetcher(struct fetcher *fetcher, size_t places);
 
@@ -50,8 +48,8 @@ void poll_fetches(const struct fetcher *fetcher, struct pollfd *polled);
 void tend_fetches(struct fetcher *fetcher, const struct pollfd *polled, uint64_t now);
 
 /* Has one who asked wait for the fetch of the question, which begins where none is under way. False
-   where nobody may wait: there is no place or no memory, too many wait, or the fetch is late,
-   unless that is said to do. */
+   where nobody may wait: there is no place, the client's share of memory is spent, too many wait,
+   or the fetch is late, unless that is said to do. */
 bool await_fetch(struct fetcher *fetcher, const struct asker *asker, bool though_late);
 
 /* Ends all fetches, with a failure for who waits. */

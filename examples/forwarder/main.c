@@ -1,45 +1,42 @@
 /* SPDX-License-Identifier: MIT */
-/* forwarder [-q] [-l SECONDS] [-t THREADS] ADDRESS PORT UPSTREAM PORT [UPSTREAM PORT ..]
+/* forwarder [OPTION ..] ADDRESS PORT UPSTREAM PORT [UPSTREAM PORT ..]
    forwarder --help | --version
 
-   A DNS forwarder over UDP and TCP and IPv4, as an example of the library for C. Clients ask it at
-   an address and a port (0: one is picked), and what its cache does not have it asks the upstreams,
-   at most 8, which are resolvers. It prints the port on standard output, and there on SIGUSR1 and
-   at its end all its counters in one line, behind which stands how many keys each part of its cache
-   holds; SIGTERM and SIGINT end it. On standard error stands one line a minute of what it did; with
-   -l SECONDS more or less often, with -q none. A line that cannot be written at once is dropped.
+   A DNS forwarder over UDP and TCP, IPv4 and IPv6, as an example of the library for C. Clients ask
+   it at an address and a port, and what its cache does not have it asks the upstreams, which are
+   resolvers. `--help` tells the options, and README.md the way of a query.
 
-   dns.c       messages: queries are read, replies are built, responses are judged
-   cache.c     shelves of the library under locks: what is kept, and what is answered from them
-   fetch.c     asks upstream, and knows who waits for what
-   clients.c   the sockets of clients
-   counters.c  what is counted, and the line a minute
+   options.c    the command line
+   addresses.c  addresses of both families
+   clients.c    the sockets of clients: queries come in, replies go out
+   dns.c        messages: queries are read, replies are written, responses are judged
+   answers.c    the cache: what is answered of it, and what is kept
+   fetch.c      asks upstream, and knows who waits for what
+   shares.c     the memory that each client may have kept for it
+   counters.c   what is counted, and the line a minute
 
    There is a thread for each processor, or as many as -t says. Each polls the sockets that clients
    ask, the connections that it took up, and the fetches that it began. */
-#include <arpa/inet.h>
 #include <errno.h>
-#include <getopt.h>
+#include <malloc.h>
 #include <pthread.h>
-#include <sched.h>
 #include <signal.h>
 #include <stdatomic.h>
 #include <stdio.h>
 #include <stdlib.h>
-#include <string.h>
 #include <sys/resource.h>
-#include <unistd.h>
 
-#include "cache.h"
+#include "answers.h"
 #include "clients.h"
 #include "counters.h"
 #include "fetch.h"
+#include "options.h"
 
-enum { MOST_THREADS = 64, BURST = 64, TICK_MS = 50, MINUTE = 60 };
+enum { BURST = 64, TICK_MS = 50, TRIM_OCTETS = 1 << 17, LEAST_SHARED = 1 << 20 };
 /* Of each thread, where there are descriptors enough: beside these it has one for a connection that
-   has no place yet. Those that are no thread's are standard input, output and error, both
-   listeners, and some for what the C library opens. */
-enum { MOST_FETCHES = 200, MOST_CONNECTIONS = 64, LEAST_PLACES = 4, OTHER_DESCRIPTORS = 8 };
+   has no place yet. Those that are no thread's are standard input, output and error, the listeners,
+   and some for what the C library opens. */
+enum { MOST_FETCHES = 200, MOST_CONNECTIONS = 64, LEAST_PLACES = 4, OTHER_DESCRIPTORS = 6 };
 
 struct worker {
     pthread_t thread;
@@ -47,22 +44,6 @@ struct worker {
     struct clients clients;
     struct pollfd *polled; /* what `poll_clients` tells, and behind it what `poll_fetches` does */
 };
-
-struct options {
-    int told; /* 'h' and 'V': the usage or the version is to be told; else 0 */
-    bool is_quiet;
-    unsigned seconds, threads;
-    struct sockaddr_in address;
-};
-
-static const char USAGE[] = "usage: forwarder [-q] [-l SECONDS] [-t THREADS] ADDRESS PORT\n"
-                            "                 UPSTREAM PORT [UPSTREAM PORT ..]\n"
-                            "       forwarder --help | --version\n"
-                            "  -q          no log\n"
-                            "  -l SECONDS  a line on standard error each so many seconds (60)\n"
-                            "  -t THREADS  so many threads (one for each processor)\n";
-static const struct option LONG_OPTIONS[] = {
-    {"help", no_argument, NULL, 'h'}, {"version", no_argument, NULL, 'V'}, {0}};
 
 static struct worker workers[MOST_THREADS];
 static atomic_bool is_over;
@@ -85,36 +66,36 @@ static void answer(struct worker *worker, const struct asker *asker)
         if (outcome == IS_MISSING && await_fetch(&worker->fetcher, asker, true))
             return;
     }
-    if (is_found(outcome)) {
-        send_reply(asker, &reply, counter_of(outcome));
-        return;
-    }
-    bool is_turned_away = !wants_recursion && outcome != IS_REFUSED;
-    refuse(&reply, question, is_turned_away ? REFUSED : SERVFAIL);
-    send_reply(asker, &reply, is_turned_away ? TURNED_AWAY : FAILED);
+    bool is_turned_away = !wants_recursion && (outcome == IS_MISSING || outcome == HAS_FAILED);
+    if (is_turned_away)
+        refuse(&reply, REFUSED);
+    send_reply(asker, &reply, is_turned_away ? TURNED_AWAY : counter_of(outcome));
 }
 
+/* Takes a query of a client's: it is answered, refused for what it is, or of another class. */
 static void take(struct worker *worker, struct asker *asker, const uint8_t *octets, size_t size)
 {
     struct reply reply;
     struct question *question = &asker->query.question;
     enum rcode rcode = read_query(octets, size, &asker->query);
     count(QUERIES, 1);
-    if (rcode == NOERROR) {
-        make_key(&question->key, question->name, question->size);
+    if (rcode == NOERROR && question->class == RRCACHE_IN) {
+        question->hash = hash_of(question->name, question->size);
         answer(worker, asker);
         return;
     }
-    refuse(&reply, question, rcode);
+    refuse(&reply, rcode);
+    if (rcode == NOERROR)
+        identify(question, &reply);
     send_reply(asker, &reply, TURNED_AWAY);
 }
 
-static void take_datagrams(struct worker *worker)
+static void take_datagrams(struct worker *worker, int sock)
 {
     uint8_t octets[MOST_QUERY];
     struct asker asker;
     size_t size;
-    for (int i = 0; i < BURST && take_datagram(octets, &size, &asker); i++)
+    for (int i = 0; i < BURST && take_datagram(sock, octets, &size, &asker); i++)
         if (size != 0)
             take(worker, &asker, octets, size);
 }
@@ -137,39 +118,46 @@ static void wait_for_work(struct worker *worker, nfds_t size)
     if (poll(worker->polled, size, TICK_MS) >= 0 || errno == EINTR)
         return;
     for (nfds_t i = 0; i < size; i++)
-        worker->polled[i].revents = worker->polled[i].fd < 0 ? 0 : worker->polled[i].events;
-    nanosleep(&(struct timespec){.tv_nsec = TICK_MS * 1000000}, NULL);
+        if (worker->polled[i].fd >= 0)
+            worker->polled[i].revents = worker->polled[i].events;
+    nanosleep(&(struct timespec){.tv_nsec = TICK_MS * 1000000L}, NULL);
 }
 
-static void *work(void *argument)
+/* Does what can be done: fetches go on first, since they may have what clients wait for. */
+static void work_once(struct worker *worker)
 {
-    struct worker *worker = argument;
-    size_t connections = worker->clients.places, fetches = worker->fetcher.places;
-    struct pollfd *of_fetches = worker->polled + 2 + connections;
-    while (!is_over) {
-        poll_clients(&worker->clients, worker->polled, milliseconds());
-        poll_fetches(&worker->fetcher, of_fetches);
-        wait_for_work(worker, 2 + connections + fetches);
-        uint64_t now = milliseconds();
-        tend_fetches(&worker->fetcher, of_fetches, now);
-        tend_connections(&worker->clients, worker->polled, now);
-        if (worker->polled[0].revents != 0)
-            take_datagrams(worker);
-        for (size_t i = 0; i < connections; i++)
-            take_messages(worker, i);
-    }
+    size_t listeners = listener_sockets(), connections = worker->clients.places;
+    struct pollfd *of_fetches = worker->polled + listeners + connections;
+    poll_clients(&worker->clients, worker->polled, milliseconds());
+    poll_fetches(&worker->fetcher, of_fetches);
+    wait_for_work(worker, listeners + connections + worker->fetcher.places);
+    uint64_t now = milliseconds();
+    tend_fetches(&worker->fetcher, of_fetches, now);
+    tend_connections(&worker->clients, worker->polled, now);
+    for (size_t i = 0; i < listeners; i += 2)
+        if (worker->polled[i].revents != 0)
+            take_datagrams(worker, worker->polled[i].fd);
+    for (size_t i = 0; i < connections; i++)
+        take_messages(worker, i);
+}
+
+static void *work(void *worker)
+{
+    while (!is_over)
+        work_once(worker);
     return NULL;
 }
 
 /* How many descriptors a thread may have, and of how many threads, if not all can have enough. */
-static size_t share_descriptors(unsigned *threads)
+static size_t share_descriptors(size_t *threads)
 {
     struct rlimit limit;
-    if (getrlimit(RLIMIT_NOFILE, &limit) != 0 || limit.rlim_cur < OTHER_DESCRIPTORS + LEAST_PLACES)
+    size_t others = OTHER_DESCRIPTORS + listener_sockets();
+    if (getrlimit(RLIMIT_NOFILE, &limit) != 0 || limit.rlim_cur < others + LEAST_PLACES)
         return 0;
-    size_t left = limit.rlim_cur - OTHER_DESCRIPTORS;
+    size_t left = limit.rlim_cur - others;
     if (*threads > left / LEAST_PLACES)
-        *threads = (unsigned)(left / LEAST_PLACES);
+        *threads = left / LEAST_PLACES;
     return left / *threads;
 }
 
@@ -181,13 +169,13 @@ static bool make_worker(struct worker *worker, size_t descriptors)
     size_t fetches = descriptors - connections - 1;
     if (fetches > MOST_FETCHES)
         fetches = MOST_FETCHES;
-    worker->polled = calloc(2 + connections + fetches, sizeof *worker->polled);
+    worker->polled = calloc(listener_sockets() + connections + fetches, sizeof *worker->polled);
     return worker->polled != NULL && make_clients(&worker->clients, connections)
            && make_fetcher(&worker->fetcher, fetches);
 }
 
-/* Starts the threads, or as many as there may be, and answers how many. */
-static unsigned start(unsigned threads)
+/* Starts the threads, or as many as there may be, and returns how many. */
+static unsigned start(size_t threads)
 {
     size_t descriptors = share_descriptors(&threads);
     unsigned started = 0;
@@ -214,73 +202,17 @@ static void stop(unsigned started)
 
 /* ---- The process. */
 
-static bool read_number(const char *word, unsigned long most, unsigned long *number)
-{
-    char *behind;
-    *number = strtoul(word, &behind, 10);
-    return *word >= '0' && *word <= '9' && *behind == 0 && *number <= most;
-}
-
-static bool read_address(const char *host, const char *port, struct sockaddr_in *address)
-{
-    unsigned long number;
-    *address = (struct sockaddr_in){.sin_family = AF_INET};
-    if (!read_number(port, 65535, &number) || inet_pton(AF_INET, host, &address->sin_addr) != 1)
-        return false;
-    address->sin_port = htons((uint16_t)number);
-    return true;
-}
-
-static unsigned processors(void)
-{
-    cpu_set_t set;
-    int count = sched_getaffinity(0, sizeof set, &set) == 0 ? CPU_COUNT(&set) : 1;
-    return count > MOST_THREADS ? MOST_THREADS : (unsigned)count;
-}
-
-static bool read_options(int argc, char **argv, struct options *options)
-{
-    unsigned long number = 0;
-    *options = (struct options){.seconds = MINUTE, .threads = processors()};
-    for (int option; (option = getopt_long(argc, argv, "hqVl:t:", LONG_OPTIONS, NULL)) != -1;) {
-        if (option == 'h' || option == 'V') {
-            options->told = option;
-            return true;
-        }
-        if (option == 'q')
-            options->is_quiet = true;
-        else if (option == 'l' && read_number(optarg, 86400, &number) && number > 0)
-            options->seconds = (unsigned)number;
-        else if (option == 't' && read_number(optarg, MOST_THREADS, &number) && number > 0)
-            options->threads = (unsigned)number;
-        else
-            return false;
-    }
-    return argc - optind >= 4 && (argc - optind) % 2 == 0;
-}
-
-static bool read_addresses(int argc, char **argv, struct sockaddr_in *address)
-{
-    if (!read_address(argv[optind], argv[optind + 1], address))
-        return false;
-    for (int i = optind + 2; i < argc; i += 2) {
-        struct sockaddr_in upstream;
-        if (!read_address(argv[i], argv[i + 1], &upstream) || !add_upstream(&upstream))
-            return false;
-    }
-    return true;
-}
-
 /* Sweeps the cache once a second, and tells what is to be told, until a signal ends the process. */
 static void keep_house(const sigset_t *signals, const struct options *options)
 {
     uint64_t told = milliseconds();
     for (int signal = -1; signal != SIGTERM && signal != SIGINT;) {
+        struct rrcache_swept swept;
         signal = sigtimedwait(signals, NULL, &(struct timespec){.tv_sec = 1});
-        sweep();
+        rrcache_sweep_all(cache, 0, UINT64_MAX, &swept);
         if (signal == SIGUSR1)
             print_counters();
-        unsigned seconds = (unsigned)((milliseconds() - told) / 1000);
+        uint64_t seconds = (milliseconds() - told) / 1000;
         if (options->is_quiet || seconds < options->seconds)
             continue;
         log_counters(seconds);
@@ -288,46 +220,44 @@ static void keep_house(const sigset_t *signals, const struct options *options)
     }
 }
 
-/* Tells the usage, or the version, which is that of the library. */
-static int tell(int option)
+/* Blocks the signals that are waited for, in all threads that start later. */
+static bool block_signals(sigset_t *signals)
 {
-    uint32_t version = rrcache_version();
-    if (option == 'h')
-        fputs(USAGE, stdout);
-    else
-        printf("forwarder %u.%u.%u\n", version >> 16, version >> 8 & 255, version & 255);
-    return 0;
+    signal(SIGPIPE, SIG_IGN); /* who reads standard output or error may be gone */
+    sigemptyset(signals);
+    sigaddset(signals, SIGUSR1);
+    sigaddset(signals, SIGTERM);
+    sigaddset(signals, SIGINT);
+    return pthread_sigmask(SIG_BLOCK, signals, NULL) == 0;
 }
 
 int main(int argc, char **argv)
 {
     struct options options;
     sigset_t signals;
-    bool are_read = read_options(argc, argv, &options);
-    if (are_read && options.told != 0)
-        return tell(options.told);
-    if (!are_read || !read_addresses(argc, argv, &options.address)) {
-        fputs(USAGE, stderr);
-        return 2;
-    }
-    signal(SIGPIPE, SIG_IGN); /* who reads standard output or error may be gone */
-    sigemptyset(&signals);
-    sigaddset(&signals, SIGUSR1);
-    sigaddset(&signals, SIGTERM);
-    sigaddset(&signals, SIGINT);
     unsigned started = 0;
-    if (pthread_sigmask(SIG_BLOCK, &signals, NULL) == 0 && make_cache()
-        && open_listeners(&options.address))
+    if (!read_options(argc, argv, &options))
+        return 2;
+    if (options.told != 0) {
+        tell_options(options.told);
+        return 0;
+    }
+    mallopt(M_TRIM_THRESHOLD, TRIM_OCTETS); /* else this grows, and what was freed is kept */
+    set_upstreams(options.upstream, options.upstreams);
+    bound_shares(options.octets / 4 < LEAST_SHARED ? LEAST_SHARED : options.octets / 4);
+    if (block_signals(&signals) && open_cache(options.octets, &options.identity)
+        && open_listeners(options.listener, options.listeners))
         started = start(options.threads);
     if (started == 0) {
         perror("forwarder");
         return 1;
     }
-    printf("port %u\n", (unsigned)ntohs(options.address.sin_port));
+    for (size_t i = 0; i < options.listeners; i++)
+        printf("port %u\n", port_of(&options.listener[i]));
     fflush(stdout);
     keep_house(&signals, &options);
     stop(started);
     print_counters();
-    free_cache();
+    close_cache();
     return 0;
 }

@@ -1,7 +1,8 @@
 # SPDX-License-Identifier: MIT
 """What the tests of the forwarder are made of: name servers, clients, and forwarders' processes.
 
-All of it is on 127.0.0.1, on ports that the system picks. A name server is a thread of this
+All of it is on 127.0.0.1, where no other address is named, on ports that the system picks. A name
+server is a thread of this
 process. Messages are dnspython's, in which each record is an RRset of its own, so that records stay
 in their order. A record that is made is written as a line of a zone file, without its class:
 "a.example 60 A 192.0.2.1".
@@ -11,6 +12,7 @@ import re
 import select
 import signal
 import socket
+import struct
 import subprocess
 import threading
 import time
@@ -30,6 +32,8 @@ from dns.rcode import NOERROR, NXDOMAIN, SERVFAIL
 BUILD = Path(__file__).resolve().parents[2] / "build"
 ID = 0x1234
 SOA = "example 60 SOA ns.example host.example 1 2 3 4 60"
+# The seconds in which something has to come, also on a machine that does much else.
+MOST_SECONDS = 30
 
 
 def under(*programs):
@@ -106,9 +110,12 @@ def answered(name, rtype, *answer, flags=AA, **others):
 
 @functools.cache
 def addresses(name, count):
-    """The octets of a response behind its id: so many addresses. To make them takes a while."""
-    lines = (f"{name} 60 A {address(it)}" for it in range(count))
-    return answered(name, "A", *lines, flags=RD | RA)[2:]
+    """The octets of a response behind its id: so many addresses. They are made of octets, since
+    dnspython takes seconds for thousands of records."""
+    empty = answered(name, "A", flags=RD | RA)[2:]
+    records = (b"\xc0\x0c" + struct.pack(">HHIH", 1, 1, 60, 4) + socket.inet_aton(address(it))
+               for it in range(count))
+    return empty[:4] + struct.pack(">H", count) + empty[6:] + b"".join(records)
 
 
 def with_id(asked, octets):
@@ -171,6 +178,11 @@ def silent(*_):
     return []
 
 
+def behind(gate):
+    """Answers as `plain` does, once a gate is open (an Event)."""
+    return lambda *asked: plain()(*asked) if gate.wait(MOST_SECONDS) else []
+
+
 def told(*lines, **others):
     """Answers each name with the records of these lines, in which {} is the name."""
     return lambda _, asked, name: [response(asked, *(it.format(name) for it in lines), **others)]
@@ -194,14 +206,19 @@ def take(sock, size):
     return octets
 
 
-def bound(tcp):
+def family_of(host):
+    return socket.AF_INET6 if ":" in host else socket.AF_INET
+
+
+def bound(tcp, host="127.0.0.1"):
     """A socket for datagrams, and with `tcp` one that listens on the same port."""
-    sock = socket.socket(socket.AF_INET, socket.SOCK_DGRAM)
-    sock.bind(("127.0.0.1", 0))
+    sock = socket.socket(family_of(host), socket.SOCK_DGRAM)
+    sock.bind((host, 0))
     try:
-        return [sock, *([socket.create_server(sock.getsockname(), backlog=64)] if tcp else [])]
+        return [sock, *([socket.create_server(sock.getsockname(), family=sock.family, backlog=64)]
+                        if tcp else [])]
     except OSError:  # another has this port on TCP
-        return bound(tcp)
+        return bound(tcp, host)
 
 
 class Server(threading.Thread):
@@ -209,11 +226,11 @@ class Server(threading.Thread):
     answers a query for a name, which has lower case and no last dot; `server.octets` is the query,
     `server.client` who sent it, and `server.is_tcp` how. With `tcp` it listens on TCP too."""
 
-    def __init__(self, answer=plain(), tcp=True, delay=0):
+    def __init__(self, answer=plain(), tcp=True, delay=0, host="127.0.0.1"):
         super().__init__(daemon=True)
-        self.answer, self.delay, self.asked = answer, delay, []
+        self.answer, self.delay, self.host, self.asked = answer, delay, host, []
         self.octets, self.client, self.is_tcp, self.is_over = b"", None, False, False
-        self.sockets = bound(tcp)
+        self.sockets = bound(tcp, host)
         self.socket, self.port = self.sockets[0], self.sockets[0].getsockname()[1]
         self.start()
 
@@ -263,15 +280,17 @@ class Server(threading.Thread):
 
 # ---- Clients and forwarders.
 
-def datagrams(port, seconds=5, host="127.0.0.1"):
+def datagrams(port, seconds=MOST_SECONDS, host="127.0.0.1", source=None):
     """A socket that sends to a forwarder, and takes what comes from the address that it asks."""
-    sock = socket.socket(socket.AF_INET, socket.SOCK_DGRAM)
+    sock = socket.socket(family_of(host), socket.SOCK_DGRAM)
+    if source:
+        sock.bind((source, 0))
     sock.connect((host, port))
     sock.settimeout(seconds)
     return sock
 
 
-def exchange_octets(port, asked, seconds=6):
+def exchange_octets(port, asked, seconds=MOST_SECONDS):
     """The octets that a forwarder answers to a query or to octets by UDP, or None."""
     with datagrams(port, seconds) as client:
         client.send(octets_of(asked))
@@ -281,7 +300,7 @@ def exchange_octets(port, asked, seconds=6):
             return None
 
 
-def exchange(port, asked, seconds=6):
+def exchange(port, asked, seconds=MOST_SECONDS):
     """The same as a message."""
     octets = exchange_octets(port, asked, seconds)
     return octets and read(octets)
@@ -308,23 +327,35 @@ def ask_for_any(port, name, rtype):
 class Stream(socket.socket):
     """A connection to a forwarder."""
 
-    def __init__(self, port, seconds=8, source=None):
-        super().__init__()
+    def __init__(self, port, seconds=MOST_SECONDS, source=None, host="127.0.0.1"):
+        super().__init__(family_of(host))
         self.settimeout(seconds)
         if source:
             self.bind((source, 0))
-        self.connect(("127.0.0.1", port))
+        self.connect((host, port))
 
     def put(self, *queries):
         self.sendall(b"".join(map(framed, queries)))
 
-    def read(self):
-        """The next reply, or None at the connection's end."""
+    def read_octets(self):
+        """The octets of the next reply, or None at the connection's end."""
         try:
             size = take(self, 2)
-            return read(take(self, int.from_bytes(size, "big"))) if len(size) == 2 else None
+            return take(self, int.from_bytes(size, "big")) if len(size) == 2 else None
         except ConnectionResetError:
             return None
+
+    def read(self):
+        """The same as a message."""
+        octets = self.read_octets()
+        return octets and read(octets)
+
+    def gets_many(self, count):
+        """Asks for so many addresses (`many`): whether a reply comes that has room for them.
+        dnspython takes seconds to read thousands."""
+        self.put(query(f"n{count}.example"))
+        octets = self.read_octets()
+        return octets is not None and octets[6:8] == struct.pack(">H", count)
 
     def rest(self):
         """What is left until the connection's end, or empty where that is a reset."""
@@ -344,13 +375,16 @@ class Forwarder:
     def __init__(self, *upstreams, program, options=("-q",), descriptors=None, environment=None,
                  host="127.0.0.1"):
         words = [BUILD / program, *options, host, "0"]
-        words += [word for it in upstreams for word in ("127.0.0.1", str(it.port))]
+        for it in upstreams:
+            words += [getattr(it, "host", "127.0.0.1"), str(it.port)]
         if descriptors:
             words = ["sh", "-c", 'ulimit -n "$0" && exec "$@"', str(descriptors), *words]
         self.process = subprocess.Popen(words, env=environment, stdout=subprocess.PIPE,
                                         stderr=subprocess.PIPE, text=True)
-        found = re.fullmatch(r"port (\d+)\n", self.process.stdout.readline())
-        self.port, self.upstreams = found and int(found[1]), upstreams
+        lines = [self.process.stdout.readline() for _ in range(1 + options.count("--listen"))]
+        found = [re.fullmatch(r"port (\d+)\n", it) for it in lines]
+        self.ports = [it and int(it[1]) for it in found]
+        self.port, self.upstreams = self.ports[0], upstreams
 
     def __enter__(self):
         assert self.port, self.end()
@@ -380,6 +414,20 @@ class Forwarder:
         counters = self.counters()
         return [counters[it] for it in names]
 
+    def wait_for(self, name, count):
+        """Waits until a counter has come so far."""
+        end = time.monotonic() + MOST_SECONDS
+        while self.counters()[name] < count:
+            assert time.monotonic() < end, f"{name} does not come to {count}"
+
+    def signal(self, number):
+        """Sends a signal, and waits until a thread has taken it."""
+        self.process.send_signal(number)
+        status = Path(f"/proc/{self.process.pid}/status")
+        while int(re.search(r"ShdPnd:\s*(\w+)", status.read_text())[1], 16) >> number - 1 & 1:
+            time.sleep(0.01)
+        time.sleep(0.1)  # in which its handler runs
+
     def processor_seconds(self):
         """What the process took of the processors so far."""
         words = Path(f"/proc/{self.process.pid}/stat").read_text().rsplit(")", 1)[1].split()
@@ -394,7 +442,7 @@ class Forwarder:
         """Ends the process, and answers its status and what it wrote on standard error."""
         self.process.send_signal(signal.SIGTERM)
         try:
-            _, said = self.process.communicate(timeout=15)
+            _, said = self.process.communicate(timeout=60)
         except subprocess.TimeoutExpired:
             self.process.kill()
             _, said = self.process.communicate()

@@ -5,8 +5,12 @@ import time
 
 from dns.rcode import NOERROR, REFUSED, SERVFAIL
 
-from tests.forwarder.harness import (BUILD, Server, address, data, plain, silent, told, took,
-                                     under)
+from tests.forwarder.harness import (BUILD, MOST_SECONDS, Server, address, data, plain, silent,
+                                     told, took, under)
+
+# In less than these seconds there is an answer that is not waited for: it is late after 1.8, and
+# the tries end after 3.8.
+SOON = 1.7
 
 
 def test_stale_while_no_upstream_answers(forwarder):
@@ -16,14 +20,14 @@ def test_stale_while_no_upstream_answers(forwarder):
     time.sleep(2.2)
     reply, seconds = took(it.ask, "a5.example")
     assert (data(reply), reply.answer[0].ttl) == ([address(5)], 30)
-    assert 1.7 < seconds < 2.8
+    assert 1.7 < seconds < 3.7  # when it is late, and not at the end of the tries
     reply, seconds = took(it.ask, "a5.example")
-    assert data(reply) == [address(5)] and seconds < 1
+    assert data(reply) == [address(5)] and seconds < SOON
     time.sleep(2.5)
     asked = server.times("a5.example")
     reply, seconds = took(it.ask, "a5.example")
     assert (data(reply), server.times("a5.example")) == ([address(5)], asked)
-    assert seconds < 1
+    assert seconds < SOON
     # Nothing stale where RD is clear.
     assert it.ask("a5.example", flags=0).rcode() == REFUSED
 
@@ -53,14 +57,14 @@ def test_stale_aliases(forwarder):
 def test_failure_is_remembered(forwarder):
     it = forwarder(server := Server(silent))
     reply, seconds = took(it.ask, "a8.example")
-    assert reply.rcode() == SERVFAIL and 2 < seconds < 8
+    assert reply.rcode() == SERVFAIL and 2 < seconds < MOST_SECONDS
     assert server.times("a8.example") == 4
     began = time.monotonic()
-    while time.monotonic() - began < 28:
+    while time.monotonic() - began < 26:
         reply, seconds = took(it.ask, "a8.example")
         assert (reply.rcode(), server.times("a8.example")) == (SERVFAIL, 4)
-        assert seconds < 1
-        time.sleep(3)
+        assert seconds < SOON
+        time.sleep(2)
     server.answer = plain()
     time.sleep(max(0, began + 31.2 - time.monotonic()))
     assert data(it.ask("a8.example")) == [address(8)]

@@ -13,9 +13,9 @@ import time
 import pytest
 from dns.rcode import FORMERR, NOERROR, SERVFAIL
 
-from tests.forwarder.harness import (BUILD, Forwarder, Server, Stream, address, counts, data,
-                                     datagrams, dead, exchange, octets_of, plain, query, read,
-                                     silent, took, under)
+from tests.forwarder.harness import (BUILD, MOST_SECONDS, Forwarder, Server, Stream, address,
+                                     counts, data, datagrams, exchange, octets_of, plain, query,
+                                     read, silent, under)
 
 VERSION = (BUILD.parent / "VERSION").read_text().strip()
 
@@ -83,8 +83,7 @@ def test_memory_that_is_refused(forwarder):
     it = forwarder(Server(), options=("-q", "-t", "1"), environment=environment)
 
     def go_on():
-        it.process.send_signal(signal.SIGUSR2)
-        time.sleep(0.1)
+        it.signal(signal.SIGUSR2)
 
     def ask_for_cached(count):
         for n in range(count):
@@ -132,33 +131,15 @@ def test_more_questions_than_can_be_asked(forwarder):
     with sockets(it.port) as clients:
         for n in range(1200):
             clients[n % 24].send(octets_of(query(f"a{n}.example")))
-            time.sleep(0.001)
+            if n % 24 == 23:
+                it.wait_for("queries", n + 1)
             replies += turned_away(clients, 0)
         while replies < 1200:
-            more = turned_away(clients, 6)
+            more = turned_away(clients, MOST_SECONDS)
             assert more, f"{replies} answers to 1,200 questions"
             replies += more
     server.answer = plain()
     assert data(it.ask("a2000.example")) == [address(2000)]
-
-
-@under("forwarder")
-@pytest.mark.parametrize("names", ["x{}.dead.example", "x{}.dead{}"], ids=["one", "500"])
-def test_dead_domains_starve_no_others(forwarder, names):
-    """Asks for names whose servers are dead all the time, and for others, of which at most ten of
-    40 may be late or a failure, as they are at times on a machine that does much else."""
-    it, slow = forwarder(Server(dead)), 0
-    with sockets(it.port) as clients:
-        for n in range(3000):
-            clients[n % 24].send(octets_of(query(names.format(n, n % 500))))
-            if n % 10 == 9:
-                time.sleep(0.004)
-            if n > 1000 and n % 50 == 0:
-                reply, seconds = took(it.ask, f"a{n}.example")
-                assert data(reply) in ([], [address(n)])
-                slow += seconds > 0.5 or not data(reply)
-    assert slow < 11
-    assert it.counters()["displaced"] > 0
 
 
 # ---- The clock.
@@ -169,8 +150,7 @@ def test_what_is_kept_ages_in_suspend(forwarder):
     it = forwarder(server := Server(plain(60)), environment=environment)
     for _ in range(2):
         assert data(it.ask("a1.example")) == [address(1)]
-    it.process.send_signal(signal.SIGUSR2)  # 100 seconds
-    time.sleep(0.1)
+    it.signal(signal.SIGUSR2)  # 100 seconds
     assert data(it.ask("a1.example")) == [address(1)]
     assert server.times("a1.example") == 2
 
@@ -179,15 +159,15 @@ def test_what_is_kept_ages_in_suspend(forwarder):
 
 @pytest.mark.parametrize("program", ["forwarder-checked", "forwarder-threads"])
 def test_log(programs, program):
-    line = (r"forwarder: in 1 s (\d+) queries, (\d+) hits, (\d+) stale, (\d+) failures, "
+    line = (r"forwarder: in \d+ s (\d+) queries, (\d+) hits, (\d+) stale, (\d+) failures, "
             r"(\d+) octets sent; (\d+) keys of (\d+) octets")
     it = Forwarder(Server(), program=program, options=("-l", "1"))
     for name in ["a1.example"] * 2 + ["nothing.example"] * 3:
         assert it.ask(name).rcode() == NOERROR
-    time.sleep(2.5)
+    lines = [it.process.stderr.readline() for _ in range(3)]
     status, said = it.end()
-    found = [re.fullmatch(line, it) for it in said.splitlines()]
-    assert status == 0 and len(found) >= 2 and all(found), said
+    found = [re.fullmatch(line, it.strip()) for it in [*lines, *said.splitlines()]]
+    assert status == 0 and all(found), (lines, said)
     queries, hits, stale, failures, sent = (sum(int(it[n]) for it in found) for n in range(1, 6))
     assert (queries, hits, stale, failures) == (5, 3, 0, 0)
     assert sent > 5 * 29
@@ -216,7 +196,7 @@ def test_pipe_that_nobody_reads(programs, number):
     try:
         assert data(it.ask("a1.example")) == [address(1)]
         it.process.send_signal(signal.SIGTERM)
-        assert it.process.wait(2) == 0
+        assert it.process.wait(MOST_SECONDS) == 0
     finally:
         it.process.kill()
         it.end()
@@ -246,7 +226,13 @@ def test_arguments_that_ask(programs, words):
 @pytest.mark.parametrize("words", [
     "", "127.0.0.1 0", "127.0.0.1 0 127.0.0.1", "127.0.0.1 0 127.0.0.1 65536",
     "localhost 0 127.0.0.1 53", "-l 0 127.0.0.1 0 127.0.0.1 53", "-x 127.0.0.1 0 127.0.0.1 53",
-    "127.0.0.1 0" + " 127.0.0.1 53" * 9])
+    "127.0.0.1 0" + " 127.0.0.1 53" * 9, "::1@53 53 127.0.0.1 53", "127.0.0.1 0 [::1] 53",
+    "--listen 127.0.0.1 127.0.0.1 0 127.0.0.1 53", "--listen @0 127.0.0.1 0 127.0.0.1 53",
+    f"--listen {'1' * 99}@0 127.0.0.1 0 127.0.0.1 53",
+    "--listen ::1@0 " * 8 + "127.0.0.1 0 127.0.0.1 53",
+    *(f"--octets {it} 127.0.0.1 0 127.0.0.1 53"
+      for it in ("", "0", "1", "1023K", "M", "-1M", "1MB", "1m", "70368744177665", "99999999999G")),
+    f"--identity {'x' * 256} 127.0.0.1 0 127.0.0.1 53", "-t 65 127.0.0.1 0 127.0.0.1 53"])
 def test_wrong_arguments(programs, words):
     run = subprocess.run([BUILD / "forwarder", *words.split()], capture_output=True, text=True)
     assert (run.returncode, run.stdout) == (2, "")

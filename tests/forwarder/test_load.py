@@ -133,54 +133,57 @@ def patient(port, name, is_tcp):
     """Asks as a stub resolver does, again where nothing comes for a second, over TCP for some, or
     where that is a failure: the answer, or None."""
     for _ in range(TRIES):
+        asked = query(name)
         try:
             if not is_tcp:
-                reply = exchange(port, query(name), 1)
+                reply = exchange(port, asked, 1)
             else:
                 with Stream(port, MOST_SECONDS) as stream:
-                    reply = stream.ask(name)
+                    stream.put(asked)
+                    reply = stream.read()
         except OSError:  # the connection was not taken up, or gave way to another
             continue
-        if reply is not None and reply.rcode() != SERVFAIL:
+        # A late reply to another one comes at times, who had this port before.
+        if reply is not None and asked.is_response(reply) and reply.rcode() != SERVFAIL:
             return reply
     return None
 
 
-def client(port, number):
-    """A client that asks for names which are cached and for others: the seconds of its slowest
-    answer, and how many did not come."""
-    slowest, missing = 0, 0
+def client(ports, number):
+    """A client that asks forwarders for names which are cached and for others: how many answers of
+    each did not come in time."""
+    missing = [0] * len(ports)
     for turn in range(TURNS):
         n = random.choice((number, 100 + TURNS * number + turn))
-        reply, seconds = took(patient, port, f"a{n}.example", number % 5 == 0)
-        if reply is None:
-            missing += 1
-        else:
-            assert (reply.rcode(), data(reply)) == (NOERROR, [address(n)])
-            slowest = max(slowest, seconds)
+        for at, port in enumerate(ports):
+            reply, seconds = took(patient, port, f"a{n}.example", number % 5 == 0)
+            assert reply is None or (reply.rcode(), data(reply)) == (NOERROR, [address(n)])
+            missing[at] += reply is None or seconds > MOST_SECONDS
         time.sleep(0.2)
-    return slowest, missing
+    return missing
 
 
-def under_flood(it, kind, rate, most_memory):
-    """99 clients ask, every fifth over TCP, while one floods. As a machine that does much else is
-    late at times, of 20 answers one may be missing."""
+def under_flood(forwarder, kind, rate, most_memory):
+    """99 clients ask, every fifth over TCP, while one floods, and ask another forwarder too, which
+    nobody floods: what a machine is late with that does much else is missing there as well. Of 20
+    answers the flood may keep one from coming."""
+    it, calm = forwarder(Server(dead)), forwarder(Server())
     it.ask("a0.example")
     before = it.memory()
     with concurrent.futures.ThreadPoolExecutor(OTHERS) as pool, flood(it.port, kind, rate):
-        slowest, missing = zip(*pool.map(lambda n: client(it.port, n), range(OTHERS)))
+        missing = pool.map(lambda n: client((it.port, calm.port), n), range(OTHERS))
+        of_flooded, of_calm = map(sum, zip(*missing))
     assert it.counters()["connections" if kind == "connections" else "queries"] > 2 * OTHERS
-    assert max(slowest) < MOST_SECONDS
-    assert sum(missing) <= OTHERS * TURNS // 20
+    assert of_flooded <= of_calm + OTHERS * TURNS // 20
     assert it.memory() - before < most_memory << 20
 
 
 @under("forwarder")
 @pytest.mark.parametrize("kind, rate", [("hits", 20000), ("names", 2000), ("connections", 500)])
 def test_flood(forwarder, kind, rate):
-    under_flood(forwarder(Server(dead)), kind, rate, MOST_MEMORY)
+    under_flood(forwarder, kind, rate, MOST_MEMORY)
 
 
 @pytest.mark.parametrize("kind, rate", [("names", 500), ("connections", 200)])
 def test_flood_with_addresses_and_threads_watched(forwarder, kind, rate):
-    under_flood(forwarder(Server(dead)), kind, rate, MOST_CHECKED)
+    under_flood(forwarder, kind, rate, MOST_CHECKED)

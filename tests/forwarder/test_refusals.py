@@ -52,8 +52,11 @@ def refusals(tmp_path):
 @pytest.fixture
 def start(forwarder, refusals):
     """Starts a forwarder of one thread whose requests are refused."""
-    return lambda answer: forwarder(Server(answer), options=("-q", "-t", "1"),
-                                    environment=refusals.environment)
+    def begin(answer):
+        refusals.refuse(MEMORY, 0, 0)
+        return forwarder(Server(answer), options=("-q", "-t", "1"),
+                         environment=refusals.environment)
+    return begin
 
 
 # ---- While it starts.
@@ -185,13 +188,13 @@ def test_client_that_does_not_read_while_memory_is_refused(start, refusals):
     it = start(many)
     with it.stream() as stream:
         assert len(data(stream.ask("n3000.example"))) == 3000
-        stream.setsockopt(socket.SOL_SOCKET, socket.SO_RCVBUF, 4096)
-        stream.put(*(query("n3000.example") for _ in range(100)))
+        stream.setsockopt(socket.SOL_SOCKET, socket.SO_RCVBUF, 65536)
+        stream.put(*(query("n3000.example") for _ in range(400)))
         time.sleep(0.3)
         refusals.refuse(MEMORY, 1, NO_END)
         time.sleep(0.3)
         # It ends before all was sent.
-        assert len(stream.rest()) < 100 * 48000
+        assert len(stream.rest()) < 400 * 48000
     refusals.refuse(MEMORY, 0, 0)
     with it.stream() as stream:
         assert len(data(stream.ask("n3000.example"))) == 3000

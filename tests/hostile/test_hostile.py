@@ -47,11 +47,15 @@ of_each_message = pytest.mark.parametrize("make", MESSAGES, ids=lambda it: it.__
 of_names = pytest.mark.parametrize("end", ENDS.values(), ids=ENDS)
 
 
-def times(once, most, runs=7):
-    """How many times as long one call takes as another, by the least of some runs in turn. A call
-    answers the milliseconds that it takes."""
-    took = [(once(), most()) for _ in range(runs)]
-    return min(it for _, it in took) / min(it for it, _ in took)
+def is_within(bar, once, most, runs=7):
+    """Whether one call takes at most so many times as long as another, by the least of some runs in
+    turn, and of more if it does not by these. A call answers the milliseconds that it takes."""
+    took = []
+    for _ in range(3):
+        took += [(once(), most()) for _ in range(runs)]
+        if min(it for _, it in took) <= bar * min(it for it, _ in took):
+            return True
+    return False
 
 
 def read(message):
@@ -146,7 +150,7 @@ def test_names_behind_the_longest_chain_of_pointers():
     """3,000 records whose names all go through 8,177 pointers, and the same where they go through
     one."""
     through, past = behind_pointers(MOST_OCTETS), behind_pointers(MOST_OCTETS, is_direct=True)
-    assert times(lambda: read(past), lambda: read(through)) <= BEHIND_POINTERS
+    assert is_within(BEHIND_POINTERS, lambda: read(past), lambda: read(through))
 
 
 @pytest.mark.alone
@@ -154,7 +158,7 @@ def test_names_behind_the_longest_chain_of_pointers():
 @of_each_message
 def test_messages_of_four_times_the_size(make, call):
     small, large = make(MOST_OCTETS // 4), make(MOST_OCTETS)
-    assert times(lambda: call(small), lambda: call(large)) <= FOUR_TIMES
+    assert is_within(FOUR_TIMES, lambda: call(small), lambda: call(large))
 
 
 @pytest.mark.alone
@@ -162,7 +166,7 @@ def test_messages_of_four_times_the_size(make, call):
 def test_messages_under_a_wrong_identifier(make):
     """However many octets stand behind a wrong identifier, they cost what a header alone costs."""
     message = b"\x43\x21" + make(MOST_OCTETS)[2:]
-    assert times(lambda: dropped(message[:12]), lambda: dropped(message)) <= DROPPED
+    assert is_within(DROPPED, lambda: dropped(message[:12]), lambda: dropped(message))
 
 
 @of_each_message
@@ -264,7 +268,7 @@ def test_names_of_one_hash(program):
         used = used_by(words, text)
         assert not used.status
         return used.seconds
-    assert times(lambda: replayed(others), lambda: replayed(picked), runs=3) <= PICKED_NAMES
+    assert is_within(PICKED_NAMES, lambda: replayed(others), lambda: replayed(picked), runs=3)
 
 
 # ---- Full parts.
@@ -278,7 +282,7 @@ def test_asks_of_a_full_part(end):
         names = names_of(keys, end, keys // 2048)
         return timed(lambda: [shelf.ask(name, A, 1) for name in names])[0]
     with filled_shelf(4096, end) as few, filled_shelf(MOST_KEYS, end) as many:
-        assert times(lambda: asked(few, 4096), lambda: asked(many, MOST_KEYS)) <= FULL_PART
+        assert is_within(FULL_PART, lambda: asked(few, 4096), lambda: asked(many, MOST_KEYS))
 
 
 @pytest.mark.alone
@@ -292,7 +296,7 @@ def test_sweeps_of_four_times_the_keys(end):
             took, removed = timed(shelf.sweep, 100)
         assert removed == keys
         return took
-    assert times(lambda: swept(MOST_KEYS // 4), lambda: swept(MOST_KEYS), 5) <= SWEPT_FOUR_TIMES
+    assert is_within(SWEPT_FOUR_TIMES, lambda: swept(MOST_KEYS // 4), lambda: swept(MOST_KEYS), 5)
 
 
 # ---- Archives.
@@ -309,4 +313,4 @@ def test_archives_of_four_times_the_entries(program, end):
         assert run(audit, it, SECONDS).report == (
             b"not legal: chapter 1 does not begin with what the one before it ends with\n")
     once, most = (lambda it=it: used_by(audit, it).seconds for it in (few, many))
-    assert times(once, most, runs=3) <= FOUR_TIMES
+    assert is_within(FOUR_TIMES, once, most, runs=3)
