@@ -1,3 +1,3 @@
 # SPDX-License-Identifier: MIT
-"""From captures to traces (packets, dnstap, traffic), and from traces to what was or would have
-been answered (replays, memory, curves), and why (reasons)."""
+"""From captures to traces (packets, dnstap, traffic), from traces to what a cache would have
+answered (replays, memory, curves), and why (reasons)."""

@@ -10,21 +10,21 @@ COLORS = ("#1b6ca8", "#c8553d", "#4f7f3a", "#8a4f9e", "#b8860b", "#3a3a3a", "#0b
 DASHES = ("", "7 4", "2 3", "9 3 2 3")
 FONT = 'font-family="sans-serif" font-size="12" fill="#222"'
 GAP = 15
-# Numbers to read an amount by, and how they are written short.
+# Round numbers that are marked on an axis of amounts, and their short units.
 ROUND = [digit * 10**power for power in range(18) for digit in (1, 2, 5)]
 UNITS = ((10**9, "G"), (10**6, "M"), (10**3, "k"))
 STEPS_MOST = 6
 
 
 class Curve(NamedTuple):
-    """A name, and points: the value that it is over, and a share from 0 to 1."""
+    """A name, and points: a value of the horizontal axis, and a share from 0 to 1."""
 
     name: str
     points: list
 
 
 class Scale:
-    """Where the values of a setting stand: by their logarithm, where they span much. Each of them
+    """Where the values of a setting are drawn: by their logarithms, if they span much. Each of them
     is marked."""
 
     def __init__(self, values):
@@ -42,8 +42,8 @@ class Scale:
 
 
 class AmountScale(Scale):
-    """Where amounts stand. Round numbers between them are marked, in thousands (k), millions (M)
-    and thousands of millions (G)."""
+    """Where amounts are drawn. Round numbers between them are marked, in thousands (k), millions
+    (M) and thousands of millions (G)."""
 
     def __init__(self, values):
         super().__init__(values)
@@ -100,7 +100,7 @@ def drawn(curve, number, scale):
 
 
 def names(curves, scale):
-    """The curves' names at their right ends, moved apart where they would stand on each other."""
+    """The curves' names at their right ends, moved apart if they would overlap."""
     last, right = -math.inf, WIDTH - RIGHT
     for at, number in sorted((y(it.points[-1][1]), number) for number, it in enumerate(curves)):
         last, color = max(at, last + GAP), COLORS[number % len(COLORS)]

@@ -1,12 +1,12 @@
 # SPDX-License-Identifier: MIT
 """Messages in dnstap files: protobuf records in frame streams, as resolvers write them.
 
-Debian has libraries for neither in Python but for protobuf itself, which wants the schema compiled;
-the few fields that are needed are read here. The formats: fstrm's frame streams, the encoding of
-protocol buffers, and dnstap.proto of dnstap.info.
+Of the formats, fstrm's frame streams, protocol buffers and dnstap.proto of dnstap.info, Debian's
+Python has protobuf alone, which needs a compiled schema. So the few fields that are needed are read
+here.
 """
 from tools.captures.seen import MICROSECONDS, NoCapture, Peer, Seen
-from tools.messages import name_at
+from tools.messages import MESSAGE_MOST, name_at
 
 ESCAPE, FRAME_MOST = b"\0\0\0\0", 2**20
 CONTROL_STOP = 3
@@ -15,7 +15,7 @@ DNSTAP_MESSAGE = 14
 # The fields of a message. A query and a response have seconds, nanoseconds and octets each.
 TYPE, QUERY_ADDRESS, RESPONSE_ADDRESS, QUERY_PORT, RESPONSE_PORT, ZONE = 1, 4, 5, 6, 7, 11
 QUERY, RESPONSE = (8, 9, 10), (12, 13, 14)
-# What a message is, by its type: the side, and which of the two it tells of.
+# What a message is, by its type: the side, and whether it is a query or a response.
 ROLES = {
     3: ("server", QUERY), 4: ("server", RESPONSE), 5: ("client", QUERY), 6: ("client", RESPONSE),
     7: ("server", QUERY), 8: ("server", RESPONSE),
@@ -43,7 +43,7 @@ def frames(stream, counts):
             counts["file: it ends within a frame"] += 1
             return
         if is_first and CONTENT_TYPE not in frame:
-            raise NoCapture("a frame stream of something else than dnstap")
+            raise NoCapture("its frame stream is not dnstap")
         is_first = False
         if not is_control:
             yield frame
@@ -52,17 +52,17 @@ def frames(stream, counts):
 
 
 def varint(octets, at):
-    """The number at a place, seven bits an octet, and the place behind it."""
-    value = shift = 0
-    while True:
-        value |= (octets[at] & 127) << shift
-        at, shift = at + 1, shift + 7
-        if not octets[at - 1] & 128:
-            return value, at
+    """The number at a place, seven bits in each of at most ten octets, and the place behind it."""
+    value = 0
+    for place in range(10):
+        value |= (octets[at + place] & 127) << 7 * place
+        if not octets[at + place] & 128:
+            return value, at + place + 1
+    raise ValueError("a number of more than ten octets")
 
 
 def fields(octets):
-    """The fields of a protobuf record by their numbers; of several of one number the last."""
+    """The fields of a protobuf record by number; the last, if several have one number."""
     found, at = {}, 0
     while at < len(octets):
         tag, at = varint(octets, at)
@@ -80,7 +80,7 @@ def fields(octets):
 
 
 def zone_of(message):
-    """The zone that a message names, in wire form; a forwarder's that names none is the root."""
+    """The zone that a message names, in wire form; the root, if a forwarder names none."""
     zone = message.get(ZONE, b"\0" if message[TYPE] in FORWARDER else None)
     if zone is not None and name_at(zone, 0, len(zone)) != (zone, len(zone)):
         raise ValueError("no name in wire form")
@@ -88,20 +88,22 @@ def zone_of(message):
 
 
 def seen(message):
-    """What a dnstap message tells was seen."""
-    side, told = ROLES[message[TYPE]]
+    """What was seen, by a dnstap message."""
+    side, kind = ROLES[message[TYPE]]
     # unbound 1.17 names another port of its own in a response than in the query
     port = message.get(QUERY_PORT, 0) if side == "client" else 0
     asker = Peer(message.get(QUERY_ADDRESS, b""), port)
     server = Peer(message.get(RESPONSE_ADDRESS, b""), message.get(RESPONSE_PORT, 0))
-    ends = (asker, server) if told == QUERY else (server, asker)
-    seconds, nanoseconds, octets = told
+    ends = (asker, server) if kind == QUERY else (server, asker)
+    seconds, nanoseconds, octets = kind
     at = message[seconds] * MICROSECONDS + message.get(nanoseconds, 0) // 1000
+    if len(message[octets]) > MESSAGE_MOST:
+        raise ValueError("more octets than a message has")
     return Seen(at, *ends, message[octets], side, zone_of(message))
 
 
 def messages(stream, counts):
-    """What was seen of a resolver's own messages, in the order of the file."""
+    """What was seen, by a resolver's dnstap messages, in the order of the file."""
     for frame in frames(stream, counts):
         try:
             message = fields(fields(frame)[DNSTAP_MESSAGE])

@@ -1,15 +1,15 @@
 # SPDX-License-Identifier: MIT
-"""How much memory a key of the cache takes, in octets, by what it holds (docs/CAPTURES.md)."""
+"""How much memory a key of the cache takes, in octets, with what it holds (docs/CAPTURES.md)."""
 
 # An entry, with its places in the list of entries, in the map and in the queue.
 ENTRY_OCTETS = 160
 # A list of octets, such as a name or rdata, however many it has.
 VALUE_OCTETS = 48
-# So many octets of a list stand in the value itself.
+# A list of up to so many octets is in the value itself.
 INLINE_OCTETS = 32
-# A list of more has a block of memory for all of them, which takes so much beside them.
+# A longer list is in a block of memory, which takes so much more than its octets.
 BLOCK_OCTETS = 16
-# What several may hold, a name or the data of a body, takes so much beside its lists.
+# What several may share, a name or the data of a body, takes so much more than its lists.
 SHARED_OCTETS = 32
 
 
@@ -25,14 +25,14 @@ def name_octets(name):
 
 
 def data_octets(items):
-    """The memory that data take: one stands in their list, several in a block of their own."""
+    """The memory that data take: one is in their list, several are in a block of their own."""
     block = VALUE_OCTETS + BLOCK_OCTETS if len(items) > 1 else 0
     return SHARED_OCTETS + block + sum(map(value_octets, items))
 
 
 def key_octets(key, body):
-    """The memory that a key takes with its body. An owner that is spelled as the name of the key
-    shares that name, and a failure has neither an owner nor data."""
+    """The memory that a key takes with its body. An owner that is spelled like the name of the key
+    shares that name, and a failure has neither owner nor data."""
     octets = ENTRY_OCTETS + name_octets(key.name)
     if body.kind == "failure":
         return octets

@@ -1,10 +1,10 @@
 # SPDX-License-Identifier: MIT
-"""DNS messages in files of captures: pcap and pcapng, over UDP and TCP, IPv4 and IPv6.
+"""DNS messages in captures of packets: pcap and pcapng, over UDP and TCP, IPv4 and IPv6.
 
 dpkt reads the headers of links, IP, UDP and TCP. The files are read here, with a bound on each
-length, since dpkt believes what a file says; and so are IP fragments and the octets of a TCP
-connection put together, of which dpkt has neither. Everything is read as it comes and in bounded
-memory: the oldest fragments and connections are given up where there are too many.
+length, since dpkt believes what a file says. IP fragments and TCP segments are put together here as
+well, since dpkt does neither. A file is read as it comes, in bounded memory: if there are too many
+fragments or connections, the oldest are given up.
 
 Times are whole microseconds since 1970. What is not used is counted by reason in a `Counter`.
 """
@@ -20,8 +20,9 @@ PACKET_MOST = 262_144
 BLOCK_MOST = 16 * 2**20
 FRAGMENTED_MOST, FRAGMENTED_SECONDS, PIECES_MOST = 1_000, 30, 64
 STREAMS_MOST, STREAM_SECONDS, AHEAD_MOST, OCTETS_MOST = 10_000, 120, 64, 64 * 2**20
-# What dpkt raises on octets that are not what they should be.
-ODD = (dpkt.UnpackError, struct.error, ValueError, IndexError, KeyError, TypeError, AttributeError)
+# What dpkt raises on malformed octets, RecursionError of many headers within each other.
+ODD = (dpkt.UnpackError, struct.error, ValueError, IndexError, KeyError, TypeError, AttributeError,
+       RecursionError)
 UDP, TCP, ICMP, ICMP6 = 17, 6, 1, 58
 
 
@@ -29,7 +30,7 @@ UDP, TCP, ICMP, ICMP6 = 17, 6, 1, 58
 
 
 def exactly(stream, size, may_end=False):
-    """So many octets, or none where the file may end before the first."""
+    """So many octets, or none if the file may end before the first."""
     octets = stream.read(size)
     if len(octets) < size and (octets or not may_end):
         raise EOFError
@@ -40,6 +41,8 @@ PCAP = {
     b"\xd4\xc3\xb2\xa1": ("<", 1), b"\xa1\xb2\xc3\xd4": (">", 1),
     b"\x4d\x3c\xb2\xa1": ("<", 1000), b"\xa1\xb2\x3c\x4d": (">", 1000),
 }
+# How compressed files begin, by what compressed them.
+COMPRESSED = {b"\x1f\x8b": "gzip", b"BZh": "bzip2", b"\xfd7zX": "xz", b"\x28\xb5\x2f\xfd": "zstd"}
 SECTION, INTERFACE, OLD_PACKET, SIMPLE_PACKET, PACKET = 0x0A0D0D0A, 1, 2, 3, 6
 
 
@@ -95,7 +98,7 @@ def pcapng_blocks(stream, counts):
         if kind == SECTION:
             order = {b"\x1a\x2b\x3c\x4d": ">", b"\x4d\x3c\x2b\x1a": "<"}.get(first[4:])
             if order is None:
-                raise NoCapture("a pcapng section without its byte-order magic")
+                raise NoCapture("a pcapng section has no byte-order magic")
         size = struct.unpack(order + "I", first[:4])[0]
         if size < 4 + len(first) + 4 or size % 4 or size > BLOCK_MOST:
             counts["file: a block of no lawful length; the rest was not read"] += 1
@@ -129,8 +132,11 @@ def pcapng_packets(stream, counts):
 def packets_of(stream, counts):
     """The packets of a capture: time, link type, octets."""
     magic = stream.read(4)
+    for begins, how in COMPRESSED.items():
+        if magic.startswith(begins):
+            raise NoCapture(f"it is compressed by {how}: decompress it first")
     if magic not in PCAP and magic != b"\n\r\r\n":
-        raise NoCapture("neither pcap, nor pcapng, nor dnstap")
+        raise NoCapture("it is neither pcap nor pcapng nor dnstap")
     try:
         if magic in PCAP:
             yield from pcap_packets(stream, magic, counts)
@@ -172,11 +178,11 @@ def ip_of(link, octets, counts):
 
 
 def vlan(packet):
-    """What is in a cooked packet behind VLAN tags, which dpkt takes off Ethernet alone."""
-    kind, data = packet.ethtype, packet.data
+    """What is in a cooked packet behind VLAN tags, which dpkt reads on Ethernet alone."""
+    kind, at = packet.ethtype, 0
     while kind in (0x8100, 0x88A8):
-        kind, data = struct.unpack_from(">H", data, 2)[0], data[4:]
-    return {0x0800: dpkt.ip.IP, 0x86DD: dpkt.ip6.IP6}[kind](data)
+        kind, at = struct.unpack_from(">H", packet.data, at + 2)[0], at + 4
+    return {0x0800: dpkt.ip.IP, 0x86DD: dpkt.ip6.IP6}[kind](packet.data[at:])
 
 
 # ---- IP: fragments put together (RFC 791 section 3.2, RFC 8200 section 4.5)
@@ -189,7 +195,7 @@ class Fragments:
         self.counts, self.begun = counts, OrderedDict()
 
     def add(self, at, key, start, is_last, octets):
-        """The whole payload, where this fragment makes it whole, or None."""
+        """The whole payload, if this fragment completes it, or None."""
         self.forget(at)
         _, pieces, ends = self.begun.setdefault(key, (at, {}, []))
         end = start + len(octets)
@@ -218,7 +224,8 @@ class Fragments:
             self.counts["packet: fragments of which the rest did not come"] += 1
 
     def whole(self, at, ip):
-        """The protocol and the payload of a packet, a fragment's with the rest, or None."""
+        """The protocol and the payload of a packet, or of a datagram that its fragment completes,
+        or None."""
         if isinstance(ip, dpkt.ip.IP):
             header, protocol, start, more = ip, ip.p, ip.offset * 8, ip.mf
         else:
@@ -238,15 +245,15 @@ class Fragments:
 
 
 class Stream:
-    """One direction of a connection: the next number, octets of a message, segments ahead, and the
-    number behind the last octet once a FIN told it."""
+    """One direction of a connection: the next sequence number, octets of a message, segments ahead
+    of it, and the number behind the last octet, once a FIN was seen."""
 
     def __init__(self, at, next_number):
         self.at, self.next, self.octets, self.ahead = at, next_number, bytearray(), {}
         self.end = None
 
     def add(self, number, octets):
-        """Takes a segment in, and those that it makes next. Answers False where there are too many
+        """Takes a segment in, and those that can follow it now. Returns False if too many are
         ahead."""
         if self.behind(number + len(octets)) > 0:
             self.ahead[number] = max(octets, self.ahead.get(number, b""), key=len)
@@ -267,11 +274,11 @@ class Stream:
         return len(self.octets) + sum(map(len, self.ahead.values()))
 
     def behind(self, number):
-        """How far a number is behind the next one, or before it where that is below 0."""
+        """How far a number is behind the next one, or before it if that is below 0."""
         return (number - self.next + 2**31 & 0xFFFFFFFF) - 2**31
 
     def messages(self):
-        """The messages that are whole, each behind its length (RFC 1035 section 4.2.2)."""
+        """The messages that are complete, each behind its length (RFC 1035 section 4.2.2)."""
         while len(self.octets) >= 2:
             end = 2 + int.from_bytes(self.octets[:2], "big")
             if len(self.octets) < end:
@@ -281,13 +288,13 @@ class Stream:
 
 
 class Streams:
-    """The connections whose beginning was seen."""
+    """The connections of which the SYN was seen."""
 
     def __init__(self, counts):
         self.counts, self.open, self.size = counts, OrderedDict(), 0
 
     def messages(self, at, source, target, tcp):
-        """The messages that a segment makes whole."""
+        """The messages that a segment completes."""
         key, payload = (source, target), tcp.data
         if tcp.flags & dpkt.tcp.TH_SYN:
             self.close(key)
@@ -347,7 +354,7 @@ class Capture:
                 self.counts["packet: headers that are not what they should be"] += 1
 
     def end(self):
-        """Counts what is not whole at the end of the last file."""
+        """Counts what is incomplete at the end of the last file."""
         left = {"packet: fragments of which the rest is not in the capture":
                 len(self.fragments.begun),
                 "segment: of a TCP message of which the rest is not in the capture":
@@ -355,7 +362,7 @@ class Capture:
         self.counts.update({reason: count for reason, count in left.items() if count})
 
     def seen(self, at, ip):
-        """What a packet brings."""
+        """What was seen in a packet."""
         whole = self.fragments.whole(at, ip)
         if whole is None:
             return
@@ -405,5 +412,5 @@ class Capture:
                        kind="unreachable")
 
 
-# What reads the headers of a protocol, and what takes what it brings.
+# What reads the header of a protocol, and what takes its payload.
 TAKEN = {UDP: (dpkt.udp.UDP, Capture.datagram), TCP: (dpkt.tcp.TCP, Capture.segment)}

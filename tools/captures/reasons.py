@@ -1,8 +1,8 @@
 # SPDX-License-Identifier: MIT
-"""In words why a line of a report is as it is: what the rules (docs/RULES.md) make of a trace.
+"""The reasons for a line of a report, as sentences, by the rules (docs/RULES.md).
 
-Each sentence names the RFC's section that its rule comes from, or says `ours` where the rule is
-this cache's own.
+Each sentence names the section of the RFC from which its rule comes, or says `ours` if it is a rule
+of this cache.
 """
 from tools.messages import (NXDOMAIN, SOA, MessageFault, final_name, is_at_or_below, read,
                             set_offer, sets_of, why_nothing)
@@ -16,11 +16,10 @@ RANKS = {
     2: "2 (answer that is not authoritative)", 1: "1 (additional data, glue)",
 }
 PLACES = {
-    4: "it stood in the answer section of an authoritative reply, under the name that was asked"
-       " for",
-    3: "it stood in the authority section of an authoritative reply",
-    2: "it stood in the answer section, and is not the authoritative answer to the name asked for",
-    1: "it stood in the additional section, or in the authority section of a reply that is not"
+    4: "it was in the answer section of an authoritative reply, under the name that was asked for",
+    3: "it was in the authority section of an authoritative reply",
+    2: "it was in the answer section, and is not the authoritative answer to the name asked for",
+    1: "it was in the additional section, or in the authority section of a reply that is not"
        " authoritative",
 }
 TYPES = {1: "A", 2: "NS", 5: "CNAME", 6: "SOA", 12: "PTR", 13: "HINFO", 15: "MX", 16: "TXT",
@@ -38,7 +37,7 @@ def type_name(rtype):
 
 
 def kind_name(key):
-    """A key's type, and its class where that is not IN."""
+    """A key's type, and its class if that is not IN."""
     name = type_name(key.rtype)
     return name if key.rclass == IN else f"{name} of class {key.rclass}"
 
@@ -62,13 +61,13 @@ def seconds(count):
 
 
 class Story:
-    """A replay by one worker that remembers which line did what."""
+    """A replay with one worker that remembers which line did what."""
 
     def __init__(self, **rules):
         self.replay = Replay(**rules)
         self.stale = self.replay.parts[0].stale
         self.tags = [[] for _ in self.replay.parts]
-        # of keys that came to hold nothing, in words by which line, and what they held; of others
+        # for keys that hold nothing any more, which line did that and what they held; for others
         # the line that touched them last
         self.gone, self.touched = {}, {}
 
@@ -78,11 +77,11 @@ class Story:
             self.note(place, told)
 
     def explain(self, place, line):
-        """Replays a line, and answers its line of the report and the sentences about it."""
+        """Replays a line, and returns its line of the report and the sentences about it."""
         words, calls = self.replayed(place, line)
         calls = self.one_by_one(place, calls)
         sentences = list(getattr(self, f"tell_{line.word}")(line, words, calls))
-        # A call is noted when the next is asked for, which none does behind the last of a response.
+        # A call is noted when the next is asked for, and nobody asks behind a response's last.
         for _ in calls:
             pass
         return " ".join([str(place), line.word, *words]), sentences
@@ -94,7 +93,7 @@ class Story:
         return words, calls
 
     def one_by_one(self, place, calls):
-        """The calls of a line, each noted before the next is told of."""
+        """The calls of a line, each noted before the next one is explained."""
         for told in calls:
             yield told
             self.note(place, told)
@@ -112,10 +111,10 @@ class Story:
             self.gone.pop(call.key, None)
             self.touched[call.key] = place
             if answer.evicted:
-                how = f"line {place} put it out to make room"
+                how = f"line {place} evicted it to make room"
                 self.gone[answer.evicted.key] = how, answer.evicted
         elif answer.word == "cleared" and answer.old:
-            self.gone[call.key] = f"line {place} cleared it by a time of 0", answer.old
+            self.gone[call.key] = f"line {place} cleared it by a TTL of 0", answer.old
 
     def line_of(self, entry):
         """The line that stored an entry."""
@@ -124,7 +123,7 @@ class Story:
     # ---- entries and keys
 
     def stored(self, entry):
-        """Which line stored an entry, when, for how long and how far trusted."""
+        """Which line stored an entry, when, with which TTL and rank."""
         body = entry.body
         rank = f", rank {RANKS[body.rank]}" if body.rank else ""
         return (f"{body_name(entry.key, body)} that line {self.line_of(entry)} stored at {entry.at}"
@@ -149,30 +148,30 @@ class Story:
                    f" until {old.at + old.body.ttl - 1}, and its rank is higher, so it stays"
                    f" ({TRUST}).")
         elif word == "cleared":
-            yield f"Cleared: with a time to live of 0 nothing is stored ({NO_TTL})."
+            yield f"Cleared: with a TTL of 0 nothing is stored ({NO_TTL})."
             yield f"It clears {self.stored(old)}." if old else "The key held nothing."
         else:
             yield from self.kept(told)
 
     def offered_with(self, body, where):
-        """The rank and the time of an offer, and whence they are."""
+        """The rank and the TTL of an offer, and where they come from."""
         if body.kind == "failure":
             return f", for {seconds(body.ttl)} ({RETRIES}; ours: {RECHECK} seconds)."
         lives = f"for {seconds(body.ttl)}"
         if where == "put":
             return f", rank {RANKS[body.rank]}, {lives}{capped(body)}, as the line says."
         if body.kind == "positive":
-            return (f", {lives}, the lowest time of its records{capped(body)} (RFC 2181 section"
+            return (f", {lives}, the lowest TTL of its records{capped(body)} (RFC 2181 section"
                     f" 5.2), with rank {body.rank}: {PLACES[body.rank]} ({TRUST}).")
         most = f", at most {NEGATIVE_CAP:,}" if body.ttl == NEGATIVE_CAP else ""
         rank = ("the reply is authoritative and no alias was followed" if body.rank == 4 else
                 "the reply is not authoritative, or an alias was followed")
-        return (f", {lives}, the lower of the time and the MINIMUM of the SOA record of"
+        return (f", {lives}, the lower of the TTL and the MINIMUM field of the SOA record of"
                 f" {to_text(body.owner)}{most} ({NEGATIVES}), with rank {body.rank}: {rank}"
                 " (ours).")
 
     def kept(self, told):
-        """What a kept offer found, put out, and for how long it is good."""
+        """What a kept offer found and evicted, and for how long it is good."""
         (key, body, at), (_, old, evicted) = told.call, told.answer
         if body.kind == "failure":
             yield "Kept: a failure is always kept (ours)."
@@ -184,14 +183,14 @@ class Story:
         if evicted:
             held, last = self.replay.parts[0].capacity, self.touched.get(evicted.key)
             yield (f"Its part held {held:,} key{'s' * (held != 1)}, as many as it may, so the one"
-                   f" touched least recently, last by line {last}, is put out:"
+                   f" touched least recently, last by line {last}, is evicted:"
                    f" {self.stored(evicted)} ({ROOM}).")
         yield until(key, body, at, self.stale)
 
     # ---- asks
 
     def ask(self, told):
-        """Why an ask was answered so."""
+        """Why an ask was answered as it was."""
         (name, rtype, at, purpose, mode, rclass), reply = told.call, told.answer
         yield from self.governs(reply, fold(name), rtype, at, rclass)
         if reply.governing:
@@ -201,22 +200,23 @@ class Story:
             yield from self.alias(reply.alias, at)
 
     def governs(self, reply, name, rtype, at, rclass):
-        """What is held under the two keys that may answer, and which of them governs."""
+        """What the two keys that may answer hold, and which of them governs."""
         entry, other = reply.governing, reply.other
         if entry is None:
             yield self.empty(Key(name, "set", rtype, rclass))
             yield self.empty(Key(name, "nx", 0, rclass))
             return
-        yield f"Held is {self.stored(entry)}."
+        yield f"The cache holds {self.stored(entry)}."
         if other and entry.number > other.number:
-            yield (f"Held is also {self.stored(other)}; of the two the later one governs, since the"
-                   f" earlier is not both unexpired and of higher rank ({TRUST}, {NEGATIVES}).")
+            yield (f"It also holds {self.stored(other)}; of the two the later one governs, since"
+                   " the earlier one is not both unexpired and of higher rank"
+                   f" ({TRUST}, {NEGATIVES}).")
         elif other:
-            yield (f"Held is also {self.stored(other)}, which came later; but the earlier one is"
+            yield (f"It also holds {self.stored(other)}, which came later; but the earlier one is"
                    f" unexpired at {at} and of higher rank, so it governs ({TRUST}).")
 
     def good(self, reply, at, purpose, mode):
-        """Whether what governs may answer, and as what."""
+        """Whether the governing entry may answer, and as what."""
         entry, body = reply.governing, reply.governing.body
         end = entry.at + body.ttl
         if body.rank == GLUE and purpose == "any":
@@ -226,8 +226,8 @@ class Story:
         elif entry.is_unexpired(at):
             word = {"fresh": "Fresh", "nodata": "No data (RFC 2308 section 2.2)",
                     "nxdomain": "No such name (RFC 2308 section 2.1)"}[reply.word]
-            yield (f"{word}: of its {seconds(body.ttl)} {entry.age(at):,} have passed at {at},"
-                   f" which leaves {reply.left:,} (RFC 1035 section 3.2.1).")
+            yield (f"{word}: at {at} its age is {entry.age(at):,} of {seconds(body.ttl)}, so the"
+                   f" remaining TTL is {reply.left:,} (RFC 1035 section 3.2.1).")
         else:
             yield f"It expired at {end}, {seconds(at - end)} before {at}."
             yield self.stale_or_not(reply, at, mode)
@@ -245,33 +245,34 @@ class Story:
             return (f"Stale: it is within max-stale, {seconds(self.stale)}, and {cause}, so"
                     f" it answers for {STALE_SECONDS} seconds ({STALENESS}).")
         if mode == "none":
-            return "Miss: in the mode none no stale answer will do (RFC 8767 section 4)."
-        return f"Miss: in the mode failed it answers after a recent failure alone ({RETRIES})."
+            return "Miss: in the mode none there is no stale answer (RFC 8767 section 4)."
+        return f"Miss: in the mode failed it answers only after a recent failure ({RETRIES})."
 
     def alias(self, entry, at):
-        """That a CNAME record which is held leads to no answer."""
+        """That the cache holds a CNAME record, which leads to no answer."""
         if entry is None or entry.body.kind != "positive":
             return
         end = entry.at + entry.body.ttl
         expired = "" if entry.is_unexpired(at) else f", which expired at {end}"
-        yield (f"Held is {self.stored(entry)}{expired}; but an ask follows no CNAME record (ours:"
-               ' "CNAME in look-ups"). A trace of bin/from-capture --follow-aliases asks for that'
-               " type too, and for what it leads to.")
+        yield (f"The cache holds {self.stored(entry)}{expired}; but an ask follows no CNAME record"
+               ' (ours: "CNAME in look-ups"). A trace of bin/from-capture --follow-aliases asks for'
+               " that type too, and for the target.")
 
     def failure(self, reply, at):
-        """What is known of a failure to ask."""
+        """What is known of a failed attempt to ask."""
         if reply.word not in ("miss", "stale"):
             return
         if reply.failed:
             more = f"; it may be tried again from {reply.retry_from} on" * (reply.word == "miss")
-            yield (f"Asking failed: held is {self.stored(reply.failed)}, and nothing came later"
+            yield (f"Asking failed: the cache holds {self.stored(reply.failed)}, and nothing later"
                    f"{more} ({RETRIES}).")
         elif reply.past and reply.word == "miss":
             end = reply.past.at + reply.past.body.ttl
-            cause = f"it ended at {end}" if at >= end else "something was learnt later"
-            yield f"Held is {self.stored(reply.past)}, which is not recent: {cause} ({RETRIES})."
+            cause = f"it ended at {end}" if at >= end else "something was stored later"
+            yield (f"The cache holds {self.stored(reply.past)}, which is not recent: {cause}"
+                   f" ({RETRIES}).")
 
-    # ---- lines: the sentences, and the calls as they are told of
+    # ---- lines: the sentences, and the calls as they are explained
 
     def tell_put(self, line, words, calls):
         for told in calls:
@@ -296,7 +297,7 @@ class Story:
             yield from others
 
     def tell_fetch(self, line, words, calls):
-        yield "It asks first, for a client's answer, where a stale one will do after a failure:"
+        yield "It asks first, for a client's answer, which may be stale after a failure:"
         first = next(calls)
         yield from self.ask(first)
         if words[0] == "held":
@@ -312,14 +313,15 @@ class Story:
         else:
             yield from message_told(zone, octets, words[1])
         yield from self.tell_offers(calls, words[2:-1])
-        yield "It asks again, where a stale answer will do at once:"
+        yield "It asks again, for an answer that may be stale:"
         yield from self.ask(next(calls))
 
     def tell_sweep(self, line, words, calls):
         for place, told in enumerate(calls):
-            yield (f"Part {place}: of its keys that are fully expired at {line.at}, RRsets past"
-                   f" max-stale too, it has {len(told.answer)} (RFC 8767 section 4).")
-            yield from (f"Removed is {self.stored(it)}." for it in told.answer[:SHOWN_MOST])
+            yield (f"Part {place}: keys that are fully expired at {line.at}: {len(told.answer):,}."
+                   " An RRset is fully expired past max-stale, and anything else past its TTL"
+                   " (RFC 8767 section 4).")
+            yield from (f"It removes {self.stored(it)}." for it in told.answer[:SHOWN_MOST])
             if len(told.answer) > SHOWN_MOST:
                 yield f"And {len(told.answer) - SHOWN_MOST:,} more."
 
@@ -327,7 +329,7 @@ class Story:
         yield "It closes the chapter of each part, which is no event and changes no answer (ours)."
 
 
-# ---- sentences that need no story
+# ---- sentences that need no replay
 
 
 def capped(body):
@@ -335,7 +337,7 @@ def capped(body):
 
 
 def replaced(old, body, at):
-    """Why what was held is replaced."""
+    """Why the old entry is replaced."""
     end = old.at + old.body.ttl
     if old.body.kind == "failure":
         return "."
@@ -347,10 +349,10 @@ def replaced(old, body, at):
 
 
 def until(key, body, at, stale):
-    """Until when an offer that was kept is good."""
+    """Until when a kept offer is good."""
     end = at + body.ttl
     if body.kind == "failure":
-        return f"It is recent until {end - 1}, unless something is learnt later ({RETRIES})."
+        return f"It is recent until {end - 1}, unless something is stored later ({RETRIES})."
     if body.kind == "negative":
         return f"It answers until {end - 1} (RFC 2308 section 5)."
     limit = f", and may be stale until {end + stale - 1} (RFC 8767 section 4)" if stale else ""
@@ -358,7 +360,7 @@ def until(key, body, at, stale):
 
 
 def message_told(zone, octets, count):
-    """What becomes of a message: its fault, or what of it is left out and why."""
+    """The fault of a message, or what of it is left out and why."""
     try:
         message = read(octets)
     except MessageFault as fault:
@@ -375,7 +377,7 @@ def message_told(zone, octets, count):
         yield from left_out(message, zone)
         yield from no_negative(message, zone)
     else:
-        yield f"Its RCODE says that asking failed, and nothing else of it is used ({RETRIES})."
+        yield f"Its RCODE says that asking failed, and only that is used ({RETRIES})."
 
 
 def left_out(message, zone):
@@ -386,11 +388,11 @@ def left_out(message, zone):
             if not is_at_or_below(key[0], zone):
                 yield f"{name}: it is not at or below the zone (ours)."
             elif set_offer(message, section, key, of_key, 0) is None:
-                yield f"{name}: its times differ and AA is clear (RFC 2181 section 5.2)."
+                yield f"{name}: its TTLs differ and AA is clear (RFC 2181 section 5.2)."
 
 
 def no_negative(message, zone):
-    """Why a response that denies something gives no negative answer, where that may surprise."""
+    """Why a response that denies something gives no negative answer, if that may surprise."""
     if message.rcode != NXDOMAIN and message.sections[0]:
         return
     led = final_name(message)
@@ -399,5 +401,5 @@ def no_negative(message, zone):
         return
     owners = [it.owner for it in message.sections[1] if it.rtype == SOA]
     if not any(is_at_or_below(it, zone) and is_at_or_below(led[0], it) for it in owners):
-        yield ("It gives no negative answer: no SOA record stands in its authority section with an"
-               f" owner at or below the zone and at or above {to_text(led[0])} ({NEGATIVES}).")
+        yield ("It gives no negative answer: its authority section has no SOA record with an owner"
+               f" at or below the zone and at or above {to_text(led[0])} ({NEGATIVES}).")

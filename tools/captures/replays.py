@@ -1,7 +1,6 @@
 # SPDX-License-Identifier: MIT
 """What bin/from-capture, bin/what-if and bin/why have in common: files, the ranges of settings, and
-how they show how far they are."""
-import argparse
+how they show their progress."""
 import errno
 import os
 import shutil
@@ -10,40 +9,39 @@ import tempfile
 from contextlib import contextmanager, nullcontext
 
 from tools import trials
+from tools.commands import whole_number
 from tools.model import NEGATIVE_CAP
 
 STANDARD_INPUT = "-"
-# Those of the program's options, and of the life of negative answers.
+# Those of the program's options, and of the TTL of negative answers.
 RANGES = {**trials.RANGES, "negative": (0, NEGATIVE_CAP)}
 
 
 def number(setting):
     """What reads one value of a setting."""
-    low, high = RANGES[setting]
-
-    def value(text):
-        found = int(text)
-        if not low <= found <= high:
-            raise argparse.ArgumentTypeError(f"{setting} is {low} to {high}")
-        return found
-    return value
+    return whole_number(*RANGES[setting])
 
 
 def show(text):
-    """Shows on a terminal how far a tool is, in place of what it showed before."""
+    """Shows on a terminal how far a command is, in place of what it showed before."""
     if sys.stderr.isatty():
         print(f"\r{text}\033[K", end="", file=sys.stderr, flush=True)
 
 
+def is_same(path, other):
+    """Whether two paths are of one file, which is there."""
+    return os.path.exists(path) and os.path.exists(other) and os.path.samefile(path, other)
+
+
 def name_of(path):
-    """What a file is called where a tool tells of it."""
+    """What a file is called in messages."""
     return "standard input" if path == STANDARD_INPUT else path
 
 
 @contextmanager
 def opened(path):
-    """A file, or standard input, which is read once and never sought in. Where nothing can be read
-    of it, as of a folder, the fault names it."""
+    """A file, or standard input, which is read once and never sought in. If nothing can be read of
+    it, as of a folder, the fault names it."""
     is_input = path == STANDARD_INPUT
     if is_input and sys.stdin is None:
         raise OSError(errno.EBADF, os.strerror(errno.EBADF), name_of(path))
@@ -57,7 +55,8 @@ def opened(path):
 
 @contextmanager
 def file_of(trace):
-    """The path of a trace, for it is read more than once; of a copy where it is no regular file."""
+    """The path of a trace, which is read more than once: that of a copy if it is no regular file.
+    """
     if trace != STANDARD_INPUT and os.path.isfile(trace):
         with opened(trace):
             pass

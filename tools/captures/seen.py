@@ -1,5 +1,5 @@
 # SPDX-License-Identifier: MIT
-"""What was seen in a capture, of packets or of dnstap. Times are whole microseconds since 1970."""
+"""What was seen in a capture of packets or of dnstap. Times are whole microseconds since 1970."""
 from typing import NamedTuple
 
 MICROSECONDS = 1_000_000
@@ -18,11 +18,11 @@ class Peer(NamedTuple):
 
 
 class Seen(NamedTuple):
-    """What was seen: a `message`; the first octets of a response, with the header, of which the
-    capture's snap length `cut` off the rest; or that a datagram was `unreachable` (RFC 1122 section
-    3.2.2.1). `role` and `zone` are there where the capture tells them: the side of the resolver,
-    `client` or `server`, and the zone for which a server was asked. A query `waited` where it had
-    no response within the client response timer, and None says that this is not known."""
+    """What was seen: a `message`; a response that the capture's snap length `cut` off behind its
+    header; or that a datagram was `unreachable` (RFC 1122 section 3.2.2.1). `role` and `zone` are
+    there if the capture has them: the side of the resolver, `client` or `server`, and the zone for
+    which a server was asked. A query `waited` if it had no response within the client response
+    timer; None means that this is not known."""
 
     at: int
     source: Peer

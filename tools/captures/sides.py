@@ -1,8 +1,8 @@
 # SPDX-License-Identifier: MIT
 """On which side of a resolver a message is: between it and a `client`, or a `server`.
 
-A resolver is told by its addresses, and by a port where its servers have the same address: there it
-is asked at that port alone, and what goes to another port is its own query to a server.
+A resolver is known by its addresses, and also by a port if its servers have the same address: then
+it is asked at that port alone, and what goes to another port is its own query to a server.
 """
 from collections import Counter, defaultdict
 from ipaddress import ip_address
@@ -12,7 +12,7 @@ QR, RD = 0x8000, 0x0100
 
 
 class Place(NamedTuple):
-    """An address at which a resolver is asked, and the port there, or None for any."""
+    """An address at which a resolver is asked, and the port there, or None for any port."""
 
     address: bytes
     port: int | None = None
@@ -35,8 +35,8 @@ def flags_of(octets):
 
 
 def guess(messages, ports):
-    """The places of the resolver. Of an address that is asked at several ports it is where most
-    queries wish for recursion."""
+    """The places of the resolver. If an address is asked at several ports, it is the one at which
+    most queries have RD set."""
     asks, recursive = Counter(), Counter()
     for it in messages:
         if it.kind == "message" and it.target.port in ports and not flags_of(it.octets) & QR:
@@ -51,7 +51,7 @@ def guess(messages, ports):
 
 
 def places_at(address, wishes):
-    """The places of an address, by how many more queries to a port wish for recursion than not."""
+    """The places of an address, by how many more queries to a port have RD set than not."""
     ports = [port for port, more in wishes.items() if more > 0]
     if not ports or len(ports) == len(wishes):
         return [Place(address)]
@@ -59,8 +59,8 @@ def places_at(address, wishes):
 
 
 def guessed_addresses(asks, recursive):
-    """The addresses of the resolver: those that are asked for recursion and ask others, and those
-    that ask others with no wish for it."""
+    """The addresses of the resolver: those that are asked with RD set and ask others, and those
+    that ask others with RD clear."""
     found = ({source for source, _ in asks}
              & {target.address for (_, target), count in recursive.items() if count})
     for (source, target), count in asks.items():
@@ -70,20 +70,20 @@ def guessed_addresses(asks, recursive):
 
 
 class Sides:
-    """Where the resolver is, and what tells that it was not told well."""
+    """Where the resolver is, and signs that its places were not given correctly."""
 
     def __init__(self, places):
         self.places, self.addresses = frozenset(places), {it.address for it in places}
-        # The ports at which an address without a port was asked as the resolver's, and who of the
-        # resolver's own addresses asked it.
+        # The ports at which an address given without a port was asked, and which of the resolver's
+        # own addresses asked it.
         self.asked, self.own = {}, set()
 
     def is_resolver(self, peer):
-        """Whether who asks there asks the resolver."""
+        """Whether a query to there is one to the resolver."""
         return (peer.address, peer.port) in self.places or (peer.address, None) in self.places
 
     def of(self, it, is_response):
-        """Between the resolver and whom a message is, or None."""
+        """The side of the resolver on which a message is, or None."""
         asked, asking = (it.source, it.target) if is_response else (it.target, it.source)
         if self.is_resolver(asked):
             self.note(asked, asking)
@@ -97,7 +97,7 @@ class Sides:
                 self.own.add((asking.address, asked.address))
 
     def mistaken(self):
-        """The places to which queries of the resolver's own seem to have gone that count as a
+        """The places to which the resolver's own queries seem to have gone that count as a
         client's: at another of its addresses, or at one that was asked at several ports."""
         found = {Place(address, port) for asking, address in self.own
                  for port in self.asked[address]

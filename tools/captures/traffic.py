@@ -1,8 +1,8 @@
 # SPDX-License-Identifier: MIT
-"""What a resolver's messages are as lines of a trace: asks, responses and failures.
+"""A resolver's messages as lines of a trace: asks, responses and failures.
 
-Whoever asks the resolver is a client, and whom it asks is a server. Memory is bounded but for the
-zones with the names of their servers, the addresses of all names, and the aliases to be followed.
+Who asks the resolver is a client, and whom it asks is a server. Memory is bounded except for what
+was learned: zones with the names of their servers, the addresses of all names, and aliases.
 """
 from collections import OrderedDict, deque
 from functools import lru_cache
@@ -19,9 +19,11 @@ DS, ADDRESSES = 43, (1, 28)
 # IXFR and AXFR (RFC 1995, RFC 5936).
 TRANSFERS = (251, 252)
 SERVFAIL = 2
-# How many messages are kept until it is guessed who the resolver is.
+# From how many messages the resolver's addresses are guessed.
 GUESSED_FROM = 20_000
 PENDING_MOST, FAILED_MOST = 100_000, 100_000
+# How many names of an NS RRset count: each query asks for the addresses of all of them.
+SERVERS_MOST = 100
 TWICE_MICROSECONDS, TWICE_MOST = 10_000, 4_096
 REMEMBERED = 30 * MICROSECONDS
 WAIT_UNKNOWN = "client's query: used in the mode failed, not known whether it waited so long"
@@ -64,7 +66,7 @@ text = lru_cache(maxsize=65_536)(to_text)
 
 
 def drop_first(times, most, is_old):
-    """Takes the first times out of an ordered dictionary where they are old, or more than most."""
+    """Takes the first times out of an ordered dictionary while they are old or too many."""
     while times and (len(times) > most or is_old(next(iter(times.values())))):
         times.popitem(last=False)
 
@@ -73,33 +75,35 @@ def drop_first(times, most, is_old):
 
 
 class Zones:
-    """The NS sets and the addresses of servers that the responses so far told of."""
+    """The NS RRsets and the addresses of servers in the responses so far."""
 
     def __init__(self, by_servers):
         self.by_servers, self.servers, self.addresses = by_servers, {}, {}
 
     def asked_for(self, question, address):
-        """The zone whose servers are asked, and whether the server is known for one of it.
+        """The zone whose servers are asked, and whether the server is known as one of it.
 
-        A DS record stands with the zone above (RFC 4035 section 3.1.4.1)."""
+        A DS record is in the zone above (RFC 4035 section 3.1.4.1)."""
         above = [it for it in ancestors(question.name) if it in self.servers]
         if question.rtype == DS and above and above[0] == question.name != ROOT:
             above = above[1:]
-        own = [it for it in above if self.is_server_of(it, address)]
-        if self.by_servers and own:
-            return own[0], True
-        return (above[0], above[0] in own) if above else (ROOT, False)
+        for zone in above if self.by_servers else above[:1]:
+            if self.is_server_of(zone, address):
+                return zone, True
+        return (above[0], False) if above else (ROOT, False)
 
     def is_server_of(self, zone, address):
         return any(address in self.addresses.get(it, ()) for it in self.servers[zone])
 
     def learn(self, message, zone):
-        """Takes in the NS sets and the addresses of a response for a zone."""
+        """Learns the NS RRsets and the addresses in a response for a zone."""
         fresh = {}
         for record in (it for section in message.sections for it in section):
             owner = fold(record.owner)
             if record.rtype == NS and is_at_or_below(owner, zone):
-                fresh.setdefault(owner, set()).add(record.folded)
+                names = fresh.setdefault(owner, set())
+                if len(names) < SERVERS_MOST:
+                    names.add(record.folded)
             elif record.rtype in ADDRESSES and is_at_or_below(owner, zone):
                 self.addresses.setdefault(owner, set()).add(record.data)
         self.servers.update(fresh)
@@ -114,9 +118,9 @@ def told_zone(message):
 
 
 def no_alias(message):
-    """The name that a negative answer is about, which is no alias; or None (RFC 2308 section 2).
+    """The name that a negative answer denies, so that it is no alias, or None (RFC 2308 section 2).
 
-    NS records without a SOA record are a referral, which denies nothing (section 2.2)."""
+    NS records without an SOA record are a referral, which denies nothing (section 2.2)."""
     if (message.is_truncated or message.opcode or message.rclass != IN
             or message.rtype in (CNAME, ANY)):
         return None
@@ -132,7 +136,7 @@ def no_alias(message):
 
 
 class Traffic:
-    """Takes what was seen in its order, and answers lines of a trace."""
+    """Makes lines of a trace from what was seen, in its order."""
 
     def __init__(self, counts, resolvers=(), by_servers=False, seconds=5, ports=(53,),
                  follows_aliases=False, mode="failed"):
@@ -164,7 +168,7 @@ class Traffic:
             self.counts["query: the capture ends before its response or time-out"] += 1
 
     def guessed(self, seen):
-        """The messages again, where the resolver has to be guessed after a first look at many."""
+        """The messages again. If the resolver was not given, it is guessed from the first ones."""
         if self.is_given:
             yield from seen
             return
@@ -180,7 +184,7 @@ class Traffic:
         yield from seen
 
     def is_twice(self, it):
-        """Whether the same packet was just seen, as on two interfaces."""
+        """Whether the same packet was seen just before, as on two interfaces."""
         key = hash((it.source, it.target, it.octets))
         drop_first(self.recent, TWICE_MOST, lambda at: it.at - at > TWICE_MICROSECONDS)
         if key in self.recent:
@@ -212,14 +216,14 @@ class Traffic:
             yield from (self.ask if side == "client" else self.query)(it, question)
 
     def is_response_of_server(self, it):
-        """Whether a message that could not be read stands where a server's response is awaited."""
+        """Whether a message that cannot be read came as the response of a server does."""
         is_server = it.role == "server" or it.target.address in self.sides.addresses
         return is_server and self.awaited(it)[1]
 
     # ---- clients
 
     def ask(self, it, question):
-        """A client's query as an ask, or several; without RD it wants no stale answer."""
+        """A client's query as an ask, or several; with RD clear it takes no stale answer."""
         reason = unusable(question)
         if reason:
             self.counts[f"client's query: {reason}"] += 1
@@ -229,8 +233,8 @@ class Traffic:
             yield f"ask {at} {text(name)} {rtype} answer {mode}"
 
     def mode_of(self, it, question):
-        """When a stale answer will do: at once for a client that waited for so long, which a trace
-        has no other way to say."""
+        """The mode of an ask: `now` for a client that waited so long, since a trace has no other
+        way to say that."""
         if not question.flags & RD:
             return "none"
         if it.waited is None:
@@ -238,8 +242,8 @@ class Traffic:
         return "now" if it.waited else self.mode
 
     def chain(self, question):
-        """What a cache is asked for: where aliases are followed, each that is known by now, and
-        what the last one leads to (RFC 1034 section 3.6.2)."""
+        """What a cache is asked for: if aliases are followed, each that is known by now, and the
+        target of the last one (RFC 1034 section 3.6.2)."""
         name, rtype = question.spelled, question.rtype
         for _ in range(ALIASES_MOST):
             if not self.aliases or rtype == CNAME or fold(name) not in self.aliases:
@@ -249,7 +253,7 @@ class Traffic:
         yield name, rtype
 
     def answered(self, it, question):
-        """A server failure to a client as a failure: that is the resolver's own word for it."""
+        """A SERVFAIL to a client as a failure: it is the resolver's word that asking failed."""
         self.has_answers |= question.flags & 15 != SERVFAIL
         if question.flags & 15 == SERVFAIL and not unusable(question):
             last = self.failed.get(question.asked)
@@ -259,7 +263,7 @@ class Traffic:
     # ---- servers
 
     def query(self, it, question):
-        """A query to a server is awaited; a zone transfer's so that its response is known."""
+        """Awaits the response to a query, also to that for a zone transfer, to recognize it."""
         if question.flags >> 11 & 15 or not question.name:
             self.counts["query to a server: not a standard one"] += 1
             return
@@ -281,12 +285,12 @@ class Traffic:
         yield from ()
 
     def awaited(self, it):
-        """The key of the query that a response may be to, and the query, if it is awaited."""
+        """The key of the query to which this may be the response, and the query, if it is open."""
         key = it.target, it.source, it.octets[:2]
         return key, self.pending.get(key)
 
     def settle(self, key):
-        """Awaits a query no longer."""
+        """Closes a query."""
         pending = self.pending.pop(key, None)
         if pending:
             self.is_last(key, pending.question)
@@ -296,7 +300,7 @@ class Traffic:
                 self.between.pop(key[:2], None)
 
     def is_last(self, key, question):
-        """Gives a query up, and answers whether it was the last of its question."""
+        """Gives a query up, and returns whether it was the last open one of its question."""
         keys = self.open.get(question.asked, set())
         was_open = key in keys
         keys.discard(key)
@@ -323,12 +327,12 @@ class Traffic:
         yield f"response {it.at // MICROSECONDS} {text(zone)} {it.octets.hex() or '-'}"
 
     def answer(self, key, pending):
-        """Awaits a query no longer, nor what was asked of other servers too, and has a response."""
+        """Closes a query, and those for the same to other servers, which has a response now."""
         self.settle(key)
         self.open.pop(pending.question.asked, None)
 
     def cut(self, it):
-        """A response of which the rest is not in the capture: its query has not failed."""
+        """A response whose rest is not in the capture: its query has not failed."""
         key, pending = self.awaited(it)
         if pending is None:
             self.counts[CUT] += 1
@@ -337,13 +341,13 @@ class Traffic:
             self.answer(key, pending)
 
     def note(self, at, question, pending):
-        """Notes whether a question has failed just now."""
+        """Notes whether a question failed just now."""
         self.failed.pop(pending.question.asked, None)
         if question and question.flags & 15 not in (0, 3):
             self.remember(at, pending.question)
 
     def learnt(self, it, pending):
-        """The zone of a response, whose NS sets and addresses are learnt."""
+        """Learns what is in a response, and returns its zone."""
         try:
             message = read(it.octets)
         except MessageFault as fault:
@@ -359,7 +363,7 @@ class Traffic:
         return zone
 
     def learn_aliases(self, message, zone):
-        """Takes in which names of an answer are aliases, and which are not."""
+        """Learns which names of an answer are aliases, and which are not."""
         targets = {fold(it.owner): it.data if it.rtype == CNAME else None
                    for it in message.sections[0]}
         targets[no_alias(message)] = None
@@ -381,7 +385,7 @@ class Traffic:
         return f"fail {at // MICROSECONDS} {text(question.spelled)} {question.rtype}"
 
     def unanswered(self, key, at):
-        """The failure of a question of which the last query is given up."""
+        """The failure of a question, if this was its last open query, which is given up."""
         question = self.pending[key].question
         if self.is_last(key, question) and not unusable(question):
             yield self.fail(at, question)
@@ -396,7 +400,7 @@ class Traffic:
             self.settle(key)
 
     def unreachable(self, it):
-        """The failures of queries that the network says did not come to their server. A response
+        """The failures of queries that did not reach their server, as the network says. A response
         is awaited all the same, since anyone may send such a message; it ends the failure."""
         keys = self.between.pop((it.source, it.target), {})
         if not keys:

@@ -1,11 +1,11 @@
 # SPDX-License-Identifier: MIT
-"""Which clients waited longer for a response than the client response timer of RFC 8767 section 5,
-after which a resolver gives them a stale answer."""
+"""Which clients waited for a response for longer than the client response timer of RFC 8767 section
+5, after which a resolver gives them a stale answer."""
 from collections import deque
 
 from tools.messages import HEADER
 
-# How many messages are held back, and how many octets of them, until it is known.
+# How many messages, and how many octets of them, are held back until it is known.
 HELD_MOST, OCTETS_MOST = 100_000, 64 * 2**20
 
 
@@ -17,14 +17,14 @@ class Held:
 
 
 class Waits:
-    """Holds messages back until it is known of each query whether its sender waited longer."""
+    """Holds messages back until it is known for each query whether its client waited longer."""
 
     def __init__(self, limit):
         self.limit, self.held, self.size, self.open = limit, deque(), 0, {}
 
     def told(self, messages):
-        """The messages again, in their order, and of the queries which `waited`. That is not known
-        where the capture ends before, or too much would be held."""
+        """The messages again, in their order, with the queries marked that `waited`. That is not
+        known if the capture ends before, or if too much would be held."""
         latest = 0
         for it in messages:
             latest = max(latest, it.at)
@@ -35,7 +35,7 @@ class Waits:
             yield self.first(latest)
 
     def take(self, it):
-        """Holds a message back. A response ends the waiting for it."""
+        """Holds a message back. A response ends the wait of its query."""
         key = None
         if it.kind != "unreachable" and it.role != "server" and len(it.octets) >= HEADER.size:
             if it.octets[2] & 128:
@@ -49,12 +49,12 @@ class Waits:
             self.open.setdefault(key, deque()).append(one)
 
     def is_ready(self, latest):
-        """Whether all is known of the message that was held first, or too much is held."""
+        """Whether all is known of the first message that is held, or too much is held."""
         one, is_full = self.held[0], len(self.held) > HELD_MOST or self.size > OCTETS_MOST
         return is_full or not one.is_open or latest - one.it.at >= self.limit
 
     def first(self, latest):
-        """The message that was held first."""
+        """Takes out the first message that is held."""
         one = self.held.popleft()
         self.size -= len(one.it.octets)
         if not one.is_open:
