@@ -19,6 +19,15 @@ def pytest_addoption(parser):
                      help="how long tests go on that draw what they try (60)")
     parser.addoption("--program", type=lambda it: Path(it).absolute(), default=PROGRAM,
                      metavar="PATH", help="the program that is tested (the one built last)")
+    parser.addoption("--failures", type=Path, metavar="PATH",
+                     help="a file to which the ids of the tests that fail are written")
+
+
+def pytest_terminal_summary(terminalreporter, config):
+    if path := config.getoption("failures"):
+        failed = [it.nodeid for kind in ("failed", "error")
+                  for it in terminalreporter.stats.get(kind, ())]
+        path.write_text("".join(f"{it}\n" for it in dict.fromkeys(failed)))
 
 
 @pytest.fixture(scope="session")

@@ -1,7 +1,6 @@
 # SPDX-License-Identifier: MIT
-"""Audits of archives (docs/FORMATS.md), which the package for Python reads, by the model of the
-rules (model.py): whether the history that an archive tells is legal, and where not, what is wrong
-with it first.
+"""Audits of archives (docs/FORMATS.md) by the model of the rules (model.py): whether the history in
+an archive is legal, and if not, what is wrong with it first. The package for Python reads them.
 """
 from typing import NamedTuple
 

@@ -1,10 +1,10 @@
 # SPDX-License-Identifier: MIT
 """The archive of a static library, built beside the gate.
 
-`rt ci` checks a static library and keeps no archive of it, so that bin/build has to prove it once
-more. As soon as the gate has proved it, all that it made of the crates below stands, and bin/build
-can do so on a copy: in the tree itself the gate holds the crates until it ends. The archive then
-goes into the tree, where bin/build takes it by its stamp.
+`rt ci` checks a static library and keeps no archive of it, so bin/build has to prove it once more.
+As soon as the gate has proved it, or says that an earlier run did, all that was made of the crates
+below is there, and bin/build can work on a copy: in the tree itself the gate locks the crates until
+it ends. The archive is then put into the tree, and bin/build accepts it by its stamp.
 """
 import os
 import shutil
@@ -15,6 +15,7 @@ import threading
 from pathlib import Path
 
 from tools import kit
+from tools.dist import modules
 from tools.running import NoMore
 
 TOP = Path(__file__).resolve().parent.parent
@@ -52,10 +53,13 @@ class Archive:
         self.name, self.commands, self.top, self.lines = name, commands, top, []
         self.thread, self.is_gate_over, self.processor = None, threading.Event(), 0.0
         archive = Path("crates", name, "out", f"lib{name}.a")
-        self.made = {archive: None, archive.with_suffix(".a.stamp"): None}
+        self.made = dict.fromkeys([archive, archive.with_suffix(".a.stamp"),
+                                   modules.assembler(crate=name)])
 
     def hear(self, line):
-        if line == f"rt: {self.name} proved":
+        proved, kept = f"rt: {self.name} proved", f"rt: {self.name} is kept"
+        is_there = line == proved or line.startswith(kept)
+        if is_there and self.thread is None:
             self.thread = threading.Thread(target=self.build)
             self.thread.start()
         elif line.startswith(LAST_WORDS):

@@ -1,7 +1,8 @@
 # SPDX-License-Identifier: MIT
-"""Traces (docs/FORMATS.md) and messages (RFC 1035 section 4) that are drawn at random by their
-grammars: mostly lawful ones, of few names and types so that lines meet each other's entries, with
-odd ones among them.
+"""Traces (docs/FORMATS.md) and messages (RFC 1035 section 4), drawn at random by their grammars.
+
+Most are correct and some are odd. They have few names and types, so that lines meet each other's
+entries.
 """
 import struct
 

@@ -1,8 +1,9 @@
 # SPDX-License-Identifier: MIT
 """The Rattle kit's command `rt` as a module, for bin/build and tools/proof-times.
 
-They ask it which crates there are, lowest first, what words a check of each has and how much memory
-it takes, so that no word of the prover's command line stands here. They replace nothing of it.
+It says which crates there are, lowest first, with which words each is checked and how much memory
+that takes, so that no word of the prover's command line is repeated here. Nothing of it is
+replaced.
 """
 import importlib.machinery
 import importlib.util
@@ -21,7 +22,7 @@ def load():
     """The kit's command `rt`, loaded as a module."""
     command = shutil.which("rt")
     if command is None:
-        raise NoKit("the Rattle kit is not on this machine: there is no command rt")
+        raise NoKit("the Rattle kit is not installed: there is no command rt")
     loader = importlib.machinery.SourceFileLoader("rt", str(Path(command).resolve()))
     module = importlib.util.module_from_spec(importlib.util.spec_from_loader("rt", loader))
     wrote, sys.dont_write_bytecode = sys.dont_write_bytecode, True

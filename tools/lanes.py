@@ -1,6 +1,6 @@
 # SPDX-License-Identifier: MIT
-"""Tasks side by side: as many as processors and memory hold, each once those that it waits for have
-ended."""
+"""Tasks side by side: as many as processors and memory allow, each once the tasks that it waits for
+have ended."""
 from concurrent.futures import FIRST_COMPLETED, ThreadPoolExecutor, wait
 from dataclasses import dataclass
 from typing import Callable

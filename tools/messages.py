@@ -1,8 +1,8 @@
 # SPDX-License-Identifier: MIT
 """What a response says and what it offers to a cache (docs/RULES.md), read strictly.
 
-It stands apart from the program and from wire.py, which makes messages. Names are octets in wire
-form, with no pointer. Of several faults the first in the order of reading is raised.
+This is apart from the program, and from wire.py, which makes messages. Names are octets in wire
+form, without pointers. If there are several faults, the first in the order of reading is raised.
 """
 import struct
 from typing import NamedTuple
@@ -92,12 +92,14 @@ def is_kept(rtype, rclass=IN):
 # ---- reading
 
 
-def name_at(octets, at, end, past=SHORT):
+def name_at(octets, at, end, past=SHORT, tails=None):
     """The name at a place, whose first run ends before `end`, and the place behind that run.
 
     What passes `end` in the first run is the fault `past`; what passes the message's end behind a
-    pointer is Short (RFC 1035 section 4.1.4)."""
-    labels, size, start, behind = [], 1, at, None
+    pointer is Short (RFC 1035 section 4.1.4). `tails` keeps, of one message, what pointers led to,
+    by their targets: thousands of its names may lead through one chain of thousands of pointers."""
+    labels, size, start, behind, led = [], 1, at, None, []
+    tails = {} if tails is None else tails
     while True:
         if at >= end:
             raise MessageFault(past)
@@ -111,12 +113,18 @@ def name_at(octets, at, end, past=SHORT):
             behind = behind or at + 2
             at = start = target
             end, past = len(octets), SHORT
+            if target in tails:
+                labels.append(tails[target])
+                if size - 1 + len(tails[target]) > WIRE_MOST:
+                    raise MessageFault(NAME_TOO_LONG)
+                break
+            led.append((target, len(labels)))
             continue
         if length >= 64:
             raise MessageFault(RESERVED_LABEL)
         if not length:
             labels.append(b"\0")
-            return b"".join(labels), behind or at + 1
+            break
         size += 1 + length
         if size > WIRE_MOST:
             raise MessageFault(NAME_TOO_LONG)
@@ -124,6 +132,8 @@ def name_at(octets, at, end, past=SHORT):
             raise MessageFault(past)
         labels.append(octets[at:at + 1 + length])
         at += 1 + length
+    tails.update((target, b"".join(labels[count:])) for target, count in led)
+    return b"".join(labels), behind or at + 1
 
 
 HEADER, QUESTION, RECORD = map(struct.Struct, (">6H", ">2H", ">HHIH"))
@@ -137,7 +147,7 @@ def fields_at(octets, at, form):
     return form.unpack_from(octets, at), behind
 
 
-def data_at(octets, at, end, rtype):
+def data_at(octets, at, end, rtype, tails=None):
     """The data of a record, names expanded, and the same with the letters of the names lowered."""
     if rtype not in LAYOUTS:
         return (octets[at:end],) * 2
@@ -147,23 +157,23 @@ def data_at(octets, at, end, rtype):
     data = folded = octets[at:at + before]
     at += before
     for _ in range(names):
-        name, at = name_at(octets, at, end, BAD_DATA)
+        name, at = name_at(octets, at, end, BAD_DATA, tails)
         data, folded = data + name, folded + fold(name)
     if at + after != end:
         raise MessageFault(BAD_DATA)
     return data + octets[at:end], folded + octets[at:end]
 
 
-def record_at(octets, at):
-    """The record at a place, LEFT_OUT where it is not kept, and the place behind it."""
-    owner, at = name_at(octets, at, len(octets))
+def record_at(octets, at, tails=None):
+    """The record at a place, LEFT_OUT if it is not kept, and the place behind it."""
+    owner, at = name_at(octets, at, len(octets), tails=tails)
     (rtype, rclass, ttl, size), at = fields_at(octets, at, RECORD)
     end = at + size
     if end > len(octets):
         raise MessageFault(SHORT)
     if not is_kept(rtype, rclass):
         return LEFT_OUT, end
-    return Record(owner, rtype, rclass, ttl, *data_at(octets, at, end, rtype)), end
+    return Record(owner, rtype, rclass, ttl, *data_at(octets, at, end, rtype, tails)), end
 
 
 def read(octets):
@@ -175,13 +185,14 @@ def read(octets):
         raise MessageFault(NOT_RESPONSE)
     if questions != 1:
         raise MessageFault(NOT_ONE_QUESTION)
-    name, at = name_at(octets, at, len(octets))
+    tails = {}
+    name, at = name_at(octets, at, len(octets), tails=tails)
     (rtype, rclass), at = fields_at(octets, at, QUESTION)
     sections = []
     for count in counts:
         records = []
         for _ in range(count):
-            record, at = record_at(octets, at)
+            record, at = record_at(octets, at, tails)
             if record is not LEFT_OUT:
                 records.append(record)
         sections.append(tuple(records))

@@ -1,9 +1,9 @@
 # SPDX-License-Identifier: MIT
 """The rules of the cache (docs/RULES.md), in Python and apart from the program: what each offer,
-ask and sweep does to a part, and what it is answered.
+ask and sweep does to a part, and the reply.
 
-bin/fuzz compares the program with it, tests/schedules tries the orders of several workers by
-it, bin/why tells lines of a report in words, and bin/what-if counts octets. Names are octets in
+bin/fuzz compares the program with it, tests/schedules tries the orders of several workers by it,
+bin/why explains lines of a report by it, and bin/what-if counts octets by it. Names are octets in
 wire form.
 """
 from typing import NamedTuple

@@ -1,6 +1,6 @@
 # SPDX-License-Identifier: MIT
-"""Traces that come from others by small changes of lines, of fields, and of messages' octets. Many
-of them are almost lines of the grammar (docs/FORMATS.md), or almost messages.
+"""Traces that come from others by small changes of lines, fields, and octets of messages. Many of
+them are almost lines of the grammar (docs/FORMATS.md), or almost messages.
 """
 import re
 

@@ -1,6 +1,6 @@
 # SPDX-License-Identifier: MIT
-"""Names of the DNS as octets in wire form (RFC 1035 section 3.1): what python/rrcache has of them,
-which is nothing of the library, and what the model needs besides."""
+"""DNS names as octets in wire form (RFC 1035 section 3.1): what python/rrcache has of them, which
+calls nothing of the library, and what the model needs besides."""
 import re
 
 from rrcache.names import NAME_MOST as WIRE_MOST, NameFault, labels_in, to_text, to_wire
@@ -20,7 +20,7 @@ def fold(name):
 def from_text(text):
     """The wire form of the name that a text, given as octets, spells; NameFault where none."""
     if not SPELLED.fullmatch(text):
-        raise NameFault("no text of a name, or a bad escape")
+        raise NameFault("not the text of a name, or a bad escape")
     return to_wire(text.decode("ascii"))
 
 

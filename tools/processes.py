@@ -1,5 +1,5 @@
 # SPDX-License-Identifier: MIT
-"""What the prover's processes take of the processors, by the crate that they check."""
+"""How much processor time the prover's processes use, by the crate that they check."""
 import os
 import re
 import threading

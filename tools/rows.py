@@ -1,5 +1,5 @@
 # SPDX-License-Identifier: MIT
-"""The rows, tests/rows/TOPIC/NAME: traces with what the program has to answer them
+"""The rows, tests/rows/TOPIC/NAME: traces with the answers that the program has to give
 (tests/rows/README.md)."""
 import re
 from pathlib import Path

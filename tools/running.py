@@ -1,5 +1,5 @@
 # SPDX-License-Identifier: MIT
-"""Commands that run side by side, and end together where they are interrupted."""
+"""Commands that run side by side, and end together if they are interrupted."""
 import os
 import signal
 import subprocess

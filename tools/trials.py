@@ -1,18 +1,18 @@
 # SPDX-License-Identifier: MIT
 """Trials of the program on a trace: two answers that have to be the same, and how they differ.
 
-The model's answer is that of model.py and traces.py, by one worker. The checks, by what is varied
-from the first answer to the second:
+The model's answer is that of model.py and traces.py, with one worker. The checks, by what the
+second answer varies:
 
   model      the model, and the program
   chapters   where chapters end changes no answer (docs/FORMATS.md)
   audit      an audit changes no answer
-  parts      one part and many: the same where nothing is evicted, since a part is evicted from by
-             its own capacity, and no key of a name concerns another name. Of a sweep, which tells a
-             number for each part, the sums are the same.
-  workers    one worker and many: the same where the trace is refused, for it is read before it is
-             replayed, and where the calls of different lines are on different names (`apart`)
-             and nothing is evicted. Then each line meets no entry and no mark but its own.
+  parts      one part and many: the same if nothing is evicted, since each part evicts by its own
+             capacity, and no key of a name concerns another name. A sweep reports a number for
+             each part: the sums are the same.
+  workers    one worker and many: the same if the trace is refused, since it is read before it is
+             replayed; and if the calls of different lines are on different names (`apart`) and
+             nothing is evicted, since then each line meets only entries and marks of its own.
   builds     what LLVM and what Rattle's own compiler made of the program
   arguments  options out of their ranges are refused, with status 2
 """
@@ -26,7 +26,7 @@ from typing import NamedTuple
 from tools.names import fold
 from tools.traces import Replay, TraceFault, read_trace, report
 
-SECONDS = 10
+SECONDS = 30
 NO_END = b"it did not end"
 RANGES = {"workers": (1, 64), "parts": (1, 64), "capacity": (1, 65_536), "chapter": (1, 2**20),
           "stale": (0, 604_800)}

@@ -1,8 +1,8 @@
 # SPDX-License-Identifier: MIT
 """DNS messages as octets (RFC 1035 section 4), for bin/fuzz, tests/ and bench/.
 
-A name is given as a text (docs/FORMATS.md), of which the last dot may be left out, or as octets,
-which stay as they are: so a pointer is given.
+A name is given as a text (docs/FORMATS.md), whose last dot may be left out, or as octets, which
+stay as they are, so that pointers can be given.
 """
 import struct
 

@@ -8,7 +8,8 @@ import time
 
 import pytest
 
-from tests.tools.shared import ARCHIVE, LIMIT, OPTIONS, TOP, WRONG_ARGUMENTS
+from tests.tools.shared import (ARCHIVE, LIMIT, OPTIONS, TOP, WRONG_ARGUMENTS,
+                                is_all_read)
 from tools.version import VERSION
 
 
@@ -66,19 +67,22 @@ def test_an_audit_says_that_it_could_not_write(program):
 @pytest.mark.parametrize("words, wanted", [
     ([], b""), (["--progress"], b"rrcache: at line 256\n")])
 def test_progress_is_told_where_it_is_asked_for(program, words, wanted):
-    """The clock is read at line 256, after the trace was read, which takes more than a second to
-    come."""
+    """The clock is read before the trace is read, which takes more than a second to come, and at
+    line 256."""
     run = subprocess.Popen([program, *words], stdin=subprocess.PIPE, stdout=subprocess.DEVNULL,
                            stderr=subprocess.PIPE)
     run.stdin.write(b"sweep 1\n" * 300)
     run.stdin.flush()
-    time.sleep(1.2)
+    while run.poll() is None and not is_all_read(run.stdin):
+        time.sleep(0.01)
+    time.sleep(1.1)
     assert run.communicate(timeout=LIMIT)[1] == wanted
 
 
 def take_little_memory():
-    """Has this process take 1 GB at most, and 64 MB for the stack of each thread."""
-    for kind, most in ((resource.RLIMIT_AS, 1 << 30), (resource.RLIMIT_STACK, 64 << 20)):
+    """Has this process take 1.75 GB at most, and 64 MB for the stack of each thread. For what a
+    thread asks of malloc glibc may take 128 MB more for a moment, and keep 64 MB."""
+    for kind, most in ((resource.RLIMIT_AS, 7 << 28), (resource.RLIMIT_STACK, 64 << 20)):
         resource.setrlimit(kind, (most, resource.getrlimit(kind)[1]))
 
 

@@ -5,19 +5,22 @@ import importlib.machinery
 import importlib.util
 import os
 import re
+import shutil
 import signal
 import subprocess
 import sys
 import time
+from collections import Counter
+from contextlib import suppress
 from pathlib import Path
 from types import SimpleNamespace
 
 import pytest
 
 from tests.tools.shared import LIMIT, TOP
-from tools import beside, kit
+from tools import beside, kit, parts
 from tools.beside import Archive
-from tools.parts import Part, run_lanes
+from tools.parts import Part, run_again, run_lanes
 from tools.running import Commands, NoMore
 
 # A command of a part prints so many lines, each a moment behind the one before.
@@ -100,16 +103,63 @@ def test_a_part_that_failed_is_told(command, told, capfd):
     assert line.startswith("failed in it: ") and all(it in line for it in told)
 
 
+# Each test fails as often as its file says, and has one letter more in a file at each run.
+UNSTEADY = """
+from pathlib import Path
+import pytest
+
+@pytest.mark.parametrize("name, failures", [("good", 0), ("once", 1), ("once more", 1),
+                                            ("bad", 9)])
+def test_it(name, failures):
+    path = Path(__file__).with_name(name)
+    runs = len(path.read_text()) if path.exists() else 0
+    path.write_text("x" * (runs + 1))
+    assert runs >= failures
+"""
+
+
+@pytest.fixture
+def unsteady(tmp_path, monkeypatch):
+    """A part of four tests, of which two fail once and one always."""
+    (tmp_path / "tests").mkdir()
+    shutil.copy(TOP / "setup.cfg", tmp_path)
+    (tmp_path / "tests" / "conftest.py").write_text((TOP / "tests" / "conftest.py").read_text())
+    (tmp_path / "tests" / "test_it.py").write_text(UNSTEADY)
+    monkeypatch.setattr(parts, "TOP", tmp_path)
+    return Part("it", ["tests/"])
+
+
+def test_what_failed_once_is_told_as_unsteady(unsteady, capfd):
+    with Commands() as commands:
+        unsteady.run(commands)
+        assert unsteady.counts == Counter(passed=1, failed=3) and len(unsteady.told) == 3
+        run_again([unsteady], commands)
+    assert unsteady.counts == Counter(passed=3, failed=1)
+    bad, *others = unsteady.told
+    assert bad.startswith("failed in it: FAILED tests/test_it.py::test_it[bad-9]")
+    assert [it.startswith(f"UNSTEADY in it: tests/test_it.py::test_it[{name}-1]")
+            for it, name in zip(others, ("once", "once more"), strict=True)] == [True, True]
+
+
+def test_many_that_failed_are_not_run_again(unsteady, capfd, monkeypatch):
+    monkeypatch.setattr(parts, "MOST_AGAIN", 2)
+    with Commands() as commands:
+        unsteady.run(commands)
+        run_again([unsteady], commands)
+    assert unsteady.counts == Counter(passed=1, failed=3)
+
+
 def test_an_interrupt_ends_all_commands(tmp_path):
     """Also one that goes on at an interrupt, as `rt ci` does. No part behind them begins."""
     script = tmp_path / "script"
     script.write_text(f"""
-import sys
+import os, sys
 sys.path.insert(0, {str(TOP)!r})
 from tools.parts import Part, run_lanes
 from tools.running import Commands
 from tools import running
 running.PATIENCE = 0.3
+os.sched_getaffinity = lambda _: range(3)  # all three lanes at once, on any machine
 with Commands() as commands:
     run_lanes([[Part("a", ["sleep 600", "touch {tmp_path}/begun"], True)],
                [Part("b", ["sh -c 'trap : INT; echo; while sleep 1; do :; done'"], True)],
@@ -117,19 +167,26 @@ with Commands() as commands:
 """)
     with subprocess.Popen([sys.executable, script], stderr=subprocess.DEVNULL,
                           stdout=subprocess.DEVNULL) as run:
-        while run.poll() is None and not (tmp_path / "ready").exists():
+        children = set()
+        while run.poll() is None and not (len(children) == 3 and (tmp_path / "ready").exists()):
             time.sleep(0.01)
-        children = processes_of(run.pid)
+            children = processes_of(run.pid)
         run.send_signal(signal.SIGINT)
         run.wait(LIMIT)
-    assert children and not processes_of(run.pid) and not (tmp_path / "begun").exists()
-    assert not any(Path("/proc", it).exists() for it in children)
+    assert len(children) == 3 and not (tmp_path / "begun").exists()
+    assert children.isdisjoint(processes_of())
 
 
-def processes_of(parent):
-    found = subprocess.run(["ps", "-o", "pid=", "--ppid", str(parent)], capture_output=True,
-                           text=True)
-    return found.stdout.split()
+def processes_of(parent=None):
+    """The children of a process, or all processes: each with its parent, and with the moment when
+    it began, since another may get its number later."""
+    found = set()
+    for stat in Path("/proc").glob("[0-9]*/stat"):
+        with suppress(OSError):  # it has ended meanwhile
+            _, of, *fields = stat.read_text().rpartition(")")[2].split()
+            if parent is None or of == str(parent):
+                found.add((stat.parent.name, fields[17]))
+    return found
 
 
 def test_no_command_starts_behind_the_end():
@@ -141,11 +198,12 @@ def test_no_command_starts_behind_the_end():
 
 # ---- the archive
 
-WRITES = """
+MADE = ("libit.a", "libit.a.stamp", "it-x86_64.s")
+WRITES = f"""
 import os
-for end in ("a", "a.stamp"):
-    with open(f"crates/it/out/libit.{end}", "w") as made:
-        made.write(f"{end} by {os.environ['RT_JOBS']} at {os.nice(0)}")
+for name in {MADE}:
+    with open(f"crates/it/out/{{name}}", "w") as made:
+        made.write(f"{{name}} by {{os.environ['RT_JOBS']}} at {{os.nice(0)}}")
 """
 
 
@@ -175,11 +233,14 @@ def taken(archive, *lines):
     return told, {it.name: it.read_text() for it in archive.top.glob("crates/it/out/*")}
 
 
-def test_the_archive_is_built_where_the_gate_proved_its_crate(archive):
-    """By one job, and at a priority that is lower, where there is a lower one."""
+@pytest.mark.parametrize("said", [["rt: it proved"], 2 * [
+    "rt: it is kept: an earlier run on this machine proved the same files"]])
+def test_the_archive_is_built_where_the_gate_proved_its_crate(said, archive):
+    """By one job, and at a priority that is lower, where there is a lower one; also if an earlier
+    run proved the crate, and once if the gate says so twice."""
     made = f"by 1 at {min(os.nice(0) + 10, 19)}"
-    assert taken(archive(WRITES), "rt: other proved", "rt: it proved") == (
-        [], {f"libit.{end}": f"{end} {made}" for end in ("a", "a.stamp")})
+    assert taken(archive(WRITES), "rt: other proved", *said) == (
+        [], {name: f"{name} {made}" for name in MADE})
 
 
 def test_no_archive_is_built_where_the_gate_did_not_prove_its_crate(archive):
@@ -203,7 +264,7 @@ def test_a_build_that_lacks_memory_is_tried_again_until_the_gate_ends(archive, m
     lacking.hear("rt: it proved")
     lacking.thread.join()
     told, made = taken(lacking)
-    assert not told and len(made) == 2
+    assert not told and len(made) == len(MADE)
 
 
 @pytest.mark.parametrize("stale", ["stamp", "source"])

@@ -194,6 +194,15 @@ def test_what_if_opens_the_file_of_the_picture_first(program_of, asked, tmp_path
     assert str(tmp_path / name) in run.stderr and not (tmp_path / "ran").exists()
 
 
+def test_what_if_draws_no_picture_into_its_trace(asked, tmp_path):
+    before, link = asked.read_text(), tmp_path / "link"
+    link.symlink_to(asked)
+    for path in (asked, link):
+        run = ran("bin/what-if", "--svg", path, asked)
+        assert (run.returncode, run.stdout, run.stderr.count("\n")) == (WRONG_ARGUMENTS, "", 1)
+        assert "which would be overwritten" in run.stderr and asked.read_text() == before
+
+
 def test_what_if_keeps_what_the_picture_was_until_it_draws(what_if, program_of, asked, tmp_path):
     picture = tmp_path / "a.svg"
     picture.write_text("before\n")

@@ -24,13 +24,13 @@ WHY = [
      ["Kept: it replaces", "expired at 160", "RFC 2181 section 5"]),
     ([PUT, "put 120 a.example. 1 4 60 c0000202"], ["unexpired until 159 but of the same rank"]),
     ([PUT, "put 120 a.example. 1 4 0 c0000202", "ask 121 a.example. 1 any none"],
-     ["line 0 stored it at 100 for 60 seconds, and line 1 cleared it by a time of 0"]),
+     ["line 0 stored it at 100 for 60 seconds, and line 1 cleared it by a TTL of 0"]),
     ([PUT, "put 120 a.example. 1 3 0 c0000202"], ["Less:"]),
     ([PUT, "ask 159 a.example. 1 answer none"],
-     ["Fresh: of its 60 seconds 59 have passed at 159, which leaves 1"]),
+     ["Fresh: at 159 its age is 59 of 60 seconds, so the remaining TTL is 1"]),
     ([PUT, "ask 160 a.example. 1 answer none"],
-     ["expired at 160, 0 seconds before 160", "Miss: in the mode none no stale answer"]),
-    ([PUT, "ask 160 a.example. 1 answer failed"], ["Miss:", "after a recent failure alone"]),
+     ["expired at 160, 0 seconds before 160", "Miss: in the mode none there is no stale answer"]),
+    ([PUT, "ask 160 a.example. 1 answer failed"], ["Miss:", "only after a recent failure"]),
     ([PUT, "fail 165 a.example. 1", "ask 170 a.example. 1 answer failed"],
      ["Stale: it is within max-stale, 86,400 seconds, and a failure is recent",
       "line 1 stored at 165", "RFC 8767 sections 4 and 5"]),
@@ -45,11 +45,11 @@ WHY = [
     ([PUT, "ask 101 a.example. 1 any none", "put 110 b.example. 1 4 60 c0000201"],
      ["touched least recently, last by line 1"], "--capacity=1"),
     ([PUT, "put 110 b.example. 1 4 60 c0000201", "ask 111 a.example. 1 any none"],
-     ["line 1 put it out to make room",
+     ["line 1 evicted it to make room",
       "No line before stored anything under a.example./nx"], "--capacity=1"),
     ([PUT, f"response 110 example. {DENIED}", "ask 120 a.example. 1 any none"],
      ["line 1 stored at 110 for 300 seconds",
-      "Held is also the set a.example. A (1 record) that line 0", "the later one governs",
+      "It also holds the set a.example. A (1 record) that line 0", "the later one governs",
       "No such name (RFC 2308 section 2.1)"]),
     ([PUT, f"response 110 example. 123480{DENIED[6:]}", "ask 120 a.example. 1 any none"],
      ["rank 2", "came later; but the earlier one is unexpired at 120 and of higher rank"]),
@@ -57,7 +57,7 @@ WHY = [
     ([PUT, f"response 90 example. {DENIED}", "ask 120 a.example. 1 any none"],
      ["line 1 stored at 90", "the later one governs"]),
     ([f"response 110 example. {DENIED}"],
-     ["RCODE 3", "the lower of the time and the MINIMUM", "for 300 seconds",
+     ["RCODE 3", "the lower of the TTL and the MINIMUM", "for 300 seconds",
       "no alias was followed", "RFC 2308 section 5"]),
     ([f"response 110 other. {DENIED}"], ["offers nothing", "not at or below the zone"]),
     ([f"response 110 example. {DENIED[:-2]}"], ["Refused 1", "ends too early"]),
@@ -65,13 +65,13 @@ WHY = [
      ["Held: nothing is fetched before 130"]),
     (["fetch 100 a.example. 1 example. -"], ["No message came", "the failure of a.example. A"]),
     ([PUT, "put 100 b.example. 1 4 900000 c0000202", "sweep 86560"],
-     ["RRsets past max-stale too, it has 1 ", "that line 0 stored"]),
+     ["fully expired at 86560: 1.", "that line 0 stored"]),
     (["checkpoint"], ["no event"]),
     # an ask follows no CNAME record ("CNAME in look-ups"), also where that was stored by a fetch
     ([ALIAS, "ask 110 a.example. 1 answer none"],
      ["No line before stored anything under a.example./1.",
-      "Held is the set a.example. CNAME (1 record) that line 0 stored at 100 for 60 seconds, rank"
-      " 4 (authoritative answer); but an ask follows no CNAME record",
+      "The cache holds the set a.example. CNAME (1 record) that line 0 stored at 100 for 60"
+      " seconds, rank 4 (authoritative answer); but an ask follows no CNAME record",
       "bin/from-capture --follow-aliases"]),
     ([ALIAS, "ask 170 A.example. 1 answer none"],
      ["which expired at 160; but an ask follows no CNAME record"]),
@@ -79,8 +79,8 @@ WHY = [
      ["Miss: in the mode none", "line 0 stored at 100", "an ask follows no CNAME record"]),
     ([f"fetch 110 a.example. 1 example. {LED}"],
      ["anything under a.example./nx. - It fetches:",
-      "anything under a.example./nx. - Held is the set a.example. CNAME (1 record) that line 0"
-      " stored at 110 for 60 seconds"]),
+      "anything under a.example./nx. - The cache holds the set a.example. CNAME (1 record) that"
+      " line 0 stored at 110 for 60 seconds"]),
 ]
 # The lines, and the number of one of which nothing is to be said of an alias: a fresh answer; an
 # ask for the alias; one in another class; one for a name that has no CNAME record (RFC 2308 section
@@ -160,7 +160,7 @@ def test_why_takes_the_values_that_the_program_takes(trace_of, name):
 @pytest.mark.parametrize("path", ["-", "/dev/stdin"])
 def test_why_reads_a_trace_that_can_be_read_once(path):
     run = ran("bin/why", 1, path, input=f"{PUT}\nask 159 a.example. 1 answer none\n")
-    assert run.returncode == 0 and "59 have passed" in run.stdout
+    assert run.returncode == 0 and "its age is 59 of 60 seconds" in run.stdout
 
 
 def test_an_interrupt_ends_why_without_a_traceback():
