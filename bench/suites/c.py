@@ -59,8 +59,8 @@ def main(args):
     by_python = best("ask, through Python", args.runs, partial(python_rate, args.calls // 20))
     write_section(
         args, TITLE,
-        ": millions of calls a second by threads of C (`bench/c/c_threads.c`), the best of "
-        f"{args.runs} runs of {args.calls} calls on 16 shelves with 16,384 names.",
+        ". The numbers are millions of calls per second by threads in C (`bench/c/c_threads.c`), "
+        f"the best of {args.runs} runs of {args.calls} calls on 16 shelves with 16,384 names.",
         table(["What", "Shelves", *map(of_threads, args.threads),
                f"{args.threads[-1]} to {args.threads[0]}"], rows),
-        f"Through Python (`python/rrcache`) one thread asks {by_python:,.0f} times a second.")
+        f"Through Python (`python/rrcache`), one thread makes {by_python:,.0f} asks per second.")

@@ -188,10 +188,10 @@ def main(args):
     write_section(
         args, TITLE,
         f". Clients of the forwarder ask for cached names, {args.rate:.0f} a second for "
-        f"{args.seconds:.0f} seconds, while another asks for {args.attack:.0f} names a second that "
-        "a hostile server answers; `bench/run latency --help` tells how. Waits are milliseconds; "
-        "behind them stand how many answers did not come, the queries of the other client, how "
-        "many were asked upstream, and what the forwarder took of processors, in seconds, and of "
-        "memory, in MB. The server's own work takes processors too, so `harmless` is what to "
-        "compare with.",
+        f"{args.seconds:.0f} seconds. Meanwhile another client asks for {args.attack:.0f} names a "
+        "second that a hostile server answers; `bench/run latency --help` describes its answers. "
+        "The waits are in milliseconds. The columns after the waits are the number of missing "
+        "answers, the number of queries of the other client, how many of these were asked "
+        "upstream, the processor time of the forwarder in seconds, and its memory in MB. The "
+        "server's own work takes processor time too, so compare the other rows with `harmless`.",
         table(HEAD, rows))

@@ -61,11 +61,12 @@ def main(args):
             print(f"{way:10}{what:44}{least:.2f} to {most:.2f}")
         said.append(f"{way} held {of['all'][0]:.2f} to {of['all'][1]:.2f} times")
     write_section(
-        args, TITLE, f": of {args.keys:,} keys of each of {len(found['glibc']) - 1} kinds, while "
-        f"the last half of them came, {' and '.join(said)} the octets that `rrcache_sizes` told. "
-        "Names had 3 to 255 octets, RRsets 1 to 200 records of 4 to 16,000, and SOA records of "
-        "negative answers, with their owners, 23 to 785. A shelf was swept never, or after each "
-        "tenth offer; no key was evicted and nothing recorded.")
+        args, TITLE,
+        f". The keys were {args.keys:,} of each of {len(found['glibc']) - 1} kinds. While the last "
+        f"half of them came, {' and '.join(said)} the octets that `rrcache_sizes` returned. Names "
+        "had 3 to 255 octets. RRsets had 1 to 200 records of 4 to 16,000 octets. SOA records of "
+        "negative answers, with their owners, had 23 to 785 octets. A shelf was never swept, or "
+        "swept after each tenth offer. No key was evicted and nothing was recorded.")
 
 
 if __name__ == "__main__":

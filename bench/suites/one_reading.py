@@ -49,11 +49,12 @@ def main(args):
         slow += [name] if read > MOST * whole else []
     write_section(
         args, TITLE,
-        ": microseconds of a processor that it takes to offer a message to one shelf, to 16 by one "
-        "reading of it (`rrcache_read_message_unchecked` and `rrcache_offer_read`), and to 16 by a "
-        f"reading for each (`rrcache_offer_part_unchecked`), the least of {args.runs} runs; and "
-        "the longest of the 16 shares of one reading, for which a lock is held. Names are divided "
-        "by a keyed hash.",
+        f". The numbers are microseconds of processor time, the least of {args.runs} runs. A "
+        "message is offered to one shelf, to 16 shelves by one reading of it "
+        "(`rrcache_read_message_unchecked` and `rrcache_offer_read`), and to 16 shelves by a "
+        "reading for each shelf (`rrcache_offer_part_unchecked`). The last column is the longest "
+        "of the 16 shares of one reading, for which a lock is held. Names are divided by a keyed "
+        "hash.",
         table(HEAD, rows))
     if slow:
         return f"one reading for 16 shelves takes over {MOST} times as long: {', '.join(slow)}"

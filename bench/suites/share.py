@@ -8,6 +8,7 @@ from functools import partial
 from statistics import median
 
 from bench.page import filled, of_threads, table, write_section
+from bench.picture import key, rect, svg, text
 from bench.setup import (BENCH, REPLAY, TOP, counted, files, in_turn, median_of, replayed,
                          undisturbed)
 
@@ -25,8 +26,8 @@ TASKS = {
 }
 THREADS, PARTS = (1, 2, 4), (1, 4, 64)
 NAMES, TITLE = 65_536, "A shared cache, and replays"
-# Of the picture: the colors of the bars, how wide it is, and how tall the bars of a task.
-SHADES, WIDTH, HEIGHT = ("#9ecae1", "#4292c6", "#084594"), 760, 120
+# How tall the bars of a task are in the picture.
+HEIGHT = 120
 
 
 def seconds_of_calls(task, threads, parts, calls):
@@ -65,15 +66,6 @@ def lock_costs(calls=100_000):
     return [median(it) / calls * 1e9 for it in took.values()]
 
 
-def rect(x, y, width, height, shade):
-    return (f'<rect x="{x}" y="{y:.1f}" width="{width}" height="{height:.1f}"'
-            f' fill="{SHADES[shade]}"/>')
-
-
-def text(x, y, words, form='text-anchor="middle"'):
-    return f'<text x="{x}" y="{y:.1f}" {form}>{words}</text>'
-
-
 def bars(rates, task, top):
     """The bars of a task: over 1, 4 and 64 parts by 1, 2 and 4 threads."""
     most = max(rates[task, parts, threads] for parts in PARTS for threads in THREADS)
@@ -93,11 +85,7 @@ def picture(rates):
     rows = [it for row, task in enumerate(TASKS)
             for it in bars(rates, task, 20 + row * (HEIGHT + 50))]
     tall = 20 + len(TASKS) * (HEIGHT + 50) + 20
-    for bar, threads in enumerate(THREADS):
-        rows += [rect(60 + bar * 120, tall - 24, 14, 14, bar),
-                 text(80 + bar * 120, tall - 12, of_threads(threads), "")]
-    return "\n".join([f'<svg xmlns="http://www.w3.org/2000/svg" width="{WIDTH}" height="{tall}"'
-                      ' font-family="sans-serif" font-size="12">', *rows, "</svg>\n"])
+    return svg([*rows, *key(map(of_threads, THREADS), tall - 24)], tall)
 
 
 def main(args):
@@ -114,11 +102,11 @@ def main(args):
         (TOP / "docs" / "performance.svg").write_text(picture(rates))
     write_section(
         args, TITLE,
-        f". Each number is the median of {args.runs} runs, in millions a second by the clock. A "
-        "run during which the host took processors away from the machine was made again. The calls "
-        f"are those of a shared cache with {NAMES} names, {args.calls} of them over all threads "
-        f"(`bench cache shared`). The lines are those of a trace of {args.lines} lines, read, "
-        "replayed, collated and reported (`rrcache`).",
+        f". Each number is the median of {args.runs} runs, in millions per second of elapsed time. "
+        "A run was repeated if the host took processors away from the machine during it. The calls "
+        f"are {args.calls} calls, over all threads, on a shared cache with {NAMES} names (`bench "
+        f"cache shared`). The lines are those of a trace of {args.lines} lines, which the program "
+        "`rrcache` reads, replays, collates and reports.",
         "![Millions a second](performance.svg)",
         table(["What", "Parts", *map(of_threads, THREADS), "four to one"], rows),
         filled(

@@ -9,7 +9,7 @@ asks that hit and copy, of any name and by Zipf's law, one name that is always a
 replace, and puts that evict in a cache with no room. It is `struct rrcache`, and in runs of their
 own shelves whose locks are mutexes, spin locks, as unbound's are, or locks for readers, under which
 asks are peeks. Each ratio is that of the medians of RUNS runs; ratios count, since machines
-differ.
+differ. `--write` writes also docs/beside-unbound.svg, the rates of `struct rrcache`.
 """
 import os
 import shutil
@@ -21,7 +21,8 @@ from pathlib import Path
 from statistics import median
 
 from bench.page import of_threads, table, write_section
-from bench.setup import ARCHIVE, BUILD, SOURCES, compiled, in_turn, ran, undisturbed
+from bench.picture import WIDTH, key, line, rect, svg, text
+from bench.setup import ARCHIVE, BUILD, SOURCES, TOP, compiled, in_turn, ran, undisturbed
 
 NEEDS, TITLE = (ARCHIVE,), "Beside unbound"
 OPTIONS = {
@@ -34,10 +35,12 @@ FOLDER, BESIDE = BUILD / "unbound", SOURCES / "beside"
 ARCHIVES = ["apt-get", "indextargets", "Created-By: Packages", "Codename: bookworm", "--format",
             "deb-src [signed-by=/usr/share/keyrings/debian-archive-keyring.gpg]"
             " $(REPO_URI) $(RELEASE) $(COMPONENT)"]
-OF_CACHE = ("`struct rrcache`, with its locks in it. Each of its look-ups follows aliases, and so"
-            " looks for a\nCNAME record beside the type, which asks of shelves do not here:")
+OF_CACHE = ("`struct rrcache` with its own locks. Its look-ups follow aliases, which the asks of"
+            " shelves here do\nnot. No name is an alias:")
 KINDS = {"hit": "asks that hit", "zipf": "asks by Zipf's law", "hot": "asks for one name",
          "replace": "puts that replace", "evict": "puts that evict"}
+# How tall the picture is, how tall its highest bar, and where the bars stand.
+TALL, HIGHEST, BASE = 270, 180, 210
 
 
 def fetch():
@@ -102,7 +105,22 @@ def ratios(own, unbound, threads, kind, args, preload):
     print(f"{which}: {kind}, {threads} threads{', jemalloc' if preload else ''}: {own_time:.0f} and"
           f" {time:.0f} ns of processor time a call ({own_time / time:.2f}), rate"
           f" {took / own_took:.2f} of unbound's", flush=True)
-    return f"{own_time / time:.2f}", f"{took / own_took:.2f}"
+    return own_time / time, took / own_took
+
+
+def picture(rates, threads):
+    """The bars of the rates of each kind of call, by threads, with a line at unbound's rate."""
+    high = HIGHEST / max(1, *chain.from_iterable(rates.values()))
+    across, rows, top = (WIDTH - 40) // len(KINDS), [], TALL - 24
+    for group, (kind, found) in enumerate(rates.items()):
+        left = 40 + group * across
+        for bar, rate in enumerate(found):
+            x, y = left + bar * 38, BASE - rate * high
+            rows += [rect(x, y, 34, rate * high, bar), text(x + 17, y - 4, f"{rate:.2f}")]
+        rows.append(text(left + 55, BASE + 15, KINDS[kind]))
+    rows += [line(BASE - high, 20, WIDTH - 20), line(top + 8, 440, 470),
+             text(476, top + 12, "the rate of unbound", "")]
+    return svg([*rows, *key(map(of_threads, threads), top)], TALL)
 
 
 def main(args):
@@ -113,19 +131,26 @@ def main(args):
     ways = [(OF_CACHE, "cache", None),
             ("Shelves with mutexes and glibc's malloc:", "rrcache", None),
             ("Shelves with spin locks, as unbound's are:", "spinning", None),
-            ("Shelves with locks for readers, under which asks are peeks:", "peeking", None)]
+            ("Shelves with readers-writer locks, under which asks are peeks:", "peeking", None)]
     if jemalloc:
         ways.append(("Shelves with mutexes and jemalloc:", "rrcache", str(jemalloc)))
     head = [f"{what}, {of_threads(it)}" for it in args.threads for what in ("time", "rate")]
     parts = []
     for way, own, preload in ways:
-        rows = ([title, *chain.from_iterable(
-            ratios(made[own], made["unbound"], it, kind, args, preload) for it in args.threads)]
-            for kind, title in KINDS.items())
-        parts += [way, table(["What", *head], rows)]
+        found = {kind: [ratios(made[own], made["unbound"], it, kind, args, preload)
+                        for it in args.threads] for kind in KINDS}
+        parts += [way, table(["What", *head], [[title, *(
+            f"{it:.2f}" for it in chain.from_iterable(found[kind]))]
+            for kind, title in KINDS.items()])]
+        if way == OF_CACHE:
+            parts.append("![Rates of `struct rrcache`, as shares of unbound's](beside-unbound.svg)")
+            rates = {kind: [rate for _, rate in each] for kind, each in found.items()}
+    if args.write:
+        (TOP / "docs" / "beside-unbound.svg").write_text(picture(rates, args.threads))
     write_section(
         args, TITLE,
-        f": {args.names:,} names with one A record each, 64 shards, {args.calls:,} calls a run, "
-        f"medians of {args.runs} runs of each in turn. Time is processor time a call as a multiple "
-        "of that of unbound's RRset cache, of which less is better; rate is calls a second by the "
-        "clock as a share of unbound's.", *parts)
+        f". Both caches had {args.names:,} names with one A record each, and 64 shards. The "
+        f"numbers are medians of {args.runs} runs of each cache in turn, with {args.calls:,} calls "
+        "a run. Time is the processor time of a call as a multiple of that of unbound's RRset "
+        "cache, so less is better. Rate is the number of calls per second of elapsed time as a "
+        "multiple of unbound's, so more is better.", *parts)
