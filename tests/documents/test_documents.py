@@ -5,7 +5,7 @@ A line has at most 100 columns, and a row of a table 120; README.md has at most 
 link leads to a file, and to a heading where it names one. Every path that a document names exists.
 Every definition that a row of docs/DEFINITIONS.md names behind its first cell stands in the file
 that the row names. Every name in code, of letters in both cases or of words joined by _, occurs in
-some source outside of comments, or in a path.
+some source outside of comments, or in a path. docs/decisions/README.md links every topic.
 """
 import re
 import shutil
@@ -132,6 +132,12 @@ def test_document(name):
     assert not found, "\n".join(found)
 
 
+def test_index_of_decisions_has_each_topic():
+    folder = TOP / "docs" / "decisions"
+    linked = set(re.findall(r"\]\((\w[\w-]*\.md)\)", (folder / "README.md").read_text()))
+    assert linked == {it.name for it in folder.iterdir()} - {"README.md"}
+
+
 def python_files():
     """The Python sources. Commands have no ending, and tell it in their first line."""
     for name in listed():
@@ -141,7 +147,7 @@ def python_files():
 
 
 def test_sources_name_their_licence():
-    found = [name for name in [*listed("*.rt", "*.antt", "*.c", "*.h"), *python_files()]
+    found = [name for name in [*listed("*.rt", "*.antt", "*.c", "*.h", "*.rs"), *python_files()]
              if "SPDX-License-Identifier: MIT" not in
              "".join((TOP / name).read_text().splitlines()[:2])]
     assert not found, "\n".join(found)
