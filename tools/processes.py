@@ -19,13 +19,29 @@ def kind_of(command):
     return "edits" if b"/rt-edits-" in command else "proof"
 
 
-class Watch(threading.Thread):
+class Aside(threading.Thread):
+    """A thread that runs from when it is entered until it is left, which `is_over` tells it."""
+
+    def __init__(self):
+        super().__init__(daemon=True)
+        self.is_over = threading.Event()
+
+    def __enter__(self):
+        self.start()
+        return self
+
+    def __exit__(self, *_):
+        self.is_over.set()
+        self.join()
+
+
+class Watch(Aside):
     """Looks at the prover's processes until it is left. `crates` is the processor seconds of each
     crate by kind."""
 
     def __init__(self):
-        super().__init__(daemon=True)
-        self.ended, self.seen = threading.Event(), {}
+        super().__init__()
+        self.seen = {}
 
     def look(self):
         for process in Path("/proc").glob("[0-9]*"):
@@ -49,13 +65,5 @@ class Watch(threading.Thread):
         return found
 
     def run(self):
-        while not self.ended.wait(SECONDS):
+        while not self.is_over.wait(SECONDS):
             self.look()
-
-    def __enter__(self):
-        self.start()
-        return self
-
-    def __exit__(self, *_):
-        self.ended.set()
-        self.join()

@@ -17,7 +17,7 @@ from .library import library
 from .names import to_text, to_wire
 from .parts import NAMES_MOST, OCTETS_AT, AnyName, Name
 from .refusals import Status
-from .replies import StoredEntry
+from .replies import OfKind, StoredEntry
 
 # A buffer of this size has room for every answer but those that rrcache.h names.
 ANSWER_OCTETS = 65_536
@@ -69,7 +69,7 @@ class AnswerSet(NamedTuple):
 
 
 @dataclass(frozen=True)
-class Answer:
+class Answer(OfKind):
     """The answer to a question. Iterating over an answer iterates over its RRsets.
 
     - `kind`: the kind for the name at the end of the CNAME chain.
@@ -100,16 +100,6 @@ class Answer:
 
     def __iter__(self) -> Iterator[AnswerSet]:
         return iter(self.rrsets)
-
-    @property
-    def is_miss(self) -> bool:
-        """Whether nothing answers the question."""
-        return self.kind in (Kind.MISS, Kind.FAILED)
-
-    @property
-    def is_negative(self) -> bool:
-        """Whether this is a negative answer: NODATA or NXDOMAIN (RFC 2308)."""
-        return self.kind in (Kind.NODATA, Kind.NXDOMAIN)
 
     @property
     def end_text(self) -> str:

@@ -139,8 +139,24 @@ class Limits(NamedTuple):
     recheck: int = 30
 
 
+class OfKind:
+    """What the kind of a reply or of an answer says about it."""
+
+    kind: Kind
+
+    @property
+    def is_miss(self) -> bool:
+        """Whether nothing answers the question."""
+        return self.kind in (Kind.MISS, Kind.FAILED)
+
+    @property
+    def is_negative(self) -> bool:
+        """Whether this is a negative answer: NODATA or NXDOMAIN (RFC 2308)."""
+        return self.kind in (Kind.NODATA, Kind.NXDOMAIN)
+
+
 @dataclass(frozen=True)
-class Reply:
+class Reply(OfKind):
     """The reply of a shelf. Replies are equal if all their fields except `entry` are equal.
 
     - `kind`: the kind of the reply.
@@ -165,16 +181,6 @@ class Reply:
     retry_from: int = 0
     rtype: int = 0
     entry: StoredEntry | None = field(default=None, compare=False)
-
-    @property
-    def is_miss(self) -> bool:
-        """Whether nothing answers the question."""
-        return self.kind in (Kind.MISS, Kind.FAILED)
-
-    @property
-    def is_negative(self) -> bool:
-        """Whether this is a negative answer: NODATA or NXDOMAIN (RFC 2308)."""
-        return self.kind in (Kind.NODATA, Kind.NXDOMAIN)
 
     @property
     def owner_text(self) -> str:

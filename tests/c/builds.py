@@ -17,6 +17,8 @@ BUILDS = {
     "sanitized": ["librrcache.a", "-fsanitize=address,undefined", "-fno-sanitize-recover=all"],
 }
 SECONDS = 120
+# The words for the compiler with which an example is tested.
+OF_EXAMPLES = ["-std=gnu11", *FLAGS, "-fsanitize=address,undefined", "-fno-sanitize-recover=all"]
 
 
 def has(words, folder):
@@ -36,6 +38,14 @@ def built(name, build, libraries, folder, *more, standard="c99"):
     program = folder / "tests"
     subprocess.run(["cc", f"-std={standard}", *FLAGS, TOP / "tests" / "c" / name, *more,
                     libraries / library, *words, "-o", program], check=True)
+    return program
+
+
+def example(name, library, folder):
+    """The program of a file of examples/, under the sanitizers."""
+    program = folder / name
+    subprocess.run(["cc", *OF_EXAMPLES, TOP / "examples" / f"{name}.c",
+                    library.with_name("librrcache.a"), "-o", program], check=True)
     return program
 
 

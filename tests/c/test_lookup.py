@@ -2,30 +2,17 @@
 """examples/lookup.c, the example of README.md, on loopback, beside a name server that is made here,
 under the sanitizers of addresses and of undefined behaviour."""
 import subprocess
-from pathlib import Path
 
 import pytest
 from dns.rcode import NXDOMAIN, SERVFAIL
 
-from tests.c.test_stub import FLAGS
-from tests.forwarder.harness import Server, aliases, told
-
-TOP = Path(__file__).resolve().parents[2]
+from tests.c.builds import example
+from tests.forwarder.harness import aliases, told
 
 
 @pytest.fixture(scope="module")
 def program(library, tmp_path_factory):
-    made = tmp_path_factory.mktemp("lookup") / "lookup"
-    subprocess.run(["cc", *FLAGS, TOP / "examples" / "lookup.c",
-                    library.with_name("librrcache.a"), "-o", made], check=True)
-    return made
-
-
-@pytest.fixture
-def server():
-    made = Server(tcp=False)
-    yield made
-    made.stop()
+    return example("lookup", library, tmp_path_factory.mktemp("example"))
 
 
 @pytest.fixture

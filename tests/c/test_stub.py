@@ -8,20 +8,17 @@ import socket
 import subprocess
 import time
 from contextlib import suppress
-from pathlib import Path
 
 import dns.rdatatype
 import pytest
 from dns.flags import RD, TC
 from dns.rcode import NOERROR, NXDOMAIN, SERVFAIL
 
+from tests.c.builds import example
 from tests.forwarder.harness import (
-    Server, aliases, bound, data, exchange, octets_of, plain, query, response,
+    aliases, bound, data, exchange, octets_of, plain, query, response,
     silent, told, truncated)
 
-TOP = Path(__file__).resolve().parents[2]
-FLAGS = ["-std=gnu11", "-O1", "-g", "-Wall", "-Wextra", "-Werror", "-pthread",
-         "-fsanitize=address,undefined", "-fno-sanitize-recover=all", f"-I{TOP / 'include'}"]
 # The status of a stub whose port another process has.
 NO_PORT = 1
 # Of an MX RRset whose names are compressed this has room in 512 octets, and not where they are not.
@@ -30,17 +27,7 @@ EXCHANGES = [f"{{}} 60 MX 1 m{it}.some-long-label-of-a-name.example" for it in r
 
 @pytest.fixture(scope="module")
 def program(library, tmp_path_factory):
-    made = tmp_path_factory.mktemp("stub") / "stub"
-    subprocess.run(["cc", *FLAGS, TOP / "examples" / "stub.c", library.with_name("librrcache.a"),
-                    "-o", made], check=True)
-    return made
-
-
-@pytest.fixture
-def server():
-    made = Server(tcp=False)
-    yield made
-    made.stop()
+    return example("stub", library, tmp_path_factory.mktemp("example"))
 
 
 @pytest.fixture

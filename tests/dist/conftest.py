@@ -22,11 +22,22 @@ def release(library, tmp_path_factory):
     return folder
 
 
-@pytest.fixture(scope="session")
-def unpacked(release, tmp_path_factory):
-    """What the archive of compiled files has."""
-    folder = tmp_path_factory.mktemp("unpacked")
-    [archive] = release.glob("*-x86_64-linux.tar.gz")
+def root_of(archive, folder):
+    """The one folder that an archive of the release has, unpacked in another folder."""
     subprocess.run(["tar", "-xzf", archive, "-C", folder], check=True)
     [root] = folder.iterdir()
     return root
+
+
+@pytest.fixture(scope="session")
+def unpacked(release, tmp_path_factory):
+    """What the archive of compiled files has."""
+    [archive] = release.glob("*-x86_64-linux.tar.gz")
+    return root_of(archive, tmp_path_factory.mktemp("unpacked"))
+
+
+@pytest.fixture(scope="session")
+def crate(release, tmp_path_factory):
+    """What the archive of the crate for Rust has."""
+    [archive] = release.glob("*-rust.tar.gz")
+    return root_of(archive, tmp_path_factory.mktemp("crate"))

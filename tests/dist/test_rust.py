@@ -5,18 +5,8 @@ import subprocess
 
 import dns.message
 import dns.query
-import pytest
 
 from tests.rust.test_rust import pytestmark  # noqa: F401
-
-
-@pytest.fixture(scope="module")
-def crate(release, tmp_path_factory):
-    folder = tmp_path_factory.mktemp("crate")
-    [archive] = release.glob("*-rust.tar.gz")
-    subprocess.run(["tar", "-xzf", archive, "-C", folder], check=True)
-    [root] = folder.iterdir()
-    return root
 
 
 def test_example(crate, unpacked):

@@ -1,9 +1,10 @@
 # SPDX-License-Identifier: MIT
 """Whether the machine did not run what was due."""
 import re
-import threading
 import time
 from pathlib import Path
+
+from tools.processes import Aside
 
 # Linux tells here for how long some process waited for a processor, where it is built to do so.
 PRESSURE = Path("/proc/pressure/cpu")
@@ -22,14 +23,13 @@ def waited():
         return 0
 
 
-class Stalls(threading.Thread):
+class Stalls(Aside):
     """Tells whether the machine stalled while it was entered: a thread of this process, which
     sleeps for moments, woke later than it wished, or processes waited much."""
 
     def __init__(self):
-        super().__init__(daemon=True)
+        super().__init__()
         self.late, self.waited, self.lasted = 0, -waited(), -time.monotonic()
-        self.is_over = threading.Event()
 
     def run(self):
         while not self.is_over.is_set():
@@ -38,13 +38,8 @@ class Stalls(threading.Thread):
             late = time.monotonic() - began - MOMENT
             self.late += late if late > LATE else 0
 
-    def __enter__(self):
-        self.start()
-        return self
-
     def __exit__(self, *_):
-        self.is_over.set()
-        self.join()
+        super().__exit__()
         self.waited += waited()
         self.lasted += time.monotonic()
 

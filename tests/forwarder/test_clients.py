@@ -5,7 +5,6 @@ import random
 import select
 import socket
 import struct
-import threading
 import time
 
 import dns.edns
@@ -16,6 +15,7 @@ from dns.rcode import BADVERS, FORMERR, NOERROR, NOTIMP, NXDOMAIN, REFUSED, SERV
 from tests.forwarder.harness import (MOST_SECONDS, SOA, Server, Stream, address, counts, data,
                                      datagrams, edns, exchange, framed, many, octets_of, query,
                                      read, record, silent, took)
+from tools.processes import Aside
 
 ASKED = query("a1.example", id=7)
 OPCODES = 0x7800
@@ -318,13 +318,13 @@ def test_tcp_connections_more_than_places(forwarder):
         stream.close()
 
 
-class Hog(threading.Thread):
-    """A client of 127.0.0.1 with many connections. He asks on each of them five times a second, and
+class Hog(Aside):
+    """A client of 127.0.0.1 with many connections. It asks on each of them five times a second, and
     makes another for each that is shut."""
 
     def __init__(self, port, count):
         super().__init__()
-        self.port, self.is_over = port, threading.Event()
+        self.port = port
         self.sockets = [self.connect() for _ in range(count)]
 
     def connect(self):
@@ -347,13 +347,8 @@ class Hog(threading.Thread):
             for number in range(len(self.sockets)):
                 self.ask_on(number)
 
-    def __enter__(self):
-        self.start()
-        return self
-
     def __exit__(self, *_):
-        self.is_over.set()
-        self.join()
+        super().__exit__()
         for it in self.sockets:
             it.close()
 

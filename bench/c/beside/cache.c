@@ -1,7 +1,6 @@
 /* SPDX-License-Identifier: MIT */
 /* `struct rrcache` under work.c, which has its locks in it. */
-#include "rrcache.h"
-#include "work.h"
+#include "sets.h"
 
 /* What a set of one address takes (`rrcache_sizes`), of a name that is stored in itself. */
 enum { SET_OCTETS = RRCACHE_ENTRY_OCTETS + 2 * RRCACHE_SHARED_OCTETS + 2 * RRCACHE_VALUE_OCTETS };
@@ -24,17 +23,7 @@ void *begin_thread(unsigned number)
 void put(void *thread, const struct name *name, unsigned turn)
 {
     const uint8_t data[] = {0, 4, 192, 0, 2, (uint8_t)turn};
-    const struct rrcache_set set = {
-        .owner = name->octets,
-        .owner_size = name->size,
-        .rtype = 1,
-        .rclass = RRCACHE_IN,
-        .trust = RRCACHE_AUTHORITATIVE_ANSWER,
-        .ttl = TTL,
-        .data = data,
-        .data_size = sizeof data,
-        .moment = MOMENT,
-    };
+    const struct rrcache_set set = address_of(name, data, sizeof data);
     uint32_t outcome;
     (void)thread;
     if (rrcache_store_set(cache, &set, &outcome) != RRCACHE_DONE)

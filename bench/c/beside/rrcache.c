@@ -5,8 +5,7 @@
 #define _GNU_SOURCE
 #include <pthread.h>
 
-#include "rrcache.h"
-#include "work.h"
+#include "sets.h"
 
 #if defined PEEKS
 typedef pthread_rwlock_t lock;
@@ -81,17 +80,7 @@ static struct rrcache_name made_name(const struct name *name)
 void put(void *thread, const struct name *name, unsigned turn)
 {
     const uint8_t data[] = {0, 4, 192, 0, 2, (uint8_t)turn};
-    const struct rrcache_set set = {
-        .owner = name->octets,
-        .owner_size = name->size,
-        .rtype = 1,
-        .rclass = RRCACHE_IN,
-        .trust = RRCACHE_AUTHORITATIVE_ANSWER,
-        .ttl = TTL,
-        .data = data,
-        .data_size = sizeof data,
-        .moment = MOMENT,
-    };
+    const struct rrcache_set set = address_of(name, data, sizeof data);
     uint32_t outcome;
     struct shelf *shelf = &shelves[made_name(name).part];
     (void)thread;
