@@ -11,7 +11,9 @@
    - Any thread may call any function at any time. The exception is `rrcache_close`: no other call
      on the cache may be running at that time, and none may follow. A call may block on a lock. No
      function may be called in a signal handler, or in the child after a process with several
-     threads forks.
+     threads forks. After a process with one thread forks, parent and child each have a cache of
+     their own, with the same seed: neither sees what the other stores. Processes cannot share a
+     cache.
    - A hash under a secret seed chooses the shelf of each name. Each shelf has `readers` places, and
      threads are assigned to these places in turn. A look-up that does not move its entry takes only
      the place of its thread, or another place if that one is taken. Such look-ups do not block each
@@ -45,6 +47,9 @@
      shelf. A second filter, of the names that may have a negative answer or a failure, uses 2 to 4
      octets for each of `keys`, whatever `octets` is: 8 MiB with the default number of keys. So set
      `keys` too if `octets` is small.
+   - An RRset that would use more than the share of its shelf is left out. The largest RRset of a
+     response used 242,208 octets in tests. So with 64 shelves set `octets` to at least 16 MiB, and
+     use fewer shelves if `octets` is smaller.
    - Look-ups never allocate while no history is recorded. `rrcache_next`, `rrcache_stats`,
      `rrcache_stats_of` and `rrcache_stats_text` never allocate. If malloc fails in any other
      function, except during an eviction, the function returns RRCACHE_MEMORY. The contents of the
@@ -63,7 +68,9 @@
      status. On error, outputs are unmodified, unless the comment of the function says otherwise.
    - A function that fills an answer empties the answer first. On error the answer stays empty: its
      `kind` is RRCACHE_MISS, and `end` has no name. The exception is RRCACHE_SMALL: the answer then
-     has the RRsets that fit, and `end` is unspecified.
+     has the RRsets that fit, and `kind` and `end` are unspecified. The answer does not have the
+     size that is needed: make the call again with a larger buffer. A second `rrcache_store` stores
+     the response again.
    - Every function that returns a status returns RRCACHE_NULL if a required pointer is null.
      RRCACHE_MEMORY means that malloc failed, RRCACHE_HISTORY_FULL that event numbers are spent, and
      RRCACHE_MOMENT_TOO_LARGE that a timestamp is above 2^40. The comments below do not repeat these
@@ -104,7 +111,7 @@ struct rrcache_config {
                            in it at once: 1 to 64, or 0 for the number of processors, but at most
                            16 */
     uint64_t max_stale; /* for how many seconds past its TTL an RRset may be served: 0 to 604,800
-                           (RFC 8767 section 4) */
+                           (RFC 8767 section 4). RFC 8767 section 5 suggests 1 to 3 days */
     struct rrcache_limits limits; /* of responses; a field that is 0 means that field of
                                      RRCACHE_LIMITS */
     uint8_t seed[16];             /* 16 secret random octets, or all 0 for octets from the system */
@@ -167,14 +174,18 @@ struct rrcache_answer {
 /* An RRset of an answer, in the form that `rrcache_compose_response` takes. In a negative answer it
    is the SOA record, for the authority section. Initialize this struct to zeros. */
 struct rrcache_rrset {
-    struct rrcache_parsed_set set;
-    uint32_t kind;              /* enum rrcache_kind: fresh, stale, NODATA or NXDOMAIN */
-    uint32_t trust;             /* its rank: enum rrcache_trust */
+    struct rrcache_parsed_set set; /* its `ttl` is the TTL for the client: the remaining TTL, or 30
+                                      if the RRset is stale. Each RRset of a CNAME chain has its
+                                      own */
+    uint32_t kind;                 /* enum rrcache_kind: fresh, stale, NODATA or NXDOMAIN */
+    uint32_t trust;                /* its rank: enum rrcache_trust */
     struct rrcache_entry entry; /* the entry that the RRset comes from. Its `ttl` and `moment`, as
                                    they were stored, tell a resolver when to prefetch. `number` is
-                                   unique only within the shelf of the owner's name, and no field
-                                   has that shelf. In an answer of `rrcache_store`, `number` and
-                                   `age` are 0 */
+                                   unique only within the shelf of the owner's name, and in a
+                                   negative answer within that of `end`. No field has the shelf, but
+                                   this name and `number` together are unique: by them a caller can
+                                   find its own data about the entry, such as a security status. In
+                                   an answer of `rrcache_store`, `number` and `age` are 0 */
     size_t next;                /* the offset of the next RRset in the buffer */
 };
 
@@ -251,7 +262,9 @@ RRCACHE_API enum rrcache_status rrcache_lookup(struct rrcache *cache,
 /* Looks up the deepest unexpired NS RRset at or above a name, from which a resolver can start (RFC
    1034 section 5.3.3, RFC 9156 section 2). The answer has this RRset, and `end` is its owner. If
    there is none, `kind` is RRCACHE_MISS. The fields `rtype`, `mode` and `takes_glue` of the request
-   are ignored. The errors are those of `rrcache_lookup`, except RRCACHE_BAD_CHOICE. */
+   are ignored. The parent zone has the DS RRset of a zone (RFC 4035 section 2.4): for a question of
+   type DS, pass the name without its first label. The errors are those of `rrcache_lookup`, except
+   RRCACHE_BAD_CHOICE. */
 RRCACHE_API enum rrcache_status rrcache_lookup_delegation(struct rrcache *cache,
                                                           const struct rrcache_request *request,
                                                           struct rrcache_answer *answer);
@@ -271,7 +284,21 @@ RRCACHE_API bool rrcache_next(const struct rrcache_answer *answer, struct rrcach
    the server, and nothing is stored. A response with an RCODE other than NOERROR and NXDOMAIN, such
    as SERVFAIL, is stored as a failure of its question. So pass such a response only when no other
    server is left to ask. The RCODE is in the low four bits of the fourth octet. From a truncated
-   response (TC set) nothing is stored: send the query again over TCP.
+   response (TC set) nothing is stored: send the query again over TCP. If such a response ends
+   inside a record, the call returns RRCACHE_BAD_MESSAGE. If TC is set (0x02 of the third octet),
+   that is not a failure of the server.
+
+   To read a response without storing it, call `rrcache_read_response` with one part, any seed that
+   is not zeros, and limits that are not 0. It compares the response with the query as this call
+   does. Then `rrcache_tell_response` returns the kind and RCODE, and `rrcache_tell_offer` returns
+   each relevant RRset, even one with TTL 0. So a resolver sees whether one of several servers has
+   failed.
+
+   The RRsets of a referral are stored, but are not in `answer`. `name` of `report` is the zone of
+   the referral, `rrcache_lookup_delegation` returns the NS RRset, and look-ups with `takes_glue`
+   return the addresses. NS RRsets and addresses with TTL 0 are not stored, so look-ups do not find
+   them: read such a referral without storing it, as above. An NS RRset with unequal TTLs is left
+   out, unless `lowest_ttl` is set.
 
    `answer` may be null. Otherwise it gets the answer that the response itself gives, including data
    that are not stored: data with TTL 0, data that were left out, and data of lower rank than the
@@ -377,8 +404,9 @@ RRCACHE_API enum rrcache_status rrcache_stop_recording_all(struct rrcache *cache
    chapter of an archive begins. The contents of each shelf are those at one point in time. The call
    allocates memory for the keys of one shelf at a time. No call reads such contents back. A caller
    can store each entry in a new cache, with the rank, TTL and timestamp of its line, in the order
-   of event numbers. Returns RRCACHE_HAS_CHAPTERS while
-   histories are recorded, and RRCACHE_SINK if the sink returns nonzero. Also returns
+   of event numbers. CLOCK_BOOTTIME begins anew when the machine restarts: the caller then converts
+   the timestamps first (docs/RULES.md, "Listing and saving keys"). Returns RRCACHE_HAS_CHAPTERS
+   while histories are recorded, and RRCACHE_SINK if the sink returns nonzero. Also returns
    RRCACHE_HISTORY_FULL and RRCACHE_MEMORY. */
 RRCACHE_API enum rrcache_status rrcache_dump(struct rrcache *cache, rrcache_shelf_sink sink,
                                              void *state);
