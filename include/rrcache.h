@@ -373,7 +373,8 @@ RRCACHE_API enum rrcache_status rrcache_sweep_all(struct rrcache *cache, uint64_
                                                   uint64_t most, struct rrcache_swept *swept);
 
 /* Writes to `stats` the counters of all shelves since the cache was opened, and the keys and octets
-   that the shelves hold. */
+   that the shelves hold. Each shelf is read at a time of its own, and look-ups in it wait
+   meanwhile, as they wait for a store. */
 RRCACHE_API enum rrcache_status rrcache_stats(struct rrcache *cache, struct rrcache_stats *stats);
 
 /* Writes to `stats` the counters of one shelf, whose number is counted from 0. Returns

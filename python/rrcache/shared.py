@@ -222,7 +222,7 @@ class SharedCache(Closing):
         and `NoQuestion` are failures of the server, and nothing is stored. A response with an RCODE
         other than NOERROR and NXDOMAIN is stored as a failure of its question. So pass such a
         response only when no other server is left to ask. From a response with TC set nothing is
-        stored: send the query again over TCP.
+        stored: send the query again over TCP. It raises `BadMessage` if it ends inside a record.
 
         If `limits` is None, or a limit is 0, the limits of the cache apply. With `lowest_ttl`, an
         RRset with different TTLs is stored with the lowest of them even if AA is clear. With

@@ -166,8 +166,10 @@ impl Cache {
     /// then drops them and keeps waiting. [`BadMessage`](Error::BadMessage) and
     /// [`NoQuestion`](Error::NoQuestion) are failures of the server, and nothing is stored. A
     /// response with an RCODE other than NOERROR and NXDOMAIN is stored as a failure of its
-    /// question. So store such a response only when no other server is left to ask. The caller
-    /// checks the address and port that a response came from.
+    /// question. So store such a response only when no other server is left to ask. From a response
+    /// with TC set nothing is stored: send the query again over TCP. If such a response ends inside
+    /// a record, the error is `BadMessage`. The caller checks the address and port that a response
+    /// came from.
     ///
     /// ```
     /// use rrcache::{Cache, Config, Name, Query, RecordType, Response, ResponseKind};

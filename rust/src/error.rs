@@ -77,7 +77,8 @@ refusals! {
     BadLimits = 8 "a limit is out of range",
     /// The argument is not a name.
     BadName = 9 "the octets are not the wire form of a name",
-    /// The response answers the query but cannot be read. This is a failure of the server.
+    /// The response answers the query but cannot be read. This is a failure of the server, unless
+    /// TC is set.
     BadMessage = 10 "the octets are not a response that can be read",
     /// An enumeration has no such number. No call of this crate returns this error.
     BadChoice = 11 "no purpose, mode, kind, rank, section or RCODE has this number",
