@@ -19,19 +19,19 @@
      the place of its thread, or another place if that one is taken. Such look-ups do not block each
      other, even for the same name, as long as there are at least as many places as threads. A call
      that changes a shelf keeps new look-ups out of the shelf, and waits for those that have begun.
-     No call holds locks of two shelves at once.
+     No call holds locks of two shelves at the same time.
    - If a thread asks for a name again and again within a second, in lower case, the answer is
      copied from a memo as long as nothing has changed in the shelf of the name. Only an answer of
-     one RRset and a negative answer have memos. Such a look-up takes no place. It returns and
-     counts what it would return and count otherwise.
+     one RRset and a negative answer have memos. Such a look-up takes no place. What it returns and
+     counts is the same as without a memo.
    - ThreadSanitizer cannot see the locks of the built library. A program that runs under it has to
      compile the files of lib/ for it too, and to link them before the library.
    - Eviction is LRU, but a look-up does not always move its entry to the front of the LRU order,
-     because a move changes the shelf. In a shelf that is at least three quarters full,
-     by octets or by keys, a look-up moves its entry if more than a quarter of the shelf's keys may
-     have been used after that entry. In all other cases a look-up moves its entry only if most of
-     the recent look-ups moved theirs. With `exact_recency` every look-up moves its entry.
-     docs/RULES.md says which order a caller can rely on.
+     because a move changes the shelf. In a shelf that is at least three quarters full, by octets or
+     by keys, a look-up moves its entry if more than a quarter of the shelf's keys may have been
+     used after that entry. In all other cases a look-up moves its entry only if most of the recent
+     look-ups moved theirs. With `exact_recency` every look-up moves its entry. docs/RULES.md says
+     which order a caller can rely on.
 
    Memory
    - The keys use at most `octets` of memory, as counted by `rrcache_sizes`. Each shelf has an equal
@@ -39,8 +39,8 @@
      least recently used keys of that shelf, if necessary, before it returns. If malloc fails during
      the eviction, the call still succeeds, and the next call that stores in that shelf evicts the
      rest. An allocator uses more memory than is counted. So set `octets` to four tenths of the
-     memory that the cache may use, without the memory of the next paragraph. SECURITY.md has the
-     measurements behind this factor.
+     memory that the cache may use, not counting the memory that the next paragraph describes.
+     SECURITY.md has the measurements behind this factor.
    - In addition, `rrcache_open` allocates the places, memos of answers, and a filter of the names
      that may be aliases. The memos use at most 1/32 of `octets`, and at most about 265 KiB for each
      of `readers`. The filter uses at most about 1/80 of `octets`, and at most 128 KiB for each
@@ -59,9 +59,9 @@
    Timestamps
    - Timestamps (`moment`) are in seconds, at most 2^40. If a timestamp is 0, the call uses
      CLOCK_BOOTTIME, which cannot be set and keeps running while the machine is suspended.
-   - A program passes 0 in every call, or it passes timestamps of its own clock in every call. That
-     clock must never be set back. If a program mixes the two clocks, data expire too late or too
-     early. `retry_from` is a timestamp of the same clock.
+   - A program passes 0 in every call, or it passes timestamps from its own clock in every call.
+     That clock must never be set back. If a program mixes the two clocks, data expire too late or
+     too early. `retry_from` is a timestamp of the same clock.
 
    Errors
    - The header rrcache_shelf.h describes the wire form of names, the ownership of memory, and each
@@ -72,14 +72,14 @@
      size that is needed: make the call again with a larger buffer. A second `rrcache_store` stores
      the response again.
    - Every function that returns a status returns RRCACHE_NULL if a required pointer is null.
-     RRCACHE_MEMORY means that malloc failed, RRCACHE_HISTORY_FULL that event numbers are spent, and
-     RRCACHE_MOMENT_TOO_LARGE that a timestamp is above 2^40. The comments below do not repeat these
-     conditions.
-   - After RRCACHE_HISTORY_FULL the shelf stores nothing any more. Then close the cache and open a
-     new one. At 10^9 events a second in one shelf, this happens after 146 years.
-   - A field of `struct rrcache_config`, and a limit in a `struct rrcache_response` that
-     `rrcache_store` gets, may be 0: its default then applies. For the functions of rrcache_shelf.h
-     a limit or a seed of 0 is an error.
+     RRCACHE_MEMORY means that malloc failed, RRCACHE_HISTORY_FULL that the event numbers are used
+     up, and RRCACHE_MOMENT_TOO_LARGE that a timestamp is above 2^40. The comments below do not
+     repeat these conditions.
+   - After RRCACHE_HISTORY_FULL the shelf can no longer store anything. Then close the cache and
+     open a new one. At 10^9 events a second in one shelf, this happens after 146 years.
+   - A field of `struct rrcache_config`, and a limit in a `struct rrcache_response` that is passed
+     to `rrcache_store`, may be 0: its default then applies. For the functions of rrcache_shelf.h a
+     limit or a seed of 0 is an error.
 
    ABI
    - The library reads or writes every struct of this header. So each of these structs keeps its
@@ -102,14 +102,14 @@ struct rrcache;
 
 /* The configuration of a cache. All zeros are good defaults, without stale data. */
 struct rrcache_config {
-    uint64_t octets;    /* the most octets of memory that the keys use, divided equally among the
-                           shelves: 65,536 to 2^46, or 0 for 64 MiB */
-    uint64_t keys;      /* the most keys, divided equally among the shelves and rounded up: at most
-                           65,536 for each shelf, or 0 for this maximum */
+    uint64_t octets;    /* the maximum number of octets of memory that the keys use, divided equally
+                           among the shelves: 65,536 to 2^46, or 0 for 64 MiB */
+    uint64_t keys;      /* the maximum number of keys, divided equally among the shelves and rounded
+                           up: at most 65,536 for each shelf, or 0 for this maximum */
     uint64_t shelves;   /* the number of shelves: 1 to 64, or 0 for 64 */
-    uint64_t readers;   /* the number of places of a shelf, which is the most threads that look up
-                           in it at once: 1 to 64, or 0 for the number of processors, but at most
-                           16 */
+    uint64_t readers;   /* the number of places of a shelf, which is the maximum number of threads
+                           that can look up in it at once: 1 to 64, or 0 for the number of
+                           processors, but at most 16 */
     uint64_t max_stale; /* for how many seconds past its TTL an RRset may be served: 0 to 604,800
                            (RFC 8767 section 4). RFC 8767 section 5 suggests 1 to 3 days */
     struct rrcache_limits limits; /* of responses; a field that is 0 means that field of
@@ -130,7 +130,7 @@ struct rrcache_request {
                         a client's question (RFC 2181 section 5.4.1) */
 };
 
-/* The most CNAME records that a look-up follows. */
+/* The maximum number of CNAME records that a look-up follows. */
 enum { RRCACHE_MOST_ALIASES = 16 };
 
 /* A buffer of this size has room for every answer of a look-up if each CNAME RRset and each DNAME
@@ -202,11 +202,11 @@ struct rrcache_report {
 /* Counters of a cache or of one shelf. Each name of a CNAME chain counts as one look-up.
    `rrcache_lookup_delegation` counts one look-up for each name that it tries. */
 struct rrcache_stats {
-    uint64_t hits;      /* look-ups that an unexpired RRset answered */
-    uint64_t stale;     /* look-ups that a stale RRset answered */
-    uint64_t negative;  /* look-ups that NODATA or NXDOMAIN answered */
-    uint64_t misses;    /* look-ups that nothing answered, without a recent failure */
-    uint64_t failed;    /* look-ups that nothing answered, with a recent failure */
+    uint64_t hits;      /* look-ups answered by an unexpired RRset */
+    uint64_t stale;     /* look-ups answered by a stale RRset */
+    uint64_t negative;  /* look-ups answered by NODATA or NXDOMAIN */
+    uint64_t misses;    /* look-ups without an answer and without a recent failure */
+    uint64_t failed;    /* look-ups without an answer, after a recent failure */
     uint64_t kept;      /* RRsets, negative answers and failures that were stored */
     uint64_t outranked; /* RRsets and negative answers that were not stored, because data of higher
                            rank were cached */
@@ -219,12 +219,12 @@ struct rrcache_stats {
 /* A buffer of this size has room for the text of every `struct rrcache_stats`. */
 enum { RRCACHE_STATS_OCTETS = 384 };
 
-/* A callback, to which `rrcache_stop_recording_all` and `rrcache_dump` write. Each call passes
+/* The callback to which `rrcache_stop_recording_all` and `rrcache_dump` write. Each call passes
    `size` octets of one shelf, whose number is counted from 0. The callback has to process all these
    octets. The callback returns 0 to continue, and nonzero to stop. `state` is the pointer that the
-   caller passed. No lock of a shelf is held during the callback, but the lock is held under which
-   recording starts and stops. A call that takes this lock again would never return. So the callback
-   must not call any function on this cache. */
+   caller passed. No lock of a shelf is held during the callback, but the lock that guards the start
+   and the end of recording is held. A call that takes this lock again would never return. So the
+   callback must not call any function on this cache. */
 typedef int (*rrcache_shelf_sink)(void *state, uint64_t shelf, const void *octets, size_t size);
 
 /* Opens a cache, and writes a pointer to it to `*cache`. A null `config` means a config of zeros.
@@ -302,8 +302,8 @@ RRCACHE_API bool rrcache_next(const struct rrcache_answer *answer, struct rrcach
 
    `answer` may be null. Otherwise it gets the answer that the response itself gives, including data
    that are not stored: data with TTL 0, data that were left out, and data of lower rank than the
-   cached data. So a waiting client gets what the server said. For type ANY, the answer has all
-   RRsets of the name, which no look-up returns. At most RRCACHE_MOST_ALIASES CNAME records are
+   cached data. So a waiting client gets the data that the server sent. For type ANY, the answer has
+   all RRsets of the name, which no look-up returns. At most RRCACHE_MOST_ALIASES CNAME records are
    followed, and RRsets of any size are returned. Fewer CNAME records and only smaller RRsets are
    relevant, and therefore stored. If the type is not kept, such as NAPTR, each record is returned
    as an RRset of its own, and RRCACHE_NODATA means that an SOA record denies the type. `kind` is
@@ -327,10 +327,10 @@ RRCACHE_API enum rrcache_status rrcache_store(struct rrcache *cache,
 RRCACHE_API enum rrcache_status rrcache_store_set(struct rrcache *cache,
                                                   const struct rrcache_set *set, uint32_t *outcome);
 
-/* Stores that a name does not exist, or has no data of a type, as `rrcache_offer_negative` offers
-   it, and writes the outcome to `outcome`. Returns RRCACHE_TOO_LARGE if the negative answer might
-   use more memory than one shelf may use for all its keys. The other errors are those of
-   `rrcache_offer_negative`. */
+/* Stores a negative answer (a name does not exist, or has no data of a type) as
+   `rrcache_offer_negative` offers it, and writes the outcome to `outcome`. Returns
+   RRCACHE_TOO_LARGE if the negative answer might use more memory than one shelf may use for all its
+   keys. The other errors are those of `rrcache_offer_negative`. */
 RRCACHE_API enum rrcache_status rrcache_store_negative(struct rrcache *cache,
                                                        const struct rrcache_negative *negative,
                                                        uint32_t *outcome);
@@ -345,8 +345,8 @@ RRCACHE_API enum rrcache_status rrcache_store_failure(struct rrcache *cache,
 /* Removes the cached data of a name, a class and a type: the RRset or NODATA, the failure, and the
    NXDOMAIN of the name. With type ANY (255), the call removes the data of every type. The call then
    tries each type in turn, which takes about 10 milliseconds, and releases its lock after every 256
-   types. Data that other threads store for the name meanwhile may stay. The first time that a
-   failure is removed from a shelf, the call takes as long as the first sweep of the shelf, which
+   types. Data that other threads store for the name in the meantime may remain. The first time that
+   a failure is removed from a shelf, the call takes as long as the first sweep of the shelf, which
    visits all its keys. The fields `mode` and `takes_glue` of the request are ignored.
 
    Returns RRCACHE_BAD_NAME if the name is not in wire form, and RRCACHE_BAD_TYPE if the type is 0
@@ -388,9 +388,9 @@ RRCACHE_API enum rrcache_status rrcache_stats_text(const struct rrcache_stats *s
                                                    size_t size);
 
 /* Starts to record the histories of all shelves. While histories are recorded, each look-up is an
-   event, changes its shelf, and moves its entry to the front of the LRU order. Events
-   stay in memory until recording stops, at least 96 octets each, and `octets` does not limit them.
-   If histories are already recorded, the call does nothing. Returns RRCACHE_HISTORY_FULL and
+   event, changes its shelf, and moves its entry to the front of the LRU order. Events use at least
+   96 octets each and stay in memory until recording stops, and `octets` does not limit them. If
+   histories are already recorded, the call does nothing. Returns RRCACHE_HISTORY_FULL and
    RRCACHE_MEMORY. On error nothing is recorded. */
 RRCACHE_API enum rrcache_status rrcache_record_all(struct rrcache *cache);
 

@@ -5,15 +5,17 @@
 
    A *shelf* is one shard of the cache. A resolver makes 16 to 64 shelves, and keeps a lock for
    each. For each question it calls `rrcache_make_name` once, which folds and hashes the name, and
-   determines its shelf. All data of a name are in one shelf, whatever the case of its letters. A
-   hash under a secret seed chooses the shelf, and all shelves of a cache share that seed (`struct
-   rrcache_rules`, `struct rrcache_parts`). Without a secret seed, an attacker could pick names of
-   one shelf, to fill the shelf and keep its lock busy. With more shelves, fewer threads wait for
-   the same lock. For a program with one thread, one shelf without a lock is enough.
+   determines its shelf. All data of a name are in one shelf, regardless of the case of its letters.
+   A hash under a secret seed chooses the shelf, and all shelves of a cache share that seed
+   (`struct rrcache_rules`, `struct rrcache_parts`). Without a secret seed, an attacker could choose
+   names that are all in one shelf, to fill that shelf and keep its lock busy. With more shelves,
+   fewer threads wait for the same lock. For a program with one thread, one shelf without a lock is
+   enough.
 
-   docs/RULES.md has the rules. Some names in this header are not its terms: a `moment` is a
-   timestamp, `trust` is a rank, `left` is a remaining TTL, and `data` are rdata (docs/GLOSSARY.md).
-   docs/UPGRADING.md says how to change a program that was written for version 1.
+   docs/RULES.md has the rules. Some names in this header differ from the terms on that page: a
+   `moment` is a timestamp, `trust` is a rank, `left` is a remaining TTL, and `data` are rdata
+   (docs/GLOSSARY.md). docs/UPGRADING.md says how to change a program that was written for version 1
+   of the library.
 
    Ownership
    - The caller owns the handles, the locks and the buffers, and the library keeps no pointer to any
@@ -84,7 +86,7 @@
    A message about names in several shelves
    - A response may have data of names that are not in the shelf of its question: the target of an
      alias, the owner of an SOA record, the addresses of name servers. A resolver with several
-     shelves reads the message once, by `rrcache_read_response` and without a lock, and gets the
+     shelves reads the message once, with `rrcache_read_response` and without a lock, and gets the
      shelves that the message concerns. For each of these shelves, the resolver takes the lock of
      the shelf and calls `rrcache_offer_read` with the number of the shelf, counted from 0. Each
      call offers only the data of names in that shelf, so all these calls together offer everything
@@ -120,7 +122,7 @@
      keys. Records of a message count only if they are in the class of its question. Data of type A
      in class CH are not kept, because they begin with a name. It is an error to ask for a class
      that is not kept, or for type 0. A question for any other type that is not kept is allowed: the
-     reply is a miss, or RRCACHE_NXDOMAIN if that is cached. For type ANY this is so even if RRsets
+     reply is a miss, or RRCACHE_NXDOMAIN if that is cached. This applies to type ANY even if RRsets
      of the name with a higher rank are cached.
    - Even if a message answers its question, an ask that follows may be a miss. There are five
      causes: the TTL is 0; the type is not kept; the TTLs of an RRset differ with AA clear and
@@ -134,8 +136,8 @@
      failure.
    - Such a message does not change a cached RRset either, and that RRset may still be returned,
      even stale. RFC 8767 section 4 counts the data as refreshed if the message is an authoritative
-     NOERROR or NXDOMAIN (AA set). The resolver then clears the type by `rrcache_offer_set` with
-     `ttl` 0.
+     NOERROR or NXDOMAIN (AA set). The resolver then clears the type by calling `rrcache_offer_set`
+     with `ttl` 0.
    - A response with an RCODE other than NOERROR and NXDOMAIN offers a failure of its question, even
      if the RCODE is FORMERR, NOTIMP or REFUSED. From then on the reply for the question is
      RRCACHE_FAILED. So offer such a response only when no other server, and no retry without EDNS,
@@ -178,24 +180,24 @@
      copies the entries of all keys. It does the same at the end of a chapter with more uses and
      removals than keys at its beginning. Names, data and events are not copied. A good chapter size
      is about as many events as the shelf has keys.
-   - A caller that records should regularly take the closed chapters by `rrcache_take_chapters`, or
-     drop them by `rrcache_drop_chapters`. Taking them is one step, however many there are. Dropping
-     them frees each of their events, and each copied entry that is not used elsewhere. So the time
-     to drop them grows with the number of events since the last time, and is spent under the lock:
-     it is short if chapters are dropped often. `rrcache_free_chapters` frees taken chapters without
-     a lock.
+   - A caller that records should regularly take the closed chapters with `rrcache_take_chapters`,
+     or drop them with `rrcache_drop_chapters`. Taking them is one step, however many there are.
+     Dropping them frees each of their events, and each copied entry that is not used elsewhere. So
+     the time to drop them grows with the number of events since the last time, and is spent under
+     the lock: it is short if chapters are dropped often. `rrcache_free_chapters` frees taken
+     chapters without a lock.
    - `rrcache_write_chapter` writes a taken chapter as text: a first line with its number and the
      rules of the shelf, a line for each key that was cached when the chapter began, and a line for
      each event. All chapters of one record, written in the order in which they were taken, are an
      archive. `rrcache --audit-history` audits archives. Chapters are numbered from 1, and chapters
      that were not recorded have numbers too. So the first chapter of a record has the number 2 or a
      higher one.
-   - Event numbers are spent if the next event would have the number 2^62, even if it is not
-     recorded. Chapter numbers are spent if the open chapter is full and has the number 2^62. After
-     that, each call that has to write an event returns RRCACHE_HISTORY_FULL, even if chapters are
-     dropped. `rrcache_peek` still returns replies. The resolver then frees the shelf and makes a
-     new, empty one; with `struct rrcache`, it closes the cache and opens a new one. At 10^9 events
-     a second, this happens after 146 years.
+   - Event numbers are used up if the next event would have the number 2^62, even if it is not
+     recorded. Chapter numbers are used up if the open chapter is full and has the number 2^62.
+     After that, each call that has to write an event returns RRCACHE_HISTORY_FULL, even if chapters
+     are dropped. `rrcache_peek` still returns replies. The resolver then frees the shelf and makes
+     a new, empty one; with `struct rrcache`, it closes the cache and opens a new one. At 10^9
+     events a second, this happens after 146 years.
 
    Which error is returned
    - If several errors apply, the call returns the first one in this list: RRCACHE_NULL;
@@ -208,14 +210,14 @@
    - If malloc fails while a call checks for these errors, the call returns RRCACHE_MEMORY instead
      of the errors that it has not yet checked for.
    - A message causes RRCACHE_HISTORY_FULL and RRCACHE_MOMENT_TOO_LARGE with its first offer. If it
-     has no offers, the call returns RRCACHE_DONE, whatever the timestamp is, and even if numbers
-     are spent.
+     has no offers, the call returns RRCACHE_DONE, regardless of the timestamp and even if numbers
+     are used up.
    - Every function returns RRCACHE_NULL and RRCACHE_OVERLAP as described at the end of this
      comment. A function that uses the contents of a handle returns RRCACHE_NO_SHELF,
      RRCACHE_NO_OFFERS or RRCACHE_NO_CHAPTERS if the handle holds none. Calls that allocate return
      RRCACHE_MEMORY if malloc fails. Calls that write an event return RRCACHE_HISTORY_FULL if
-     numbers are spent, and RRCACHE_MOMENT_TOO_LARGE if the timestamp is above 2^40. The comments of
-     the functions do not repeat these conditions.
+     numbers are used up, and RRCACHE_MOMENT_TOO_LARGE if the timestamp is above 2^40. The comments
+     of the functions do not repeat these conditions.
 
    Names are in wire form (RFC 1035 section 3.1): whole, without compression pointers, at most 255
    octets including the zero octet at the end, and in any case. `line` in a struct is a number that
@@ -227,10 +229,10 @@
    conditions and then call an exported function; `rrcache_compose_response` calls none. An inline
    function returns RRCACHE_NULL if a required pointer is null. It returns RRCACHE_OVERLAP if
    anything that it writes, including the handle, overlaps octets or an array that it reads. Inputs
-   may overlap each other. A struct that has pointers, and a struct that is passed beside one, may
-   overlap an output too, because the function reads it before it writes anything. The library
-   cannot check whether a handle or a name was initialized to zeros, whether two threads use one
-   handle, or whether a buffer is as large as its size says. */
+   may overlap each other. A struct that has pointers, and a struct that is passed together with
+   one, may overlap an output too, because the function reads it before it writes anything. The
+   library cannot check whether a handle or a name was initialized to zeros, whether two threads use
+   one handle, or whether a buffer is as large as its size says. */
 #ifndef RRCACHE_SHELF_H
 #define RRCACHE_SHELF_H
 
@@ -265,8 +267,8 @@ enum rrcache_status {
     RRCACHE_BAD_LIMITS = 8,       /* a field of `struct rrcache_limits` is out of range */
     RRCACHE_BAD_NAME = 9,         /* the octets are not the wire form of a name, or the `struct
                                      rrcache_name` holds no name */
-    RRCACHE_BAD_MESSAGE = 10,     /* the octets are not a response that can be read; `rrcache_fault`
-                                     says why */
+    RRCACHE_BAD_MESSAGE = 10,     /* the octets cannot be read as a response; `rrcache_fault`
+                                     returns the reason */
     RRCACHE_BAD_CHOICE = 11,      /* no purpose, mode, kind, trust, section or RCODE has this
                                      number */
     RRCACHE_BAD_TYPE = 12,        /* in an offer: data of this type are not kept in this class, such
@@ -375,7 +377,7 @@ enum rrcache_response_kind {
                                      this kind whether it has such data or not */
 };
 
-/* Why octets are not a response that can be read (`rrcache_fault`). */
+/* The reason why octets cannot be read as a response (`rrcache_fault`). */
 enum rrcache_message_fault {
     RRCACHE_NO_FAULT = 0,         /* they can be read */
     RRCACHE_SHORT = 1,            /* the message ends too soon */
@@ -432,8 +434,8 @@ struct rrcache_parts {
 
 /* The rules of a shelf. */
 struct rrcache_rules {
-    uint64_t capacity;  /* the most keys that the shelf holds: 1 to 65,536 */
-    uint64_t chapter;   /* the most events of a recorded chapter: 1 to 1,048,576 */
+    uint64_t capacity;  /* the maximum number of keys in the shelf: 1 to 65,536 */
+    uint64_t chapter;   /* the maximum number of events in a recorded chapter: 1 to 1,048,576 */
     uint64_t max_stale; /* for how many seconds past its TTL an RRset may be served: 0 to 604,800
                            (RFC 8767 section 4) */
     uint8_t seed[16];   /* 16 secret random octets, not all 0, the same for all shelves of a
@@ -451,19 +453,19 @@ struct rrcache_question {
 };
 
 /* The entry of a key. All fields are 0 if nothing is stored, and in replies with RRCACHE_MISS or
-   RRCACHE_FAILED. By `number` an auditor finds the event in the history of the shelf. By the shelf
-   and `number` together, a caller can find its own data that belong to the entry. */
+   RRCACHE_FAILED. An auditor uses `number` to find the event in the history of the shelf. A caller
+   can use the shelf and `number` together to find its own data that belong to the entry. */
 struct rrcache_entry {
     uint32_t kind;   /* enum rrcache_kind, or 0 if nothing is stored */
     uint32_t trust;  /* enum rrcache_trust; 0 for a failure */
-    uint32_t ttl;    /* the TTL as it was stored: from a message at most the cap, otherwise as it
-                        was offered. To prefetch, a resolver renews an entry that is asked for
+    uint32_t ttl;    /* the TTL as it was stored: for data from a message at most the cap, otherwise
+                        as it was offered. To prefetch, a resolver renews an entry that is asked for
                         shortly before `ttl` seconds have passed since `moment` */
     uint64_t moment; /* the timestamp of the offer that was stored */
     uint64_t number; /* the number of the event that stored the entry; no other entry of the shelf
                         has it */
     uint64_t age;    /* the number of uses of keys after the last use of this key, so at most that
-                        many keys were used since. A key is used when it is stored and when it
+                        many keys have been used since. A key is used when it is stored and when it
                         answers an ask. A reply has the age before the call: an ask then moves the
                         entry to the front, and a peek does not. If the entry is already at the
                         front (age 0), an ask is not a use */
@@ -540,11 +542,11 @@ struct rrcache_swept {
                          be one */
 };
 
-/* The number of octets to which a shelf is trimmed, and the most keys to remove. */
+/* The number of octets to which a shelf is trimmed, and the maximum number of keys to remove. */
 struct rrcache_trim_to {
     uint64_t moment;
     uint64_t line;
-    uint64_t limit; /* the most octets that are left, at least 1 */
+    uint64_t limit; /* the maximum number of octets that remain, at least 1 */
     uint64_t most;  /* at least 1 */
 };
 
@@ -589,7 +591,7 @@ struct rrcache_line {
     uint64_t written;
 };
 
-/* ---- Arguments of functions. Each name has the number of its octets beside it. Name the fields
+/* ---- Arguments of functions. Each name has the number of its octets next to it. Name the fields
    when you initialize such a struct, and the other fields are 0.
 
    All structs of this header and of rrcache.h are part of the ABI of the library, because exported
@@ -625,7 +627,7 @@ struct rrcache_response {
     bool clears_denied; /* whether an authoritative NXDOMAIN clears the data of the denied name for
                            the types A, AAAA and CNAME and for the type of the question. Otherwise
                            data that were stored before the NXDOMAIN may answer again, fresh or
-                           stale, after the NXDOMAIN is gone */
+                           stale, after the NXDOMAIN has been removed */
 };
 
 /* An RRset of a response that a resolver parsed itself. `data` has the rdata of each record, one
@@ -700,16 +702,17 @@ struct rrcache_failure {
     uint64_t line;
 };
 
-/* A callback, to which chapters are written. The callback has to process all octets that it gets.
+/* The callback to which chapters are written. The callback has to process all octets that it gets.
    The callback returns 0 to continue, and nonzero to stop. `state` is the pointer that the caller
    passed. */
 typedef int (*rrcache_sink)(void *state, const void *octets, size_t size);
 
-/* The numbers of octets that `rrcache_sizes` adds up. RRCACHE_ENTRY_OCTETS is for a key, with its
-   places in the LRU order, the map and the expiry queue. RRCACHE_VALUE_OCTETS is for a name or for
-   the rdata of a record, which have inline room for RRCACHE_INLINE_OCTETS. RRCACHE_BLOCK_OCTETS is
-   for the separate block of a larger name or larger rdata. RRCACHE_SHARED_OCTETS is for the
-   reference count, with its block, of a name or of the data of a key. */
+/* The numbers of octets of which `rrcache_sizes` computes the sum. RRCACHE_ENTRY_OCTETS is for a
+   key, with its places in the LRU order, the map and the expiry queue. RRCACHE_VALUE_OCTETS is for
+   a name or for the rdata of a record, which have inline room for RRCACHE_INLINE_OCTETS.
+   RRCACHE_BLOCK_OCTETS is for the separate block of a larger name or larger rdata.
+   RRCACHE_SHARED_OCTETS is for the reference count, with its block, of a name or of the data of a
+   key. */
 enum {
     RRCACHE_ENTRY_OCTETS = 160,
     RRCACHE_VALUE_OCTETS = 48,
@@ -718,10 +721,10 @@ enum {
     RRCACHE_SHARED_OCTETS = 32
 };
 
-/* The most octets that a sink gets in one call. */
+/* The maximum number of octets that a sink gets in one call. */
 enum { RRCACHE_PIECE_OCTETS = 4096 };
 
-/* The most octets of a message (RFC 1035 section 4.2.2). */
+/* The maximum number of octets in a message (RFC 1035 section 4.2.2). */
 enum { RRCACHE_MESSAGE_OCTETS = 65535 };
 
 /* ---- The functions of the library, which it exports, and the structs that the inline functions
@@ -864,11 +867,11 @@ static inline const char *rrcache_status_text(enum rrcache_status status)
     case RRCACHE_MEMORY:
         return "out of memory";
     case RRCACHE_HISTORY_FULL:
-        return "the event numbers are spent";
+        return "the event numbers are used up";
     case RRCACHE_MOMENT_TOO_LARGE:
         return "the timestamp is too large";
     case RRCACHE_BAD_RULES:
-        return "a number of the rules is out of range";
+        return "a number in the rules is out of range";
     case RRCACHE_BAD_SEED:
         return "the seed is all zeros";
     case RRCACHE_BAD_LIMITS:
@@ -876,7 +879,7 @@ static inline const char *rrcache_status_text(enum rrcache_status status)
     case RRCACHE_BAD_NAME:
         return "the octets are not the wire form of a name";
     case RRCACHE_BAD_MESSAGE:
-        return "the octets are not a response that can be read";
+        return "the octets cannot be read as a response";
     case RRCACHE_BAD_CHOICE:
         return "no purpose, mode, kind, rank, section or RCODE has this number";
     case RRCACHE_BAD_TYPE:
@@ -908,7 +911,7 @@ static inline const char *rrcache_status_text(enum rrcache_status status)
     case RRCACHE_OVERLAP:
         return "an output overlaps another argument";
     case RRCACHE_OTHER_SEED:
-        return "the name or the message has another seed than the shelf";
+        return "the name or the message has a seed other than the shelf's";
     case RRCACHE_NO_QUESTION:
         return "the response has no question";
     case RRCACHE_TOO_LARGE:
@@ -924,7 +927,7 @@ static inline const uint8_t *rrcache_octets(const uint8_t *octets, size_t size)
     return size == 0 ? &none : octets;
 }
 
-/* Whether a pointer may stand for `size` octets: it is not null, or there are no octets. */
+/* Whether a pointer can be used for `size` octets: it is not null, or `size` is 0. */
 static inline bool rrcache_is_there(const void *octets, size_t size)
 {
     return octets != NULL || size == 0;
@@ -1048,7 +1051,7 @@ static inline size_t rrcache_datum_size(const struct rrcache_parsed_set *set, si
     return size <= left ? size : 0;
 }
 
-/* Whether no rdata of an RRset are cut off. Returns true if there are no rdata. */
+/* Whether all rdata of an RRset are complete. Returns true if there are no rdata. */
 static inline bool rrcache_is_whole(const struct rrcache_parsed_set *set)
 {
     size_t at = 0, size;
@@ -1114,8 +1117,8 @@ static inline enum rrcache_status rrcache_can_say(const struct rrcache_query *qu
 /* The octets of a header. The name of the question follows them. */
 enum { RRCACHE_HEADER_OCTETS = 12 };
 
-/* A message in the making, at the front of a buffer. Octets that do not fit are only counted, and
-   `size` is at most RRCACHE_MESSAGE_OCTETS + 1. */
+/* A message that is being written, at the front of a buffer. Octets that do not fit are only
+   counted, and `size` is at most RRCACHE_MESSAGE_OCTETS + 1. */
 struct rrcache_draft {
     uint8_t *octets;
     size_t room;
@@ -1135,7 +1138,7 @@ static inline void rrcache_put(struct rrcache_draft *draft, const uint8_t *octet
 }
 
 /* Appends an owner: a pointer to the offset `place`, if the owner is already there and a pointer
-   can lead there (RFC 1035 section 4.1.4), and otherwise the whole name. `place` is 0 if the owner
+   can point there (RFC 1035 section 4.1.4), and otherwise the whole name. `place` is 0 if the owner
    was not written yet. Returns the offset of the owner. */
 static inline size_t rrcache_put_owner(struct rrcache_draft *draft,
                                        const struct rrcache_parsed_set *set, size_t place)
@@ -1289,8 +1292,8 @@ static inline enum rrcache_status rrcache_can_read(const struct rrcache_response
    call writes to `concerned` the parts of these offers: bit 0 is set if an offer is in part 0, bit
    1 for part 1, and so on. `rrcache_offer_read` and `rrcache_offer_one` then offer the offers to
    shelves, `rrcache_tell_offer` returns them, and `rrcache_tell_response` returns the kind of the
-   response. If a response has no offers, as with TC set, `concerned` is 0. Free the handle by
-   `rrcache_free_offers` in any case. The call takes no shelf, needs no lock, and writes no event.
+   response. If a response has no offers, as with TC set, `concerned` is 0. Always free the handle
+   with `rrcache_free_offers`. The call takes no shelf, needs no lock, and writes no event.
 
    Returns RRCACHE_HAS_OFFERS if the handle already holds offers, even if another error applies. The
    handle then keeps its offers. Returns RRCACHE_BAD_RULES, RRCACHE_BAD_SEED or RRCACHE_BAD_LIMITS
@@ -1331,8 +1334,9 @@ static inline enum rrcache_status rrcache_can_read(const struct rrcache_response
      an unexpired NS RRset with the same data is cached, the caller does not offer the share of that
      part.
    - An RRset with more than 16,384 octets of rdata is not relevant.
-   - In class IN, an RRset of type A is not relevant if a record has rdata of other than 4 octets,
-     and an RRset of type AAAA is not relevant if a record has rdata of other than 16 octets.
+   - In class IN, an RRset of type A is not relevant if a record has rdata that are not 4 octets
+     long, and an RRset of type AAAA is not relevant if a record has rdata that are not 16 octets
+     long.
 
    So a server of `example` that is asked for one name can replace the cached data of another name
    in only three ways. First, its CNAME records lead to the other name. Second, its NS, MX or SRV
@@ -1470,13 +1474,13 @@ static inline enum rrcache_status rrcache_tell_offer(struct rrcache_offers *offe
                                                buffer_size == 0 ? &none : buffer, buffer_size);
 }
 
-/* Returns the octets that a name or rdata of this size use, inline or in a separate block. */
+/* Returns how many octets a name or rdata of this size use, inline or in a separate block. */
 static inline uint64_t rrcache_room(uint64_t size)
 {
     return RRCACHE_VALUE_OCTETS + (size <= RRCACHE_INLINE_OCTETS ? 0 : RRCACHE_BLOCK_OCTETS + size);
 }
 
-/* Returns the octets that the data of an entry use, from the data that follow the owner in a
+/* Returns how many octets the data of an entry use, given the data that follow the owner in a
    reply. */
 static inline uint64_t rrcache_data_room(const uint8_t *data, uint64_t size)
 {
@@ -1493,7 +1497,7 @@ static inline uint64_t rrcache_data_room(const uint8_t *data, uint64_t size)
 /* Computes the octets that an offer uses if it is stored as a key of its own (`rrcache_sizes`). The
    arguments are the output of `rrcache_tell_offer`. If an offer uses more octets than the limit to
    which a shelf is trimmed, it would evict all other keys. A caller can offer only the other
-   offers, by `rrcache_offer_one`, and answer the waiting client from the output. Returns
+   offers, with `rrcache_offer_one`, and answer the waiting client from the output. Returns
    RRCACHE_SMALL if `buffer_size` is less than the sizes in `told`. Needs no lock. */
 static inline enum rrcache_status rrcache_tell_octets(const struct rrcache_name *name,
                                                       const struct rrcache_told *told,
@@ -1513,10 +1517,10 @@ static inline enum rrcache_status rrcache_tell_octets(const struct rrcache_name 
     return RRCACHE_DONE;
 }
 
-/* Offers one of the offers of a handle to a shelf, and writes the outcome to `outcome` (`enum
-   rrcache_outcome`). So a caller that decides for itself, such as a validator, can store some
-   offers and not others. `pick->index` is counted from 0. The shelf has to be that of the part of
-   the offer, which `rrcache_tell_offer` returns; the call does not check this. Returns
+/* Offers one of the offers of a handle to a shelf, and writes the outcome to `outcome`
+   (`enum rrcache_outcome`). So a caller that makes its own decisions, such as a validator, can
+   store some offers and not others. `pick->index` is counted from 0. The shelf must be the one for
+   the part of the offer, which `rrcache_tell_offer` returns; the call does not check this. Returns
    RRCACHE_NO_OFFERS if there is no offer with this number, and RRCACHE_OTHER_SEED if the seed of
    the shelf is not the seed of the parts. Needs the write lock of the shelf. */
 static inline enum rrcache_status rrcache_offer_one(struct rrcache_shelf *shelf,
@@ -1569,7 +1573,7 @@ rrcache_offer_message_unchecked(struct rrcache_shelf *shelf,
         rrcache_octets(response->zone, response->zone_size), response->zone_size, &terms, counts);
 }
 
-/* Offers the data of names in one part, counted from 0, out of all that
+/* Offers the data of names in one part, counted from 0, from all the data that
    `rrcache_offer_message_unchecked` offers. Offers of other parts are neither made nor counted.
    Returns RRCACHE_BAD_RULES if there is no such part or `parts->count` is not 1 to 64,
    RRCACHE_BAD_SEED if the seed is all 0, RRCACHE_OTHER_SEED if the shelf has another seed, and the
@@ -1729,8 +1733,8 @@ static inline enum rrcache_status rrcache_can_tell(const struct rrcache_shelf *s
 
    A reply needs at most 255 octets for its owner and the octets of its data. For data that
    `rrcache_read_response` read, 28,551 octets are always enough: 255 for the owner, 16,384 for the
-   rdata, and 2 before the rdata of each of at most 5,956 records, which is the most that fit in a
-   message. */
+   rdata, and 2 before the rdata of each of at most 5,956 records, which is the maximum that fits in
+   a message. */
 static inline enum rrcache_status rrcache_ask(struct rrcache_shelf *shelf,
                                               const struct rrcache_name *name,
                                               const struct rrcache_question *question,
@@ -1780,9 +1784,10 @@ static inline enum rrcache_status rrcache_peek(const struct rrcache_shelf *shelf
      higher rank.
    - The record was stored earlier than the entry for the type, and is unexpired and of higher rank.
 
-   So a CNAME record and the data that it replaced are compared like an RRset and an NXDOMAIN, and
-   no older address is returned beside a newer alias (RFC 8767 section 7). In every other case, and
-   always for types CNAME and ANY, the call returns the reply for the type (RFC 1034 section 4.3.2).
+   So a CNAME record and the data that it replaced are compared in the same way as an RRset and an
+   NXDOMAIN, and no older address is returned although there is a newer alias (RFC 8767 section 7).
+   In every other case, and always for types CNAME and ANY, the call returns the reply for the type
+   (RFC 1034 section 4.3.2).
 
    The resolver then asks for the target of the record, under the lock of that name's shelf. The
    target is the name in the first rdata, because a name has one CNAME record (RFC 2181 section
@@ -1873,9 +1878,9 @@ rrcache_sweep(struct rrcache_shelf *shelf, const struct rrcache_sweep_at *sweep,
    this timestamp removes nothing, and a sweep at this timestamp may remove nothing. Before the
    first sweep, the timestamp is the earliest full expiry of all keys that were stored. After a
    sweep, the timestamp is later than that of the sweep, until an offer is made or a chapter is
-   closed. So this loop ends: as long as the timestamp is not later than now, sweep at the
-   timestamp. The timestamp is UINT64_MAX if and only if the shelf holds no key. The call writes no
-   event, and needs only the read lock. */
+   closed. So a loop that sweeps at this timestamp as long as it is not later than now always ends.
+   The timestamp is UINT64_MAX if and only if the shelf holds no key. The call writes no event, and
+   needs only the read lock. */
 static inline enum rrcache_status rrcache_next_expiry(const struct rrcache_shelf *shelf,
                                                       uint64_t *moment)
 {
@@ -1890,9 +1895,10 @@ static inline enum rrcache_status rrcache_next_expiry(const struct rrcache_shelf
 
 /* Sweeps in steps, so that no call takes long. Each step is a sweep at the timestamp that
    `rrcache_next_expiry` returns, and is one event. The call stops when that timestamp is later than
-   `moment`, when at least `most` keys are removed, or after `most` steps. Keys that fully expire in
-   the same second are removed in one step, and a step may remove no key. The call writes to `swept`
-   the number of keys that it removed, and whether no key is left that is fully expired at `moment`.
+   `moment`, when at least `most` keys have been removed, or after `most` steps. Keys that fully
+   expire in the same second are removed in one step, and a step may remove no key. The call writes
+   to `swept` the number of keys that it removed, and whether no key is left that is fully expired
+   at `moment`.
 
    Returns RRCACHE_BAD_RULES if `most` is 0, and RRCACHE_MOMENT_TOO_LARGE before the first step if
    `moment` is above 2^40. Keys that were removed before an error stay removed, and `swept` counts
@@ -1922,14 +1928,14 @@ static inline enum rrcache_status rrcache_sweep_some(struct rrcache_shelf *shelf
    held one since its last sweep, such a sweep comes first, and `trimmed` does not count the keys
    that it removes.
 
-   Octets are not the whole memory. The first sweep of a shelf visits all its keys, and from then on
-   the shelf keeps the times at which they expire, which are not counted. SECURITY.md says how much
-   memory trimmed shelves used.
+   These octets are not all of the memory that a shelf uses. The first sweep of a shelf visits all
+   its keys, and from then on the shelf keeps the times at which they expire, which are not counted.
+   SECURITY.md says how much memory trimmed shelves used.
 
    Returns RRCACHE_BAD_RULES if `limit` or `most` is 0, and RRCACHE_MOMENT_TOO_LARGE if the
-   timestamp is above 2^40; then nothing is done. RRCACHE_MEMORY and RRCACHE_HISTORY_FULL may come
-   later: keys that were removed before stay removed, and `trimmed` is unmodified. In a shelf that
-   does not record, only a sweep at timestamp 0 allocates. */
+   timestamp is above 2^40; then nothing is done. RRCACHE_MEMORY and RRCACHE_HISTORY_FULL may be
+   returned later: keys that were removed before stay removed, and `trimmed` is unmodified. In a
+   shelf that does not record, only a sweep at timestamp 0 allocates. */
 static inline enum rrcache_status rrcache_trim(struct rrcache_shelf *shelf,
                                                const struct rrcache_trim_to *trim,
                                                struct rrcache_trimmed *trimmed)
@@ -1971,9 +1977,9 @@ static inline enum rrcache_status rrcache_can_take(const struct rrcache_shelf *s
 /* Moves the closed chapters of the shelf, the oldest first, into a handle that holds no chapters,
    and writes their number to `count`. `count` is 0 while nothing is recorded. Replies do not
    change. The call allocates one small block, and its time does not grow with the number of events.
-   Calls on the chapters then need no lock of the shelf. Free the handle by `rrcache_free_chapters`,
-   even if `count` is 0. Returns RRCACHE_HAS_CHAPTERS if the handle holds chapters. Needs the write
-   lock. */
+   Calls on the chapters then need no lock of the shelf. Free the handle with
+   `rrcache_free_chapters`, even if `count` is 0. Returns RRCACHE_HAS_CHAPTERS if the handle holds
+   chapters. Needs the write lock. */
 static inline enum rrcache_status rrcache_take_chapters(struct rrcache_shelf *shelf,
                                                         struct rrcache_chapters *chapters,
                                                         uint64_t *count)
@@ -2104,8 +2110,8 @@ static inline enum rrcache_status rrcache_free_chapters(struct rrcache_chapters 
    The shelf updates these counts whenever keys change, so the time of the call does not grow with
    the number of keys. Two things are not counted. Events and chapters keep the data of evicted,
    replaced or swept keys. A shelf that is swept keeps the names and expiry times of evicted keys
-   until these keys would have expired, for at most twice as many keys as the shelf holds, and 64
-   more. */
+   until these keys would have expired, for at most twice as many keys as the shelf holds, and for
+   64 more. */
 static inline enum rrcache_status rrcache_sizes(const struct rrcache_shelf *shelf,
                                                 struct rrcache_usage *sizes)
 {
@@ -2118,8 +2124,8 @@ static inline enum rrcache_status rrcache_sizes(const struct rrcache_shelf *shel
     return (enum rrcache_status)rrc_sizes(&look, sizes);
 }
 
-/* Writes to `fault` why octets are not a response that can be read (`enum rrcache_message_fault`),
-   or RRCACHE_NO_FAULT if they can be read. Needs no lock. */
+/* Writes to `fault` the reason why octets cannot be read as a response
+   (`enum rrcache_message_fault`), or RRCACHE_NO_FAULT if they can be read. Needs no lock. */
 static inline enum rrcache_status rrcache_fault(const uint8_t *octets, size_t size, uint32_t *fault)
 {
     if (fault == NULL || !rrcache_is_there(octets, size))

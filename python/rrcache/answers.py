@@ -152,8 +152,8 @@ def taken() -> Work:
 
 
 def rrsets_in(work: Work, begin: int, size: int) -> tuple[AnswerSet, ...]:
-    """Returns the RRsets of an answer, which uses `size` octets of its buffer from the address
-    `begin` on."""
+    """Returns the RRsets of an answer, which uses `size` octets of its buffer, starting at the
+    address `begin`."""
     following, answer, rrset = work.following, work.answer, structs.Rrset()
     found, end = [], 0
     while end < size:

@@ -47,7 +47,7 @@ def taken() -> Work:
 
 
 def data_of(octets: bytes, at: int) -> tuple[bytes, ...]:
-    """Returns the rdata in `octets` from the offset `at` on. Two octets of length precede each
+    """Returns the rdata in `octets`, starting at the offset `at`. Two octets of length precede each
     rdata."""
     data, end = [], len(octets)
     while at < end:

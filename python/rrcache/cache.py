@@ -18,9 +18,10 @@ LINKS_MOST = 16
 
 class Cache(Closing):
     """1 to 64 shelves, each with a Python lock. All data of a name are in one shelf. A hash under a
-    seed chooses the shelf; the seed is random unless the caller passes one. `capacity` is the most
-    keys of each shelf, and the other arguments are those of `Shelf`. Raises `BadRules` or `BadSeed`
-    if an argument is out of range. The cache keeps the folded form of recently used names.
+    seed chooses the shelf; the seed is random unless the caller passes one. `capacity` is the
+    maximum number of keys in each shelf, and the other arguments are those of `Shelf`. Raises
+    `BadRules` or `BadSeed` if an argument is out of range. The cache keeps the folded form of
+    recently used names.
 
     New programs use a `SharedCache`, in which threads look up at the same time, and which limits
     its memory. A `Cache` returns a reply for each name of a CNAME chain, and has `line` and the
@@ -117,8 +118,8 @@ class Cache(Closing):
                        clears_denied: bool = False) -> Counts:
         """Stores the response of a zone's server to a query. The message is read once, without a
         lock, as `read_response` does, and each shelf gets the relevant offers of its names. If the
-        call of one shelf fails, its exception is raised, and the data that other shelves stored
-        stay.
+        call on one shelf fails, its exception is raised, and other shelves keep the data that they
+        stored.
 
         >>> from rrcache import ParsedSet, compose_response
         >>> query = Query("www.example.", 1, id=0x1234)

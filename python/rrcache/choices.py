@@ -88,7 +88,7 @@ class ResponseKind(IntEnum):
 
 
 class MessageFault(IntEnum):
-    """Why octets are not a response that can be read.
+    """The reason why octets cannot be read as a response.
 
     - NO_FAULT, which is false: they can be read.
     - SHORT: the message ends too soon.

@@ -276,7 +276,7 @@ class _Fields:
 
 
 def _number(text: str, end: int) -> int:
-    """A number below an end."""
+    """A number below a limit."""
     return int(text) if NUMBER.fullmatch(text) and int(text) < end else _none()
 
 

@@ -1,5 +1,5 @@
 # SPDX-License-Identifier: MIT
-"""The library for C by ctypes: its file, the arguments of its functions, and calls without a
+"""The library for C, through ctypes: its file, the arguments of its functions, and calls without a
 shelf."""
 from __future__ import annotations
 
@@ -91,8 +91,8 @@ RESULTS: dict[str, Any] = {"rrcache_close": None, "rrcache_next": c_bool}
 
 
 def path() -> str:
-    """Returns the path of the library: the path in the environment; otherwise the file beside these
-    modules, if they are installed; otherwise the file in the repository that contains them;
+    """Returns the path of the library: the path in the environment; otherwise the file next to
+    these modules, if they are installed; otherwise the file in the repository that contains them;
     otherwise a name for the system's loader."""
     folder = Path(__file__).resolve().parent
     places = folder / "librrcache.so", folder.parents[1] / "build" / "librrcache.so"

@@ -130,9 +130,10 @@ def read_response(message: bytes, zone: str | bytes, query: Query, parts: Parts,
     authoritative NXDOMAIN clears the data of the denied name for the types A, AAAA and CNAME and
     for the type of the question.
 
-    Raises `OtherQuery` if the octets have another identifier or question, whatever follows: the
-    caller then drops them and keeps waiting. Raises `BadMessage` only if the octets answer the
-    query but cannot be read, and `NoQuestion` if the response is a header without a question.
+    Raises `OtherQuery` if the octets have another identifier or question, regardless of what
+    follows: the caller then drops them and keeps waiting. Raises `BadMessage` only if the octets
+    answer the query but cannot be read, and `NoQuestion` if the response is a header without a
+    question.
 
     >>> import os
     >>> message = bytes([0x12, 0x34, 0x84, 0, 0, 1, 0, 0, 0, 0, 0, 0])

@@ -74,9 +74,9 @@ class Memory(Refused):
 
 
 class HistoryFull(Refused):
-    """Event numbers or chapter numbers are spent: the next one would be 2^62."""
+    """Event numbers or chapter numbers are used up: the next one would be 2^62."""
 
-    status, reason = Status.HISTORY_FULL, "the event numbers are spent"
+    status, reason = Status.HISTORY_FULL, "the event numbers are used up"
 
 
 class MomentTooLarge(Refused):
@@ -89,7 +89,7 @@ class BadRules(Refused):
     """One of these is out of range: a capacity, a chapter size, a max-stale, the number of parts,
     shelves, readers, octets or keys, a part, a shelf, or the limits of a sweep or a trim."""
 
-    status, reason = Status.BAD_RULES, "a number of the rules is out of range"
+    status, reason = Status.BAD_RULES, "a number in the rules is out of range"
 
 
 class BadSeed(Refused):
@@ -111,9 +111,9 @@ class BadName(Refused):
 
 
 class BadMessage(Refused):
-    """The octets are not a response that can be read. The function `fault` returns why."""
+    """The octets cannot be read as a response. The function `fault` returns the reason."""
 
-    status, reason = Status.BAD_MESSAGE, "the octets are not a response that can be read"
+    status, reason = Status.BAD_MESSAGE, "the octets cannot be read as a response"
 
 
 class BadChoice(Refused):
@@ -161,7 +161,8 @@ class HasOffers(Refused):
 
 
 class OtherQuery(Refused):
-    """The octets have another identifier or question than the query, or are themselves a query."""
+    """The identifier or the question of the octets is not that of the query, or the octets are
+    themselves a query."""
 
     status, reason = Status.OTHER_QUERY, "the octets do not answer the query"
 
@@ -185,9 +186,9 @@ class NoLine(Refused):
 
 
 class OtherSeed(Refused):
-    """The name was made, or the message was read, under another seed than that of the shelf."""
+    """The name was made, or the message was read, under a seed other than that of the shelf."""
 
-    status, reason = Status.OTHER_SEED, "the name or the message has another seed than the shelf"
+    status, reason = Status.OTHER_SEED, "the name or the message has a seed other than the shelf's"
 
 
 class NoQuestion(Refused):

@@ -35,10 +35,10 @@ OCTETS_FOR_ONE = 68
 class Stats(NamedTuple):
     """Counters of a cache or of one shelf.
 
-    - Look-ups that an unexpired RRset answered (`hits`), a stale RRset (`stale`), NODATA or
-      NXDOMAIN (`negative`), nothing (`misses`), or nothing with a recent failure (`failed`). Each
-      name of a CNAME chain counts as one look-up. `lookup_delegation` counts one look-up for each
-      name that it tries.
+    - Look-ups answered by an unexpired RRset (`hits`), a stale RRset (`stale`), or NODATA or
+      NXDOMAIN (`negative`); look-ups without an answer (`misses`); and look-ups without an answer
+      after a recent failure (`failed`). Each name of a CNAME chain counts as one look-up.
+      `lookup_delegation` counts one look-up for each name that it tries.
     - RRsets, negative answers and failures that were stored (`kept`), or were not stored because
       data of higher rank were cached (`outranked`).
     - Keys that were evicted (`evicted`) or that sweeps removed (`expired`), keys that are cached
@@ -111,13 +111,14 @@ class SharedCache(Closing):
     statement closes the cache at its end. Later calls raise `NoShelf`. Calls that are running at
     that time end normally, and then the memory is freed.
 
-    - `octets`: the most octets of memory that the keys use (`Sizes.octets`), divided equally among
-      the shelves: 65,536 to 2^46, or 0 for 64 MiB. The least recently used keys are evicted to meet
-      this limit.
-    - `keys`: the most keys, divided equally among the shelves, or 0 for 65,536 in each shelf.
+    - `octets`: the maximum number of octets of memory that the keys use (`Sizes.octets`), divided
+      equally among the shelves: 65,536 to 2^46, or 0 for 64 MiB. The least recently used keys are
+      evicted to meet this limit.
+    - `keys`: the maximum number of keys, divided equally among the shelves, or 0 for 65,536 in each
+      shelf.
     - `shelves`: the number of shelves, 1 to 64, or 0 for 64.
-    - `readers`: the most threads that look up in a shelf at once, 1 to 64, or 0 for the number of
-      processors, but at most 16.
+    - `readers`: the maximum number of threads that can look up in a shelf at once, 1 to 64, or 0
+      for the number of processors, but at most 16.
     - `max_stale`: for how many seconds past its TTL an RRset may be served, 0 to 604,800, if stale
       data are acceptable to the look-up (RFC 8767 section 4).
     - `limits`: the limits of how long data of responses may be cached.
@@ -128,11 +129,11 @@ class SharedCache(Closing):
 
     Raises `BadRules`, `BadLimits` or `BadSeed` if an argument is out of range.
 
-    Names are text, octets in wire form, or the result of `make_name`. Types and classes are numbers
-    of 16 bits. TTLs and timestamps (`moment`) are in seconds, and a timestamp is at most 2^40.
-    Without a timestamp, or if it is 0, a call uses CLOCK_BOOTTIME. A caller either passes
-    timestamps in all calls, of its own clock that is never set back, or in no call. A number that
-    is too large for its field raises `ValueError`.
+    Names are text, octets in wire form, or the result of `make_name`. Types and classes are 16-bit
+    numbers. TTLs and timestamps (`moment`) are in seconds, and a timestamp is at most 2^40. Without
+    a timestamp, or if it is 0, a call uses CLOCK_BOOTTIME. A caller passes timestamps either in all
+    calls, from a clock of its own that is never set back, or in no call. A number that is too large
+    for its field raises `ValueError`.
 
     >>> with SharedCache(octets=256 << 20) as cache:
     ...     cache.store_set("www.example.", 1, Trust.AUTHORITATIVE_ANSWER, 60,
@@ -264,10 +265,10 @@ class SharedCache(Closing):
                   data: Iterable[bytes], moment: int = 0, line: int = 0,
                   rclass: Class | int = Class.IN) -> Outcome:
         """Stores an RRset of the caller, as `Shelf.offer_set` offers it. `data` are rdata without
-        compressed names. With the highest rank and `ttl` 0, it clears the RRset or NODATA of the
-        name and type. Raises `BadName`, `BadType`, `BadChoice` if `trust` is not a rank, `BadData`,
-        `WrongBody`, or `TooLarge` if the RRset might use more memory than a shelf may use for all
-        its keys.
+        compressed names. With the highest rank and `ttl` 0, the call clears the RRset or NODATA of
+        the name and type. Raises `BadName`, `BadType`, `BadChoice` if `trust` is not a rank,
+        `BadData`, `WrongBody`, or `TooLarge` if the RRset might use more memory than a shelf may
+        use for all its keys.
 
         >>> trust, data = Trust.AUTHORITATIVE_ANSWER, [bytes([192, 0, 2, 1])]
         >>> with SharedCache() as cache:
@@ -366,8 +367,8 @@ class SharedCache(Closing):
 
     def record(self) -> None:
         """Starts to record the histories of all shelves. While histories are recorded, each look-up
-        is an event, and waits for other look-ups in its shelf. Events stay in memory until
-        recording stops, at least 96 octets each, and `octets` of the cache does not limit them.
+        is an event, and waits for other look-ups in its shelf. Events use at least 96 octets each
+        and stay in memory until recording stops, and `octets` of the cache does not limit them.
 
         >>> with SharedCache(shelves=1) as cache:
         ...     cache.record()

@@ -64,18 +64,18 @@ class Shelf(Held):
 
     Raises `BadRules` or `BadSeed` if an argument is out of range:
 
-    - `capacity`: the most keys, 1 to 65,536.
-    - `chapter`: the most events of a recorded chapter, 1 to 1,048,576.
+    - `capacity`: the maximum number of keys, 1 to 65,536.
+    - `chapter`: the maximum number of events in a recorded chapter, 1 to 1,048,576.
     - `max_stale`: for how many seconds past its TTL an RRset may be served, 0 to 604,800 (RFC 8767
       section 4).
     - `seed`: 16 secret octets, not all 0, under which names are hashed. The default is random.
     - `record`: whether the history is recorded from the start (`Shelf.record`).
 
     Names are text, octets in wire form, or the result of `make_name` under the seed of the shelf.
-    The shelf keeps the folded form of recent names. Types and classes are numbers of 16 bits. TTLs
-    and timestamps (`moment`) are in seconds, and a timestamp is at most 2^40. `line` is a number of
-    64 bits that the caller chooses, and which is kept with the event of the call. A number that is
-    too large for its field raises `ValueError`.
+    The shelf keeps the folded form of recent names. Types and classes are 16-bit numbers. TTLs and
+    timestamps (`moment`) are in seconds, and a timestamp is at most 2^40. `line` is a 64-bit number
+    that the caller chooses and that is kept with the event of the call. A number that is too large
+    for its field raises `ValueError`.
 
     >>> with Shelf() as shelf:
     ...     outcome = shelf.offer_set("www.example.", 1, Trust.AUTHORITATIVE_ANSWER, 60,
@@ -163,7 +163,7 @@ class Shelf(Held):
 
     def offer_one(self, offers: Offers, index: int, line: int = 0) -> Outcome:
         """Offers one of the offers, counted from 0 in the order of iteration. So a caller can
-        decide for each offer whether to store it. The shelf has to be that of the part of the
+        decide for each offer whether to store it. The shelf must be the one for the part of the
         offer's name. Raises `NoOffers` if there is no offer with this number, `OtherSeed` or
         `MomentTooLarge`.
 
@@ -184,8 +184,8 @@ class Shelf(Held):
                   data: Iterable[bytes], moment: int, line: int = 0,
                   rclass: Class | int = Class.IN) -> Outcome:
         """Offers an RRset. `data` are rdata without compressed names. With the highest rank and
-        `ttl` 0, it clears the RRset or NODATA of the name and type. Raises `BadName`, `BadType`,
-        `BadChoice` if `trust` is not a rank, `BadData` or `WrongBody`.
+        `ttl` 0, the call clears the RRset or NODATA of the name and type. Raises `BadName`,
+        `BadType`, `BadChoice` if `trust` is not a rank, `BadData` or `WrongBody`.
 
         >>> trust, data = Trust.AUTHORITATIVE_ANSWER, [bytes([192, 0, 2, 1])]
         >>> with Shelf() as shelf:
@@ -356,8 +356,8 @@ class Shelf(Held):
     def sweep_some(self, moment: int, most: int, line: int = 0) -> Swept:
         """Sweeps in steps, so that no call takes long. Each step is a sweep at the timestamp that
         `next_expiry` returns, and is one event. The call stops when that timestamp is later than
-        `moment`, when at least `most` keys are removed, or after `most` steps. Returns the number
-        of keys that were removed, and whether no key is left that is fully expired. Raises
+        `moment`, when at least `most` keys have been removed, or after `most` steps. Returns the
+        number of keys that were removed, and whether no key is left that is fully expired. Raises
         `BadRules` if `most` is 0, or `MomentTooLarge`, before the first step. Keys that were
         removed before another exception stay removed, and `swept` of the exception counts them.
 

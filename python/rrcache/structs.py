@@ -104,7 +104,8 @@ class Swept(Structure):
 
 
 class TrimTo(Structure):
-    """The octets to which a shelf is trimmed, when, and the most keys to remove."""
+    """The number of octets to which a shelf is trimmed, the timestamp, and the maximum number of
+    keys to remove."""
 
     _fields_ = [("moment", c_uint64), ("line", c_uint64), ("limit", c_uint64), ("most", c_uint64)]
 

@@ -10,13 +10,13 @@ fn serve(cache: &Cache, socket: &UdpSocket) -> io::Result<()> {
         let Some((header, question)) = packet[..size].split_first_chunk::<12>() else { continue };
         let Ok((name, behind)) = Name::from_front(question) else { continue };
         let (&[i1, i0, flags @ 0..8, _, 0, 1, ..], &[t1, t0, 0, 1, ..]) = (header, behind) else {
-            continue; // it is no query with one question, of class IN
+            continue; // it is not a query with one question of class IN
         };
         let (rtype, id) = (RecordType(u16::from_be_bytes([t1, t0])), u16::from_be_bytes([i1, i0]));
         let _ = cache.lookup_into(&Request::new(&name, rtype), &mut answer); // a miss if refused
         answer.compose_response(&Query::new(&name, rtype, id), 512, &mut message); // or SERVFAIL
         message[2] |= flags & 1; // RD
-        let _ = socket.send_to(&message, client); // who is gone asks no more
+        let _ = socket.send_to(&message, client); // the client may be gone
     }
 }
 

@@ -234,7 +234,8 @@ pub struct Rrset<'a> {
     pub entry: Entry,
 }
 
-/// The entry that an RRset of an answer comes from. It tells a resolver when to prefetch the RRset:
+/// The entry that an RRset of an answer comes from. A resolver uses it to decide when to prefetch
+/// the RRset:
 ///
 /// ```
 /// # use rrcache::Rrset;
@@ -253,7 +254,7 @@ pub struct Entry {
     /// answer of a response it is 0.
     pub number: u64,
     /// The number of uses of keys of the shelf after the last use of this key, before this look-up.
-    /// At most that many keys were used since. In the answer of a response it is 0.
+    /// At most that many keys have been used since. In the answer of a response it is 0.
     pub age: u64,
 }
 

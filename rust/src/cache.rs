@@ -206,8 +206,8 @@ impl Cache {
 
     /// Stores a response as [`store`](Cache::store) does, and fills the answer that the response
     /// itself gives. It includes data with TTL 0, data that were left out, and data of lower rank
-    /// than the cached data. So a waiting client gets what the server said, and for type ANY all
-    /// RRsets of the name. The answer is a miss if only the report has the result, as for a
+    /// than the cached data. So a waiting client gets the data that the server sent, and for type
+    /// ANY all RRsets of the name. The answer is a miss if only the report has the result, as for a
     /// negative response without an SOA record.
     ///
     /// Returns [`Small`](Error::Small) if the buffer of the answer is too small, which may happen

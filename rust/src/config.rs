@@ -14,16 +14,16 @@ use crate::ffi;
 /// ```
 #[derive(Clone, Default, PartialEq, Eq)]
 pub struct Config {
-    /// The most octets of memory that the keys use, divided equally among the shelves: 65,536 to
-    /// 2^46, or 0 for 64 MiB.
+    /// The maximum number of octets of memory that the keys use, divided equally among the shelves:
+    /// 65,536 to 2^46, or 0 for 64 MiB.
     pub octets: u64,
-    /// The most keys, divided equally among the shelves: at most 65,536 for each shelf, or 0 for
-    /// this maximum.
+    /// The maximum number of keys, divided equally among the shelves: at most 65,536 for each
+    /// shelf, or 0 for this maximum.
     pub keys: u64,
     /// The number of shelves: 1 to 64, or 0 for 64.
     pub shelves: u64,
-    /// The most threads that look up in a shelf at once: 1 to 64, or 0 for the number of
-    /// processors, but at most 16.
+    /// The maximum number of threads that can look up in a shelf at once: 1 to 64, or 0 for the
+    /// number of processors, but at most 16.
     pub readers: u64,
     /// For how many seconds past its TTL an RRset may be served: 0 to 604,800 (RFC 8767 section 4).
     pub max_stale: u64,

@@ -19,7 +19,7 @@ macro_rules! refusals {
             $($(#[$doc])* $name,)*
             /// A status of a newer library, which this version of the crate does not know.
             Other(u32),
-            /// The library has another major version than this crate, or an older minor version.
+            /// The library has a major version other than this crate's, or an older minor version.
             /// The number is the version of the library, with 8 bits each for major, minor and
             /// patch.
             Library(u32),
@@ -65,12 +65,12 @@ refusals! {
     HasShelf = 2 "the handle already holds a shelf",
     /// `malloc` failed.
     Memory = 3 "out of memory",
-    /// Event numbers are spent: the next one would be 2^62.
-    HistoryFull = 4 "the event numbers are spent",
+    /// Event numbers are used up: the next one would be 2^62.
+    HistoryFull = 4 "the event numbers are used up",
     /// The timestamp is above 2^40.
     MomentTooLarge = 5 "the timestamp is too large",
     /// A number of the [`Config`](crate::Config), or the limit of a sweep, is out of range.
-    BadRules = 6 "a number of the rules is out of range",
+    BadRules = 6 "a number in the rules is out of range",
     /// The system has no random octets for a seed.
     BadSeed = 7 "the seed is all zeros",
     /// A number of the [`Limits`](crate::Limits) is out of range.
@@ -111,7 +111,7 @@ refusals! {
     /// Buffers overlap. No call of this crate returns this error.
     Overlap = 25 "an output overlaps another argument",
     /// A name has another seed. No call of this crate returns this error.
-    OtherSeed = 26 "the name or the message has another seed than the shelf",
+    OtherSeed = 26 "the name or the message has a seed other than the shelf's",
     /// The response is a header without a question. This is a failure of the server.
     NoQuestion = 27 "the response has no question",
     /// The data would use more memory than a shelf may use.

@@ -69,9 +69,9 @@ impl Cache {
     }
 
     /// Starts to record the histories of all shelves. While histories are recorded, each look-up is
-    /// an event, and waits for other look-ups in its shelf. Events stay in memory until recording
-    /// stops, at least 96 octets each, and [`Config::octets`](crate::Config::octets) does not limit
-    /// them. After an error nothing is recorded.
+    /// an event, and waits for other look-ups in its shelf. Events use at least 96 octets each and
+    /// stay in memory until recording stops, and [`Config::octets`](crate::Config::octets) does not
+    /// limit them. After an error nothing is recorded.
     pub fn record(&self) -> Result<(), Error> {
         // SAFETY: the cache is open.
         check(unsafe { ffi::rrcache_record_all(self.raw()) })

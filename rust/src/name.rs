@@ -8,7 +8,7 @@ use std::str::{Bytes, FromStr};
 
 use crate::Error;
 
-/// The most octets of a label and of a name (RFC 1035 section 2.3.4).
+/// The maximum number of octets in a label and in a name (RFC 1035 section 2.3.4).
 const LABEL_MOST: usize = 63;
 const NAME_MOST: usize = 255;
 

@@ -4,7 +4,7 @@
 use crate::{Answer, AnswerKind, Query, Rrset, Section};
 
 const HEADER_OCTETS: usize = 12;
-/// The most octets of a message (RFC 1035 section 4.2.2).
+/// The maximum number of octets in a message (RFC 1035 section 4.2.2).
 const MESSAGE_MOST: usize = 65_535;
 /// Compression pointers reach offsets below this one (RFC 1035 section 4.1.4).
 const POINTERS_END: usize = 0x4000;

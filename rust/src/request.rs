@@ -7,7 +7,7 @@ use crate::{Class, Mode, Name, RecordType};
 /// A timestamp that means the current time of `CLOCK_BOOTTIME`.
 ///
 /// Timestamps are in seconds, at most 2^40. A program passes `NOW` in all calls, or it passes
-/// timestamps of its own clock in all calls. That clock must never be set back.
+/// timestamps from its own clock in all calls. That clock must never be set back.
 pub const NOW: u64 = 0;
 
 /// The question to look up, or the data to forget: a name, a class and a type.

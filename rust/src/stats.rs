@@ -13,15 +13,15 @@ use crate::ffi;
 #[repr(C)]
 #[derive(Clone, Copy, Debug, Default, PartialEq, Eq)]
 pub struct Stats {
-    /// Look-ups that an unexpired RRset answered.
+    /// Look-ups answered by an unexpired RRset.
     pub hits: u64,
-    /// Look-ups that a stale RRset answered.
+    /// Look-ups answered by a stale RRset.
     pub stale: u64,
-    /// Look-ups that NODATA or NXDOMAIN answered.
+    /// Look-ups answered by NODATA or NXDOMAIN.
     pub negative: u64,
-    /// Look-ups that nothing answered, without a recent failure.
+    /// Look-ups without an answer and without a recent failure.
     pub misses: u64,
-    /// Look-ups that nothing answered, with a recent failure.
+    /// Look-ups without an answer, after a recent failure.
     pub failed: u64,
     /// RRsets, negative answers and failures that were stored.
     pub kept: u64,
