@@ -4,7 +4,7 @@
    this header.
 
    A *shelf* is one shard of the cache. A resolver makes 16 to 64 shelves, and keeps a lock for
-   each. For each question it calls `rrcache_make_name` once, which folds and hashes the name, and
+   each. For each question, it calls `rrcache_make_name` once, which folds and hashes the name, and
    determines its shelf. All data of a name are in one shelf, regardless of the case of its letters.
    A hash under a secret seed chooses the shelf, and all shelves of a cache share that seed
    (`struct rrcache_rules`, `struct rrcache_parts`). Without a secret seed, an attacker could choose
@@ -34,10 +34,11 @@
    - Hold the lock of the shelf during every call that takes its handle. Read-only calls need a read
      lock: `rrcache_peek`, `rrcache_peek_alias`, `rrcache_tell_stored`, `rrcache_sizes` and
      `rrcache_next_expiry`. Read-only calls take a const handle, and write nothing that another
-     thread reads. Any number of threads may make read-only calls on one shelf at once. Every other
-     call on a shelf, including `rrcache_ask` and `rrcache_ask_alias`, needs a write lock: no other
-     call on that shelf may run at the same time. If a caller breaks this rule, the behavior is
-     undefined and not detected. A call takes one shelf, so it never needs the locks of two shelves.
+     thread reads. Any number of threads may make read-only calls on one shelf at the same time.
+     Every other call on a shelf, including `rrcache_ask` and `rrcache_ask_alias`, needs a write
+     lock: no other call on that shelf may run at the same time. If a caller breaks this rule, the
+     behavior is undefined and not detected. A call takes one shelf, so it never needs the locks of
+     two shelves.
    - Calls that take no shelf need no lock of a shelf: `rrcache_read_response`,
      `rrcache_read_message_unchecked`, `rrcache_tell_response`, `rrcache_tell_offer` and
      `rrcache_free_offers`. A handle of offers must be used by one call at a time.
@@ -59,7 +60,7 @@
    - These calls never allocate and never return RRCACHE_MEMORY, even for long names:
      `rrcache_peek`, `rrcache_peek_alias`, `rrcache_tell_stored`, `rrcache_make_name`,
      `rrcache_tell_response`, `rrcache_tell_offer` and `rrcache_compose_response`. While nothing is
-     recorded, this also holds for `rrcache_ask` and `rrcache_ask_alias`.
+     recorded, this also applies to `rrcache_ask` and `rrcache_ask_alias`.
    - A reply is copied into the caller's buffer.
 
    Errors
@@ -153,9 +154,9 @@
    - If a clock is set back, all cached data live longer by the same amount. Data that had expired
      may answer again, and may keep out data of lower rank, unless they were already replaced,
      cleared, evicted or swept. If a clock is set forward, data expire early, and a sweep then
-     removes entries that are fully expired by that clock. Use a clock that cannot be set and keeps
-     running while the machine is suspended, such as CLOCK_BOOTTIME on Linux. CLOCK_MONOTONIC stops
-     during suspension.
+     removes entries that are fully expired according to that clock. Use a clock that cannot be set
+     and keeps running while the machine is suspended, such as CLOCK_BOOTTIME on Linux.
+     CLOCK_MONOTONIC stops during suspension.
    - The order of the calls, not their timestamps, decides which of two events is later.
    - An entry has expired when its age is at least its TTL. An entry is *fully expired* when it can
      no longer answer: a negative answer or a failure when it has expired, and an RRset `max_stale`
@@ -181,7 +182,7 @@
      removals than keys at its beginning. Names, data and events are not copied. A good chapter size
      is about as many events as the shelf has keys.
    - A caller that records should regularly take the closed chapters with `rrcache_take_chapters`,
-     or drop them with `rrcache_drop_chapters`. Taking them is one step, however many there are.
+     or drop them with `rrcache_drop_chapters`. Taking them is one step, regardless of their number.
      Dropping them frees each of their events, and each copied entry that is not used elsewhere. So
      the time to drop them grows with the number of events since the last time, and is spent under
      the lock: it is short if chapters are dropped often. `rrcache_free_chapters` frees taken
@@ -257,8 +258,8 @@ enum rrcache_status {
     RRCACHE_NO_SHELF = 1,         /* the handle holds no shelf */
     RRCACHE_HAS_SHELF = 2,        /* the handle already holds a shelf */
     RRCACHE_MEMORY = 3,           /* malloc failed */
-    RRCACHE_HISTORY_FULL = 4,     /* event numbers or chapter numbers are spent: the next one would
-                                     be 2^62 */
+    RRCACHE_HISTORY_FULL = 4,     /* event numbers or chapter numbers are used up: the next one
+                                     would be 2^62 */
     RRCACHE_MOMENT_TOO_LARGE = 5, /* the timestamp is above 2^40 */
     RRCACHE_BAD_RULES = 6,        /* one of these is out of range: `capacity`, `chapter`,
                                      `max_stale`, the number of parts, the part, `limit` or
@@ -419,8 +420,8 @@ struct rrcache_name {
     uint64_t part;
     uint8_t seed[16];
     uint8_t size;
-    uint8_t octets[255]; /* the first `size` octets are the name in wire form, with A to Z lowered;
-                            the others are unmodified */
+    uint8_t octets[255]; /* the first `size` octets are the name in wire form, with A to Z in lower
+                            case; the others are unmodified */
 };
 
 /* How names are divided among shelves: `count` is the number of shelves, 1 to 64, and `seed` is the
@@ -957,11 +958,11 @@ static inline bool rrcache_holds(const struct rrcache_shelf *shelf, const void *
 
 /* Makes an empty shelf in a handle that holds no shelf. The shelf records nothing until
    `rrcache_record` is called, and until then no chapter is full. Names are hashed by SipHash-1-3
-   under the seed of the rules. The seed must be random and secret. Otherwise an attacker can pick
+   under the seed of the rules. The seed must be random and secret. Otherwise an attacker can choose
    names with similar hashes, which makes calls slow.
 
    Returns RRCACHE_HAS_SHELF if the handle holds a shelf, even if the rules are wrong: that shelf is
-   unchanged. Returns RRCACHE_BAD_RULES if a number of the rules is out of range, and
+   unchanged. Returns RRCACHE_BAD_RULES if a number in the rules is out of range, and
    RRCACHE_BAD_SEED if the seed is all 0. Needs the write lock. */
 static inline enum rrcache_status rrcache_make(struct rrcache_shelf *shelf,
                                                const struct rrcache_rules *rules)
@@ -1303,8 +1304,8 @@ static inline enum rrcache_status rrcache_can_read(const struct rrcache_response
    Before it reads anything else of the message, the call compares the identifier and the question
    with the query (RFC 5452 section 9.1). If they differ, it returns RRCACHE_OTHER_QUERY and does
    not read further, so such octets cost almost nothing. Anyone may have sent them, and the caller
-   drops them and keeps waiting. The call also returns RRCACHE_OTHER_QUERY if the octets are too few
-   for an identifier, or if QR is clear. If the query has `with_case`, a name with letters in
+   drops them and keeps waiting. The call also returns RRCACHE_OTHER_QUERY if there are too few
+   octets for an identifier, or if QR is clear. If the query has `with_case`, a name with letters in
    another case differs. A question whose name has a compression pointer differs too. Two errors are
    failures of the server (RFC 8767 section 5): RRCACHE_BAD_MESSAGE if the octets answer the query
    but cannot be read and TC is clear, and RRCACHE_NO_QUESTION if the response is a header without a
@@ -1553,8 +1554,8 @@ static inline enum rrcache_status rrcache_free_offers(struct rrcache_offers *off
    compare the response with a query, and ignores `lowest_ttl` and `clears_denied`. With TC set, a
    response offers nothing ("What is stored" above). `counts` has the number of offers with each
    outcome, even if a later offer fails. Returns RRCACHE_BAD_LIMITS if a limit is out of range,
-   RRCACHE_BAD_NAME if the zone is not in wire form, and RRCACHE_BAD_MESSAGE if the octets are not a
-   response that can be read. Needs the write lock. */
+   RRCACHE_BAD_NAME if the zone is not in wire form, and RRCACHE_BAD_MESSAGE if the octets cannot be
+   read as a response. Needs the write lock. */
 static inline enum rrcache_status
 rrcache_offer_message_unchecked(struct rrcache_shelf *shelf,
                                 const struct rrcache_response *response, uint64_t line,
@@ -1675,9 +1676,9 @@ static inline enum rrcache_status rrcache_offer_negative(struct rrcache_shelf *s
 
 /* Offers a resolution failure of a name and a type (RFC 9520). A failure is always stored, so
    `outcome` is RRCACHE_KEPT. A failure with `ttl` 0 ends the failure that the shelf holds, and no
-   ask returns it. If the shelf holds no failure, it still uses a key and may evict another one. So
-   offer `ttl` 0 only after RRCACHE_FAILED was returned. Returns RRCACHE_BAD_TYPE if data of the
-   type are not kept in the class, RRCACHE_BAD_NAME if the name is not in wire form, and
+   ask returns it. If the shelf holds no failure, the new failure still uses a key and may evict
+   another key. So offer `ttl` 0 only after RRCACHE_FAILED was returned. Returns RRCACHE_BAD_TYPE if
+   data of the type are not kept in the class, RRCACHE_BAD_NAME if the name is not in wire form, and
    RRCACHE_WRONG_BODY if `ttl` is above 2^31 - 1. Needs the write lock. */
 static inline enum rrcache_status rrcache_offer_failure(struct rrcache_shelf *shelf,
                                                         const struct rrcache_failure *failure,
