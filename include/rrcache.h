@@ -61,7 +61,8 @@
      CLOCK_BOOTTIME, which cannot be set and keeps running while the machine is suspended.
    - A program passes 0 in every call, or it passes timestamps from its own clock in every call.
      That clock must never be set back. If a program mixes the two clocks, data expire too late or
-     too early. `retry_from` is a timestamp of the same clock.
+     too early. A program that passes 0 may also pass seconds of CLOCK_BOOTTIME, for example when
+     it restores a dump: this is the same clock. `retry_from` is a timestamp of the same clock.
 
    Errors
    - The header rrcache_shelf.h describes the wire form of names, the ownership of memory, and each
