@@ -273,10 +273,10 @@ def test_the_processes_of_fuzz_end_with_it(tmp_path):
             os.killpg(run.pid, signal.SIGKILL)
 
 
-@pytest.mark.parametrize("name", ["from-capture", "fuzz", "test", "what-if", "why"])
+@pytest.mark.parametrize("name", [it for it in COMMANDS if it != "rrcache"])
 def test_an_interrupt_of_the_imports_ends_a_command_without_a_traceback(tmp_path, name):
     """The signal itself ends it, as a shell reports by the same status; one that a shell runs in
-    the background goes on."""
+    the background goes on. `rrcache` is a shell script."""
     begun, more = tmp_path / "begun", tmp_path / "more"
     (tmp_path / "argparse.py").write_text(
         f"import os, time\nopen({str(begun)!r}, 'w').close()\n"
@@ -331,6 +331,16 @@ def test_an_interrupt_ends_a_build_without_a_traceback(tmp_path, name):
     path = f"{tmp_path}:{os.environ['PATH']}"
     status, told = interrupted(begun, TOP / "bin" / name, env={**os.environ, "PATH": path})
     assert (status, told) == (-signal.SIGINT if name == "build" else INTERRUPTED, "")
+
+
+def test_a_build_in_the_background_of_a_shell_goes_on(tmp_path):
+    """The interrupt comes while the kit's command is loaded."""
+    script(tmp_path / "rt", "").write_text(
+        "import os, signal\nos.kill(os.getpid(), signal.SIGINT)\nos._exit(77)\n")
+    run = subprocess.run(
+        ["sh", "-c", 'trap "" INT; exec "$@"', "sh", sys.executable, TOP / "bin" / "build"],
+        env={**os.environ, "PATH": f"{tmp_path}:{os.environ['PATH']}"})
+    assert run.returncode == 77
 
 
 @pytest.mark.parametrize("name, said", [
