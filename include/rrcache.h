@@ -137,12 +137,12 @@ enum { RRCACHE_MOST_ALIASES = 16 };
 /* A buffer of this size has room for every answer of a look-up if each CNAME RRset and each DNAME
    RRset has one record (RFC 2181 section 10.1), and if the RRset at the end of the CNAME chain came
    in a response. But a server may send CNAME RRsets of many records. Each of these RRsets is stored
-   if it has at most 16,384 octets of rdata. If a CNAME chain has four or more of them, the answer
-   may need a larger buffer, and the call returns RRCACHE_SMALL. A buffer of 1 MiB has room for
-   every answer of a look-up whose RRsets all came in responses. An answer of `rrcache_store` may
-   also need a larger buffer if the query is of type ANY or of a type that is not kept, or if an
-   RRset has more than 16,384 octets of rdata. `rrcache_store` has then stored everything, and the
-   answer has the RRsets that fit. */
+   if it has at most 16,384 octets of rdata. An answer with one of them may need a larger buffer,
+   and the call then returns RRCACHE_SMALL. A buffer of 1 MiB has room for every answer of a look-up
+   whose RRsets all came in responses. An answer of `rrcache_store` may also need a larger buffer if
+   the query is of type ANY or of a type that is not kept, or if an RRset has more than 16,384
+   octets of rdata. `rrcache_store` has then stored everything, and the answer has the RRsets that
+   fit. */
 enum { RRCACHE_ANSWER_OCTETS = 65536 };
 
 /* The answer to a question: a list of RRsets, which `rrcache_next` returns one by one, and their

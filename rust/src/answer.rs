@@ -28,8 +28,8 @@ unsafe impl Sync for Answer {}
 impl Answer {
     /// A buffer of this size has room for every answer of a look-up if each CNAME RRset has one
     /// record (RFC 2181 section 10.1) and the RRset at the end of the CNAME chain came in a
-    /// response. A server may send CNAME RRsets of many records: if a chain has four or more of
-    /// them, the answer may need up to 1 MiB. `rrcache.h` says when the answer of a response does.
+    /// response. A server may send CNAME RRsets of many records: an answer with one of them may
+    /// need up to 1 MiB. `rrcache.h` says when the answer of a response does.
     pub const ROOM: usize = ffi::RRCACHE_ANSWER_OCTETS;
 
     /// Makes an empty answer, which is a miss, with room for [`Answer::ROOM`] octets.

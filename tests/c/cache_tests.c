@@ -1970,6 +1970,232 @@ static void test_store_with_small_buffers(void)
     }
 }
 
+/* ---- The room that answers need, as rrcache.h has it of RRCACHE_ANSWER_OCTETS. */
+
+enum { PTR = 12, PRIVATE = 65280, MOST_DATA = 16384, MIB = 1 << 20 };
+
+/* A buffer that has room for each answer of a look-up whose RRsets came in responses. */
+static uint8_t large[MIB];
+
+/* Adds a record to the answer section, whose owner is a pointer to a name that stands there. */
+static void add_at(struct message *message, size_t owner, uint16_t rtype, const void *data,
+                   size_t size)
+{
+    put_number(message, 0xc000 | owner, 2);
+    put_number(message, rtype, 2);
+    put_number(message, RRCACHE_IN, 2);
+    put_number(message, 300, 4);
+    put_number(message, size, 2);
+    put(message, data, size);
+}
+
+/* Sets how many records the answer section has. */
+static void set_count(struct message *message, unsigned count)
+{
+    message->octets[6] = (uint8_t)(count >> 8);
+    message->octets[7] = (uint8_t)count;
+}
+
+/* Writes a response with one RRset of 16,384 octets of rdata. They are names: first the one that is
+   given, then as many others as have room, of four octets and one of what is left. */
+static void write_many(struct message *message, const char *owner, uint16_t rtype,
+                       const char *first)
+{
+    struct wire target = wire_of(first);
+    uint8_t rest[65] = {0};
+    size_t left = MOST_DATA - target.size;
+    unsigned count = 2;
+    begin(message, AA, owner, PRIVATE);
+    add_at(message, RRCACHE_HEADER_OCTETS, rtype, target.octets, target.size);
+    for (; left > sizeof rest; left -= 4, count++) {
+        const uint8_t name[] = {2, (uint8_t)(128 | count >> 7), (uint8_t)(128 | count), 0};
+        add_at(message, RRCACHE_HEADER_OCTETS, rtype, name, sizeof name);
+    }
+    rest[0] = (uint8_t)(left - 2);
+    memset(rest + 1, 'x', left - 2);
+    add_at(message, RRCACHE_HEADER_OCTETS, rtype, rest, left);
+    set_count(message, count);
+}
+
+/* How many octets the rdata of an RRset have, without their lengths. */
+static size_t rdata_of(const struct rrcache_rrset *rrset)
+{
+    size_t all = 0, at = 0;
+    while (at < rrset->set.data_size) {
+        size_t size = (size_t)rrset->set.data[at] << 8 | rrset->set.data[at + 1];
+        all += size;
+        at += 2 + size;
+    }
+    return at == rrset->set.data_size ? all : 0;
+}
+
+/* A name that has 253 octets behind its front, another one for each number, as a text. */
+static const char *far_name(const char *front, int number)
+{
+    static char names[2][256];
+    static const char filler[] = "xxxxxxxxxxxxxxxxxxxxxxxxxxxxxxxxxxxxxxxxxxxxxxxxxxxxxxxxxxxxxxx";
+    char *name = names[number & 1];
+    snprintf(name, sizeof names[0], "%sd%02d.%s.%s.%s.%.47s.example", front, number, filler, filler,
+             filler, filler);
+    return name;
+}
+
+/* The longest chain of aliases of one record each, each of 255 octets to another of 255 and with
+   the DNAME record that it is made from, and at its end 16,384 octets of rdata in more than 4,000
+   records. */
+static void test_room_for_the_longest_chain(void)
+{
+    static struct message message;
+    struct rrcache *cache = open_small();
+    struct rrcache_answer answer;
+    for (int i = 0; i < RRCACHE_MOST_ALIASES; i++)
+        EXPECT(keep_name(cache, far_name("", i), DNAME, far_name("", i + 1), 300) == RRCACHE_KEPT
+               && keep_alias(cache, far_name("p.", i), far_name("p.", i + 1), 300) == RRCACHE_KEPT);
+    const char *last = far_name("p.", RRCACHE_MOST_ALIASES);
+    write_many(&message, last, PRIVATE, last);
+    struct rrcache_report report = store(cache, &message, last, PRIVATE, &answer);
+    EXPECT(wire_of(last).size == 255 && report.counts.kept == 1 && count_of(&answer) == 1);
+    EXPECT(
+        look_with_dnames(cache, far_name("p.", 0), PRIVATE, FIRST, RRCACHE_ANSWER_OCTETS, &answer)
+        == RRCACHE_DONE);
+    struct rrcache_rrset rrset = nth(&answer, 2 * RRCACHE_MOST_ALIASES);
+    EXPECT(answer.kind == RRCACHE_FRESH && answer.aliases == RRCACHE_MOST_ALIASES
+           && count_of(&answer) == 2 * RRCACHE_MOST_ALIASES + 1 && rrset.set.owner_size == 255
+           && rdata_of(&rrset) == MOST_DATA && rrset.set.data_size > MOST_DATA + 2 * 4000);
+    /* If one of the aliases has many records too, that answer does not fit. */
+    write_many(&message, far_name("p.", 0), CNAME, far_name("p.", 1));
+    report = store(cache, &message, far_name("p.", 0), PRIVATE, &answer);
+    EXPECT(report.counts.kept == 1
+           && look_with_dnames(cache, far_name("p.", 0), PRIVATE, FIRST, RRCACHE_ANSWER_OCTETS,
+                               &answer)
+                  == RRCACHE_SMALL
+           && count_of(&answer) == 2 * RRCACHE_MOST_ALIASES);
+    rrcache_close(cache);
+}
+
+/* Whether each RRset of an answer has all rdata that `write_many` wrote. */
+static bool are_whole(const struct rrcache_answer *answer)
+{
+    struct rrcache_rrset rrset = {0};
+    bool are = true;
+    while (rrcache_next(answer, &rrset))
+        are = are && rdata_of(&rrset) == MOST_DATA;
+    return are;
+}
+
+/* So many aliases of many records each, and an RRset of many records at their end. Each of these
+   RRsets has 16,384 octets of rdata and more than 8,000 of their lengths: with
+   RRCACHE_ANSWER_OCTETS two of them fit. With a larger buffer the answer has each of them, as one
+   RRset. */
+static void check_room_of_many(unsigned aliases)
+{
+    static struct message message;
+    struct rrcache *cache = open_small();
+    struct wire wire = wire_of(link_of(0));
+    struct rrcache_request request = request_of(&wire, PRIVATE, FIRST);
+    struct rrcache_answer answer;
+    for (unsigned i = 0; i <= aliases; i++) {
+        write_many(&message, link_of((int)i), i < aliases ? CNAME : PRIVATE, link_of((int)i + 1));
+        EXPECT(store(cache, &message, link_of((int)i), PRIVATE, &answer).counts.kept == 1
+               && count_of(&answer) == 1 && are_whole(&answer));
+    }
+    answer = blank();
+    EXPECT(rrcache_lookup(cache, &request, &answer) == (aliases > 1 ? RRCACHE_SMALL : RRCACHE_DONE)
+           && count_of(&answer) == 2 && are_whole(&answer) && answer.size <= sizeof space);
+    answer = (struct rrcache_answer){.buffer = large, .room = sizeof large};
+    EXPECT(rrcache_lookup(cache, &request, &answer) == RRCACHE_DONE && answer.kind == RRCACHE_FRESH
+           && answer.aliases == aliases && !answer.is_endless && count_of(&answer) == aliases + 1
+           && are_whole(&answer));
+    rrcache_close(cache);
+}
+
+static void test_room_of_aliases_of_many_records(void)
+{
+    check_room_of_many(1);
+    check_room_of_many(2);
+    check_room_of_many(5);
+    check_room_of_many(RRCACHE_MOST_ALIASES);
+}
+
+/* Adds as many records of a type to the answer section, whose rdata are names of 203 octets each: a
+   label of two octets, and a pointer to a name of 200. */
+static void add_names(struct message *message, size_t owner, uint16_t rtype, size_t name,
+                      unsigned count)
+{
+    for (unsigned i = 0; i < count; i++) {
+        const uint8_t data[] = {2, (uint8_t)(128 | i >> 7), (uint8_t)(128 | i),
+                                (uint8_t)(0xc0 | name >> 8), (uint8_t)name};
+        add_at(message, owner, rtype, data, sizeof data);
+    }
+}
+
+/* A name of 200 octets, as a text. */
+static const char *name_of_200(void)
+{
+    static char name[199];
+    memset(name, 'x', sizeof name - 1);
+    name[63] = name[127] = name[190] = '.';
+    memcpy(name + 191, "example", 7);
+    return name;
+}
+
+/* An RRset with more than 16,384 octets of rdata, behind an alias: the buffer is too small for it,
+   and then the alias is stored and in the answer. With a larger buffer the answer has both. */
+static void test_room_of_stored_rrsets(void)
+{
+    static struct message message;
+    enum { COUNT = 1000 };
+    struct rrcache *cache = open_small();
+    struct rrcache_answer answer = blank();
+    struct rrcache_report report;
+    struct wire wire = wire_of("www.example");
+    /* Behind the question stand the owner and ten octets, and then the target. */
+    const size_t target = RRCACHE_HEADER_OCTETS + 2 * wire.size + 4 + 10;
+    begin(&message, AA, "www.example", PTR);
+    add_alias(&message, "www.example", name_of_200(), 300);
+    add_names(&message, target, PTR, target, COUNT);
+    set_count(&message, COUNT + 1);
+    EXPECT(try_to_store(cache, &message, "www.example", PTR, &report, &answer) == RRCACHE_SMALL);
+    struct rrcache_rrset first = nth(&answer, 0);
+    EXPECT(report.counts.kept == 1 && report.summary.kind == RRCACHE_RESPONSE_ANSWER
+           && count_of(&answer) == 1 && has_target(&first, name_of_200()));
+    answer = look(cache, "www.example", PTR, FIRST);
+    EXPECT(is_miss(&answer, 1, name_of_200()));
+    answer = (struct rrcache_answer){.buffer = large, .room = sizeof large};
+    EXPECT(try_to_store(cache, &message, "www.example", PTR, &report, &answer) == RRCACHE_DONE);
+    struct rrcache_rrset last = nth(&answer, 1);
+    EXPECT(answer.kind == RRCACHE_FRESH && answer.aliases == 1 && count_of(&answer) == 2
+           && rdata_of(&last) == COUNT * 203 && last.set.data_size == COUNT * 205);
+    rrcache_close(cache);
+}
+
+/* A query of type ANY, for a name with five RRsets of 16,240 octets of rdata each: all are stored,
+   and the answer has the three that fit. */
+static void test_room_of_any_type(void)
+{
+    static const uint16_t TYPES[] = {NS, 7, 8, 9, PTR};
+    static struct message message;
+    enum { COUNT = 80, KINDS = sizeof TYPES / sizeof *TYPES };
+    const char *name = name_of_200();
+    struct rrcache *cache = open_small();
+    struct rrcache_answer answer = blank();
+    struct rrcache_report report;
+    begin(&message, AA, name, ANY);
+    for (size_t i = 0; i < KINDS; i++)
+        add_names(&message, RRCACHE_HEADER_OCTETS, TYPES[i], RRCACHE_HEADER_OCTETS, COUNT);
+    set_count(&message, KINDS * COUNT);
+    EXPECT(try_to_store(cache, &message, name, ANY, &report, &answer) == RRCACHE_SMALL);
+    EXPECT(report.counts.kept == KINDS && count_of(&answer) == 3);
+    for (size_t i = 0; i < KINDS; i++)
+        EXPECT(kind_of(cache, name, TYPES[i], FIRST) == RRCACHE_FRESH);
+    answer = (struct rrcache_answer){.buffer = large, .room = sizeof large};
+    EXPECT(try_to_store(cache, &message, name, ANY, &report, &answer) == RRCACHE_DONE
+           && count_of(&answer) == KINDS && nth(&answer, KINDS - 1).set.data_size == COUNT * 205);
+    rrcache_close(cache);
+}
+
+/* ---- Responses that are late or refused, and limits. */
+
 /* A moment that is too large is found once the response was read. */
 static void test_late_response(void)
 {
@@ -3626,6 +3852,10 @@ static void (*const TESTS[])(void) = {
     test_store_truncated,
     test_store_of_any_type,
     test_store_with_small_buffers,
+    test_room_for_the_longest_chain,
+    test_room_of_aliases_of_many_records,
+    test_room_of_stored_rrsets,
+    test_room_of_any_type,
     test_late_response,
     test_stores_refused,
     test_limits,
