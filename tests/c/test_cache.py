@@ -33,6 +33,13 @@ def test_memos(build, libraries, tmp_path, capsys):
               standard="c11"), build, capsys)
 
 
+@pytest.mark.parametrize("build", ["archive", "sanitized"])
+def test_forgetting(build, libraries, tmp_path, capsys):
+    """forget_tests.c looks up behind each release of a lock, as another thread may."""
+    run(built("forget_tests.c", build, libraries, tmp_path, "-Wl,--wrap=pthread_mutex_unlock",
+              *MORE.get(build, ()), standard="c11"), build, capsys)
+
+
 def test_archives_are_legal(libraries, tmp_path, request):
     program = request.config.getoption("program")
     if not program.exists():
