@@ -134,9 +134,9 @@ struct rrcache_request {
 /* The maximum number of CNAME records that a look-up follows. */
 enum { RRCACHE_MOST_ALIASES = 16 };
 
-/* A buffer of this size has room for every answer of a look-up if each CNAME RRset and each DNAME
-   RRset has one record (RFC 2181 section 10.1), and if the RRset at the end of the CNAME chain came
-   in a response. But a server may send CNAME RRsets of many records. Each of these RRsets is stored
+/* A buffer of this size has room for every answer of a look-up, under two conditions: each CNAME
+   RRset and each DNAME RRset has one record (RFC 2181 section 10.1), and the RRset at the end of
+   the CNAME chain came in a response. But a server may send CNAME RRsets of many records. Each of these RRsets is stored
    if it has at most 16,384 octets of rdata. An answer with one of them may need a larger buffer,
    and the call then returns RRCACHE_SMALL. A buffer of 1 MiB has room for every answer of a look-up
    whose RRsets all came in responses. An answer of `rrcache_store` may also need a larger buffer if
@@ -248,8 +248,8 @@ RRCACHE_API void rrcache_close(struct rrcache *cache);
    followed for types CNAME and ANY.
 
    With the mode RRCACHE_STALE_IF_FAILED, stale data are acceptable for every name of the chain if
-   the question has failed recently, and this failure was stored after the CNAME record of the
-   question's name (RFC 8767 section 5). Otherwise stale data are acceptable only for names for
+   the question has failed recently (RFC 8767 section 5). The failure must have been stored after
+   the CNAME record of the question's name. Otherwise stale data are acceptable only for names for
    which the type has failed recently.
 
    Returns RRCACHE_BAD_NAME if the name is not in wire form, RRCACHE_BAD_CHOICE if `mode` is not a

@@ -189,10 +189,10 @@
      chapters without a lock.
    - `rrcache_write_chapter` writes a taken chapter as text: a first line with its number and the
      rules of the shelf, a line for each key that was cached when the chapter began, and a line for
-     each event. All chapters of one record, written in the order in which they were taken, are an
-     archive. `rrcache --audit-history` audits archives. Chapters are numbered from 1, and chapters
-     that were not recorded have numbers too. So the first chapter of a record has the number 2 or a
-     higher one.
+     each event. All chapters of one recording, written in the order in which they were taken, are
+     an archive. `rrcache --audit-history` audits archives. Chapters are numbered from 1, and
+     chapters that were not recorded have numbers too. So the first chapter of a recording has the
+     number 2 or a higher one.
    - Event numbers are used up if the next event would have the number 2^62, even if it is not
      recorded. Chapter numbers are used up if the open chapter is full and has the number 2^62.
      After that, each call that has to write an event returns RRCACHE_HISTORY_FULL, even if chapters
@@ -372,10 +372,10 @@ enum rrcache_response_kind {
     RRCACHE_RESPONSE_FAILURE = 7,  /* the RCODE is neither NOERROR nor NXDOMAIN */
     RRCACHE_RESPONSE_UNUSABLE = 8 /* none of these: TC is set, the opcode is not QUERY, the question
                                      has a class that is not kept or is out of bailiwick, the CNAME
-                                     chain does not end, or the response has no data, no denial and
-                                     no referral, as from a server that does not serve the zone.
-                                     Data of a type that is not kept are skipped, so a response has
-                                     this kind whether it has such data or not */
+                                     chain does not end, or there are no data, no denial and no
+                                     referral. A server that does not serve the zone may send such a
+                                     response. Data of a type that is not kept are skipped, so a
+                                     response has this kind whether it has such data or not */
 };
 
 /* The reason why octets cannot be read as a response (`rrcache_fault`). */
@@ -942,7 +942,7 @@ static inline bool rrcache_overlap(const void *one, size_t one_size, const void 
     return one_size != 0 && other_size != 0 && (a < b ? b - a < one_size : a - b < other_size);
 }
 
-/* Whether one of two ranges of memory that a call writes overlaps a range that it reads. */
+/* Whether a range of memory that a call reads overlaps either of two ranges that it writes. */
 static inline bool rrcache_touch(const void *one, size_t one_size, const void *other,
                                  size_t other_size, const void *read, size_t read_size)
 {
@@ -1271,7 +1271,7 @@ rrcache_compose_response(const struct rrcache_query *query,
 }
 
 /* Checks the pointers of a response: RRCACHE_NULL if a required pointer is null, RRCACHE_OVERLAP if
-   one of two ranges of memory that the call writes overlaps the octets of the response, or the
+   either of two ranges of memory that the call writes overlaps the octets of the response, or the
    other range. */
 static inline enum rrcache_status rrcache_can_read(const struct rrcache_response *response,
                                                    const void *one, size_t one_size,
@@ -1314,7 +1314,7 @@ static inline enum rrcache_status rrcache_can_read(const struct rrcache_response
 
    These RRsets are relevant:
    - In the answer section, an RRset is relevant if its type is CNAME or the type of the question
-     (any type if that is ANY), and if its owner is the name of the question or one of at most 11
+     (any type if that is ANY). Its owner must be the name of the question, or one of at most 11
      names to which CNAME records lead from there. A DNAME RRset above one of these names is
      relevant too.
    - In the authority section, the first RRset at or above the last of these names is relevant, for
@@ -1326,18 +1326,15 @@ static inline enum rrcache_status rrcache_can_read(const struct rrcache_response
    - The negative answer or the failure is always relevant.
 
    These RRsets are not relevant:
-   - A DS RRset of `zone` itself is not relevant, because the parent of the zone has it (RFC 4035
-     section 2.4).
-   - An NS RRset of the authority section is relevant only if the question has type NS, or in a
-     referral (RFC 1034 section 4.3.2), which means that AA is clear and the owner is below `zone`.
-     So the servers of a zone do not renew their own delegation. A repeated referral does renew its
-     NS RRset. A caller that wants a delegation to end with its first TTL peeks for that RRset. If
-     an unexpired NS RRset with the same data is cached, the caller does not offer the share of that
-     part.
-   - An RRset with more than 16,384 octets of rdata is not relevant.
-   - In class IN, an RRset of type A is not relevant if a record has rdata that are not 4 octets
-     long, and an RRset of type AAAA is not relevant if a record has rdata that are not 16 octets
-     long.
+   - A DS RRset of `zone` itself, because the parent of the zone has it (RFC 4035 section 2.4).
+   - An NS RRset of the authority section, unless the question has type NS or the response is a
+     referral (RFC 1034 section 4.3.2): AA is clear and the owner is below `zone`. So the servers of
+     a zone do not renew their own delegation. A repeated referral does renew its NS RRset. A caller
+     that wants a delegation to end with its first TTL peeks for that RRset. If an unexpired NS
+     RRset with the same data is cached, the caller does not offer the share of that part.
+   - An RRset with more than 16,384 octets of rdata.
+   - In class IN, an RRset of type A with rdata that are not 4 octets long, or an RRset of type AAAA
+     with rdata that are not 16 octets long.
 
    So a server of `example` that is asked for one name can replace the cached data of another name
    in only three ways. First, its CNAME records lead to the other name. Second, its NS, MX or SRV
@@ -1786,7 +1783,7 @@ static inline enum rrcache_status rrcache_peek(const struct rrcache_shelf *shelf
    - The record was stored earlier than the entry for the type, and is unexpired and of higher rank.
 
    So a CNAME record and the data that it replaced are compared in the same way as an RRset and an
-   NXDOMAIN, and no older address is returned although there is a newer alias (RFC 8767 section 7).
+   NXDOMAIN. An older address is then not returned in place of a newer alias (RFC 8767 section 7).
    In every other case, and always for types CNAME and ANY, the call returns the reply for the type
    (RFC 1034 section 4.3.2).
 
@@ -2064,8 +2061,8 @@ static inline enum rrcache_status rrcache_write_line(struct rrcache_chapters *ch
 }
 
 /* Writes a chapter, counted from 0, to `sink` as text: each of its lines as `rrcache_write_line`
-   does. All chapters of one record, written in the order in which they were taken, are an archive
-   of the history. The sink must not make a call with the handle of these chapters. Returns
+   does. All chapters of one recording, written in the order in which they were taken, are an
+   archive of the history. The sink must not make a call with the handle of these chapters. Returns
    RRCACHE_NO_LINE if there is no such chapter. The other errors are those of `rrcache_write_line`.
    Needs no lock. */
 static inline enum rrcache_status rrcache_write_chapter(struct rrcache_chapters *chapters,

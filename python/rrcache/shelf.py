@@ -446,7 +446,7 @@ class Shelf(Held):
 
     def take_chapters(self) -> list[Chapter]:
         """Takes the closed chapters of the history from the shelf: none while nothing is recorded.
-        The texts of all chapters of one record, one after another, are an archive. Events before
+        The texts of all chapters of one recording, one after another, are an archive. Events before
         the record are in an earlier chapter, which is not returned. If `Memory` is raised, chapters
         may be lost.
 
