@@ -184,9 +184,9 @@ struct rrcache_rrset {
                                    they were stored, tell a resolver when to prefetch. `number` is
                                    unique only within the shelf of the owner's name, and in a
                                    negative answer within that of `end`. No field has the shelf, but
-                                   this name and `number` together are unique: by them a caller can
-                                   find its own data about the entry, such as a security status. In
-                                   an answer of `rrcache_store`, `number` and `age` are 0 */
+                                   this name and `number` together are unique: a caller can use them
+                                   to find its own data about the entry, such as a security status.
+                                   In an answer of `rrcache_store`, `number` and `age` are 0 */
     size_t next;                /* the offset of the next RRset in the buffer */
 };
 
@@ -406,10 +406,10 @@ RRCACHE_API enum rrcache_status rrcache_stop_recording_all(struct rrcache *cache
    chapter of an archive begins. The contents of each shelf are those at one point in time. The call
    allocates memory for the keys of one shelf at a time. No call reads such contents back. A caller
    can store each entry in a new cache, with the rank, TTL and timestamp of its line, in the order
-   of event numbers. CLOCK_BOOTTIME begins anew when the machine restarts: the caller then converts
-   the timestamps first (docs/RULES.md, "Listing and saving keys"). Returns RRCACHE_HAS_CHAPTERS
-   while histories are recorded, and RRCACHE_SINK if the sink returns nonzero. Also returns
-   RRCACHE_HISTORY_FULL and RRCACHE_MEMORY. */
+   of event numbers. CLOCK_BOOTTIME starts again at zero when the machine restarts: the caller then
+   converts the timestamps first (docs/RULES.md, "Listing and saving keys"). Returns
+   RRCACHE_HAS_CHAPTERS while histories are recorded, and RRCACHE_SINK if the sink returns nonzero.
+   Also returns RRCACHE_HISTORY_FULL and RRCACHE_MEMORY. */
 RRCACHE_API enum rrcache_status rrcache_dump(struct rrcache *cache, rrcache_shelf_sink sink,
                                              void *state);
 

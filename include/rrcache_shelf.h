@@ -516,8 +516,8 @@ struct rrcache_counts {
 
 /* The limits of how long data of a response may be cached, in seconds. */
 struct rrcache_limits {
-    uint32_t cap;          /* the greatest TTL: 1 to 604,800 (RFC 8767 section 4) */
-    uint32_t negative_cap; /* the greatest TTL of a negative answer: 1 to 604,800 (RFC 2308 section
+    uint32_t cap;          /* the maximum TTL: 1 to 604,800 (RFC 8767 section 4) */
+    uint32_t negative_cap; /* the maximum TTL of a negative answer: 1 to 604,800 (RFC 2308 section
                               5) */
     uint32_t recheck;      /* the TTL of a failure: 1 to 300 (RFC 8767 section 5, RFC 9520 section
                               3.2) */

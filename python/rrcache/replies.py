@@ -126,8 +126,8 @@ class Query(NamedTuple):
 
 
 class Limits(NamedTuple):
-    """The limits of how long data of a response may be cached, in seconds: the greatest TTL (1 to
-    604,800, RFC 8767 section 4), the greatest TTL of a negative answer (1 to 604,800, RFC 2308
+    """The limits of how long data of a response may be cached, in seconds: the maximum TTL (1 to
+    604,800, RFC 8767 section 4), the maximum TTL of a negative answer (1 to 604,800, RFC 2308
     section 5), and the TTL of a failure (1 to 300, RFC 9520 section 3.2).
 
     >>> Limits(cap=86_400).negative_cap

@@ -72,9 +72,9 @@ impl Config {
 #[repr(C)]
 #[derive(Clone, Copy, Debug, Default, PartialEq, Eq)]
 pub struct Limits {
-    /// The greatest TTL: 1 to 604,800 (RFC 8767 section 4). The default is 604,800.
+    /// The maximum TTL: 1 to 604,800 (RFC 8767 section 4). The default is 604,800.
     pub cap: u32,
-    /// The greatest TTL of a negative answer: 1 to 604,800 (RFC 2308 section 5). The default is
+    /// The maximum TTL of a negative answer: 1 to 604,800 (RFC 2308 section 5). The default is
     /// 10,800.
     pub negative_cap: u32,
     /// The TTL of a failure: 1 to 300 (RFC 8767 section 5, RFC 9520 section 3.2). The default is
