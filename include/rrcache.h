@@ -42,7 +42,7 @@
      memory that the cache may use, not counting the memory that the next paragraph describes.
      SECURITY.md has the measurements behind this factor.
    - In addition, `rrcache_open` allocates the places, memos of answers, and a filter of the names
-     that may be aliases. The memos use at most 1/32 of `octets`, and at most about 265 KiB for each
+     that may be aliases. The memos use at most 1/16 of `octets`, and at most about 235 KiB for each
      of `readers`. The filter uses at most about 1/80 of `octets`, and at most 128 KiB for each
      shelf. A second filter, of the names that may have a negative answer or a failure, uses 2 to 4
      octets for each of `keys`, whatever `octets` is: 8 MiB with the default number of keys. So set
@@ -136,13 +136,13 @@ enum { RRCACHE_MOST_ALIASES = 16 };
 
 /* A buffer of this size has room for every answer of a look-up, under two conditions: each CNAME
    RRset and each DNAME RRset has one record (RFC 2181 section 10.1), and the RRset at the end of
-   the CNAME chain came in a response. But a server may send CNAME RRsets of many records. Each of these RRsets is stored
-   if it has at most 16,384 octets of rdata. An answer with one of them may need a larger buffer,
-   and the call then returns RRCACHE_SMALL. A buffer of 1 MiB has room for every answer of a look-up
-   whose RRsets all came in responses. An answer of `rrcache_store` may also need a larger buffer if
-   the query is of type ANY or of a type that is not kept, or if an RRset has more than 16,384
-   octets of rdata. `rrcache_store` has then stored everything, and the answer has the RRsets that
-   fit. */
+   the CNAME chain came in a response. But a server may send CNAME RRsets of many records. Each of
+   these RRsets is stored if it has at most 16,384 octets of rdata. An answer with one of them may
+   need a larger buffer, and the call then returns RRCACHE_SMALL. A buffer of 1 MiB has room for
+   every answer of a look-up whose RRsets all came in responses. An answer of `rrcache_store` may
+   also need a larger buffer if the query is of type ANY or of a type that is not kept, or if an
+   RRset has more than 16,384 octets of rdata. `rrcache_store` has then stored everything, and the
+   answer has the RRsets that fit. */
 enum { RRCACHE_ANSWER_OCTETS = 65536 };
 
 /* The answer to a question: a list of RRsets, which `rrcache_next` returns one by one, and their

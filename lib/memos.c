@@ -4,7 +4,7 @@
 
 /* The most memos of a reader, and the share that those of all readers take of the cache's octets.
  */
-enum { MOST_MEMOS = 512, SHARE_OF_OCTETS = 32 };
+enum { MOST_MEMOS = 512, SHARE_OF_OCTETS = 16 };
 
 /* ---- Where they are. */
 
@@ -103,8 +103,9 @@ static void put_name(const struct rrcache *cache, const struct memo *memo,
     memcpy(name->octets, memo->name, memo->name_size);
 }
 
-static void put_answer(const struct memo *memo, struct rrcache_answer *answer)
+static void put_answer(struct memo *memo, struct rrcache_answer *answer)
 {
+    memo->is_used = true;
     memcpy(answer->buffer, memo->answer, memo->size);
     answer->size = memo->size;
     answer->kind = memo->kind;
@@ -128,9 +129,14 @@ static bool is_current(const struct rrcache *cache, const struct memo *memo)
     return atomic_load_explicit(&part->turn, memory_order_acquire) == memo->turn;
 }
 
+static struct memo *memo_of(const struct recall *it)
+{
+    return &it->memos->memo[it->slot - it->memos->slots];
+}
+
 enum recalled recall_memo(const struct recall *it)
 {
-    const struct memo *memo = &it->memos->memo[it->slot - it->memos->slots];
+    struct memo *memo = memo_of(it);
     enum recalled recalled = NOTHING;
     if (!take_memos(it->memos))
         return NOTHING;
@@ -164,8 +170,18 @@ static void fill_memo(struct memo *memo, const struct rrcache_question *question
     memo->size = (uint16_t)answer->size;
     memo->purpose = (uint8_t)question->purpose;
     memo->name_size = name->size;
+    memo->is_used = false;
     memcpy(memo->name, name->octets, name->size);
     memcpy(memo->answer, answer->buffer, answer->size);
+}
+
+/* Whether the memo of a slot has to make way for that of a question. One in use is spared once. */
+static bool makes_way(const struct recall *it)
+{
+    struct memo *memo = memo_of(it);
+    bool makes_way = it->recalled == NAME || !memo->is_used;
+    memo->is_used = false;
+    return makes_way;
 }
 
 void write_memo(const struct recall *it, uint64_t turn)
@@ -174,7 +190,9 @@ void write_memo(const struct recall *it, uint64_t turn)
     bool is_lower = memcmp(name->octets, it->request->name, name->size) == 0;
     if (it->answer->size > MEMO_ANSWER || !is_lower || !take_memos(it->memos))
         return;
-    fill_memo(&it->memos->memo[it->slot - it->memos->slots], it->question, it->answer, turn);
-    atomic_store_explicit(&it->slot->held, it->mark, memory_order_relaxed);
+    if (makes_way(it)) {
+        fill_memo(memo_of(it), it->question, it->answer, turn);
+        atomic_store_explicit(&it->slot->held, it->mark, memory_order_relaxed);
+    }
     leave_memos(it->memos);
 }

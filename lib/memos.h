@@ -11,9 +11,10 @@
 
    A table is taken by one thread at a time, and another one that comes then does without it. It is
    not taken either if the mark of the question is not that of the memo in its slot. A memo is made
-   if a question comes that was also the last one of its slot for which there was none. So questions
-   that come once cost little, and do not drive out others. Marks are not secret: who chooses names
-   that share a slot can make memos come and go, which costs time only. */
+   if a question comes that was also the last one of its slot for which there was none, unless the
+   slot's memo has answered since the last time when another was to be made. So questions that come
+   once cost little, and do not drive out others, and a name in use stays. Marks are not secret: who
+   chooses names that share a slot can make memos come and go, which costs time only. */
 #ifndef MEMOS_H
 #define MEMOS_H
 
@@ -21,8 +22,9 @@
 
 #include <string.h>
 
-/* The octets of a name and of an answer that a memo has room for. */
-enum { MEMO_NAME = 96, MEMO_ANSWER = 360 };
+/* The octets of a name and of an answer that a memo has room for. With these a memo takes seven
+   cache lines of the processor. */
+enum { MEMO_NAME = 95, MEMO_ANSWER = 296 };
 
 /* A turn that no part has while a reader is in it. */
 enum { NO_TURN = 1 };
@@ -35,6 +37,7 @@ struct memo {
     uint32_t mode, kind;
     uint16_t rtype, rclass, size;
     uint8_t purpose, name_size;
+    bool is_used; /* it has answered since another memo was last to be made in its slot */
     uint8_t name[MEMO_NAME];
     uint8_t answer[MEMO_ANSWER];
 };
