@@ -1,30 +1,41 @@
 /* SPDX-License-Identifier: MIT */
-/* addresses.h: addresses with ports, of IPv4 and of IPv6, and what sockets of them need. */
-#ifndef ADDRESSES_H
-#define ADDRESSES_H
+/* addresses.h: addresses with ports, of IPv4 and of IPv6, and what their sockets need. */
+#pragma once
 
+#include <errno.h>
 #include <netinet/in.h>
 #include <stdbool.h>
-#include <stdint.h>
+#include <string.h>
 
+/* All octets that an address does not use are 0. The largest member stands first, so that {0} sets
+   all of them to 0. */
 union address {
-    struct sockaddr any;
-    struct sockaddr_in four;
     struct sockaddr_in6 six;
+    struct sockaddr_in four;
+    struct sockaddr any;
+    struct {
+        sa_family_t family;
+        in_port_t port; /* high octet first */
+    };
 };
 
-/* Reads a numeric address and a port; false where one of them is none. */
-bool read_address(const char *host, const char *port, union address *address);
+static inline socklen_t address_size(const union address *address)
+{
+    return address->family == AF_INET6 ? sizeof address->six : sizeof address->four;
+}
 
-socklen_t address_size(const union address *address);
-uint16_t port_of(const union address *address);
-void set_port(union address *address, uint16_t port);
-bool is_same_address(const union address *one, const union address *other);
+static inline bool is_same_address(const union address *one, const union address *other)
+{
+    return memcmp(one, other, sizeof *one) == 0;
+}
 
-/* An address as a socket of IPv6 has it that speaks IPv4 too (RFC 4291 section 2.5.5.2). */
-union address mapped_address(const union address *address);
+static inline bool set_option(int sock, int level, int option, int value)
+{
+    return setsockopt(sock, level, option, &value, sizeof value) == 0;
+}
 
-/* Sets an option of a socket; false where that is refused. */
-bool set_option(int sock, int level, int option, int value);
-
-#endif
+/* Whether a call on a socket failed only because it would have to wait. */
+static inline bool would_block(void)
+{
+    return errno == EAGAIN || errno == EWOULDBLOCK || errno == EINTR;
+}

@@ -1,72 +1,49 @@
 /* SPDX-License-Identifier: MIT */
-/* answers.h: the cache of the library, which all threads share, and what is answered of it. Every
-   call here may be made by any thread. */
-#ifndef ANSWERS_H
-#define ANSWERS_H
+/* answers.h: the cache, which all threads share, and the replies that are made from it. Any thread
+   may make any call. */
+#pragma once
 
 #include "counters.h"
 #include "dns.h"
-#include "rrcache.h"
 
-/* What the cache has for a question. */
-enum outcome {
-    IS_FRESH,
-    IS_NEGATIVE, /* that the name, or its data of the type, do not exist */
-    IS_STALE,
-    IS_MISSING, /* nothing: it is to be asked for upstream */
-    HAS_FAILED, /* nothing, and asking for it has failed recently */
-    IS_REFUSED  /* nothing that can be told: aliases with no end, or too large a set */
-};
-
-/* What became of a response. */
-enum kept {
-    IS_USELESS, /* it cannot be read, or is a referral: it answers nothing */
-    IS_WHOLE,   /* it answers the question by itself */
-    IS_PARTIAL  /* the cache may know more */
-};
-
-/* What a host says of itself (RFC 4892); null where it says nothing. */
+/* What the host says of itself (RFC 4892), or NULL. */
 struct identity {
     const char *version, *name;
 };
 
 extern struct rrcache *cache;
 
-static inline bool is_found(enum outcome outcome)
+/* Whether a look-up found an answer. */
+static inline bool is_found(enum rrcache_kind kind)
 {
-    return outcome <= IS_STALE;
+    return kind == RRCACHE_FRESH || kind == RRCACHE_STALE || kind == RRCACHE_NODATA
+           || kind == RRCACHE_NXDOMAIN;
 }
 
-/* What a reply counts as. */
-static inline enum counter counter_of(enum outcome outcome)
+/* What a reply of such a kind counts as. */
+static inline enum counter counter_of(enum rrcache_kind kind)
 {
-    return outcome == IS_FRESH      ? FRESH
-           : outcome == IS_NEGATIVE ? NEGATIVE
-           : outcome == IS_STALE    ? STALE
-                                    : FAILED;
+    return kind == RRCACHE_FRESH ? FRESH : kind == RRCACHE_STALE ? STALE : NEGATIVE;
 }
 
-/* Opens the cache, of so many octets, and closes it; false where it is refused. */
-bool open_cache(uint64_t octets, const struct identity *identity);
-void close_cache(void);
+/* Opens the cache. Returns false if that fails. */
+bool open_cache(uint64_t octets, const struct identity *said);
 
-/* The hash of a name, in whatever case it is spelled, under a seed that nobody knows: it is hard to
-   find names of one hash. */
+/* Hashes a name in lower case, under a secret seed. */
 uint64_t hash_of(const uint8_t *name, size_t size);
 
-/* Answers a question from the cache: the aliases of its name, and what is at their end. The reply
-   is complete where something was found, and else SERVFAIL. */
-enum outcome look_up(const struct question *question, enum rrcache_mode mode, struct reply *reply);
+/* Answers a question from the cache, with its CNAME chain. If nothing was found, the reply is
+   SERVFAIL. Returns 0 if no reply can have the answer, as for a loop of CNAME records. */
+enum rrcache_kind look_up(const struct question *question, enum rrcache_mode mode,
+                          struct reply *reply);
 
-/* Keeps what a response says, whose identifier and question are those of the query. The reply is
-   what the response says. */
-enum kept keep(const struct question *question, const uint8_t *message, size_t size,
-               struct reply *reply);
+/* Stores a response to a question. Returns one of two replies: what the response says, or what the
+   cache knows, if the response says only a part. Returns NULL if it answers nothing. */
+const struct reply *keep(const struct question *question, const uint8_t *message, size_t size,
+                         struct reply replies[2]);
 
-/* Remembers for 30 seconds that nothing came of asking (RFC 2308 section 7). */
+/* Stores for 30 seconds that the resolution of a question failed (RFC 2308 section 7). */
 void remember_failure(const struct question *question);
 
-/* Answers what a host is asked of itself, in class CHAOS; else the reply is REFUSED. */
+/* Answers what a host is asked of itself in class CH. Any other reply is REFUSED. */
 void identify(const struct question *question, struct reply *reply);
-
-#endif

@@ -1,72 +1,70 @@
 /* SPDX-License-Identifier: MIT */
-/* clients.h: the sockets of clients. Queries come by UDP, on one socket for each address, which all
-   threads take from, and by TCP (RFC 7766), where each thread has a table of the connections that
-   it took up. Replies may be sent by any thread. */
-#ifndef CLIENTS_H
-#define CLIENTS_H
+/* clients.h: the sockets of clients. All threads take queries from the sockets for UDP. Each thread
+   has its own connections (RFC 7766). Any thread may send any reply. */
+#pragma once
 
 #include <poll.h>
+#include <pthread.h>
 
 #include "counters.h"
 #include "dns.h"
 #include "shares.h"
 
+enum { MOST_LISTENERS = 8 };
 enum {
-    MOST_QUERY = 4096, /* the most octets of a query that is read */
-    MOST_WAITING = 64, /* queries of a connection that are not answered yet */
-    IDLE_MS = 5000,    /* so long a connection may do nothing (RFC 7766 section 6.2.3) */
-    YIELD_MS = 200     /* and so long where no place is free, and others come */
+    MOST_QUERY = 4096, /* the most octets of a query */
+    MOST_WAITING = 64, /* the most queries of a connection that wait for a reply */
+    IDLE_MS = 5000,    /* for how long a connection may be idle (RFC 7766 section 6.2.3) */
+    YIELD_MS = 200     /* the same if no place is free and others come */
 };
+/* The room for the address of this host that a datagram was sent to (IP_PKTINFO). */
+enum { CONTROL = CMSG_SPACE(sizeof(struct in6_pktinfo)) };
 
-struct connection;
-
-/* Who asked. Where a connection is told, its serial number tells whether it is the same still. */
+/* Who sent a query. */
 struct asker {
     struct asker *next;
     struct query query;
     unsigned client; /* its number (shares.h) */
     union address from;
-    struct in6_addr
-        at;   /* the address of this host that was asked by UDP; of IPv4 its first octets */
-    int sock; /* which it was asked on */
-    struct connection *connection; /* NULL: the query came by UDP */
-    uint64_t serial;
+    _Alignas(struct cmsghdr) uint8_t control[CONTROL];
+    size_t control_size;
+    int sock;
+    struct clients *clients; /* NULL: the query came by UDP */
+    size_t place;
+    uint64_t serial; /* of the connection in that place */
 };
 
-/* The connections of a thread. */
+/* The connections of a thread, in places. */
 struct clients {
+    pthread_mutex_t lock; /* of the connections, since other threads send replies on them */
     struct connection *connections;
     size_t places;
-    uint64_t shut_until; /* none is taken up before, in milliseconds: descriptors ran out */
+    uint64_t shut_until; /* no connection is accepted before, in milliseconds */
 };
 
-/* Opens the sockets for UDP and TCP at each address; where a port is 0 one is picked, and told. */
+/* Opens two sockets at each address, for UDP and TCP. If a port is 0, the system picks one. Returns
+   false if that fails. */
 bool open_listeners(union address *addresses, size_t count);
+extern size_t listener_count; /* of these sockets */
 
 bool make_clients(struct clients *clients, size_t places);
 
-/* How many of what is polled are no connections: two sockets for each address. */
-size_t listener_sockets(void);
-
-/* Tells what to poll for: these sockets, and each place of a connection. */
+/* Writes what to poll for: the listeners, and then each place. */
 void poll_clients(struct clients *clients, struct pollfd *polled, uint64_t now);
 
-/* Takes connections up, reads and writes what can be, and ends those that are at their end. */
+/* Accepts connections, reads and writes, and shuts connections that are at their end. */
 void tend_connections(struct clients *clients, const struct pollfd *polled, uint64_t now);
 
-/* Takes what came by UDP on a socket, and who sent it; false where nothing is there. What is no
-   query has the size 0. */
+/* Takes a datagram from a socket. Returns false if there is none. If it is not a query, its size is
+   0. */
 bool take_datagram(int sock, uint8_t octets[MOST_QUERY], size_t *size, struct asker *asker);
 
-/* Takes a query from a connection, and returns its size; 0 where none is there. */
+/* Takes a query from the connection in a place, and returns its size, or 0 if there is none. */
 size_t take_message(struct clients *clients, size_t place, uint8_t octets[MOST_QUERY],
                     struct asker *asker);
 
-/* Sends a reply to one who asked, which counts as what is said, or as failed where it is
-   SERVFAIL. */
+/* Sends a reply, and counts it as `what`, or as failed if it is SERVFAIL. */
 void send_reply(const struct asker *asker, const struct reply *reply, enum counter what);
 
-/* Ends all connections. */
+/* Shuts all connections. */
 void free_clients(struct clients *clients);
-
-#endif

@@ -3,8 +3,6 @@
 
 #include <inttypes.h>
 #include <poll.h>
-#include <stdatomic.h>
-#include <stdbool.h>
 #include <stdio.h>
 #include <unistd.h>
 
@@ -22,8 +20,7 @@ void count(enum counter which, uint64_t by)
     atomic_fetch_add_explicit(&counters[which], by, memory_order_relaxed);
 }
 
-/* Whether a line can be written at once; else it is dropped, since who does not read may hold up
-   nothing. A pipe that is ready takes 4,096 octets (PIPE_BUF), and no line has as many. */
+/* A pipe that is ready takes 4,096 octets at once (PIPE_BUF), and no line has as many. */
 static bool takes_line(int file)
 {
     return poll(&(struct pollfd){.fd = file, .events = POLLOUT}, 1, 0) == 1;
@@ -39,7 +36,7 @@ void print_counters(void)
     rrcache_stats(cache, &stats);
     printf("swept %" PRIu64 " evicted %" PRIu64 " keys %" PRIu64 " held %" PRIu64
            " waiting %" PRIu64,
-           stats.expired, stats.evicted, stats.keys, stats.octets, shared_octets());
+           stats.expired, stats.evicted, stats.keys, stats.octets, shared_octets);
     for (uint64_t i = 0; rrcache_stats_of(cache, i, &stats) == RRCACHE_DONE; i++)
         printf(" part-%" PRIu64 " %" PRIu64, i, stats.keys);
     putchar('\n');
@@ -52,9 +49,8 @@ void log_counters(uint64_t seconds)
     uint64_t since[COUNTERS];
     struct rrcache_stats stats = {0};
     for (int i = 0; i < COUNTERS; i++) {
-        uint64_t now = counters[i];
-        since[i] = now - last[i];
-        last[i] = now;
+        since[i] = counters[i] - last[i];
+        last[i] += since[i];
     }
     if (!takes_line(STDERR_FILENO))
         return;

@@ -1,12 +1,8 @@
 /* SPDX-License-Identifier: MIT */
-/* dns.h: DNS messages as octets (RFC 1035 section 4). Queries of clients are read, replies to them
-   are written, and it is judged what responses are. What a response says, the library tells
-   (answers.h). Nothing here takes memory, waits, or calls sockets or the cache.
-
-   Names are in wire form (RFC 1035 section 3.1), whole, at most 255 octets with the zero octet at
-   their end. */
-#ifndef DNS_H
-#define DNS_H
+/* dns.h: DNS messages as octets (RFC 1035 section 4): queries are read and written, replies are
+   written, and responses are judged. Nothing here allocates, blocks or asks the cache. Names are in
+   wire form. */
+#pragma once
 
 #include <stdbool.h>
 #include <stddef.h>
@@ -14,18 +10,19 @@
 
 #include "rrcache.h"
 
-/* How many octets these have: the first two just so many, the others at most. A query is one that
-   is sent upstream. */
+/* Sizes in octets: of a header and of an OPT record without options; at most, of a name, of a
+   message and of a query to an upstream; and of the length that precedes a message over TCP. */
 enum {
     HEADER = 12,
-    OPT_RECORD = 11, /* with no options */
+    OPT_RECORD = 11,
     NAME = 255,
     MESSAGE = 65535,
-    QUERY = HEADER + NAME + 4 + OPT_RECORD
+    QUERY = HEADER + NAME + 4 + OPT_RECORD,
+    LENGTH = 2
 };
 
-/* How many octets fit in a datagram: for who sends no OPT record (RFC 1035 section 4.2.1), and
-   else, as many as no path of today takes apart. */
+/* The most octets of a reply over UDP: without EDNS (RFC 1035 section 4.2.1), and with EDNS, so
+   that no path has to fragment it. */
 enum { PLAIN_PAYLOAD = 512, PAYLOAD = 1232 };
 
 enum rcode { NOERROR, FORMERR, SERVFAIL, NXDOMAIN, NOTIMP, REFUSED, BADVERS = 16 };
@@ -33,47 +30,39 @@ enum type { TXT = 16, OPT = 41, ANY = 255 };
 
 struct question {
     uint8_t name[NAME]; /* as it was spelled */
-    size_t size;        /* of the name; 0: there is no question */
+    size_t size;        /* 0: there is no question */
     uint16_t type, class;
-    uint64_t hash; /* of the name, in whatever case, under a seed that nobody knows (answers.h) */
+    uint64_t hash; /* of the name in lower case, under a secret seed (answers.h) */
 };
 
-/* What a client sent. */
+/* A query of a client, or a query to an upstream. */
 struct query {
     uint8_t id[2], flags[2];
     struct question question;
-    size_t payload; /* so many octets of a reply the client takes by UDP: 512 to 1,232 */
+    size_t payload; /* the most octets of a reply over UDP: 512 to 1,232 */
     bool has_edns, is_dnssec_ok;
 };
 
-/* So many RRsets, and so many octets of them, a reply has at most. */
+/* The most RRsets of a reply, and the most octets that they use. */
 enum { MOST_SETS = 256, REPLY_ROOM = 2 * RRCACHE_ANSWER_OCTETS };
 
-/* A reply, for all who asked the same. */
+/* A reply to all clients that asked the same question. */
 struct reply {
     enum rcode rcode;
-    size_t count; /* of the sets */
+    size_t count;
     struct rrcache_parsed_set sets[MOST_SETS];
-    uint8_t buffer[REPLY_ROOM]; /* where their owners and data stand */
+    uint8_t buffer[REPLY_ROOM]; /* has the owners and the data of the sets */
 };
 
-/* A query that is sent upstream. */
-struct upstream_query {
-    const struct question *question;
-    uint8_t id[2];
-    bool has_edns;
-};
-
-/* What came from an upstream's address, judged by the query that was sent there. */
+/* What octets from an upstream are, for the query that was sent there. */
 enum verdict {
-    STRAY,       /* no response to this query */
+    STRAY,       /* not a response to this query */
     ANSWER,      /* a response with the RCODE NOERROR or NXDOMAIN */
-    TRUNCATED,   /* the same with TC set, which tells nothing */
+    TRUNCATED,   /* a response with TC set */
     WANTS_PLAIN, /* the upstream does not know OPT records (RFC 6891 section 7) */
-    FAILURE      /* any other RCODE, or octets that are no message */
+    FAILURE      /* any other RCODE, or a message that cannot be read */
 };
 
-/* A number of 16 bits, the high octet first. */
 static inline unsigned word_at(const uint8_t *octets)
 {
     return octets[0] * 256u + octets[1];
@@ -85,41 +74,39 @@ static inline void write_word(uint8_t *octets, unsigned word)
     octets[1] = (uint8_t)word;
 }
 
-/* ---- Names and records. */
+/* A question with an identifier, as the library takes it. */
+static inline struct rrcache_query query_of(const struct question *question, const uint8_t id[2])
+{
+    return (struct rrcache_query){.name = question->name,
+                                  .name_size = question->size,
+                                  .id = (uint16_t)word_at(id),
+                                  .rtype = question->type,
+                                  .rclass = question->class};
+}
 
-/* Whether two names are the same but for the case of letters (RFC 4343 section 3). */
+/* Whether two names are the same, apart from the case of letters (RFC 4343 section 3). */
 bool is_same_name(const uint8_t *one, size_t one_size, const uint8_t *other, size_t other_size);
-
 bool is_same_question(const struct question *one, const struct question *other);
 
-/* How many octets of a name stand before its domain: the last two labels, as `example.com`, or more
-   where these are shared by many, as of `example.co.uk` and of addresses that are turned round. */
+/* Returns where the domain of a name begins: its last two labels, as `example.com`, or more if many
+   share these, as in `example.co.uk` and in reverse zones. */
 size_t domain_of(const uint8_t *name, size_t size);
 
-/* ---- Queries. */
-
-/* Reads what a client sent, a header and more. Returns NOERROR, or the RCODE of a refusal: FORMERR
-   where the octets are no query with one question, NOTIMP for other opcodes and for types that are
-   asked for by no query of this kind, BADVERS for a version of EDNS above 0 (RFC 6891 section
-   6.1.3). */
+/* Reads a query of a client, of at least HEADER octets. Returns NOERROR, or the RCODE of a refusal:
+   FORMERR if it is not a query with one question, NOTIMP for other opcodes and for meta-types,
+   BADVERS for a version of EDNS above 0 (RFC 6891 section 6.1.3). */
 enum rcode read_query(const uint8_t *octets, size_t size, struct query *query);
 
-/* Writes a query for an upstream, with RD set, and returns its size: at most QUERY octets. */
-size_t write_query(const struct upstream_query *query, uint8_t *octets);
+/* Writes a query to an upstream, with RD set, and returns its size. */
+size_t write_query(const struct query *query, uint8_t octets[QUERY]);
 
-/* ---- Replies. */
-
-/* Makes a reply with no records. */
+/* Makes a reply without records. */
 void refuse(struct reply *reply, enum rcode rcode);
 
-/* Writes a reply as one who asked gets it: under the id of the query, with the question as it was
-   spelled there, and with an OPT record where the query had one. Where it has more than `most`
-   octets it has no records, and TC is set (RFC 2181 section 9), or, where no message has room for
-   them, it is SERVFAIL. Returns the size. */
+/* Writes a reply to a query, with an OPT record if the query has one, and returns its size. If it
+   has more than `most` octets, it gets no records and TC (RFC 2181 section 9), or becomes SERVFAIL
+   if no message has room for the records. */
 size_t write_reply(const struct reply *reply, const struct query *query, size_t most,
                    uint8_t *octets);
 
-/* ---- Responses of upstreams. */
-enum verdict judge(const struct upstream_query *query, const uint8_t *message, size_t size);
-
-#endif
+enum verdict judge(const struct query *query, const uint8_t *message, size_t size);

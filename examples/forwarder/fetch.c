@@ -1,51 +1,58 @@
 /* SPDX-License-Identifier: MIT */
+/* A fetch asks one upstream after another by UDP, first the one that answered last. All tries have
+   one port and one identifier, both random, so an answer that is late for its try still counts. A
+   truncated response is asked for again over TCP. */
 #include "fetch.h"
 
-#include <errno.h>
-#include <pthread.h>
-#include <stdatomic.h>
 #include <stdlib.h>
-#include <string.h>
 #include <sys/queue.h>
 #include <sys/socket.h>
 #include <unistd.h>
 
 #include "answers.h"
 
-enum { BUCKETS = 64, BURST = 64, PORT_TRIES = 8, FIRST_PORT = 1024, LENGTH = 2 };
-enum { MOST_UPSTREAMS = 8 };
+enum {
+    TRIES = 4,
+    TRY_MS = 800,      /* the time of the first try */
+    LONGER_MS = 100,   /* how much longer each try is than the one before */
+    LATE_MS = 1800,    /* from when on who waits gets stale data (RFC 8767 section 5) */
+    AGAIN_MS = 100,    /* and how often they are looked for */
+    PLAIN_MS = 900000, /* for how long an upstream that does not know OPT records gets none */
+    GRACE_MS = 200,    /* for how long a fetch does not give way to one that weighs as much */
+    MOST_ASKERS = 256, /* the most queries that wait for a fetch */
+    ASKER_SHARE = 4    /* those of one client are at most a fourth of them */
+};
+enum { BUCKETS = 64, BURST = 64, PORT_TRIES = 8, FIRST_PORT = 1024 };
 
 struct upstream {
     union address address;
+    unsigned bit;                 /* in sets of upstreams */
     _Atomic uint64_t plain_until; /* it gets no OPT record before, in milliseconds */
 };
 
 enum way { BY_UDP, CONNECTS, BY_TCP };
 
 struct fetch {
-    /* Under the lock of the question's bucket, but for the question, which its thread alone writes
-       and before it stands there. */
+    /* Under the lock of the bucket. */
     LIST_ENTRY(fetch) others;
-    struct question question;
     struct asker *askers;
     unsigned count;
-    bool is_late; /* who asks from now on has to look for a stale answer first */
 
-    /* The rest is the thread's that began it. */
+    /* Of its thread alone, except that others read the question, which does not change. */
+    struct query query; /* the one that was sent last */
     struct fetcher *fetcher;
-    bool is_live; /* else the place is free */
+    bool is_live; /* or the place is free */
     unsigned client, domain, turn, tries;
-    unsigned asked, refused; /* a bit for each upstream that this socket asked, or that said no */
-    uint64_t began, try_ends;
-    struct upstream *upstream;   /* the one that was asked last */
-    struct upstream_query query; /* the one that was sent last */
+    unsigned asked, refused;   /* bits of the upstreams that this socket asked, and that refused */
+    struct upstream *upstream; /* the one that was asked last */
+    uint64_t began, try_ends, late_at;
     int sock;
     enum way way;
-    uint8_t length[LENGTH], *message; /* what came over TCP, and how many octets of both */
+    uint8_t length[LENGTH], *message; /* what comes over TCP */
     size_t got;
 };
 
-/* The fetches that are under way whose names have one hash. */
+/* The fetches under way whose names have one hash. */
 struct bucket {
     pthread_mutex_t lock;
     LIST_HEAD(, fetch) fetches;
@@ -55,23 +62,31 @@ static struct bucket under_way[BUCKETS] = {[0 ... BUCKETS - 1] = {PTHREAD_MUTEX_
 static struct upstream upstreams[MOST_UPSTREAMS];
 static unsigned upstream_count;
 static _Atomic unsigned preferred;   /* the upstream that answered last */
-static sa_family_t family = AF_INET; /* of the sockets that ask them */
+static sa_family_t family = AF_INET; /* of the sockets of fetches */
 
-/* One socket of a fetch asks all of them, so where one is of IPv6 it speaks both. */
+/* One socket of a fetch asks all upstreams. So if one of them has IPv6, it speaks both, and has
+   IPv4 addresses mapped (RFC 4291 section 2.5.5.2). */
 void set_upstreams(const union address *addresses, size_t count)
 {
     for (size_t i = 0; i < count; i++)
-        if (addresses[i].any.sa_family == AF_INET6)
+        if (addresses[i].family == AF_INET6)
             family = AF_INET6;
-    for (size_t i = 0; i < count; i++)
-        upstreams[i].address = family == AF_INET6 ? mapped_address(&addresses[i]) : addresses[i];
-    upstream_count = (unsigned)count;
+    for (; upstream_count < count; upstream_count++) {
+        union address address = addresses[upstream_count];
+        if (address.family != family) {
+            address.six = (struct sockaddr_in6){.sin6_family = family, .sin6_port = address.port};
+            memset(address.six.sin6_addr.s6_addr + 10, 0xff, 2);
+            memcpy(address.six.sin6_addr.s6_addr + 12, &addresses[upstream_count].four.sin_addr, 4);
+        }
+        upstreams[upstream_count].address = address;
+        upstreams[upstream_count].bit = 1u << upstream_count;
+    }
 }
 
 bool make_fetcher(struct fetcher *fetcher, size_t places)
 {
-    *fetcher =
-        (struct fetcher){.fetches = calloc(places, sizeof *fetcher->fetches), .places = places};
+    fetcher->fetches = calloc(places, sizeof *fetcher->fetches);
+    fetcher->places = places;
     return fetcher->fetches != NULL;
 }
 
@@ -82,56 +97,41 @@ static struct bucket *bucket_of(const struct question *question)
     return &under_way[question->hash % BUCKETS];
 }
 
-/* The fetch of a question that is under way, or NULL. The bucket's lock is held. */
+/* The fetch of a question that is under way, or NULL. The lock of its bucket is held. */
 static struct fetch *find(struct bucket *bucket, const struct question *question)
 {
     struct fetch *fetch;
     LIST_FOREACH(fetch, &bucket->fetches, others)
-        if (is_same_question(&fetch->question, question))
+        if (is_same_question(&fetch->query.question, question))
             break;
     return fetch;
 }
 
-/* Takes from a fetch those who wait for it. It is late from then on, or over. */
-static struct asker *take_askers(struct fetch *fetch, bool is_over)
+/* Replies to all who wait for a fetch. */
+static void tell(struct fetch *fetch, const struct reply *reply, enum counter what, bool is_over)
 {
-    struct bucket *bucket = bucket_of(&fetch->question);
+    struct bucket *bucket = bucket_of(&fetch->query.question);
     pthread_mutex_lock(&bucket->lock);
-    struct asker *askers = fetch->askers;
+    struct asker *asker = fetch->askers, *next;
     fetch->askers = NULL;
     fetch->count = 0;
-    fetch->is_late = true;
     if (is_over)
         LIST_REMOVE(fetch, others);
     pthread_mutex_unlock(&bucket->lock);
-    return askers;
-}
-
-static void free_asker(struct asker *asker)
-{
-    give_back(asker->client, asker, sizeof *asker);
-}
-
-static void tell(struct asker *askers, const struct reply *reply, enum counter what)
-{
-    for (struct asker *next; askers != NULL; askers = next) {
-        next = askers->next;
-        send_reply(askers, reply, what);
-        free_asker(askers);
+    for (; asker != NULL; asker = next) {
+        next = asker->next;
+        send_reply(asker, reply, what);
+        give_back(asker->client, asker, sizeof *asker);
     }
 }
 
 /* ---- How a fetch ends. */
 
-static void free_message(const struct fetch *fetch, uint8_t *message)
-{
-    give_back(fetch->client, message, word_at(fetch->length) + 1u);
-}
-
 static void close_socket(struct fetch *fetch)
 {
-    close(fetch->sock); /* below 0 it is none */
-    free_message(fetch, fetch->message);
+    close(fetch->sock); /* or -1 */
+    if (fetch->message != NULL)
+        give_back(fetch->client, fetch->message, word_at(fetch->length) + 1u);
     fetch->sock = -1;
     fetch->message = NULL;
     fetch->got = 0;
@@ -140,73 +140,41 @@ static void close_socket(struct fetch *fetch)
 
 static void end_fetch(struct fetch *fetch, const struct reply *reply, enum counter what)
 {
-    struct asker *askers = take_askers(fetch, true);
     close_socket(fetch);
     fetch->is_live = false;
     fetch->fetcher->by_client[fetch->client]--;
     fetch->fetcher->by_domain[fetch->domain]--;
-    tell(askers, reply, what);
+    tell(fetch, reply, what, true);
 }
 
-/* Ends a fetch that brought nothing. Who waits gets what is there, also where it is stale. */
+/* Ends a fetch without a response. Who waits gets what is cached, even if it is stale. */
 static void give_up(struct fetch *fetch)
 {
     struct reply reply;
-    enum outcome outcome = look_up(&fetch->question, RRCACHE_STALE_NOW, &reply);
-    end_fetch(fetch, &reply, counter_of(outcome));
+    enum rrcache_kind kind = look_up(&fetch->query.question, RRCACHE_STALE_NOW, &reply);
+    end_fetch(fetch, &reply, counter_of(kind));
 }
 
-/* Ends a fetch of which all tries failed, which is remembered. */
-static void fail(struct fetch *fetch)
-{
-    count(FAILURES, 1);
-    remember_failure(&fetch->question);
-    give_up(fetch);
-}
-
-/* Answers who waits for a fetch that is late, where there is something, and goes on with it. */
-static void turn_late(struct fetch *fetch)
+/* Replies with stale data to who waits for a fetch that is late, and goes on with it. */
+static void turn_late(struct fetch *fetch, uint64_t now)
 {
     struct reply reply;
-    enum outcome outcome = look_up(&fetch->question, RRCACHE_STALE_NOW, &reply);
-    struct bucket *bucket = bucket_of(&fetch->question);
-    if (is_found(outcome)) {
-        tell(take_askers(fetch, false), &reply, counter_of(outcome));
-        return;
-    }
-    pthread_mutex_lock(&bucket->lock);
-    fetch->is_late = true;
-    pthread_mutex_unlock(&bucket->lock);
+    enum rrcache_kind kind = look_up(&fetch->query.question, RRCACHE_STALE_NOW, &reply);
+    fetch->late_at = now + AGAIN_MS;
+    if (is_found(kind))
+        tell(fetch, &reply, counter_of(kind), false);
 }
 
 /* ---- Asking. */
 
-static unsigned bit_of(const struct upstream *upstream)
-{
-    return 1u << (upstream - upstreams);
-}
-
 static bool bind_anywhere(int sock)
 {
-    union address here = {.any = {.sa_family = family}};
-    uint16_t port;
-    for (int i = 0; i < PORT_TRIES; i++) {
-        if (getentropy(&port, sizeof port) != 0 || port < FIRST_PORT)
-            continue;
-        set_port(&here, port);
-        if (bind(sock, &here.any, address_size(&here)) == 0)
+    union address here = {.six = {.sin6_family = family}};
+    for (int i = 0; i < PORT_TRIES; i++)
+        if (getentropy(&here.port, sizeof here.port) == 0 && ntohs(here.port) >= FIRST_PORT
+            && bind(sock, &here.any, address_size(&here)) == 0)
             return true;
-    }
     return false;
-}
-
-/* Makes a socket of both families, where one is wanted, and has it tell of errors. */
-static bool set_options(int sock)
-{
-    bool is_ready = family == AF_INET
-                    || (set_option(sock, IPPROTO_IPV6, IPV6_V6ONLY, 0)
-                        && set_option(sock, IPPROTO_IPV6, IPV6_RECVERR, 1));
-    return is_ready && set_option(sock, IPPROTO_IP, IP_RECVERR, 1);
 }
 
 static bool draw_id(struct fetch *fetch)
@@ -214,29 +182,20 @@ static bool draw_id(struct fetch *fetch)
     return getentropy(fetch->query.id, sizeof fetch->query.id) == 0;
 }
 
-/* Opens a socket that asks by UDP, if this one does not. It is connected to no upstream, since it
-   asks one after another; IP_RECVERR has it tell nevertheless which one's port is closed. */
+/* Opens a socket for UDP, if this is not one. It is not connected, since it asks one upstream after
+   another. With IP_RECVERR it still learns which upstream's port is closed. */
 static bool open_socket(struct fetch *fetch)
 {
+    bool is_six = family == AF_INET6;
     if (fetch->way == BY_UDP && fetch->sock >= 0)
         return true;
     close_socket(fetch);
     fetch->asked = 0;
     fetch->sock = socket(family, SOCK_DGRAM | SOCK_NONBLOCK | SOCK_CLOEXEC, 0);
-    return fetch->sock >= 0 && set_options(fetch->sock) && bind_anywhere(fetch->sock)
-           && draw_id(fetch);
-}
-
-/* Sends to the upstream. A call may tell of an older datagram's error, and is made again then. */
-static bool send_octets(struct fetch *fetch, const uint8_t *octets, size_t size)
-{
-    const union address *to = &fetch->upstream->address;
-    bool is_named = fetch->way == BY_UDP; /* else the socket is connected to it */
-    ssize_t sent = -1;
-    for (int i = 0; i < 2 && sent < 0; i++)
-        sent = sendto(fetch->sock, octets, size, MSG_NOSIGNAL | MSG_DONTWAIT,
-                      is_named ? &to->any : NULL, is_named ? address_size(to) : 0);
-    return sent == (ssize_t)size;
+    return fetch->sock >= 0 && set_option(fetch->sock, IPPROTO_IP, IP_RECVERR, 1)
+           && (!is_six || set_option(fetch->sock, IPPROTO_IPV6, IPV6_V6ONLY, 0))
+           && (!is_six || set_option(fetch->sock, IPPROTO_IPV6, IPV6_RECVERR, 1))
+           && bind_anywhere(fetch->sock) && draw_id(fetch);
 }
 
 static void begin_try(struct fetch *fetch)
@@ -244,28 +203,34 @@ static void begin_try(struct fetch *fetch)
     fetch->try_ends = milliseconds() + TRY_MS + (uint64_t)LONGER_MS * (fetch->tries - 1);
 }
 
-/* Sends the query. Over TCP its length stands before it. */
+/* Sends the query. Over TCP its length precedes it, and all of it fits into an empty buffer. A call
+   may return an error of an older datagram, and is then made again. */
 static bool send_query(struct fetch *fetch)
 {
     uint8_t octets[LENGTH + QUERY];
-    fetch->query.question = &fetch->question;
+    const union address *to = fetch->way == BY_UDP ? &fetch->upstream->address : NULL;
+    size_t skipped = fetch->way == BY_UDP ? LENGTH : 0;
     fetch->query.has_edns = milliseconds() >= fetch->upstream->plain_until;
     size_t size = write_query(&fetch->query, octets + LENGTH);
     write_word(octets, (unsigned)size);
-    size_t skipped = fetch->way == BY_UDP ? LENGTH : 0; /* all of it fits into an empty buffer */
+    size += LENGTH - skipped;
     begin_try(fetch);
     count(SENT, 1);
     count(UPGRADED, fetch->way == BY_TCP);
-    fetch->asked |= bit_of(fetch->upstream);
-    return send_octets(fetch, octets + skipped, LENGTH + size - skipped);
+    fetch->asked |= fetch->upstream->bit;
+    ssize_t sent = -1;
+    for (int i = 0; i < 2 && sent < 0; i++)
+        sent = sendto(fetch->sock, octets + skipped, size, MSG_NOSIGNAL | MSG_DONTWAIT,
+                      to == NULL ? NULL : &to->any, to == NULL ? 0 : address_size(to));
+    return sent == (ssize_t)size;
 }
 
-/* The next upstream in turn of those that did not say no, or NULL where all tries were made. */
+/* The next upstream in turn that did not refuse, or NULL if all tries were made. */
 static struct upstream *next_upstream(struct fetch *fetch)
 {
     for (unsigned i = 0; i < upstream_count && fetch->tries < TRIES; i++) {
         struct upstream *upstream = &upstreams[fetch->turn++ % upstream_count];
-        if ((fetch->refused & bit_of(upstream)) == 0) {
+        if ((fetch->refused & upstream->bit) == 0) {
             fetch->tries++;
             return upstream;
         }
@@ -273,14 +238,14 @@ static struct upstream *next_upstream(struct fetch *fetch)
     return NULL;
 }
 
-/* Whether what a call lacked is this system's to have. */
+/* Whether a call failed because this system lacks something. */
 static bool is_lack(void)
 {
     return errno == EAGAIN || errno == EADDRNOTAVAIL || errno == ENOBUFS || errno == ENOMEM;
 }
 
-/* Asks the next upstream by UDP. That there is no socket, no port or no room for that is no failure
-   of the name's servers, and is not remembered as one. */
+/* Asks the next upstream by UDP. If all tries failed, the failure is stored, but not if this system
+   has no socket, port or buffer: that is not a failure of the name's servers. */
 static void ask_next(struct fetch *fetch)
 {
     while ((fetch->upstream = next_upstream(fetch)) != NULL) {
@@ -291,16 +256,19 @@ static void ask_next(struct fetch *fetch)
             give_up(fetch);
             return;
         }
-        fetch->refused |= bit_of(fetch->upstream);
+        fetch->refused |= fetch->upstream->bit;
     }
-    fail(fetch);
+    count(FAILURES, 1);
+    remember_failure(&fetch->query.question);
+    give_up(fetch);
 }
 
-/* An upstream cannot answer this question, and is not asked for it again. */
+/* An upstream cannot answer, and is not asked this question again. If another one was asked since,
+   that one may still answer. */
 static void refused(struct fetch *fetch, const struct upstream *upstream)
 {
-    fetch->refused |= bit_of(upstream);
-    if (upstream == fetch->upstream) /* else another one may answer yet */
+    fetch->refused |= upstream->bit;
+    if (upstream == fetch->upstream)
         ask_next(fetch);
 }
 
@@ -310,8 +278,8 @@ static void upgrade(struct fetch *fetch)
     const union address *address = &fetch->upstream->address;
     close_socket(fetch);
     begin_try(fetch);
-    fetch->sock = socket(family, SOCK_STREAM | SOCK_NONBLOCK | SOCK_CLOEXEC, 0);
     fetch->way = CONNECTS;
+    fetch->sock = socket(family, SOCK_STREAM | SOCK_NONBLOCK | SOCK_CLOEXEC, 0);
     if (fetch->sock >= 0
         && (connect(fetch->sock, &address->any, address_size(address)) == 0
             || errno == EINPROGRESS))
@@ -322,7 +290,7 @@ static void upgrade(struct fetch *fetch)
         refused(fetch, fetch->upstream);
 }
 
-/* Asks the upstream again on the same socket, with no OPT record (RFC 6891 section 6.2.2). */
+/* Asks the upstream again on the same socket, without an OPT record (RFC 6891 section 6.2.2). */
 static void ask_plainly(struct fetch *fetch)
 {
     fetch->upstream->plain_until = milliseconds() + PLAIN_MS;
@@ -332,37 +300,32 @@ static void ask_plainly(struct fetch *fetch)
 
 /* ---- What comes back. */
 
-/* Ends a fetch by what came, or by what the cache knows since then, where that is more. */
 static void take_answer(struct fetch *fetch, const uint8_t *message, size_t size)
 {
-    struct reply said, held;
-    const struct reply *reply = &said;
-    enum kept kept = keep(&fetch->question, message, size, &said);
-    if (kept == IS_USELESS) {
+    struct reply replies[2];
+    const struct reply *reply = keep(&fetch->query.question, message, size, replies);
+    if (reply == NULL) {
         refused(fetch, fetch->upstream);
         return;
     }
-    if (kept == IS_PARTIAL && is_found(look_up(&fetch->question, RRCACHE_NO_STALE, &held)))
-        reply = &held;
     preferred = (unsigned)(fetch->upstream - upstreams);
     end_fetch(fetch, reply, FETCHED);
 }
 
-/* Takes a message of an upstream that was asked; true where it was a stray, behind which the answer
-   may stand. */
+/* Takes a message of an upstream that was asked. Returns true if it is a stray one, after which the
+   answer may come. */
 static bool take_stray(struct fetch *fetch, struct upstream *upstream, const uint8_t *message,
                        size_t size)
 {
     enum verdict verdict = judge(&fetch->query, message, size);
-    if (verdict == STRAY) {
-        count(STRAYS, 1);
+    count(STRAYS, verdict == STRAY);
+    if (verdict == STRAY)
         return true;
-    }
     if (verdict == FAILURE || (verdict == TRUNCATED && fetch->way != BY_UDP)) {
         refused(fetch, upstream);
         return false;
     }
-    fetch->upstream = upstream; /* whose answer counts, though another one was asked since */
+    fetch->upstream = upstream; /* its answer counts, even if another one was asked since */
     if (verdict == ANSWER)
         take_answer(fetch, message, size);
     else if (verdict == WANTS_PLAIN)
@@ -372,16 +335,11 @@ static bool take_stray(struct fetch *fetch, struct upstream *upstream, const uin
     return false;
 }
 
-static bool would_block(void)
-{
-    return errno == EAGAIN || errno == EWOULDBLOCK || errno == EINTR;
-}
-
 /* The upstream at an address, if this socket asked it, or NULL. */
 static struct upstream *asked_at(const struct fetch *fetch, const union address *address)
 {
     for (struct upstream *it = upstreams; it < upstreams + upstream_count; it++)
-        if ((fetch->asked & bit_of(it)) != 0 && is_same_address(&it->address, address))
+        if ((fetch->asked & it->bit) != 0 && is_same_address(&it->address, address))
             return it;
     return NULL;
 }
@@ -399,77 +357,73 @@ static void read_datagrams(struct fetch *fetch)
     }
 }
 
-/* Reads where a query came back from, by ICMP. Where nobody listens there, that is a refusal; else
-   it may be over soon. */
+/* The error that a socket has, or 0. */
+static int error_of(int sock)
+{
+    int error = 0;
+    socklen_t size = sizeof error;
+    return getsockopt(sock, SOL_SOCKET, SO_ERROR, &error, &size) != 0 ? errno : error;
+}
+
+/* Reads which upstream's query came back, by ICMP. If its port is closed, it refused. Anything else
+   may be over soon. */
 static void read_error(struct fetch *fetch)
 {
     uint8_t query[QUERY];
     union address to = {0};
-    socklen_t to_size = sizeof to, error_size = sizeof(int);
-    int error = 0;
-    getsockopt(fetch->sock, SOL_SOCKET, SO_ERROR, &error, &error_size);
+    socklen_t to_size = sizeof to;
+    int error = error_of(fetch->sock);
     ssize_t got = recvfrom(fetch->sock, query, sizeof query, MSG_ERRQUEUE, &to.any, &to_size);
     struct upstream *upstream = got < 0 ? NULL : asked_at(fetch, &to);
     if (upstream != NULL && error == ECONNREFUSED)
         refused(fetch, upstream);
 }
 
-/* Goes on once the upstream took up a connection, or did not. */
+/* Goes on when a connection to the upstream is made, or failed. */
 static void begin_stream(struct fetch *fetch)
 {
-    int error = 0;
-    socklen_t size = sizeof error;
     fetch->way = BY_TCP;
-    if (getsockopt(fetch->sock, SOL_SOCKET, SO_ERROR, &error, &size) != 0 || error != 0
-        || !draw_id(fetch) || !send_query(fetch))
+    if (error_of(fetch->sock) != 0 || !draw_id(fetch) || !send_query(fetch))
         refused(fetch, fetch->upstream);
 }
 
-/* Reads on in the message that comes over TCP, behind its length; false where it does not come. */
-static bool read_more(struct fetch *fetch)
-{
-    bool has_length = fetch->got >= LENGTH;
-    size_t whole = has_length ? LENGTH + word_at(fetch->length) : LENGTH;
-    uint8_t *to = has_length ? fetch->message + fetch->got - LENGTH : fetch->length + fetch->got;
-    ssize_t got = recv(fetch->sock, to, whole - fetch->got, 0);
-    if (got <= 0)
-        return got < 0 && would_block();
-    fetch->got += (size_t)got;
-    if (fetch->got == LENGTH && !has_length)
-        fetch->message = take_share(fetch->client, word_at(fetch->length) + 1u);
-    return fetch->got < LENGTH || fetch->message != NULL;
-}
-
-/* Goes on where no message comes. That there is no memory for one is no failure of the name's
+/* Reads what there is of the message over TCP, its length first. Returns true if it is whole. If it
+   will never be, the fetch goes on. That there is no memory for it is not a failure of the name's
    servers either. */
-static void miss_message(struct fetch *fetch)
+static bool read_message(struct fetch *fetch)
 {
-    bool lacks_memory = fetch->got == LENGTH && fetch->message == NULL;
-    if (lacks_memory)
-        give_up(fetch);
-    else
-        refused(fetch, fetch->upstream);
+    for (;;) {
+        bool is_length = fetch->got < LENGTH;
+        size_t whole = LENGTH + (is_length ? 0u : word_at(fetch->length));
+        uint8_t *to = is_length ? fetch->length + fetch->got : fetch->message + fetch->got - LENGTH;
+        if (!is_length && fetch->got == whole)
+            return true;
+        ssize_t got = recv(fetch->sock, to, whole - fetch->got, 0);
+        if (got == 0 || (got < 0 && !would_block()))
+            refused(fetch, fetch->upstream);
+        if (got <= 0)
+            return false;
+        fetch->got += (size_t)got;
+        if (!is_length || fetch->got < LENGTH)
+            continue;
+        fetch->message = take_share(fetch->client, word_at(fetch->length) + 1u);
+        if (fetch->message == NULL) {
+            give_up(fetch);
+            return false;
+        }
+    }
 }
 
 static void read_stream(struct fetch *fetch)
 {
-    size_t before;
-    do {
-        before = fetch->got;
-        if (!read_more(fetch)) {
-            miss_message(fetch);
-            return;
-        }
-    } while (fetch->got > before && fetch->got < LENGTH + word_at(fetch->length));
-    size_t size = fetch->got < LENGTH ? 0 : word_at(fetch->length);
-    if (fetch->got < LENGTH + size)
+    if (!read_message(fetch))
         return;
-    uint8_t *message = fetch->message; /* it is to stay while it is looked at */
+    uint8_t *message = fetch->message; /* has to stay while it is judged */
     fetch->message = NULL;
     fetch->got = 0;
-    if (take_stray(fetch, fetch->upstream, message, size))
+    if (take_stray(fetch, fetch->upstream, message, word_at(fetch->length)))
         refused(fetch, fetch->upstream);
-    free_message(fetch, message);
+    give_back(fetch->client, message, word_at(fetch->length) + 1u);
 }
 
 void poll_fetches(const struct fetcher *fetcher, struct pollfd *polled)
@@ -491,8 +445,8 @@ static void tend(struct fetch *fetch, short revents, uint64_t now)
         begin_stream(fetch);
     else if (revents != 0)
         read_stream(fetch);
-    if (fetch->is_live && !fetch->is_late && now >= fetch->began + LATE_MS)
-        turn_late(fetch);
+    if (fetch->is_live && now >= fetch->late_at)
+        turn_late(fetch, now);
     if (fetch->is_live && now >= fetch->try_ends)
         ask_next(fetch);
 }
@@ -504,37 +458,26 @@ void tend_fetches(struct fetcher *fetcher, const struct pollfd *polled, uint64_t
             tend(&fetcher->fetches[i], polled[i].revents, now);
 }
 
-/* ---- Places. Where none is free, a fetch gives way to a new one by its weight: how many places
-   its client holds, and how many its domain does. So neither a client who asks for much
-   that nobody answers, nor a domain whose servers are dead, keeps others from a place. */
-
-static unsigned domain_number(const struct question *question)
-{
-    size_t skipped = domain_of(question->name, question->size);
-    return (unsigned)(hash_of(question->name + skipped, question->size - skipped) % DOMAINS);
-}
+/* ---- Places. If none is free, a fetch gives way to a new one by its weight: the number of places
+   of its client, and the number of places of its domain. So neither a client that asks for names
+   nobody answers, nor a domain whose servers are dead, keeps others from a place. */
 
 static unsigned weight_of(const struct fetcher *fetcher, const struct fetch *fetch)
 {
     return 0u + fetcher->by_client[fetch->client] + fetcher->by_domain[fetch->domain];
 }
 
-static struct fetch *free_place(const struct fetcher *fetcher)
-{
-    for (struct fetch *it = fetcher->fetches; it < fetcher->fetches + fetcher->places; it++)
-        if (!it->is_live)
-            return it;
-    return NULL;
-}
-
-/* The fetch that gives way to a new one, or NULL: the first of those that weigh most, if that is
-   more than the new one would; else the first of those that weigh as much, if it had its time. */
-static struct fetch *least_needed(const struct fetcher *fetcher, const struct fetch *added)
+/* The place for a new fetch: a free one, or that of the first of those that weigh most, if that is
+   more than the new one would weigh, or of the first of those that weigh as much, if it had its
+   time. That fetch ends. Returns NULL if none gives way. */
+static struct fetch *place_for(struct fetcher *fetcher, const struct fetch *new)
 {
     struct fetch *heaviest = fetcher->fetches, *first = NULL;
-    unsigned weight = weight_of(fetcher, added), most = 0;
+    unsigned weight = weight_of(fetcher, new), most = 0;
     for (struct fetch *it = fetcher->fetches; it < fetcher->fetches + fetcher->places; it++) {
         unsigned its = weight_of(fetcher, it);
+        if (!it->is_live)
+            return it;
         if (its > most || (its == most && it->began < heaviest->began)) {
             heaviest = it;
             most = its;
@@ -543,82 +486,56 @@ static struct fetch *least_needed(const struct fetcher *fetcher, const struct fe
             first = it;
     }
     if (most > weight + 2) /* the new one would count itself in both */
-        return heaviest;
-    return first != NULL && added->began >= first->began + GRACE_MS ? first : NULL;
-}
-
-/* A place for a new fetch; NULL: there is none. */
-static struct fetch *place_for(struct fetcher *fetcher, const struct fetch *added)
-{
-    struct fetch *place = free_place(fetcher);
-    if (place != NULL)
-        return place;
-    place = least_needed(fetcher, added);
-    if (place != NULL) {
-        count(DISPLACED, 1);
-        give_up(place);
-    }
-    return place;
-}
-
-static bool is_under_way(const struct question *question)
-{
-    struct bucket *bucket = bucket_of(question);
-    pthread_mutex_lock(&bucket->lock);
-    bool is_there = find(bucket, question) != NULL;
-    pthread_mutex_unlock(&bucket->lock);
-    return is_there;
+        first = heaviest;
+    else if (first == NULL || new->began < first->began + GRACE_MS)
+        return NULL;
+    count(DISPLACED, 1);
+    give_up(first);
+    return first;
 }
 
 static struct fetch new_fetch(struct fetcher *fetcher, const struct asker *asker)
 {
     const struct question *question = &asker->query.question;
+    size_t skipped = domain_of(question->name, question->size);
+    uint64_t domain = hash_of(question->name + skipped, question->size - skipped);
     return (struct fetch){.fetcher = fetcher,
                           .is_live = true,
-                          .question = *question,
+                          .query = {.question = *question},
                           .client = asker->client,
-                          .domain = domain_number(question),
+                          .domain = (unsigned)(domain % DOMAINS),
                           .turn = preferred,
                           .began = milliseconds(),
+                          .late_at = milliseconds() + LATE_MS,
                           .sock = -1};
 }
 
-/* Begins a fetch in a place. The bucket's lock is held. */
-static void begin(struct fetch *place, const struct fetch *added, struct bucket *bucket)
-{
-    *place = *added;
-    place->fetcher->by_client[place->client]++;
-    place->fetcher->by_domain[place->domain]++;
-    LIST_INSERT_HEAD(&bucket->fetches, place, others);
-}
-
-/* Whose place one who asks by UDP takes: that of the same query, which was sent again, or, where
-   its client has its share, of the one that asked first. NULL: nobody's. */
+/* Returns whom a query by UDP replaces: the same query, which was sent again, or, if its client has
+   its share of those who wait, the one that came first. */
 static struct asker *older_of(const struct fetch *fetch, const struct asker *asker)
 {
     struct asker *first = NULL;
-    unsigned count = 0;
-    for (struct asker *it = fetch->askers; it != NULL && asker->connection == NULL; it = it->next) {
-        if (it->connection != NULL || it->client != asker->client)
+    unsigned own = 0;
+    for (struct asker *it = fetch->askers; it != NULL && asker->clients == NULL; it = it->next) {
+        if (it->clients != NULL || it->client != asker->client)
             continue;
-        bool is_again = is_same_address(&it->from, &asker->from)
-                        && memcmp(it->query.id, asker->query.id, sizeof it->query.id) == 0;
-        if (is_again)
+        if (is_same_address(&it->from, &asker->from)
+            && memcmp(it->query.id, asker->query.id, sizeof it->query.id) == 0)
             return it;
         first = it;
-        count++;
+        own++;
     }
-    return count < MOST_ASKERS / ASKER_SHARE ? NULL : first;
+    return own < MOST_ASKERS / ASKER_SHARE ? NULL : first;
 }
 
-/* Has one who asks wait for a fetch; false where too many wait. The bucket's lock is held. */
+/* Lets a query wait for a fetch. Returns false if too many wait. The lock of its bucket is held. */
 static bool add_asker(struct fetch *fetch, struct asker *added)
 {
     struct asker *older = older_of(fetch, added);
     if (older != NULL) {
         added->next = older->next;
         *older = *added;
-        free_asker(added);
+        give_back(added->client, added, sizeof *added);
         return true;
     }
     if (fetch->count == MOST_ASKERS)
@@ -629,28 +546,35 @@ static bool add_asker(struct fetch *fetch, struct asker *added)
     return true;
 }
 
-bool await_fetch(struct fetcher *fetcher, const struct asker *asker, bool though_late)
+bool await_fetch(struct fetcher *fetcher, const struct asker *asker)
 {
-    const struct question *question = &asker->query.question;
-    struct bucket *bucket = bucket_of(question);
+    struct bucket *bucket = bucket_of(&asker->query.question);
     struct asker *added = take_share(asker->client, sizeof *added);
     if (added == NULL)
         return false;
     *added = *asker;
     const struct fetch new = new_fetch(fetcher, asker);
-    struct fetch *place = is_under_way(question) ? NULL : place_for(fetcher, &new);
     pthread_mutex_lock(&bucket->lock);
-    struct fetch *fetch = find(bucket, question);
+    struct fetch *fetch = find(bucket, &asker->query.question), *place = NULL;
+    if (fetch == NULL) {
+        pthread_mutex_unlock(&bucket->lock); /* the place may be that of a fetch in any bucket */
+        place = place_for(fetcher, &new);
+        pthread_mutex_lock(&bucket->lock);
+        fetch = find(bucket, &asker->query.question);
+    }
     bool is_new = fetch == NULL && place != NULL;
     if (is_new) {
         fetch = place;
-        begin(fetch, &new, bucket);
+        *fetch = new;
+        fetcher->by_client[new.client]++;
+        fetcher->by_domain[new.domain]++;
+        LIST_INSERT_HEAD(&bucket->fetches, fetch, others);
     }
-    bool waits = fetch != NULL && (though_late || !fetch->is_late) && add_asker(fetch, added);
+    bool waits = fetch != NULL && add_asker(fetch, added);
     pthread_mutex_unlock(&bucket->lock);
     count(JOINED, waits && !is_new);
     if (!waits)
-        free_asker(added);
+        give_back(added->client, added, sizeof *added);
     if (is_new)
         ask_next(fetch);
     return waits;

@@ -2,10 +2,10 @@
 #include "options.h"
 
 #include <getopt.h>
+#include <netdb.h>
 #include <sched.h>
 #include <stdio.h>
 #include <stdlib.h>
-#include <string.h>
 
 enum { MINUTE = 60, DAY = 86400, MOST_TEXT = 255, MOST_HOST = 64 };
 /* Options that have no letter. */
@@ -48,14 +48,7 @@ static const struct option LONG_OPTIONS[] = {
     {"identity", required_argument, NULL, IDENTITY},
     {0}};
 
-static unsigned processors(void)
-{
-    cpu_set_t set;
-    int count = sched_getaffinity(0, sizeof set, &set) == 0 ? CPU_COUNT(&set) : 1;
-    return count > MOST_THREADS ? MOST_THREADS : (unsigned)count;
-}
-
-/* Reads a number of a range, behind which a unit may stand: each is 1,024 times the one before. */
+/* Reads a number in a range. A unit may follow it, each 1,024 times the one before. */
 static bool read_number(const char *word, const char *units, uint64_t least, uint64_t most,
                         uint64_t *number)
 {
@@ -75,25 +68,44 @@ static bool read_text(const char *word, const char **text)
     return strlen(word) <= MOST_TEXT;
 }
 
-/* Reads one more address to listen on, behind which stands its port. */
+static bool read_address(const char *host, const char *port, union address *address)
+{
+    static const struct addrinfo numeric = {.ai_flags = AI_NUMERICHOST | AI_NUMERICSERV,
+                                            .ai_socktype = SOCK_DGRAM};
+    struct addrinfo *found = NULL;
+    uint64_t number;
+    *address = (union address){0};
+    if (!read_number(port, "", 0, UINT16_MAX, &number)
+        || getaddrinfo(host, port, &numeric, &found) != 0)
+        return false;
+    bool fits = found->ai_addrlen <= sizeof *address;
+    if (fits)
+        memcpy(address, found->ai_addr, found->ai_addrlen);
+    freeaddrinfo(found);
+    return fits;
+}
+
+/* Reads one more address to listen on, ADDRESS@PORT. */
 static bool read_listener(const char *word, struct options *options)
 {
-    char host[MOST_HOST];
+    char host[MOST_HOST] = {0};
     const char *at = strrchr(word, '@');
     if (at == NULL || (size_t)(at - word) >= sizeof host || options->listeners == MOST_LISTENERS)
         return false;
     memcpy(host, word, (size_t)(at - word));
-    host[at - word] = 0;
     return read_address(host, at + 1, &options->listener[options->listeners++]);
 }
 
 static bool take_option(int option, struct options *options)
 {
+    uint32_t version = rrcache_version();
     switch (option) {
     case 'h':
+        fputs(USAGE, stdout);
+        exit(0);
     case 'V':
-        options->told = option;
-        return true;
+        printf("forwarder %u.%u.%u\n", version >> 16, version >> 8 & 255, version & 255);
+        exit(0);
     case 'q':
         options->is_quiet = true;
         return true;
@@ -114,7 +126,7 @@ static bool take_option(int option, struct options *options)
     }
 }
 
-/* Reads pairs of an address and a port: where it listens, and the upstreams. */
+/* Reads pairs of an address and a port: where the forwarder listens, and the upstreams. */
 static bool read_pairs(int count, char **words, struct options *options)
 {
     if (count < 4 || count % 2 != 0 || count / 2 - 1 > MOST_UPSTREAMS
@@ -126,29 +138,20 @@ static bool read_pairs(int count, char **words, struct options *options)
     return true;
 }
 
-bool read_options(int argc, char **argv, struct options *options)
+void read_options(int argc, char **argv, struct options *options)
 {
+    cpu_set_t set;
     bool is_good = true;
-    *options = (struct options){.seconds = MINUTE,
-                                .threads = processors(),
-                                .octets = 64 * MEBIBYTE,
-                                .listeners = 1}; /* the first of the pairs */
-    for (int option; is_good && options->told == 0
-                     && (option = getopt_long(argc, argv, "hqVl:t:", LONG_OPTIONS, NULL)) != -1;)
+    *options = (struct options){.seconds = MINUTE, .octets = 64 * MEBIBYTE};
+    options->listeners = 1; /* the first of the pairs */
+    options->threads = sched_getaffinity(0, sizeof set, &set) == 0 ? (uint64_t)CPU_COUNT(&set) : 1;
+    if (options->threads > MOST_THREADS)
+        options->threads = MOST_THREADS;
+    for (int option;
+         is_good && (option = getopt_long(argc, argv, "hqVl:t:", LONG_OPTIONS, NULL)) != -1;)
         is_good = take_option(option, options);
-    if (options->told != 0)
-        return true;
-    is_good = is_good && read_pairs(argc - optind, argv + optind, options);
-    if (!is_good)
-        fputs(USAGE, stderr);
-    return is_good;
-}
-
-void tell_options(int told)
-{
-    uint32_t version = rrcache_version();
-    if (told == 'h')
-        fputs(USAGE, stdout);
-    else
-        printf("forwarder %u.%u.%u\n", version >> 16, version >> 8 & 255, version & 255);
+    if (is_good && read_pairs(argc - optind, argv + optind, options))
+        return;
+    fputs(USAGE, stderr);
+    exit(2);
 }

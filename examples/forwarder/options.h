@@ -1,19 +1,14 @@
 /* SPDX-License-Identifier: MIT */
 /* options.h: the command line. */
-#ifndef OPTIONS_H
-#define OPTIONS_H
+#pragma once
 
-#include <stdbool.h>
-#include <stddef.h>
-#include <stdint.h>
-
-#include "addresses.h"
 #include "answers.h"
+#include "clients.h"
+#include "fetch.h"
 
-enum { MOST_LISTENERS = 8, MOST_UPSTREAMS = 8, MOST_THREADS = 64 };
+enum { MOST_THREADS = 64 };
 
 struct options {
-    int told; /* 'h' and 'V': the usage or the version is to be told; else 0 */
     bool is_quiet;
     uint64_t seconds, threads, octets;
     struct identity identity;
@@ -21,10 +16,5 @@ struct options {
     union address listener[MOST_LISTENERS], upstream[MOST_UPSTREAMS];
 };
 
-/* Reads the command line; false where it is none, of which standard error is told. */
-bool read_options(int argc, char **argv, struct options *options);
-
-/* Tells the usage or the version on standard output. */
-void tell_options(int told);
-
-#endif
+/* Reads the command line. If it is wrong, or asks for help or the version, the process ends. */
+void read_options(int argc, char **argv, struct options *options);
