@@ -17,7 +17,7 @@ from pathlib import Path
 
 import pytest
 
-from tests.forwarder.harness import BUILD, Forwarder
+from tests.forwarder.harness import BUILD, COMPARED, Forwarder
 from tests.forwarder.stalls import Stalls
 
 TESTS = Path(__file__).parent
@@ -51,6 +51,14 @@ def pytest_collection_modifyitems(items):
     """Takes tests that follow each other in a file apart, since a worker of xdist gets many in a
     row, and the slow ones stand together."""
     items[:] = [it for first in range(STRIDE) for it in items[first::STRIDE]]
+
+
+def pytest_terminal_summary(terminalreporter):
+    """Writes how many answers were compared with those of nsd, if any were."""
+    counts = [count for it in terminalreporter.stats.get("passed", ()) if it.when == "call"
+              for name, count in it.user_properties if name == COMPARED]
+    if counts:
+        terminalreporter.write_line(f"{sum(counts)} answers are those of nsd")
 
 
 def compile_all():

@@ -32,6 +32,8 @@ from dns.rcode import NOERROR, NXDOMAIN, SERVFAIL
 BUILD = Path(__file__).resolve().parents[2] / "build"
 ID = 0x1234
 SOA = "example 60 SOA ns.example host.example 1 2 3 4 60"
+# The property of a test that says how many answers it compared with those of nsd.
+COMPARED = "compared with nsd"
 # The seconds in which something has to come, also on a machine that does much else.
 MOST_SECONDS = 30
 
