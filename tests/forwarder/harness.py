@@ -30,6 +30,8 @@ from dns.flags import AA, RA, RD, TC
 from dns.rcode import NOERROR, NXDOMAIN, SERVFAIL
 
 BUILD = Path(__file__).resolve().parents[2] / "build"
+# What runs a program under valgrind, whose reports give it status 3.
+VALGRIND = ["valgrind", "-q", "--error-exitcode=3", "--leak-check=full", "--fair-sched=try"]
 ID = 0x1234
 SOA = "example 60 SOA ns.example host.example 1 2 3 4 60"
 # The property of a test that says how many answers it compared with those of nsd.
@@ -371,12 +373,19 @@ class Stream(socket.socket):
         return self.read()
 
 
+def command(program):
+    """The words that run a program: NAME, or `valgrind NAME`."""
+    *checker, name = program.split()
+    return [*(VALGRIND if checker else ()), BUILD / name]
+
+
 class Forwarder:
-    """A forwarder's process. At its end it has to be as clean as the sanitizers want it."""
+    """A forwarder's process. At its end it has to be as clean as the sanitizers or valgrind want
+    it."""
 
     def __init__(self, *upstreams, program, options=("-q",), descriptors=None, environment=None,
                  host="127.0.0.1"):
-        words = [BUILD / program, *options, host, "0"]
+        words = [*command(program), *options, host, "0"]
         for it in upstreams:
             words += [getattr(it, "host", "127.0.0.1"), str(it.port)]
         if descriptors:
