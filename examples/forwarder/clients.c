@@ -238,13 +238,9 @@ static void settle(struct clients *clients, int sock, unsigned client, uint64_t 
         shut(place);
     set_option(sock, IPPROTO_TCP, TCP_NODELAY, 1);    /* each reply is one write */
     set_option(sock, SOL_SOCKET, SO_SNDBUF, MESSAGE); /* bounds what the system keeps */
+    *place = (struct connection){
+        .sock = sock, .client = client, .serial = place->serial, .active_at = now};
     STAILQ_INIT(&place->unsent);
-    place->sock = sock;
-    place->client = client;
-    place->active_at = now;
-    place->waiting = 0;
-    place->in_size = 0;
-    place->has_ended = place->is_broken = false;
     count(CONNECTIONS, 1);
 }
 

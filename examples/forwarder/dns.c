@@ -139,11 +139,8 @@ enum rcode read_query(const uint8_t *octets, size_t size, struct query *query)
 /* Adds an OPT record to a message that has no additional record, and returns the size of both. */
 static size_t add_opt(uint8_t *octets, size_t size, unsigned rcode, bool is_dnssec_ok)
 {
-    const uint8_t opt[OPT_RECORD] = {[2] = OPT,
-                                     [3] = PAYLOAD >> 8,
-                                     [4] = PAYLOAD & 255,
-                                     [5] = (uint8_t)(rcode >> 4),
-                                     [7] = is_dnssec_ok ? DNSSEC_OK >> 8 : 0};
+    const uint8_t upper = (uint8_t)(rcode >> 4), flags = is_dnssec_ok ? DNSSEC_OK >> 8 : 0;
+    const uint8_t opt[OPT_RECORD] = {0, 0, OPT, PAYLOAD >> 8, PAYLOAD & 255, upper, 0, flags};
     memcpy(octets + size, opt, sizeof opt);
     octets[11] = 1;
     return size + sizeof opt;

@@ -10,16 +10,10 @@
 
 #include "rrcache.h"
 
-/* Sizes in octets: of a header and of an OPT record without options; at most, of a name, of a
-   message and of a query to an upstream; and of the length that precedes a message over TCP. */
-enum {
-    HEADER = 12,
-    OPT_RECORD = 11,
-    NAME = 255,
-    MESSAGE = 65535,
-    QUERY = HEADER + NAME + 4 + OPT_RECORD,
-    LENGTH = 2
-};
+/* Sizes in octets: a header, an OPT record without options, a name at most, a message at most, the
+   length that precedes a message over TCP, and a query to an upstream at most. */
+enum { HEADER = 12, OPT_RECORD = 11, NAME = 255, MESSAGE = 65535, LENGTH = 2 };
+enum { QUERY = HEADER + NAME + 4 + OPT_RECORD };
 
 /* The most octets of a reply over UDP: without EDNS (RFC 1035 section 4.2.1), and with EDNS, so
    that no path has to fragment it. */
