@@ -21,7 +21,8 @@ unsigned client_at(const union address *address)
 /* The octets count before the bound is checked, so it holds if several threads take some. */
 void *take_share(unsigned client, size_t size)
 {
-    uint64_t own = (octets_of[client] += size), all = (shared_octets += size);
+    uint64_t own = atomic_fetch_add(&octets_of[client], size) + size;
+    uint64_t all = atomic_fetch_add(&shared_octets, size) + size;
     bool is_spent = all > most_shared || own > most_shared - all;
     void *memory = is_spent ? NULL : malloc(size);
     if (memory == NULL)
