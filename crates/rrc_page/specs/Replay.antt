@@ -14,19 +14,6 @@ pub record IsCountOfParts (parts : ℕ) : Type 0 where
   pub some : 1 ≤ parts
   pub few : parts ≤ 64
 
--- a fault of a replay of so many lines, and not of a text: the numbers of a part are spent, at a line or behind the last one, memory was
--- refused, or the worker strayed
-abbrev pub IsOfReplay : ℕ → ReplayFault → Type 0
-IsOfReplay lines (BadLine number) = ⊥
-IsOfReplay lines TooManyLines = ⊥
-IsOfReplay lines Read = ⊥
-IsOfReplay lines Write = ⊥
-IsOfReplay lines Strayed = Unit {0}
-IsOfReplay lines Memory = Unit {0}
-IsOfReplay lines (Spent number) = number ≤ lines
-IsOfReplay lines (TooManyQuestions number) = ⊥
-IsOfReplay lines NotLegal = ⊥
-
 -- the octets are a trace, and this is a report of it
 pub record IsReportOf (config : Config) (octets : List ℕ) (report : Report) : Type 0 where
   pub lines : List Line

@@ -1,10 +1,10 @@
 // SPDX-License-Identifier: MIT
-ghost use Rattle.std.specs.Prelude.{◌≡◌, IfSome, IfNone};
-ghost use Rattle.rrc_page.specs.Options.{IsConfigOf, LIMITS, MayBeOptions};
+ghost use Rattle.std.specs.Prelude.{IfSome, IfNone};
+ghost use Rattle.rrc_page.specs.Options.{IsConfigOf, MayBeOptions};
 
 use rrc_history::Rules;
+use rrc_report::usual_limits;
 use rrc_script::Config;
-use rrc_sets::Limits;
 
 /// Over how many parts a trace is replayed, and by which rules. The ranges are those of the
 /// program's options.
@@ -19,17 +19,6 @@ pub struct Options {
     pub chapter: u64,
     /// For how many seconds past its time to live a set may answer, 0 to 604,800.
     pub stale: u64,
-}
-
-/// The limits by which the program replays a trace (`usual_limits` of `rrc_replay`).
-fn usual_limits() -> Limits
-    ensures { result ≡ LIMITS }
-{
-    Limits {
-        cap: 604_800,
-        negative_cap: 10_800,
-        recheck: 30,
-    }
 }
 
 /// The config of one worker, where each option is in its range.

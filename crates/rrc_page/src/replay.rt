@@ -1,7 +1,8 @@
 // SPDX-License-Identifier: MIT
 ghost use Rattle.std.specs.Prelude.{◌≡◌, ◌<◌, length, IfOk, IfErr};
+ghost use Rattle.rrc_report.specs.Faults.{IsOfReplay};
 ghost use Rattle.rrc_report.specs.Reports.{IsCollated};
-ghost use Rattle.rrc_page.specs.Replay.{IsFaultOf, IsOfReplay, IsTheReport};
+ghost use Rattle.rrc_page.specs.Replay.{IsFaultOf, IsTheReport};
 
 use crate::answers::answer;
 use crate::own_cache::OwnCache;

@@ -9,7 +9,7 @@ use Rattle.rrc_replay.specs.declared.calls.Refused.{Refused}
 use Rattle.rrc_replay.specs.declared.calls.Refused.TheVariants as refused
 use Rattle.rrc_replay.specs.declared.worker.Stop.{Stop}
 use Rattle.rrc_replay.specs.declared.worker.Worked.{Worked}
-use Rattle.rrc_replay.specs.Faults.{IsOfReplay}
+use Rattle.rrc_report.specs.Faults.{IsOfReplay}
 use Rattle.rrc_replay.specs.Stops.{lower, lowest, fault_at, fault_of, first_fault}
 
 -- ---- the lowest of three

@@ -1,6 +1,4 @@
 -- SPDX-License-Identifier: MIT
-pub mod Limits
-pub mod Faults
 pub mod Stops
 pub mod Run
 pub mod Archives

@@ -2,7 +2,7 @@
 ghost use Rattle.std.specs.Prelude.{◌≢◌, length, IfOk, IfErr, OnOk};
 ghost use Rattle.std.specs.Io.KnownBytes.{IsAtEnd};
 ghost use Rattle.rrc_report.specs.Reports.{IsCollated};
-ghost use Rattle.rrc_replay.specs.Faults.{IsOfReplay};
+ghost use Rattle.rrc_report.specs.Faults.{IsOfReplay};
 ghost use Rattle.rrc_replay.specs.Run.{Reports, IsReportOf, IsFaultOfRun, LeavesWriter};
 
 use crate::audit::{Audit, audit_all};

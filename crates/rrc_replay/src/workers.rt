@@ -3,7 +3,7 @@ ghost use Rattle.std.specs.Prelude.{◌≡◌, ◌<◌, ◌+◌, ◌*◌, length
 ghost use Rattle.rrc_marks.specs.Seen.{IsPassOf};
 ghost use Rattle.rrc_marks.specs.Views.{opening_view};
 ghost use Rattle.rrc_report.specs.Reports.{IsCollated};
-ghost use Rattle.rrc_replay.specs.Faults.{IsOfReplay};
+ghost use Rattle.rrc_report.specs.Faults.{IsOfReplay};
 ghost use Rattle.rrc_replay.specs.Stops.{TellsFirstFault, first_fault, lower, fault_of};
 
 use crate::calls::Refused;

@@ -1,5 +1,7 @@
 -- SPDX-License-Identifier: MIT
 pub mod Answers
+pub mod Faults
+pub mod Limits
 pub mod Reports
 pub mod Collates
 pub mod Steps

@@ -1,6 +1,6 @@
 // SPDX-License-Identifier: MIT
 ghost use Rattle.std.specs.Prelude.{◌≡◌};
-ghost use Rattle.rrc_replay.specs.Limits.{LIMITS};
+ghost use Rattle.rrc_report.specs.Limits.{LIMITS};
 
 use rrc_sets::Limits;
 
