@@ -91,6 +91,6 @@ def test_preconditions_are_in_the_table():
     listed = {re.search(r"(\w+)`", entry)[1] for _, entry in entries() if "*requires*" in entry}
     rows = re.findall(r"^\|[^|]*\|([^|]*)\|$", TABLE.partition("\n## ")[0], re.M)
     named = {it.rpartition("::")[2] for row in rows for it in re.findall(r"`([\w:]+)`", row)}
-    types = {"Part", "LeanPart", "CacheShelf", "SharedCache"}
+    types = {"Part", "LeanPart", "CacheShelf", "SharedCache", "Calls"}
     crates = {it for it in named if it.startswith("rrc_")}
     assert named - types - crates == listed

@@ -3,7 +3,6 @@
 //! the histories behind it, and what the keys held.
 #![tactic(auto)]
 
-mod answers;
 mod histories;
 mod options;
 mod own_cache;

@@ -3,7 +3,8 @@ ghost use Rattle.std.specs.Prelude.{◌≤◌};
 
 use rrc_cache::{Part, Refusal};
 use rrc_history::{Ask, Offer, Outcome, Reply, Rules, Tag};
-use rrc_name::{Sequence, part_of};
+use rrc_name::part_of;
+use rrc_report::{Calls, Refused, called};
 use rrc_share::{Shelf, on_shelf_ask, on_shelf_checkpoint, on_shelf_offer, on_shelf_sweep};
 use std::alloc::Global;
 use std::marker::Model;
@@ -43,46 +44,34 @@ impl OwnCache {
         Ok(OwnCache { shelves })
     }
 
-    /// Makes an offer to the part that its name lies in.
-    pub(crate) fn offer(&mut self, tag: Tag, offer: Offer) -> Result<Outcome, Refusal> {
-        let home = part_of(offer.key.name(), self.shelves.len());
-        on_shelf_offer(&mut self.shelves[home], tag, offer)
-    }
-
-    /// Asks the part that the name lies in.
-    pub(crate) fn ask(&mut self, tag: Tag, ask: &Ask) -> Result<Reply, Refusal> {
-        let home = part_of(&ask.name, self.shelves.len());
-        on_shelf_ask(&mut self.shelves[home], tag, ask)
-    }
-
-    /// Sweeps each part, and counts the keys that went from it.
-    pub(crate) fn sweep(
-        &mut self,
-        alloc: Global,
-        line: u64,
-        moment: u64,
-    ) -> Result<Sequence<usize>, Refusal> {
-        let mut counts = Sequence::from_vec(Vec::with_capacity(alloc, self.shelves.len())?);
-        for part in 0..self.shelves.len() {
-            let tag = Tag {
-                line,
-                place: part as u64,
-            };
-            counts.push(on_shelf_sweep(&mut self.shelves[part], tag, moment)?)?;
-        }
-        Ok(counts)
-    }
-
-    /// Closes the chapter of each part.
-    pub(crate) fn close(&mut self) -> Result<(), Refusal> {
-        for part in 0..self.shelves.len() {
-            on_shelf_checkpoint(&mut self.shelves[part])?;
-        }
-        Ok(())
-    }
-
     /// The parts, with their histories.
     pub(crate) fn into_shelves(self) -> Vec<Shelf> {
         self.shelves
+    }
+}
+
+impl Calls for OwnCache {
+    ghost count = { λ c. c };
+
+    fn parts(&self) -> usize {
+        self.shelves.len()
+    }
+
+    fn offer(&mut self, tag: Tag, offer: Offer) -> Result<Outcome, Refused> {
+        let home = part_of(offer.key.name(), self.shelves.len());
+        called(on_shelf_offer(&mut self.shelves[home], tag, offer))
+    }
+
+    fn ask(&mut self, tag: Tag, ask: &Ask) -> Result<Reply, Refused> {
+        let home = part_of(&ask.name, self.shelves.len());
+        called(on_shelf_ask(&mut self.shelves[home], tag, ask))
+    }
+
+    fn sweep_part(&mut self, part: usize, tag: Tag, moment: u64) -> Result<usize, Refused> {
+        called(on_shelf_sweep(&mut self.shelves[part], tag, moment))
+    }
+
+    fn close_part(&mut self, part: usize) -> Result<(), Refused> {
+        called(on_shelf_checkpoint(&mut self.shelves[part]))
     }
 }

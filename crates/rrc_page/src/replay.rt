@@ -4,27 +4,12 @@ ghost use Rattle.rrc_report.specs.Faults.{IsOfReplay};
 ghost use Rattle.rrc_report.specs.Reports.{IsCollated};
 ghost use Rattle.rrc_page.specs.Replay.{IsFaultOf, IsTheReport};
 
-use crate::answers::answer;
 use crate::own_cache::OwnCache;
-use rrc_cache::Refusal;
 use rrc_name::Sequence;
-use rrc_report::{Answered, Done, Report, collate, one_report_by_one_worker};
+use rrc_report::{Answered, Done, Refused, Report, answer_line, collate, one_report_by_one_worker};
 use rrc_script::Config;
 use rrc_trace::{ReplayFault, Trace, one_trace_or_fault, read_trace};
 use std::alloc::Global;
-
-/// As what a refusal of a line's call is told, of so many lines. No line has a moment that is too
-/// large.
-fn fault_of(lines: usize, line: usize, refusal: Refusal) -> ReplayFault
-    requires { line < lines }
-    ensures { IsOfReplay lines result }
-{
-    match refusal {
-        Refusal::HistoryFull => ReplayFault::Spent(line as u64),
-        Refusal::MomentTooLarge => ReplayFault::Strayed,
-        Refusal::Memory => ReplayFault::Memory,
-    }
-}
 
 /// What a line got.
 fn answered(
@@ -37,9 +22,11 @@ fn answered(
     requires { line < length trace.now }
     ensures { IfErr result (IsOfReplay (length trace.now)) }
 {
-    match answer(alloc, cache, &config.limits, trace, line) {
+    let calls = &trace.lines.as_slice()[line];
+    match answer_line(alloc, cache, &config.limits, line as u64, calls) {
         Ok(answer) => Ok(Answered { line, answer }),
-        Err(refusal) => Err(fault_of(trace.lines.len(), line, refusal)),
+        Err(Refused::Spent) => Err(ReplayFault::Spent(line as u64)),
+        Err(Refused::Memory) => Err(ReplayFault::Memory),
     }
 }
 

@@ -1,5 +1,4 @@
 -- SPDX-License-Identifier: MIT
-pub mod OfferMoments
 pub mod AuditLemmas
 pub mod QuestionNumbers
 pub mod StopLemmas

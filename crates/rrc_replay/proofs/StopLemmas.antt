@@ -5,8 +5,8 @@ use Rattle.std.proofs.lemmas.List.{drop_all, drop_more}
 use Rattle.std.proofs.lemmas.Bool.Decides.{nat_tests}
 use Rattle.rrc_text.specs.declared.fault.ReplayFault.{ReplayFault}
 use Rattle.rrc_text.specs.declared.fault.ReplayFault.TheVariants.{Spent, Strayed}
-use Rattle.rrc_replay.specs.declared.calls.Refused.{Refused}
-use Rattle.rrc_replay.specs.declared.calls.Refused.TheVariants as refused
+use Rattle.rrc_report.specs.declared.calls.Refused.{Refused}
+use Rattle.rrc_report.specs.declared.calls.Refused.TheVariants as refused
 use Rattle.rrc_replay.specs.declared.worker.Stop.{Stop}
 use Rattle.rrc_replay.specs.declared.worker.Worked.{Worked}
 use Rattle.rrc_report.specs.Faults.{IsOfReplay}

@@ -3,8 +3,8 @@
 use Rattle.std.specs.Prelude.{◌≡◌, ◌⊎◌, ℕ, List, [], ◌∷◌, Option, Some, None, nat_lt, cond, if◌then◌else◌, option_map}
 use Rattle.rrc_text.specs.declared.fault.ReplayFault.{ReplayFault}
 use Rattle.rrc_text.specs.declared.fault.ReplayFault.TheVariants.{Memory, Spent, Strayed}
-use Rattle.rrc_replay.specs.declared.calls.Refused.{Refused}
-use Rattle.rrc_replay.specs.declared.calls.Refused.TheVariants as refused
+use Rattle.rrc_report.specs.declared.calls.Refused.{Refused}
+use Rattle.rrc_report.specs.declared.calls.Refused.TheVariants as refused
 use Rattle.rrc_replay.specs.declared.worker.Stop.{Stop}
 use Rattle.rrc_replay.specs.declared.worker.Worked.{Worked}
 

@@ -4,11 +4,10 @@ ghost use Rattle.rrc_marks.specs.Seen.{IsPassOf};
 ghost use Rattle.rrc_trace.specs.Questions.{questions_of};
 
 use crate::answers::answer;
-use crate::calls::Refused;
 use crate::gate::Gate;
 use rrc_marks::{Marks, Pass};
 use rrc_name::Sequence;
-use rrc_report::{Answered, Done};
+use rrc_report::{Answered, Done, Refused};
 use rrc_script::Config;
 use rrc_share::SharedCache;
 use rrc_trace::Trace;

@@ -6,11 +6,10 @@ ghost use Rattle.rrc_report.specs.Reports.{IsCollated};
 ghost use Rattle.rrc_report.specs.Faults.{IsOfReplay};
 ghost use Rattle.rrc_replay.specs.Stops.{TellsFirstFault, first_fault, lower, fault_of};
 
-use crate::calls::Refused;
 use crate::gate::Gate;
 use crate::worker::{Common, Stop, Worked, Worker, work};
 use rrc_marks::{Marks, MarksFault, Pass};
-use rrc_report::{Done, Report, collate};
+use rrc_report::{Done, Refused, Report, collate};
 use rrc_script::Config;
 use rrc_share::{CacheShelf, Recording, SharedCache, Shelf};
 use rrc_trace::{ReplayFault, Trace};

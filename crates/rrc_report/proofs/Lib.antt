@@ -14,3 +14,4 @@ pub mod OneRun
 pub mod OneLine
 pub mod OneTurn
 pub mod OneReport
+pub mod OfferMoments

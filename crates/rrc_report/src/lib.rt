@@ -4,6 +4,8 @@
 #![tactic(auto)]
 
 mod answer_table;
+mod answers;
+mod calls;
 mod checked_report;
 mod completions;
 mod done;
@@ -14,6 +16,8 @@ mod report;
 mod tasks;
 mod wholes;
 
+pub use answers::{answer_line, fetched, first_look};
+pub use calls::{Calls, Refused, called};
 pub use checked_report::collate;
 pub use completions::one_completion;
 pub use done::{Answered, Done};
