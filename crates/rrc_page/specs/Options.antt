@@ -1,15 +1,15 @@
 -- SPDX-License-Identifier: MIT
 -- How a page has a trace replayed.
-use Rattle.std.specs.Prelude.{◌≡◌, ◌≤◌}
+use Rattle.std.specs.Prelude.{◌≡◌}
 use Rattle.rrc_history.specs.Limits.{MayBeRules, RulesAre}
 use Rattle.rrc_script.specs.declared.config.Config.{Config}
+use Rattle.rrc_script.specs.Configs.{MayBeConfig}
 use Rattle.rrc_report.specs.Limits.{LIMITS}
 use Rattle.rrc_page.specs.declared.options.Options.{Options}
 
--- each option is in its range
+-- each option is in its range, and one worker may replay over so many parts
 pub record MayBeOptions (options : Options) : Type 0 where
-  pub some_parts : 1 ≤ options.parts
-  pub few_parts : options.parts ≤ 64
+  pub parts : MayBeConfig 1 options.parts
   pub rules : MayBeRules options.capacity options.chapter options.stale
 
 -- the config has one worker, and the parts and the rules of the options

@@ -9,11 +9,6 @@ use Rattle.rrc_script.specs.declared.config.Config.{Config}
 use Rattle.rrc_report.specs.declared.report.Report.{Report}
 use Rattle.rrc_report.specs.Reports.{IsCollated}
 
--- a cache has so many parts
-pub record IsCountOfParts (parts : ℕ) : Type 0 where
-  pub some : 1 ≤ parts
-  pub few : parts ≤ 64
-
 -- the octets are a trace, and this is a report of it
 pub record IsReportOf (config : Config) (octets : List ℕ) (report : Report) : Type 0 where
   pub lines : List Line

@@ -18,13 +18,13 @@ pub(crate) struct OwnCache {
 
 impl Model for OwnCache {
     ghost use Rattle.std.specs.Prelude.{ℕ, vec_len};
-    ghost use Rattle.rrc_page.specs.Replay.{IsCountOfParts};
+    ghost use Rattle.rrc_script.specs.Configs.{MayBeConfig};
 
     ghost Value = { ℕ };
 
     ghost view = { λ c. vec_len c.shelves };
 
-    ghost invariant = { λ c. IsCountOfParts (vec_len c.shelves) };
+    ghost invariant = { λ c. MayBeConfig 1 (vec_len c.shelves) };
 }
 
 /// The seed of the hashes of names. Whoever writes a trace into a page slows down none but itself.
