@@ -79,7 +79,7 @@ refusals! {
     BadName = 9 "the octets are not the wire form of a name",
     /// The response answers the query but cannot be read. This is a failure of the server, unless
     /// TC is set.
-    BadMessage = 10 "the octets are not a response that can be read",
+    BadMessage = 10 "the octets cannot be read as a response",
     /// An enumeration has no such number. No call of this crate returns this error.
     BadChoice = 11 "no purpose, mode, kind, rank, section or RCODE has this number",
     /// No data of this type are kept in this class, or the type of a question is 0.
