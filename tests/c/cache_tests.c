@@ -13,21 +13,8 @@
 #include <string.h>
 #include <time.h>
 
-static unsigned passed, failed;
+#include "expect.h"
 
-static void expect(bool holds, const char *what, int line)
-{
-    if (holds) {
-        passed++;
-    } else {
-        failed++;
-        printf("FAIL line %d: %s\n", line, what);
-    }
-}
-
-#define EXPECT(holds) expect((holds), #holds, __LINE__)
-/* What cases need to go on, which is no check of its own. */
-#define NEED(holds) ((holds) ? (void)0 : expect(false, #holds, __LINE__))
 /* Octets, with how many they are. */
 #define OF(octets) (octets), sizeof(octets)
 
@@ -3906,6 +3893,5 @@ int main(int words, char **word)
         return write_archives(word[1]);
     for (size_t n = 0; n < sizeof TESTS / sizeof *TESTS; n++)
         TESTS[n]();
-    printf("%u passed, %u failed\n", passed, failed);
-    return failed != 0;
+    return told_status();
 }

@@ -11,19 +11,7 @@
 #include <stdio.h>
 #include <string.h>
 
-static unsigned passed, failed;
-
-static void expect(bool holds, const char *what, int line)
-{
-    if (holds) {
-        passed++;
-    } else {
-        failed++;
-        printf("FAIL line %d: %s\n", line, what);
-    }
-}
-
-#define EXPECT(holds) expect((holds), #holds, __LINE__)
+#include "expect.h"
 
 enum { A = 1, TXT = 16, AAAA = 28, ANY = 255, LAST_TYPE = 65535 };
 enum { FIRST = 1000, NOW = 1100, MAX_STALE = 3600 };
@@ -216,6 +204,5 @@ int main(void)
     test_that_nothing_older_comes_back();
     test_that_an_expired_nxdomain_hides_until_it_goes();
     test_that_newer_data_stay_until_they_go();
-    printf("%u passed, %u failed\n", passed, failed);
-    return failed != 0;
+    return told_status();
 }

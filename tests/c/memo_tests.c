@@ -10,19 +10,7 @@
 #include <stdlib.h>
 #include <string.h>
 
-static unsigned passed, failed;
-
-static void expect(bool holds, const char *what, int line)
-{
-    passed += holds;
-    failed += !holds;
-    if (!holds && failed < 20)
-        printf("FAIL line %d: %s\n", line, what);
-}
-
-#define EXPECT(holds) expect((holds), #holds, __LINE__)
-/* What cases need to go on, which is no check of its own. */
-#define NEED(holds) ((holds) ? (void)0 : expect(false, #holds, __LINE__))
+#include "expect.h"
 
 enum { A = 1, CNAME = RRTYPE_CNAME, TXT = 16, AAAA = 28, DNAME = RRTYPE_DNAME, ANY = RRTYPE_ANY };
 enum { FIRST = 1000, TTL = 600, OFTEN = 4, ROOM = 1024 };
@@ -633,6 +621,5 @@ int main(void)
     test_a_name_in_use_stays();
     test_both_tell_the_same(false);
     test_both_tell_the_same(true);
-    printf("%u passed, %u failed\n", passed, failed);
-    return failed != 0;
+    return told_status();
 }

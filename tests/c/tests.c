@@ -12,19 +12,7 @@
 #include <stdlib.h>
 #include <string.h>
 
-static unsigned passed, failed;
-
-static void expect(bool holds, const char *what, int line)
-{
-    if (holds) {
-        passed++;
-    } else {
-        failed++;
-        printf("FAIL line %d: %s\n", line, what);
-    }
-}
-
-#define EXPECT(holds) expect((holds), #holds, __LINE__)
+#include "expect.h"
 
 /* ---- What is offered and asked. */
 
@@ -5111,6 +5099,5 @@ int main(void)
 {
     for (size_t n = 0; n < sizeof TESTS / sizeof *TESTS; n++)
         TESTS[n]();
-    printf("%u passed, %u failed\n", passed, failed);
-    return failed != 0;
+    return told_status();
 }
