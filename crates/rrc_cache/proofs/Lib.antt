@@ -2,7 +2,7 @@
 pub mod Paired
 pub mod Plain
 pub mod Clocking
-pub mod Counting
+pub mod Counted
 pub mod Turned
 pub mod Due
 pub mod Evicting

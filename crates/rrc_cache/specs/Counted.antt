@@ -1,16 +1,12 @@
 -- SPDX-License-Identifier: MIT
 -- Octets, as a counter of 64 bits has them.
-use Rattle.std.specs.Prelude.{ℕ, ◌+◌, ◌-◌, ◌^◌, ◌%◌, Option, Some, None}
+use Rattle.std.specs.Prelude.{ℕ, ◌^◌, ◌%◌, Option, Some, None}
 use Rattle.rrc_history.specs.declared.snapshot.Entry.{Entry}
 use Rattle.rrc_history.specs.Octets.{entry_octets}
 
 -- the octets of an entry, modulo 2^64
 abbrev pub counted_octets : Entry → ℕ
 counted_octets entry = entry_octets entry % 2 ^ 64
-
--- by how much the octets grow, modulo 2^64, where an entry is written over another
-abbrev pub octets_change : Entry → Entry → ℕ
-octets_change new old = (counted_octets new + (2 ^ 64 - counted_octets old)) % 2 ^ 64
 
 -- the octets of what a key held, if anything
 abbrev pub held_octets : Option Entry → ℕ

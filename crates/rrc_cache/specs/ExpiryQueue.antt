@@ -8,6 +8,7 @@ use Rattle.rrc_name.specs.Key.{KeyOf, key_eq}
 use Rattle.rrc_history.specs.declared.snapshot.Entry.{Entry}
 use Rattle.rrc_history.specs.Past.{entry_at}
 use Rattle.rrc_history.specs.Right.{is_swept}
+use Rattle.rrc_cache.specs.Counted.{counted_octets}
 use Rattle.rrc_cache.specs.declared.expiry_queue.Expiry.{Expiry}
 use Rattle.rrc_cache.specs.declared.replaced.Replaced.{Replaced}
 use Rattle.rrc_cache.specs.FullExpiry.{full_expiry_of}
@@ -62,9 +63,10 @@ abbrev pub is_expired_by : ℕ → ℕ → Option Entry → Bool
 is_expired_by stale time None = false
 is_expired_by stale time (Some entry) = nat_le (full_expiry_of stale entry) time
 
--- of an entry that another replaces: its number, and from when on it is fully expired
+-- of an entry that another replaces: its number, from when on it is fully expired, and its octets
+-- modulo 2^64
 abbrev pub replaced_of : ℕ → Entry → Replaced
-replaced_of stale entry = record { number = entry.number; expires = full_expiry_of stale entry }
+replaced_of stale entry = record { number = entry.number; expires = full_expiry_of stale entry; octets = counted_octets entry }
 
 -- the keys of expiries under which something fully expired is kept
 abbrev pub expired_among : ℕ → ℕ → List Entry → List Expiry → List KeyOf

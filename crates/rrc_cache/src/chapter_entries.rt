@@ -5,6 +5,7 @@ ghost use Rattle.rrc_name.specs.KeyRef.{key_of};
 ghost use Rattle.rrc_history.specs.Past.{entry_at, entry_of, last_key};
 ghost use Rattle.rrc_history.specs.Sound.{AreSound};
 ghost use Rattle.rrc_history.specs.Entries.{goes, promoted, staying};
+ghost use Rattle.rrc_cache.specs.Counted.{counted_octets};
 ghost use Rattle.rrc_cache.specs.Keyed.{hashed_entries, name_hash};
 
 use crate::clocked::Stamped;
@@ -84,11 +85,12 @@ impl ChapterEntries {
     ) -> Result<(), AllocError>
         requires hash { hash ≡ name_hash self.old.seeded offer.now.key.name }
         requires number { option_map (λ entry. entry.number) (entry_at offer.now.key self.old.entries) ≡ Some replaced.number }
+        requires octets { option_map counted_octets (entry_at offer.now.key self.old.entries) ≡ Some replaced.octets }
         ensures ok { OnOk result (self.new ≡ record self.old { entries = entry_of offer.now number ∷ staying (goes offer.now.key None) self.old.entries }) }
         ensures err { OnErr result (self.new ≡ self.old) }
     {
         self.map.has_distinct_keys();
-        self.map.overwrite(hash, offer, number)?;
+        self.map.overwrite(hash, offer, number, replaced.octets)?;
         opening_tail::note_put(&mut self.tail, Some(replaced.number), number);
         Ok(())
     }
@@ -178,7 +180,7 @@ fn first_entries(
         if first.len() >= count {
             return Ok(first);
         }
-        first.push(stamped.entry.entry().clone()?)?;
+        first.push(stamped.entry.clone()?)?;
     }
     Ok(first)
 }

@@ -1,16 +1,15 @@
 // SPDX-License-Identifier: MIT
-ghost use Rattle.std.specs.Prelude.{◌≡◌, ◌-◌, ◌<◌, ◌≤◌, ◌^◌, [], length, is_some, slice_get, take, Some, IfOk, IfSome, IsSome, OnOk, OnErr};
+ghost use Rattle.std.specs.Prelude.{◌≡◌, ◌-◌, ◌<◌, ◌≤◌, ◌^◌, [], length, is_some, slice_get, take, IfOk, IfSome, IsSome, OnOk, OnErr};
 ghost use Rattle.std.specs.Map.{lookup, remove_entry, set_value};
 ghost use Rattle.std.specs.Map.Iter.{deref_pair};
 ghost use Rattle.std.specs.Option.{option_map};
 ghost use Rattle.lru.specs.LruCache.{IsValid, last_entry, lru_cache, promoted, put_entries};
 ghost use Rattle.rrc_history.specs.Past.{entry_of};
 ghost use Rattle.rrc_cache.specs.Clocked.{aged_in, ahead_in, unstamped};
-ghost use Rattle.rrc_cache.specs.Counted.{octets_change};
 ghost use Rattle.rrc_cache.specs.Keyed.{hashed_eq, hashed_of};
 
-use crate::counted::Counted;
 use crate::hashed::{HashedKey, HashedRef};
+use crate::overwriting::write_entry;
 use lru::LruCache;
 use rrc_history::{Entry, Offer};
 use std::alloc::{AllocError, Global};
@@ -20,14 +19,14 @@ use std::marker::Model;
 /// An entry beside the time of its last touch.
 #[derive(Drop)]
 pub struct Stamped {
-    pub(crate) entry: Counted,
+    pub(crate) entry: Entry,
     pub(crate) touched: u64,
 }
 
 /// It does not tell the time.
 impl Debug for Stamped {
     fn fmt<W: Write>(&self, f: &mut Formatter<W>) -> fmt::Result {
-        self.entry.entry().fmt(f)
+        self.entry.fmt(f)
     }
 }
 
@@ -101,7 +100,7 @@ impl Clocked {
         fits_memory(&self.cache);
         match self.cache.peek(key) {
             Some(stamped) => Some(Aged {
-                entry: stamped.entry.entry(),
+                entry: &stamped.entry,
                 age: age_at(self.clock, stamped.touched),
             }),
             None => None,
@@ -112,7 +111,7 @@ impl Clocked {
         ensures { option_map deref_pair result ≡ slice_get self.now.entries 0 }
     {
         match self.cache.peek_mru() {
-            Some((key, stamped)) => Some((key, stamped.entry.entry())),
+            Some((key, stamped)) => Some((key, &stamped.entry)),
             None => None,
         }
     }
@@ -135,11 +134,7 @@ impl Clocked {
 
     /// Puts an entry in front under a key, and answers what that had. An `Err` leaves all as it
     /// was.
-    pub(crate) fn push(
-        &mut self,
-        key: HashedKey,
-        entry: Counted,
-    ) -> Result<Option<Counted>, AllocError>
+    pub(crate) fn push(&mut self, key: HashedKey, entry: Entry) -> Result<Option<Entry>, AllocError>
         requires room { length self.old.entries < self.old.cap }
         ensures old { IfOk result (λ old. old ≡ lookup (hashed_eq key) self.old.entries) }
         ensures entries { OnOk result (self.new ≡ lru_cache (put_entries hashed_eq self.old key entry) self.old.cap) }
@@ -151,49 +146,46 @@ impl Clocked {
         Ok(entry_of_stamped(old))
     }
 
-    /// Writes what an offer stores over the entry of its key, moves that to the front, and returns
-    /// by how much its octets grow, modulo 2^64. It is written where it stands, so that nothing has
-    /// moved if memory is refused: an `Err` leaves all as it was.
+    /// Writes what an offer stores over the entry of its key, and moves that to the front. It is
+    /// written where it stands, so that where memory is refused nothing has moved: an `Err` leaves
+    /// all as it was.
     pub(crate) fn overwrite(
         &mut self,
         key: HashedRef<'_>,
         offer: &Offer,
         number: u64,
-    ) -> Result<u64, AllocError>
+    ) -> Result<(), AllocError>
         requires own { IfSome (lookup (hashed_eq (hashed_of key)) self.old.entries) (λ entry. entry.key ≡ offer.now.key) }
         requires held { IsSome (lookup (hashed_eq (hashed_of key)) self.old.entries) }
-        ensures change { IfOk result (λ change. option_map (octets_change (entry_of offer.now number)) (lookup (hashed_eq (hashed_of key.entry)) self.old.entries) ≡ Some change) }
         ensures ok { OnOk result (self.new ≡ lru_cache (promoted (hashed_eq (hashed_of key.entry)) (set_value (hashed_eq (hashed_of key.entry)) self.old.entries (entry_of offer.now number))) self.old.cap) }
         ensures err { OnErr result (self.new ≡ self.old) }
     {
-        let change = self.write(key, offer, number)?;
+        self.write(key, offer, number)?;
         self.promote(key);
-        Ok(change)
+        Ok(())
     }
 
-    /// Writes what an offer stores over the entry of its key, where it stands, and returns by how
-    /// much its octets grow, modulo 2^64.
-    fn write(&mut self, key: HashedRef<'_>, offer: &Offer, number: u64) -> Result<u64, AllocError>
+    /// Writes what an offer stores over the entry of its key, where it stands.
+    fn write(&mut self, key: HashedRef<'_>, offer: &Offer, number: u64) -> Result<(), AllocError>
         requires own { IfSome (lookup (hashed_eq (hashed_of key)) self.old.entries) (λ entry. entry.key ≡ offer.now.key) }
         requires held { IsSome (lookup (hashed_eq (hashed_of key)) self.old.entries) }
-        ensures change { IfOk result (λ change. option_map (octets_change (entry_of offer.now number)) (lookup (hashed_eq (hashed_of key.entry)) self.old.entries) ≡ Some change) }
         ensures ok { OnOk result (self.new ≡ lru_cache (set_value (hashed_eq (hashed_of key.entry)) self.old.entries (entry_of offer.now number)) self.old.cap) }
         ensures err { OnErr result (self.new ≡ self.old) }
     {
-        match self.cache.peek_mut(key) {
-            Some(stamped) => stamped.entry.write(offer, number),
-            None => Ok(0),
+        if let Some(stamped) = self.cache.peek_mut(key) {
+            write_entry(&mut stamped.entry, offer, number)?;
         }
+        Ok(())
     }
 
-    pub(crate) fn pop(&mut self, key: HashedRef<'_>) -> Option<Counted>
+    pub(crate) fn pop(&mut self, key: HashedRef<'_>) -> Option<Entry>
         ensures value { result ≡ lookup (hashed_eq (hashed_of key.entry)) self.old.entries }
         ensures entries { self.new ≡ lru_cache (remove_entry (hashed_eq (hashed_of key.entry)) self.old.entries) self.old.cap }
     {
         entry_of_stamped(self.cache.pop(key))
     }
 
-    pub(crate) fn pop_lru(&mut self) -> Option<(HashedKey, Counted)>
+    pub(crate) fn pop_lru(&mut self) -> Option<(HashedKey, Entry)>
         ensures value { result ≡ last_entry self.old.entries }
         ensures entries { self.new ≡ lru_cache (take (length self.old.entries - 1) self.old.entries) self.old.cap }
     {
@@ -242,7 +234,7 @@ fn push(
     }
 }
 
-fn entry_of_stamped(stamped: Option<Stamped>) -> Option<Counted>
+fn entry_of_stamped(stamped: Option<Stamped>) -> Option<Entry>
     ensures { result ≡ option_map (λ stamped. stamped.entry) stamped }
 {
     match stamped {

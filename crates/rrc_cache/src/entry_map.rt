@@ -1,6 +1,6 @@
 // SPDX-License-Identifier: MIT
 ghost use Rattle.rrc_cache.specs.Ages.{ahead_of};
-ghost use Rattle.std.specs.Prelude.{◌≡◌, ◌-◌, ◌<◌, ◌≤◌, ◌^◌, ◌%◌, [], ◌∷◌, Some, None, length, take, IfOk, IfSome, IsSome, OnOk, OnErr};
+ghost use Rattle.std.specs.Prelude.{◌≡◌, ◌-◌, ◌<◌, ◌≤◌, ◌^◌, ◌%◌, [], ◌∷◌, Some, None, length, take, IfOk, IfSome, OnOk, OnErr};
 ghost use Rattle.std.specs.Map.{lookup};
 ghost use Rattle.std.specs.Option.{option_map};
 ghost use Rattle.lru.specs.LruCache.{lru_cache, promoted as lru_promoted};
@@ -11,6 +11,7 @@ ghost use Rattle.rrc_history.specs.Octets.{octets_of};
 ghost use Rattle.rrc_history.specs.Past.{entry_at, entry_of, last_key};
 ghost use Rattle.rrc_history.specs.Entries.{AreApart, goes, promoted, staying};
 ghost use Rattle.rrc_cache.specs.Clocked.{aged_in};
+ghost use Rattle.rrc_cache.specs.Counted.{counted_octets};
 ghost use Rattle.rrc_cache.specs.Keyed.{hashed_entries, name_hash};
 
 use crate::clocked::{Aged, Stamped};
@@ -124,22 +125,23 @@ impl EntryMap {
         Ok(old)
     }
 
-    /// Writes what an offer stores over the entry of its key, and moves that to the front. An `Err`
-    /// leaves all as it was.
+    /// Writes what an offer stores over the entry of its key, whose octets are told, and moves that
+    /// to the front. An `Err` leaves all as it was.
     pub(crate) fn overwrite(
         &mut self,
         hash: u64,
         offer: &Offer,
         number: u64,
+        octets: u64,
     ) -> Result<(), AllocError>
         requires hash { hash ≡ name_hash self.old.seeded offer.now.key.name }
-        requires held { IsSome (entry_at offer.now.key self.old.entries) }
+        requires held { option_map counted_octets (entry_at offer.now.key self.old.entries) ≡ Some octets }
         ensures ok { OnOk result (self.new ≡ record self.old { entries = entry_of offer.now number ∷ staying (goes offer.now.key None) self.old.entries }) }
         ensures err { OnErr result (self.new ≡ self.old) }
     {
         self.holdings.fits_memory();
         self.holdings.has_distinct_keys();
-        self.holdings.overwrite(hash, offer, number)?;
+        self.holdings.overwrite(hash, offer, number, octets)?;
         Ok(())
     }
 

@@ -205,7 +205,7 @@ pub(crate) fn expiries_of(
 {
     let mut expiries = Vec::with_capacity(alloc, cache.len())?;
     for (_, stamped) in cache.iter() {
-        expiries.push(Expiry::of(stamped.entry.entry(), stale)?)?;
+        expiries.push(Expiry::of(&stamped.entry, stale)?)?;
     }
     Ok(expiries)
 }

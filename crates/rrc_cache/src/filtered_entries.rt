@@ -6,6 +6,7 @@ ghost use Rattle.rrc_name.specs.KeyRef.{key_of};
 ghost use Rattle.rrc_history.specs.Past.{entry_at, entry_of, last_key};
 ghost use Rattle.rrc_history.specs.Sound.{AreSound};
 ghost use Rattle.rrc_history.specs.Entries.{goes, promoted, staying};
+ghost use Rattle.rrc_cache.specs.Counted.{counted_octets};
 ghost use Rattle.rrc_cache.specs.Keyed.{hashed_entries, name_hash};
 ghost use Rattle.rrc_cache.specs.NegativeFilter.{AreMarked, IsMarked, filter_of, is_marked, is_negative_slot};
 
@@ -98,6 +99,7 @@ impl FilteredEntries {
     ) -> Result<(), AllocError>
         requires hash { hash ≡ name_hash self.old.seeded offer.now.key.name }
         requires number { option_map (λ entry. entry.number) (entry_at offer.now.key self.old.entries) ≡ Some replaced.number }
+        requires octets { option_map counted_octets (entry_at offer.now.key self.old.entries) ≡ Some replaced.octets }
         ensures ok { OnOk result (self.new ≡ record self.old { entries = entry_of offer.now number ∷ staying (goes offer.now.key None) self.old.entries }) }
         ensures err { OnErr result (self.new ≡ self.old) }
     {
@@ -166,7 +168,7 @@ fn mark_anew(filter: &mut NegativeFilter, cache: &LruCache<HashedKey, Stamped>, 
 {
     filter.clear();
     for (_, stamped) in cache.iter() {
-        note_entry(filter, seeded, stamped.entry.entry());
+        note_entry(filter, seeded, &stamped.entry);
     }
     filter.count_anew();
 }

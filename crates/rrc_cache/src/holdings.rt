@@ -11,12 +11,11 @@ ghost use Rattle.rrc_name.specs.KeyRef.{key_of};
 ghost use Rattle.rrc_name.specs.NameRef.{name_in};
 ghost use Rattle.rrc_history.specs.Octets.{octets_of};
 ghost use Rattle.rrc_history.specs.Past.{entry_of};
-ghost use Rattle.rrc_cache.specs.Counted.{held_octets};
+ghost use Rattle.rrc_cache.specs.Counted.{counted_octets, held_octets};
 ghost use Rattle.rrc_cache.specs.Keyed.{hashed_entries, name_hash};
 ghost use Rattle.rrc_cache.specs.Pairs.{entries_in, AreOwn};
 
 use crate::clocked::{Aged, Stamped};
-use crate::counted::Counted;
 use crate::hashed::HashedKey;
 use crate::keyed::Keyed;
 use crate::seeded::Seeded;
@@ -27,8 +26,8 @@ use std::alloc::{AllocError, Global};
 use std::marker::Model;
 
 /// Entries by their keys, in the order of touch, and how many octets they have. Each call that
-/// puts, writes over or removes an entry adds or subtracts its octets (`Counted`), so nobody has to
-/// go over all entries to tell them. Contracts see what they see of a `Keyed`.
+/// puts, writes over or removes an entry counts its octets, so nobody has to go over all entries to
+/// tell them. Contracts see what they see of a `Keyed`.
 #[derive(Debug, Drop)]
 pub struct Holdings {
     keyed: Keyed,
@@ -155,7 +154,7 @@ impl Holdings {
     {
         let gone = self.keyed.pop(hash, key);
         self.octets = self.octets.wrapping_sub(octets_of_held(&gone));
-        entry_of_counted(gone)
+        gone
     }
 
     /// Removes the last entry, and answers it with its key.
@@ -166,10 +165,7 @@ impl Holdings {
     {
         let gone = self.keyed.pop_lru();
         self.octets = self.octets.wrapping_sub(octets_of_last(&gone));
-        match gone {
-            Some((key, counted)) => Some((key, counted.into_entry())),
-            None => None,
-        }
+        gone
     }
 
     /// Puts an entry in front under a key, and answers what that had. An `Err` leaves all as it
@@ -187,61 +183,61 @@ impl Holdings {
         ensures seeded { self.new.seeded ≡ self.old.seeded }
         ensures err { OnErr result (self.new ≡ self.old) }
     {
-        let counted = Counted::new(entry);
-        let came = counted.octets();
-        let old = self.keyed.push(hash, key, counted)?;
+        let came = octets_of(&entry);
+        let old = self.keyed.push(hash, key, entry)?;
         let octets = self.octets.wrapping_add(came);
         self.octets = octets.wrapping_sub(octets_of_held(&old));
-        Ok(entry_of_counted(old))
+        Ok(old)
     }
 
-    /// Writes what an offer stores over the entry of its key, and moves that to the front. An `Err`
-    /// leaves all as it was.
+    /// Writes what an offer stores over the entry of its key, whose octets are told, and moves that
+    /// to the front. An `Err` leaves all as it was.
     pub(crate) fn overwrite(
         &mut self,
         hash: u64,
         offer: &Offer,
         number: u64,
+        replaced: u64,
     ) -> Result<(), AllocError>
         requires hash { hash ≡ name_hash self.old.seeded offer.now.key.name }
         requires own { AreOwn self.old.map.entries }
-        requires held { IsSome (lookup (key_eq offer.now.key) self.old.map.entries) }
+        requires held { option_map counted_octets (lookup (key_eq offer.now.key) self.old.map.entries) ≡ Some replaced }
         ensures ok { OnOk result (self.new.map ≡ lru_cache (put_entries key_eq self.old.map offer.now.key (entry_of offer.now number)) self.old.map.cap) }
         ensures seeded { self.new.seeded ≡ self.old.seeded }
         ensures err { OnErr result (self.new ≡ self.old) }
     {
-        let change = self.keyed.overwrite(hash, offer, number)?;
-        self.octets = self.octets.wrapping_add(change);
+        self.keyed.overwrite(hash, offer, number)?;
+        let octets = self
+            .octets
+            .wrapping_add(offer.body.octets_under(&offer.key));
+        self.octets = octets.wrapping_sub(replaced);
         Ok(())
     }
 }
 
+/// The octets of an entry.
+fn octets_of(entry: &Entry) -> u64
+    ensures { result ≡ counted_octets entry.now }
+{
+    entry.body.octets_under(&entry.key)
+}
+
 /// The octets of what a key held, if anything.
-fn octets_of_held(held: &Option<Counted>) -> u64
+fn octets_of_held(held: &Option<Entry>) -> u64
     ensures { result ≡ held_octets held.now % 2 ^ 64 }
 {
     match held {
-        Some(counted) => counted.octets(),
+        Some(entry) => octets_of(entry),
         None => 0,
     }
 }
 
 /// The octets of the last entry, if there is one.
-fn octets_of_last(last: &Option<(Key, Counted)>) -> u64
+fn octets_of_last(last: &Option<(Key, Entry)>) -> u64
     ensures { result ≡ held_octets (option_map (λ pair. pair.1) last.now) % 2 ^ 64 }
 {
     match last {
-        Some((_, counted)) => counted.octets(),
+        Some((_, entry)) => octets_of(entry),
         None => 0,
-    }
-}
-
-/// What a key held, if anything, without its octets.
-fn entry_of_counted(held: Option<Counted>) -> Option<Entry>
-    ensures { result ≡ held }
-{
-    match held {
-        Some(counted) => Some(counted.into_entry()),
-        None => None,
     }
 }

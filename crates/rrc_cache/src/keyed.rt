@@ -1,5 +1,5 @@
 // SPDX-License-Identifier: MIT
-ghost use Rattle.std.specs.Prelude.{◌≡◌, ◌-◌, ◌<◌, ◌≤◌, ◌^◌, [], length, is_some, slice_get, take, Some, IfOk, IfSome, OnOk, OnErr, IsSome};
+ghost use Rattle.std.specs.Prelude.{◌≡◌, ◌-◌, ◌<◌, ◌≤◌, ◌^◌, [], length, is_some, slice_get, take, IfOk, IfSome, OnOk, OnErr, IsSome};
 ghost use Rattle.std.specs.Map.{lookup, remove_entry};
 ghost use Rattle.std.specs.Map.Iter.{deref_pair};
 ghost use Rattle.std.specs.Option.{option_map};
@@ -9,12 +9,10 @@ ghost use Rattle.rrc_name.specs.KeyRef.{key_of};
 ghost use Rattle.rrc_name.specs.NameRef.{name_in};
 ghost use Rattle.rrc_history.specs.Past.{entry_of};
 ghost use Rattle.rrc_cache.specs.Clocked.{aged_in, ahead_in};
-ghost use Rattle.rrc_cache.specs.Counted.{octets_change};
 ghost use Rattle.rrc_cache.specs.Keyed.{hashed_entries, name_hash};
 ghost use Rattle.rrc_cache.specs.Pairs.{entries_in, AreOwn};
 
 use crate::clocked::{Aged, Clocked, Stamped};
-use crate::counted::Counted;
 use crate::hashed::{HashedKey, HashedRef};
 use crate::seeded::Seeded;
 use lru::LruCache;
@@ -139,7 +137,7 @@ impl Keyed {
     }
 
     /// Removes the entry of a key, and answers it.
-    pub(crate) fn pop(&mut self, hash: u64, key: KeyRef<'_>) -> Option<Counted>
+    pub(crate) fn pop(&mut self, hash: u64, key: KeyRef<'_>) -> Option<Entry>
         requires { hash ≡ name_hash self.old.seeded (key_of key).name }
         ensures value { result ≡ lookup (key_eq (key_of key.entry)) self.old.map.entries }
         ensures entries { self.new.map ≡ lru_cache (remove_entry (key_eq (key_of key.entry)) self.old.map.entries) self.old.map.cap }
@@ -149,7 +147,7 @@ impl Keyed {
     }
 
     /// Removes the last entry, and answers it with its key.
-    pub(crate) fn pop_lru(&mut self) -> Option<(Key, Counted)>
+    pub(crate) fn pop_lru(&mut self) -> Option<(Key, Entry)>
         ensures value { result ≡ last_entry self.old.map.entries }
         ensures entries { self.new.map ≡ lru_cache (take (length self.old.map.entries - 1) self.old.map.entries) self.old.map.cap }
         ensures seeded { self.new.seeded ≡ self.old.seeded }
@@ -166,8 +164,8 @@ impl Keyed {
         &mut self,
         hash: u64,
         key: Key,
-        entry: Counted,
-    ) -> Result<Option<Counted>, AllocError>
+        entry: Entry,
+    ) -> Result<Option<Entry>, AllocError>
         requires hash { hash ≡ name_hash self.old.seeded key.name }
         requires room { length self.old.map.entries < self.old.map.cap }
         ensures old { IfOk result (λ old. old ≡ lookup (key_eq key) self.old.map.entries) }
@@ -178,18 +176,17 @@ impl Keyed {
         self.cache.push(HashedKey { hash, key }, entry)
     }
 
-    /// Writes what an offer stores over the entry of its key, moves that to the front, and returns
-    /// by how much its octets grow, modulo 2^64. An `Err` leaves all as it was.
+    /// Writes what an offer stores over the entry of its key, and moves that to the front. An `Err`
+    /// leaves all as it was.
     pub(crate) fn overwrite(
         &mut self,
         hash: u64,
         offer: &Offer,
         number: u64,
-    ) -> Result<u64, AllocError>
+    ) -> Result<(), AllocError>
         requires hash { hash ≡ name_hash self.old.seeded offer.now.key.name }
         requires own { AreOwn self.old.map.entries }
         requires held { IsSome (lookup (key_eq offer.now.key) self.old.map.entries) }
-        ensures change { IfOk result (λ change. option_map (octets_change (entry_of offer.now number)) (lookup (key_eq offer.now.key) self.old.map.entries) ≡ Some change) }
         ensures ok { OnOk result (self.new.map ≡ lru_cache (put_entries key_eq self.old.map offer.now.key (entry_of offer.now number)) self.old.map.cap) }
         ensures seeded { self.new.seeded ≡ self.old.seeded }
         ensures err { OnErr result (self.new ≡ self.old) }

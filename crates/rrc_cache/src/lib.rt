@@ -10,7 +10,6 @@ mod chapter_entries;
 mod classless;
 mod clocked;
 mod closing;
-mod counted;
 mod entries;
 mod entry_map;
 mod expiries;

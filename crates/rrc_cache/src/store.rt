@@ -163,7 +163,7 @@ impl Store {
         ensures { option_map held_in result ≡ last_of self.now.entries }
     {
         match self.filtered.map().held().peek_lru() {
-            Some((_, stamped)) => Some(Held::of(stamped.entry.entry())),
+            Some((_, stamped)) => Some(Held::of(&stamped.entry)),
             None => None,
         }
     }

@@ -29,7 +29,7 @@ loop-stamped-preserved c =
     let entry : Entry = c.in-Some.stamped.now.entry in
     let rest : List (HashedKey × Stamped) = c.next.new.self in
     let new : c.push.new.self.items ≡ c.loop-stamped.first.items ++ entry ∷ [] =
-    c.in_ok-push.ensures.items ∙ ap (λ (e : Entry). c.loop-stamped.first.items ++ e ∷ []) (c.in_ok-clone.ensures.cases ∙ c.entry.ensures) in
+    c.in_ok-push.ensures.items ∙ ap (λ (e : Entry). c.loop-stamped.first.items ++ e ∷ []) c.in_ok-clone.ensures.cases in
     let longer : length c.push.new.self.items ≡ length c.loop-stamped.first.items + 1 = ap length new ∙ length-append c.loop-stamped.first.items (entry ∷ []) in (
       c.loop-stamped.invariant.0
           ∙ (ap (λ (ps : List (HashedKey × Stamped)). c.loop-stamped.first.items ++ hashed_entries ps) c.in-Some.ensures.steps

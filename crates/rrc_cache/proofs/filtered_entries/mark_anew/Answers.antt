@@ -4,7 +4,7 @@ use Rattle.std.specs.Map.Iter.{deref_pair}
 use Rattle.std.proofs.lemmas.List.{map-append}
 use Rattle.rrc_history.specs.declared.snapshot.Entry.{Entry}
 use Rattle.rrc_cache.specs.declared.seeded.Seeded.{Seeded}
-use Rattle.rrc_cache.specs.NegativeFilter.{AreMarked, IsMarked, filter_of}
+use Rattle.rrc_cache.specs.NegativeFilter.{AreMarked, filter_of}
 use Rattle.rrc_cache.specs.declared.clocked.Stamped.{Stamped}
 use Rattle.rrc_cache.specs.declared.hashed.HashedKey.{HashedKey}
 use Rattle.rrc_cache.specs.Keyed.{hashed_entries, name_hash}
@@ -19,6 +19,5 @@ loop-stamped-preserved c =
     ∙ map-append (λ (pair : HashedKey × Stamped). pair.1.entry) (map deref_pair c.loop-stamped.yielded) ((c.in-Some.field-0-0.now, c.in-Some.stamped.now) ∷ []) in
     let seeded : Seeded = c.args.seeded in
     subst (AreMarked (filter_of seeded c.note_entry.new.filter)) (sym more)
-    (more_marked (filter_of seeded c.loop-stamped.filter) (filter_of seeded c.note_entry.new.filter) before c.in-Some.stamped.now.entry
-    (subst (IsMarked (filter_of seeded c.note_entry.new.filter)) c.entry.ensures c.note_entry.ensures.own)
+    (more_marked (filter_of seeded c.loop-stamped.filter) (filter_of seeded c.note_entry.new.filter) before c.in-Some.stamped.now.entry c.note_entry.ensures.own
     (λ name. c.note_entry.ensures.others (name_hash seeded name)) c.loop-stamped.invariant)

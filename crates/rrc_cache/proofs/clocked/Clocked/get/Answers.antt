@@ -23,9 +23,8 @@ age_at-requires c =
 pub returns-in-Some-clause-entry : goal.returns-in-Some-clause-entry
 returns-in-Some-clause-entry c =
     let test : HashedKey → Bool = hashed_eq (hashed_of c.args.key) in
-    ap (λ (e : Entry). Some e) c.entry.ensures
-    ∙ (ap (option_map (λ (s : Stamped). s.entry)) (ap option_copied (sym c.in-Some.is) ∙ c.peek.ensures)
-    ∙ (lookup_bare test c.self.inside.cache.entries ∙ ap (λ (m : LruCache HashedKey Entry). lookup test m.entries) c.self.view_is))
+    ap (option_map (λ (s : Stamped). s.entry)) (ap option_copied (sym c.in-Some.is) ∙ c.peek.ensures)
+    ∙ (lookup_bare test c.self.inside.cache.entries ∙ ap (λ (m : LruCache HashedKey Entry). lookup test m.entries) c.self.view_is)
 
 pub returns-in-Some-clause-ahead : goal.returns-in-Some-clause-ahead
 returns-in-Some-clause-ahead c =

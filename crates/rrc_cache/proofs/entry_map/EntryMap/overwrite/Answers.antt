@@ -1,8 +1,10 @@
 -- SPDX-License-Identifier: MIT
-use Rattle.std.proofs.Common.{IsSome, refl, ap, sym, subst, ◌∙◌}
+use Rattle.std.proofs.Common.{refl, ap, sym, ◌∙◌}
+use Rattle.std.specs.Option.{option_map}
 use Rattle.rrc_name.specs.Key.{KeyOf}
 use Rattle.rrc_history.specs.declared.snapshot.Entry.{Entry}
 use Rattle.rrc_history.specs.Past.{entry_at, entry_of}
+use Rattle.rrc_cache.specs.Counted.{counted_octets}
 use Rattle.rrc_cache.specs.Keyed.{name_hash}
 use Rattle.rrc_cache.specs.Pairs.{entries_in, EntriesOf}
 use Rattle.rrc_cache.proofs.Paired.{edited, found_in_pairs}
@@ -15,8 +17,8 @@ overwrite-requires-clause-hash c = c.requires.hash ∙ ap (λ (map : EntriesOf).
 pub overwrite-requires-clause-held : goal.overwrite-requires-clause-held
 overwrite-requires-clause-held c =
     let key : KeyOf = c.args.offer.now.key in
-    subst IsSome
-    (sym (found_in_pairs key c.self.inside.holdings.map.entries c.self.invariant.own ∙ ap (λ (map : EntriesOf). entry_at key map.entries) c.self.view_is)) c.requires.held
+    ap (option_map counted_octets)
+    (found_in_pairs key c.self.inside.holdings.map.entries c.self.invariant.own ∙ ap (λ (map : EntriesOf). entry_at key map.entries) c.self.view_is) ∙ c.requires.held
 
 pub invariant_of-self-2 : goal.invariant_of-self-2
 invariant_of-self-2 c =

@@ -1,7 +1,7 @@
 -- SPDX-License-Identifier: MIT
 use Rattle.rrc_name.specs.Key.{key_eq}
 use Rattle.rrc_name.specs.KeyRef.{key_of}
-use Rattle.rrc_cache.proofs.Counting.{without}
+use Rattle.rrc_cache.proofs.Counted.{without}
 use Rattle.rrc_cache.proofs.holdings.Holdings.pop.Goals as goal
 
 pub invariant_of-self : goal.invariant_of-self

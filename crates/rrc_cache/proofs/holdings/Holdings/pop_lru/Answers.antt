@@ -1,5 +1,5 @@
 -- SPDX-License-Identifier: MIT
-use Rattle.rrc_cache.proofs.Counting.{without_last}
+use Rattle.rrc_cache.proofs.Counted.{without_last}
 use Rattle.rrc_cache.proofs.holdings.Holdings.pop_lru.Goals as goal
 
 pub invariant_of-self : goal.invariant_of-self

@@ -1,7 +1,7 @@
 -- SPDX-License-Identifier: MIT
 use Rattle.rrc_name.specs.Key.{key_eq}
 use Rattle.rrc_name.specs.KeyRef.{key_of}
-use Rattle.rrc_cache.proofs.Counting.{with_promoted}
+use Rattle.rrc_cache.proofs.Counted.{with_promoted}
 use Rattle.rrc_cache.proofs.holdings.Holdings.promote.Goals as goal
 
 pub invariant_of-self : goal.invariant_of-self

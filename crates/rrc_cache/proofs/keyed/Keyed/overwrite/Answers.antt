@@ -1,9 +1,8 @@
 -- SPDX-License-Identifier: MIT
-use Rattle.std.proofs.Common.{◌≡◌, ℕ, Some, ap, sym, subst, ◌∙◌}
+use Rattle.std.proofs.Common.{◌≡◌, ℕ, ap, sym, subst, ◌∙◌}
 use Rattle.std.specs.Prelude.{IfSome, IsSome}
 use Rattle.std.specs.Map.{lookup}
-use Rattle.std.specs.Option.{option_map}
-use Rattle.std.proofs.lemmas.Result.{IfOk-weaker, on_ok_weaker}
+use Rattle.std.proofs.lemmas.Result.{on_ok_weaker}
 use Rattle.lru.specs.LruCache.{LruCache, lru_cache, put_entries}
 use Rattle.rrc_name.specs.Key.{KeyOf, key_eq}
 use Rattle.rrc_name.specs.KeyRef.{key_of}
@@ -11,7 +10,6 @@ use Rattle.rrc_history.specs.declared.snapshot.Entry.{Entry}
 use Rattle.rrc_history.specs.Fits.{OfferOf}
 use Rattle.rrc_history.specs.Past.{entry_of}
 use Rattle.rrc_cache.specs.declared.hashed.HashedKey.{HashedKey}
-use Rattle.rrc_cache.specs.Counted.{octets_change}
 use Rattle.rrc_cache.specs.Keyed.{AreHashed, KeyedOf, hashed_eq, name_hash}
 use Rattle.rrc_cache.proofs.Plain.{either, found_own, hashed_promoted, hashed_set, shown_lookup, shown_written}
 use Rattle.rrc_cache.proofs.keyed.Keyed.overwrite.Goals as goal
@@ -49,20 +47,6 @@ invariant_of-self c =
     (λ is. subst (λ (cache : LruCache HashedKey Entry). AreHashed c.self.inside.seeded cache.entries) (sym is)
     (hashed_promoted c.self.inside.seeded (hashed_eq wanted) _ (hashed_set c.self.inside.seeded (hashed_eq wanted) entry c.self.inside.cache.entries c.self.invariant)))
     (λ is. subst (λ (cache : LruCache HashedKey Entry). AreHashed c.self.inside.seeded cache.entries) (sym is) c.self.invariant)
-
-pub returns-clause-change : goal.returns-clause-change
-returns-clause-change c =
-    let key : KeyOf = key_of c.of-key.result in
-    let same : key ≡ c.args.offer.now.key = c.of-key.ensures.value ∙ ap (λ (offer : OfferOf). offer.key) c.offer.view_is in
-    let entry : Entry = entry_of c.args.offer.now c.args.number in
-    let wanted : HashedKey = record { hash = c.args.hash; key = key } in
-    let found : lookup (hashed_eq wanted) c.self.inside.cache.entries ≡ lookup (key_eq c.args.offer.now.key) c.args.self.now.map.entries =
-    shown_lookup c.self.inside.seeded c.self.inside.cache c.args.self.now c.self.view_is c.self.invariant c.args.hash key
-    (its c.args.self.now c.args.hash key c.args.offer.now.key same c.requires.hash)
-    ∙ ap (λ k. lookup (key_eq k) c.args.self.now.map.entries) same in
-    IfOk-weaker c.overwrite.result (λ change. option_map (octets_change entry) (lookup (hashed_eq wanted) c.self.inside.cache.entries) ≡ Some change)
-    (λ change. option_map (octets_change entry) (lookup (key_eq c.args.offer.now.key) c.args.self.now.map.entries) ≡ Some change)
-    (λ change is. ap (option_map (octets_change entry)) (sym found) ∙ is) c.overwrite.ensures.change
 
 pub returns-clause-ok : goal.returns-clause-ok
 returns-clause-ok c =

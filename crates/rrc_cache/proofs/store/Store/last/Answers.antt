@@ -9,7 +9,7 @@ use Rattle.rrc_cache.proofs.store.Store.last.Goals as goal
 
 pub returns-in-Some : goal.returns-in-Some
 returns-in-Some c =
-    ap Option.Some (c.of.ensures ∙ c.entry.ensures)
+    ap Option.Some c.of.ensures
     ∙ (ap (λ found. option_map entry_in (option_map deref_pair found)) (sym c.in-Some.is)
     ∙ (ap (option_map entry_in) c.peek_lru.ensures
     ∙ (last_hashed c.held.result.now.entries

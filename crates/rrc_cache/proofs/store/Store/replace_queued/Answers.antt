@@ -7,6 +7,7 @@ use Rattle.rrc_history.specs.Fits.{OfferOf}
 use Rattle.rrc_history.specs.Past.{entry_at, entry_of}
 use Rattle.rrc_cache.specs.declared.expiry_queue.Expiry.{Expiry}
 use Rattle.rrc_cache.specs.declared.replaced.Replaced.{Replaced}
+use Rattle.rrc_cache.specs.Counted.{counted_octets}
 use Rattle.rrc_cache.specs.ExpiryQueue.{AreQueued, is_expired_by, replaced_of}
 use Rattle.rrc_cache.specs.FullExpiry.{full_expiry, full_expiry_of}
 use Rattle.rrc_cache.specs.Keyed.{name_hash}
@@ -19,6 +20,13 @@ use Rattle.rrc_cache.proofs.store.Store.replace_queued.Goals as goal
 
 -- what is told of the entry that is replaced
 module _ (stale : ℕ) (found : Option Entry) (replaced : Replaced) (told : option_map (replaced_of stale) found ≡ Some replaced) where
+  its_octets : option_map counted_octets found ≡ Some replaced.octets
+  its_octets = by found told
+    where
+      by : (f : Option Entry) → option_map (replaced_of stale) f ≡ Some replaced → option_map counted_octets f ≡ Some replaced.octets
+      by None is = absurd cc
+      by (Some entry) is = let same : replaced_of stale entry ≡ replaced = cc in ap (λ (r : Replaced). Some r.octets) same
+
   its_number : option_map (λ entry. entry.number) found ≡ Some replaced.number
   its_number = by found told
     where
@@ -50,6 +58,12 @@ overwrite-requires-clause-number c =
     let key : KeyOf = c.args.offer.now.key in
     let told = subst (λ (store : StoreOf). option_map (replaced_of store.stale) (entry_at key store.entries) ≡ Some c.args.replaced) (sym c.self.view_is) c.requires.held in
     its_number c.self.inside.stale (entry_at key c.self.inside.filtered.entries) c.args.replaced told
+
+pub overwrite-requires-clause-octets : goal.overwrite-requires-clause-octets
+overwrite-requires-clause-octets c =
+    let key : KeyOf = c.args.offer.now.key in
+    let told = subst (λ (store : StoreOf). option_map (replaced_of store.stale) (entry_at key store.entries) ≡ Some c.args.replaced) (sym c.self.view_is) c.requires.held in
+    its_octets c.self.inside.stale (entry_at key c.self.inside.filtered.entries) c.args.replaced told
 
 pub invariant_of-self-in-Some : goal.invariant_of-self-in-Some
 invariant_of-self-in-Some c =

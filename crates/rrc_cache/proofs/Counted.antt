@@ -8,7 +8,7 @@ use Rattle.lru.specs.LruCache as lru
 use Rattle.rrc_name.specs.Key.{KeyOf, key_eq}
 use Rattle.rrc_history.specs.declared.snapshot.Entry.{Entry}
 use Rattle.rrc_history.specs.Octets.{entry_octets, octets_of}
-use Rattle.rrc_cache.specs.Counted.{held_octets, octets_change}
+use Rattle.rrc_cache.specs.Counted.{counted_octets, held_octets}
 use Rattle.rrc_cache.specs.Pairs.{entries_in}
 use Rattle.rrc_cache.proofs.Paired.{all_taken, entry_of_pair}
 
@@ -82,11 +82,6 @@ put_on : (octets came counted now after put left : ℕ) → octets ≡ now % 2 ^
     → ((octets + came) % 2 ^ 64 + (2 ^ 64 - counted)) % 2 ^ 64 ≡ after % 2 ^ 64
 put_on octets came counted now after put left is put_is left_is all = omega (arith, is, put_is, left_is, all)
 
--- what is written over an entry changes the sum as it changes the entry's own octets
-changed : (octets change now after put left : ℕ) → octets ≡ now % 2 ^ 64 → change ≡ (put % 2 ^ 64 + (2 ^ 64 - left % 2 ^ 64)) % 2 ^ 64 → after + left ≡ put + now
-    → (octets + change) % 2 ^ 64 ≡ after % 2 ^ 64
-changed octets change now after put left is told all = omega (arith, is, told, all)
-
 module _ (before after : lru.LruCache KeyOf Entry) (octets : ℕ) (is : octets ≡ octets_in before.entries % 2 ^ 64) where
   pub without : (test : KeyOf → Bool) (gone : Option Entry) (counted : ℕ) → gone ≡ lookup test before.entries
       → after ≡ lru.lru_cache (remove_entry test before.entries) before.cap → counted ≡ held_octets gone % 2 ^ 64
@@ -123,23 +118,23 @@ module _ (before after : lru.LruCache KeyOf Entry) (octets : ℕ) (is : octets �
       ∙ (ap (λ held. octets_in (lru.put_entries key_eq before key entry) + held_octets held) found ∙ put_octets key entry before room) in
       put_on octets came counted (octets_in before.entries) (octets_in after.entries) (entry_octets entry) (held_octets old) is put_is told all
 
-  pub with_written : (key : KeyOf) (entry : Entry) (change : ℕ) → option_map (octets_change entry) (lookup (key_eq key) before.entries) ≡ Some change
-      → after ≡ lru.lru_cache (lru.put_entries key_eq before key entry) before.cap
-      → (octets + change) % 2 ^ 64 ≡ octets_in after.entries % 2 ^ 64
-  with_written key entry change told left = by (lookup_entry (key_eq key) before.entries) refl
+  pub with_written : (key : KeyOf) (entry : Entry) (came replaced : ℕ) → option_map counted_octets (lookup (key_eq key) before.entries) ≡ Some replaced
+      → after ≡ lru.lru_cache (lru.put_entries key_eq before key entry) before.cap → came ≡ entry_octets entry % 2 ^ 64
+      → ((octets + came) % 2 ^ 64 + (2 ^ 64 - replaced)) % 2 ^ 64 ≡ octets_in after.entries % 2 ^ 64
+  with_written key entry came replaced told left put_is = by (lookup_entry (key_eq key) before.entries) refl
     where
       by : (found : Option (KeyOf × Entry)) → lookup_entry (key_eq key) before.entries ≡ found
-          → (octets + change) % 2 ^ 64 ≡ octets_in after.entries % 2 ^ 64
+          → ((octets + came) % 2 ^ 64 + (2 ^ 64 - replaced)) % 2 ^ 64 ≡ octets_in after.entries % 2 ^ 64
       by None at =
           let none : lookup (key_eq key) before.entries ≡ None = entry_of_pair (key_eq key) before.entries ∙ ap (option_map (λ p. p.1)) at in
-          let bad : None ≡ Some change = sym (ap (option_map (octets_change entry)) none) ∙ told in absurd cc
+          let bad : None ≡ Some replaced = sym (ap (option_map counted_octets) none) ∙ told in absurd cc
       by (Some pair) at =
           let some : lookup (key_eq key) before.entries ≡ Some pair.1 = entry_of_pair (key_eq key) before.entries ∙ ap (option_map (λ p. p.1)) at in
-          let same : Some (octets_change entry pair.1) ≡ Some change = sym (ap (option_map (octets_change entry)) some) ∙ told in
-          let its : octets_change entry pair.1 ≡ change = cc in
+          let same : Some (counted_octets pair.1) ≡ Some replaced = sym (ap (option_map counted_octets) some) ∙ told in
+          let its : counted_octets pair.1 ≡ replaced = cc in
           let rest : octets_in (remove_entry (key_eq key) before.entries) + entry_octets pair.1 ≡ octets_in before.entries =
           ap (λ found. octets_in (remove_entry (key_eq key) before.entries) + held_octets found) (sym some) ∙ removed_octets (key_eq key) before.entries in
           let now : octets_in after.entries ≡ entry_octets entry + octets_in (remove_entry (key_eq key) before.entries) =
           ap (λ (map : lru.LruCache KeyOf Entry). octets_in map.entries) left
           ∙ ap (λ (found : Option (KeyOf × Entry)). octets_in (option_map_or (λ p. (p.0, entry) ∷ remove_entry (key_eq key) before.entries) found ((key, entry) ∷ take (before.cap - 1) before.entries))) at in
-          changed octets change (octets_in before.entries) (octets_in after.entries) (entry_octets entry) (entry_octets pair.1) is (sym its) (omega (arith, rest, now))
+          put_on octets came replaced (octets_in before.entries) (octets_in after.entries) (entry_octets entry) (entry_octets pair.1) is put_is (sym its) (omega (arith, rest, now))
