@@ -23,7 +23,7 @@ static const char USAGE[] =
     "  --listen ADDRESS@PORT   listens there too, at 8 addresses at most\n"
     "  --octets COUNT          the most memory for what is cached, from 1M on (64M): K, M\n"
     "                          and G stand for KiB, MiB and GiB. The process takes up to\n"
-    "                          half as much more, and a fourth for what waits for answers\n"
+    "                          half as much more, and a quarter for what waits for answers\n"
     "  -t, --threads COUNT     so many threads, 1 to 64 (one for each processor)\n"
     "  -l, --log SECONDS       a line on standard error each so many seconds (60)\n"
     "  -q, --quiet             no such line\n"
