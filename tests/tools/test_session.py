@@ -77,9 +77,10 @@ def test_what_the_document_says_of_a_bound_is_the_bound():
     from tools.captures import traffic
     with patch("sys.argv", ["from-capture"]):
         command = runpy.run_path(str(TOP / "bin" / "from-capture"))
-    for number, text in ((traffic.SERVERS_MOST, "Only {:,} names of an NS RRset"),
+    for number, text in ((traffic.SERVERS_MOST, "At most {:,} names of an NS RRset"),
                          (traffic.GUESSED_FROM, "from the first {:,} messages"),
                          (command["LINES_MOST"], "A trace has at most {:,} lines"),
                          (traffic.TWICE_MICROSECONDS // 1_000, "seen twice within {} milliseconds"),
-                         (traffic.REMEMBERED // 1_000_000, "failed within the {} seconds")):
+                         (traffic.REMEMBERED // 1_000_000,
+                          "failed within the preceding {} seconds")):
         assert text.format(number) in " ".join(DOCUMENT.split()), text
