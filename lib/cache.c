@@ -137,7 +137,7 @@ static enum rrcache_status make_cache(struct rrcache *cache, const struct rrcach
     cache->block = calloc(1, LINE + parts + places + memos + owners);
     if (cache->block == NULL)
         return RRCACHE_MEMORY;
-    cache->part = (void *)(((uintptr_t)cache->block + LINE - 1) / LINE * LINE);
+    cache->part = (void *)((uint8_t *)cache->block + (-(uintptr_t)cache->block & (LINE - 1)));
     cache->places = (struct place *)(cache->part + config->shelves);
     place_memos(cache, cache->places + place_count(config));
     status = make_parts(cache, config);

@@ -179,3 +179,14 @@ def test_c_is_formatted():
         pytest.skip("there is no clang-format of version 14 here (bin/setup installs it)")
     status, text = said("bin/format", "--check")
     assert status == 0, text
+
+
+@pytest.mark.parametrize("source", [
+    pytest.param(it, id=str(it.relative_to(TOP)))
+    for folder in ("lib", "examples") for it in sorted((TOP / folder).rglob("*.c"))])
+def test_c_passes_clang_tidy(source):
+    if not shutil.which("clang-tidy"):
+        pytest.skip("there is no clang-tidy here (bin/setup installs it)")
+    status, text = said("clang-tidy", "--quiet", source, "--", "-std=gnu11", "-D_GNU_SOURCE=",
+                        "-Iinclude", "-Ilib")
+    assert status == 0, text
