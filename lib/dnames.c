@@ -57,8 +57,9 @@ enum rrcache_status put_dname(const struct rrcache *cache, struct dname_search *
         make_target(cache, answer->buffer + answer->size - alias->data_size, &target);
     size_t left = status == RRCACHE_DONE ? common_labels(&answer->end, &target, ends) : 0;
     search->takes_stale = alias->kind == RRCACHE_STALE;
-    for (; left > 0 && search->sought < MOST_SOUGHT; search->sought++) {
+    while (left > 0 && search->sought < MOST_SOUGHT) {
         size_t front = ends[--left];
+        search->sought++;
         rrcache_make_name(&owner, answer->end.octets + front, answer->end.size - front,
                           &cache->parts);
         status = search->find(search->from, &owner, &told, octets, sizeof octets);

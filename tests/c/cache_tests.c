@@ -2060,6 +2060,24 @@ static void test_room_for_the_longest_chain(void)
     rrcache_close(cache);
 }
 
+/* Of 17 aliases, the last of which is one too many, each was made from a DNAME record. No more than
+   16 owners of such records are tried, whether they have one or not. */
+static void test_dnames_of_an_endless_chain(void)
+{
+    struct rrcache *cache = open_small();
+    struct rrcache_answer answer;
+    for (int i = 0; i <= RRCACHE_MOST_ALIASES; i++)
+        EXPECT(keep_name(cache, far_name("", i), DNAME, far_name("", i + 1), 300) == RRCACHE_KEPT
+               && keep_alias(cache, far_name("p.", i), far_name("p.", i + 1), 300) == RRCACHE_KEPT);
+    EXPECT(look_with_dnames(cache, far_name("p.", 0), A, FIRST, sizeof space, &answer)
+           == RRCACHE_DONE);
+    EXPECT(answer.is_endless && answer.aliases == RRCACHE_MOST_ALIASES
+           && count_of(&answer) == 2 * RRCACHE_MOST_ALIASES + 1
+           && nth(&answer, 2 * RRCACHE_MOST_ALIASES).set.rtype == CNAME
+           && stats_of(cache).hits == 2 * RRCACHE_MOST_ALIASES + 1);
+    rrcache_close(cache);
+}
+
 /* Whether each RRset of an answer has all rdata that `write_many` wrote. */
 static bool are_whole(const struct rrcache_answer *answer)
 {
@@ -3840,6 +3858,7 @@ static void (*const TESTS[])(void) = {
     test_store_of_any_type,
     test_store_with_small_buffers,
     test_room_for_the_longest_chain,
+    test_dnames_of_an_endless_chain,
     test_room_of_aliases_of_many_records,
     test_room_of_stored_rrsets,
     test_room_of_any_type,
