@@ -411,6 +411,7 @@ static enum rrcache_status forget_hidden(struct rrcache *cache, const struct rrc
     if (status == RRCACHE_DONE && stored.set.kind != 0
         && stored.set.number < stored.nxdomain.number)
         status = clear(part, request, RRCACHE_NODATA, moment_of(request->moment));
+    settle(cache, part, moment_of(request->moment));
     unlock_part(cache, part);
     return status;
 }

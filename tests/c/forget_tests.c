@@ -1,9 +1,9 @@
 /* SPDX-License-Identifier: MIT */
-/* Tests of `rrcache_forget` with type ANY: between its steps other threads look up. What was stored
-   before an NXDOMAIN is then never in an answer (RFC 2308 section 5).
+/* Tests of `rrcache_forget` with type ANY: between its steps other threads look up and store. What
+   was stored before an NXDOMAIN is then never in an answer (RFC 2308 section 5).
 
    The program is linked with --wrap for pthread_mutex_unlock. A shelf changes only while its writer
-   holds that lock, so a look-up behind each release finds all that a thread can find in between.
+   holds that lock, so a call behind each release finds all that a thread can find in between.
    The last line is 'N passed, M failed'. */
 #include "rrcache.h"
 
@@ -13,46 +13,59 @@
 
 #include "expect.h"
 
-enum { A = 1, TXT = 16, AAAA = 28, ANY = 255, LAST_TYPE = 65535 };
+enum { A = 1, CNAME = 5, TXT = 16, AAAA = 28, ANY = 255, LAST_TYPE = 65535 };
 enum { FIRST = 1000, NOW = 1100, MAX_STALE = 3600 };
 static const uint8_t NAME[] = "\3www\7example", ZONE[] = "\7example";
-static const uint8_t DATUM[] = {0, 4, 192, 0, 2, 1};
+static const uint8_t ALIAS[] = "\5alias\7example", OTHER[] = "\5other\7example";
+static const uint8_t DATUM[] = {0, 4, 192, 0, 2, 1}, ROOT[] = {0, 1, 0};
 /* An SOA record of two roots and five numbers, of which MINIMUM is 60. */
 static const uint8_t SOA[] = {0, 0, 0, 0, 0, 1, 0, 0, 0, 2, 0, 0, 0, 3, 0, 0, 0, 4, 0, 0, 0, 60};
 
-/* ---- Look-ups between the steps. */
+/* ---- Calls between the steps. */
 
 /* The types that are looked up: A is fresh, TXT is stale, AAAA has NODATA, and the last type is
    fresh. */
 static const uint16_t TYPES[] = {A, TXT, AAAA, LAST_TYPE};
 enum { TYPES_COUNT = sizeof TYPES / sizeof *TYPES };
 
-/* The cache in which a look-up follows each release of a lock, or null, and how often a look-up
-   returned each kind. */
+/* The cache in which calls follow each release of a lock, or null, what they are, and how often a
+   look-up among them returned each kind. */
 static struct rrcache *watched;
+static void (*between)(struct rrcache *cache);
 static unsigned told[RRCACHE_FAILED + 1];
 
-static uint32_t kind_of(struct rrcache *cache, uint16_t rtype)
+static struct rrcache_answer look(struct rrcache *cache, const uint8_t *name, size_t size,
+                                  uint16_t rtype)
 {
     static uint8_t space[RRCACHE_ANSWER_OCTETS];
     struct rrcache_answer answer = {.buffer = space, .room = sizeof space};
-    const struct rrcache_request request = {.name = NAME,
-                                            .name_size = sizeof NAME,
+    const struct rrcache_request request = {.name = name,
+                                            .name_size = size,
                                             .rtype = rtype,
                                             .rclass = RRCACHE_IN,
                                             .moment = NOW,
                                             .mode = RRCACHE_STALE_NOW};
     EXPECT(rrcache_lookup(cache, &request, &answer) == RRCACHE_DONE);
-    return answer.kind;
+    return answer;
 }
 
-/* Looks up each type, without a look-up after those that it makes itself. */
-static void look_between(void)
+static uint32_t kind_of(struct rrcache *cache, uint16_t rtype)
+{
+    return look(cache, NAME, sizeof NAME, rtype).kind;
+}
+
+static void look_up_types(struct rrcache *cache)
+{
+    for (int i = 0; i < TYPES_COUNT; i++)
+        told[kind_of(cache, TYPES[i])]++;
+}
+
+/* Makes the calls, without any after those that they make themselves. */
+static void call_between(void)
 {
     struct rrcache *cache = watched;
     watched = NULL;
-    for (int i = 0; i < TYPES_COUNT; i++)
-        told[kind_of(cache, TYPES[i])]++;
+    between(cache);
     watched = cache;
 }
 
@@ -63,25 +76,57 @@ int __wrap_pthread_mutex_unlock(pthread_mutex_t *lock)
 {
     int status = __real_pthread_mutex_unlock(lock);
     if (watched != NULL)
-        look_between();
+        call_between();
     return status;
 }
 
 /* ---- What is stored of the name. */
 
+static void keep_set(struct rrcache *cache, const struct rrcache_set *set)
+{
+    uint32_t outcome = 0;
+    EXPECT(rrcache_store_set(cache, set, &outcome) == RRCACHE_DONE && outcome == RRCACHE_KEPT);
+}
+
 static void keep(struct rrcache *cache, uint16_t rtype, uint32_t ttl, uint64_t moment)
 {
-    const struct rrcache_set set = {.owner = NAME,
-                                    .owner_size = sizeof NAME,
-                                    .rtype = rtype,
-                                    .rclass = RRCACHE_IN,
-                                    .trust = RRCACHE_AUTHORITATIVE_ANSWER,
-                                    .ttl = ttl,
-                                    .data = DATUM,
-                                    .data_size = sizeof DATUM,
-                                    .moment = moment};
-    uint32_t outcome = 0;
-    EXPECT(rrcache_store_set(cache, &set, &outcome) == RRCACHE_DONE && outcome == RRCACHE_KEPT);
+    keep_set(cache, &(struct rrcache_set){.owner = NAME,
+                                          .owner_size = sizeof NAME,
+                                          .rtype = rtype,
+                                          .rclass = RRCACHE_IN,
+                                          .trust = RRCACHE_AUTHORITATIVE_ANSWER,
+                                          .ttl = ttl,
+                                          .data = DATUM,
+                                          .data_size = sizeof DATUM,
+                                          .moment = moment});
+}
+
+static void keep_alias(struct rrcache *cache)
+{
+    keep_set(cache, &(struct rrcache_set){.owner = ALIAS,
+                                          .owner_size = sizeof ALIAS,
+                                          .rtype = CNAME,
+                                          .rclass = RRCACHE_IN,
+                                          .trust = RRCACHE_AUTHORITATIVE_ANSWER,
+                                          .ttl = 3600,
+                                          .data = ROOT,
+                                          .data_size = sizeof ROOT,
+                                          .moment = FIRST});
+}
+
+/* Stores an address under another name, behind the first release of a lock alone. */
+static void keep_other(struct rrcache *cache)
+{
+    keep_set(cache, &(struct rrcache_set){.owner = OTHER,
+                                          .owner_size = sizeof OTHER,
+                                          .rtype = A,
+                                          .rclass = RRCACHE_IN,
+                                          .trust = RRCACHE_AUTHORITATIVE_ANSWER,
+                                          .ttl = 3600,
+                                          .data = DATUM,
+                                          .data_size = sizeof DATUM,
+                                          .moment = FIRST});
+    between = look_up_types;
 }
 
 static void deny(struct rrcache *cache, uint16_t rtype, enum rrcache_kind kind, uint32_t ttl,
@@ -112,28 +157,37 @@ static void keep_types(struct rrcache *cache)
     keep(cache, LAST_TYPE, 3600, FIRST);
 }
 
-static struct rrcache *open_cache(void)
+static struct rrcache *open_cache(uint64_t most_keys)
 {
     const struct rrcache_config config = {
-        .shelves = 1, .readers = 2, .keys = 64, .max_stale = MAX_STALE, .seed = {1}};
+        .shelves = 1, .readers = 2, .keys = most_keys, .max_stale = MAX_STALE, .seed = {1}};
     struct rrcache *cache = NULL;
     EXPECT(rrcache_open(&cache, &config) == RRCACHE_DONE && cache != NULL);
     return cache;
 }
 
-/* Forgets the name while look-ups are made in between. */
-static void forget_watched(struct rrcache *cache)
+/* Forgets the name while calls are made in between, and returns the statistics then. */
+static struct rrcache_stats forget_among(struct rrcache *cache,
+                                         void (*calls)(struct rrcache *cache))
 {
     const struct rrcache_request request = {
         .name = NAME, .name_size = sizeof NAME, .rtype = ANY, .rclass = RRCACHE_IN, .moment = NOW};
     struct rrcache_stats stats = {0};
     memset(told, 0, sizeof told);
+    between = calls;
     watched = cache;
     EXPECT(rrcache_forget(cache, &request) == RRCACHE_DONE);
     watched = NULL;
-    EXPECT(rrcache_stats(cache, &stats) == RRCACHE_DONE && stats.keys == 0);
+    EXPECT(rrcache_stats(cache, &stats) == RRCACHE_DONE);
     for (int i = 0; i < TYPES_COUNT; i++)
         EXPECT(kind_of(cache, TYPES[i]) == RRCACHE_MISS);
+    return stats;
+}
+
+/* Forgets the name, the only one, while look-ups are made in between. */
+static void forget_watched(struct rrcache *cache)
+{
+    EXPECT(forget_among(cache, look_up_types).keys == 0);
 }
 
 /* ---- Tests. */
@@ -142,7 +196,7 @@ static void forget_watched(struct rrcache *cache)
    look-ups in between do find what is held. */
 static void test_that_look_ups_come_between(void)
 {
-    struct rrcache *cache = open_cache();
+    struct rrcache *cache = open_cache(64);
     keep_types(cache);
     EXPECT(kind_of(cache, A) == RRCACHE_FRESH && kind_of(cache, TXT) == RRCACHE_STALE
            && kind_of(cache, AAAA) == RRCACHE_NODATA && kind_of(cache, LAST_TYPE) == RRCACHE_FRESH);
@@ -156,7 +210,7 @@ static void test_that_look_ups_come_between(void)
    the NXDOMAIN or a miss. */
 static void test_that_nothing_older_comes_back(void)
 {
-    struct rrcache *cache = open_cache();
+    struct rrcache *cache = open_cache(64);
     keep_types(cache);
     deny(cache, A, RRCACHE_NXDOMAIN, 3600, NOW);
     for (int i = 0; i < TYPES_COUNT; i++)
@@ -172,7 +226,7 @@ static void test_that_nothing_older_comes_back(void)
 /* An NXDOMAIN that has expired hides them too, as long as it is held: each look-up is a miss. */
 static void test_that_an_expired_nxdomain_hides_until_it_goes(void)
 {
-    struct rrcache *cache = open_cache();
+    struct rrcache *cache = open_cache(64);
     keep_types(cache);
     deny(cache, A, RRCACHE_NXDOMAIN, 60, FIRST);
     for (int i = 0; i < TYPES_COUNT; i++)
@@ -187,7 +241,7 @@ static void test_that_an_expired_nxdomain_hides_until_it_goes(void)
    themselves. What is older is in none. */
 static void test_that_newer_data_stay_until_they_go(void)
 {
-    struct rrcache *cache = open_cache();
+    struct rrcache *cache = open_cache(64);
     keep(cache, TXT, 60, FIRST);
     deny(cache, A, RRCACHE_NXDOMAIN, 3600, NOW);
     keep(cache, A, 3600, NOW);
@@ -198,11 +252,29 @@ static void test_that_newer_data_stay_until_they_go(void)
     rrcache_close(cache);
 }
 
+/* What is forgotten makes room at once. So a key that is stored between two steps, in a shelf that
+   was full, evicts nothing. If it counted as an eviction, an alias that is held would be taken for
+   evicted (`renew_owners`), and look-ups would not find it. */
+static void test_that_there_is_room_between(void)
+{
+    struct rrcache *cache = open_cache(4);
+    keep_alias(cache);
+    keep(cache, A, 3600, FIRST);
+    keep(cache, TXT, 3600, FIRST);
+    deny(cache, A, RRCACHE_NXDOMAIN, 3600, NOW);
+    struct rrcache_stats stats = forget_among(cache, keep_other);
+    EXPECT(stats.keys == 2 && stats.evicted == 0);
+    EXPECT(look(cache, ALIAS, sizeof ALIAS, A).aliases == 1);
+    EXPECT(look(cache, OTHER, sizeof OTHER, A).kind == RRCACHE_FRESH);
+    rrcache_close(cache);
+}
+
 int main(void)
 {
     test_that_look_ups_come_between();
     test_that_nothing_older_comes_back();
     test_that_an_expired_nxdomain_hides_until_it_goes();
     test_that_newer_data_stay_until_they_go();
+    test_that_there_is_room_between();
     return told_status();
 }
