@@ -61,8 +61,7 @@ static enum rrcache_status find_said(struct said *said, const struct rrcache_nam
     } while (!is_same_name(&name, wanted) || !is_of(told, rtype));
     status = rrcache_tell_offer(said->offers, *index - 1, &name, told, buffer, room);
     if (said->is_raised)
-        told->entry.trust =
-            told->kind == RRCACHE_FRESH ? RRCACHE_NON_AUTHORITATIVE_ANSWER : RRCACHE_ADDITIONAL;
+        told->entry.trust = RRCACHE_NON_AUTHORITATIVE_ANSWER;
     return status;
 }
 

@@ -1675,6 +1675,34 @@ static void test_store_of_a_long_chain(void)
     rrcache_close(cache);
 }
 
+/* A denial behind more aliases than are stored has the rank that it has in a shelf, also where the
+   response was read as if AA were set. */
+static void test_rank_of_a_denial_behind_a_long_chain(void)
+{
+    static struct message message;
+    enum { ALIASES = 14 };
+    struct rrcache *cache = open_small();
+    struct wire wire = wire_of(link_of(0));
+    struct rrcache_query query = query_of(&wire, A);
+    struct rrcache_report report;
+    begin(&message, 0, link_of(0), A);
+    for (int i = 0; i < ALIASES; i++)
+        add_alias(&message, link_of(i), link_of(i + 1), 60);
+    add_soa(&message, "example", 300);
+    struct rrcache_response response = response_of(&message);
+    for (int lowest_ttl = 0; lowest_ttl < 2; lowest_ttl++) {
+        struct rrcache_answer answer = blank();
+        response.lowest_ttl = lowest_ttl;
+        EXPECT(rrcache_store(cache, &query, &response, &report, &answer) == RRCACHE_DONE
+               && answer.kind == RRCACHE_NODATA && answer.aliases == ALIASES);
+        EXPECT(nth(&answer, ALIASES).kind == RRCACHE_NODATA
+               && nth(&answer, ALIASES).trust == RRCACHE_NON_AUTHORITATIVE_ANSWER);
+    }
+    struct rrcache_answer held = look(cache, link_of(ALIASES), A, FIRST);
+    EXPECT(held.kind == RRCACHE_NODATA && nth(&held, 0).trust == RRCACHE_NON_AUTHORITATIVE_ANSWER);
+    rrcache_close(cache);
+}
+
 /* 1,025 addresses of 16 octets are more than the 16,384 octets that are kept of an RRset. With
    `lowest_ttl` they are told with the lowest of their TTLs, and else not, as AA is clear. */
 static void test_store_of_a_large_rrset(void)
@@ -3845,6 +3873,7 @@ static void (*const TESTS[])(void) = {
     test_rooms_of_dnames,
     test_dnames_of_responses,
     test_store_of_a_long_chain,
+    test_rank_of_a_denial_behind_a_long_chain,
     test_store_of_a_large_rrset,
     test_types_that_are_not_kept,
     test_types_that_are_not_kept_behind_an_alias,
