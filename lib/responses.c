@@ -296,7 +296,7 @@ static enum rrcache_status put_rest(const struct said *said, const struct rrcach
 /* ---- The whole answer. */
 
 /* What is relevant may be less than what a response says, as of a long chain of aliases or of a
-   large RRset: where that has no answer, all that it says may. */
+   large RRset: where that has no answer, all that it says may. An answer for ANY has all of it. */
 enum rrcache_status tell_answer(const struct rrcache *cache, struct rrcache_offers *offers,
                                 const struct rrcache_summary *summary,
                                 const struct rrcache_query *query,
@@ -308,9 +308,10 @@ enum rrcache_status tell_answer(const struct rrcache *cache, struct rrcache_offe
     bool has_answer = summary->kind != RRCACHE_RESPONSE_REFERRAL
                       && summary->kind != RRCACHE_RESPONSE_FAILURE && !summary->tc;
     enum rrcache_status status = answer_from(&said, query, answer);
-    if (status == RRCACHE_DONE && has_answer && answer->kind == RRCACHE_MISS && !answer->is_endless)
-        status = answer_from_whole(&said, query, response, answer);
     bool may_have_more = answer->kind == RRCACHE_MISS || query->rtype == ANY;
+    if (status == RRCACHE_DONE && has_answer && may_have_more && !answer->is_endless)
+        status = answer_from_whole(&said, query, response, answer);
+    may_have_more = answer->kind == RRCACHE_MISS || query->rtype == ANY;
     if (status == RRCACHE_DONE && has_answer && may_have_more && !answer->is_endless
         && is_unkept(query->rtype))
         status = put_rest(&said, query, response, answer);

@@ -1960,6 +1960,32 @@ static void test_store_of_any_type(void)
     rrcache_close(cache);
 }
 
+/* It has those that are not relevant too: an RRset of more than 16,384 octets, one of addresses
+   that are too long, and the DS RRset of the zone itself. */
+static void test_store_of_any_type_and_size(void)
+{
+    static struct message message;
+    static uint8_t text[20000];
+    enum { DS = 43, LONG = 5 };
+    struct rrcache *cache = open_small();
+    struct rrcache_answer answer;
+    begin(&message, AA, "example", ANY);
+    add(&message, RRCACHE_ANSWER_SECTION, "example", TXT, 300, OF(text));
+    add(&message, RRCACHE_ANSWER_SECTION, "example", NS, 200, text, 1);
+    add(&message, RRCACHE_ANSWER_SECTION, "example", A, 100, text, LONG);
+    add(&message, RRCACHE_ANSWER_SECTION, "example", DS, 50, text, LONG);
+    struct rrcache_report report = store(cache, &message, "example", ANY, &answer);
+    struct rrcache_rrset first = nth(&answer, 0), second = nth(&answer, 1), third = nth(&answer, 2);
+    struct rrcache_rrset fourth = nth(&answer, 3);
+    EXPECT(report.counts.kept == 1 && keys(cache) == 1 && answer.kind == RRCACHE_FRESH
+           && count_of(&answer) == 4 && is_rrset(&first, "example", TXT, 300, RRCACHE_FRESH)
+           && first.set.data_size == 2 + sizeof text
+           && is_rrset(&second, "example", NS, 200, RRCACHE_FRESH)
+           && is_rrset(&third, "example", A, 100, RRCACHE_FRESH)
+           && is_rrset(&fourth, "example", DS, 50, RRCACHE_FRESH));
+    rrcache_close(cache);
+}
+
 /* Where the answer has no room the response is stored and reported all the same. */
 static void test_store_with_small_buffers(void)
 {
@@ -3885,6 +3911,7 @@ static void (*const TESTS[])(void) = {
     test_store_failure_of_a_server,
     test_store_truncated,
     test_store_of_any_type,
+    test_store_of_any_type_and_size,
     test_store_with_small_buffers,
     test_room_for_the_longest_chain,
     test_dnames_of_an_endless_chain,
