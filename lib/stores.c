@@ -278,7 +278,8 @@ enum rrcache_status rrcache_store_negative(struct rrcache *cache,
 {
     struct rrcache_name name;
     if (cache == NULL || negative == NULL || outcome == NULL
-        || !rrcache_is_there(negative->soa_owner, negative->soa_owner_size))
+        || !rrcache_is_there(negative->soa_owner, negative->soa_owner_size)
+        || !rrcache_is_there(negative->soa, negative->soa_size))
         return RRCACHE_NULL;
     struct rrcache_negative offered = *negative;
     offered.moment = moment_of(negative->moment);

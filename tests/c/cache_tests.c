@@ -2703,6 +2703,11 @@ static void test_own_denials_refused(void)
     REFUSED(ttl, UINT32_C(1) << 31, RRCACHE_WRONG_BODY);
     REFUSED(moment, LATE, RRCACHE_MOMENT_TOO_LARGE);
 #undef REFUSED
+    /* A null pointer is found first, however many octets are said to be there. */
+    negative = good;
+    negative.soa = NULL;
+    negative.soa_size = SIZE_MAX / 2;
+    EXPECT(rrcache_store_negative(cache, &negative, &outcome) == RRCACHE_NULL);
     rrcache_close(cache);
 }
 
