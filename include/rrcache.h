@@ -361,11 +361,11 @@ RRCACHE_API enum rrcache_status rrcache_forget(struct rrcache *cache,
    expired if it can no longer answer at `moment`, not even with stale data. `most` is at least 1.
    The call writes to `swept` how many keys it removed, and whether no fully expired key is left. A
    sweep continues in the shelf in which the last sweep ended. The call releases the locks of a
-   shelf after every 64 keys, but keys that expire in the same second are removed together, and the
-   first sweep of a shelf visits all its keys. A caller need not sweep, because eviction makes room.
-   A sweep at the timestamp 2^40 removes all keys whose data were stored before 2^40 - 2^32, so a
-   caller with a clock such as CLOCK_BOOTTIME can empty the cache. Later calls may have smaller
-   timestamps.
+   shelf after every 64 keys, and lets threads that wait for them come first. But keys that expire
+   in the same second are removed together, and the first sweep of a shelf visits all its keys. A
+   caller need not sweep, because eviction makes room. A sweep at the timestamp 2^40 removes all
+   keys whose data were stored before 2^40 - 2^32, so a caller with a clock such as CLOCK_BOOTTIME
+   can empty the cache. Later calls may have smaller timestamps.
 
    Returns RRCACHE_BAD_RULES if `most` is 0. Also returns RRCACHE_MOMENT_TOO_LARGE,
    RRCACHE_HISTORY_FULL and RRCACHE_MEMORY, and then `swept` has the number of keys that were

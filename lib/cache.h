@@ -49,6 +49,7 @@ struct part {
     bool is_recorded;
     _Alignas(LINE) struct owners owners;
     _Alignas(LINE) pthread_mutex_t writer; /* held by a writer */
+    atomic_uint waiting;                   /* how many threads wait for that lock */
     uint64_t keys; /* the number of keys when `settle` last counted them, or a few more */
     uint64_t kept, outranked, evicted, expired;
 };
@@ -86,6 +87,10 @@ void free_locks(struct part *part);
 /* Take a part to change it, and release it. No place of it is taken in between. */
 void lock_part(const struct rrcache *cache, struct part *part);
 void unlock_part(const struct rrcache *cache, struct part *part);
+
+/* Lets the threads that wait for a part take it first. Called without its lock by a call that takes
+   the part again and again. */
+void give_way(const struct part *part);
 
 /* Evicts keys from a locked part until it meets its limit of octets, and sets `oldest_left`. Called
    after each call that stores in the part. If malloc fails during the eviction, the next call

@@ -7,6 +7,8 @@
 
 /* How often a thread looks again before it gives up its processor, and before it sleeps. */
 enum { PAUSES = 64, YIELDS = 128 };
+/* How often a thread looks that gives way, which is about two milliseconds. */
+enum { MOST_RESTS = YIELDS + 20 };
 /* Numbers of threads begin anew behind this one. Up to 2^26 `reader_here` is exact: what the share
    is rounded up by is less than 64, and its multiple by the number has to stay below 2^32. */
 enum { MOST_THREADS = 1 << 20 };
@@ -44,6 +46,27 @@ static void rest(unsigned looked)
         nanosleep(&moment, NULL);
 }
 
+/* Takes the lock of writers. Whoever waits for it is counted. */
+static void lock_writer(struct part *part)
+{
+    if (pthread_mutex_trylock(&part->writer) == 0)
+        return;
+    atomic_fetch_add_explicit(&part->waiting, 1, memory_order_relaxed);
+    pthread_mutex_lock(&part->writer);
+    atomic_fetch_sub_explicit(&part->waiting, 1, memory_order_relaxed);
+}
+
+/* A mutex is not fair: a thread that releases it and takes it again at once has it before another
+   one wakes up. So this thread waits until the others have come to their turn. New ones may keep
+   coming, so it does not wait for long. */
+void give_way(const struct part *part)
+{
+    for (unsigned looked = 0;
+         looked < MOST_RESTS && atomic_load_explicit(&part->waiting, memory_order_relaxed) != 0;
+         looked++)
+        rest(looked);
+}
+
 /* ---- Readers. */
 
 /* Takes any place of a part, from this thread's on, or returns null. */
@@ -72,7 +95,7 @@ struct place *wait_for_place(const struct rrcache *cache, struct part *part)
     }
     if (place != NULL)
         return place;
-    pthread_mutex_lock(&part->writer);
+    lock_writer(part);
     for (unsigned looked = 0; (place = try_places(cache, part)) == NULL; looked++)
         rest(looked);
     pthread_mutex_unlock(&part->writer);
@@ -91,6 +114,7 @@ bool make_locks(const struct rrcache *cache, struct part *part)
                    && pthread_mutex_init(&part->writer, &spins) == 0;
     pthread_mutexattr_destroy(&spins);
     WATCH_NO(&part->turn, sizeof part->turn);
+    WATCH_NO(&part->waiting, sizeof part->waiting);
     for (uint64_t i = 0; i < cache->readers; i++)
         WATCH_NO(&place_at(cache, part, i)->is_taken, sizeof(atomic_uint));
     return is_made;
@@ -103,7 +127,7 @@ void free_locks(struct part *part)
 
 void lock_part(const struct rrcache *cache, struct part *part)
 {
-    pthread_mutex_lock(&part->writer);
+    lock_writer(part);
     uint64_t turn = atomic_load_explicit(&part->turn, memory_order_relaxed);
     atomic_store_explicit(&part->turn, turn + 1, memory_order_seq_cst);
     for (uint64_t i = 0; i < cache->readers; i++) {

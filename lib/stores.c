@@ -520,6 +520,7 @@ static enum rrcache_status sweep_part(struct rrcache *cache, struct part *part, 
         const struct rrcache_sweep_at sweep = {.moment = moment,
                                                .most = left < STEP_KEYS ? left : STEP_KEYS};
         struct rrcache_swept step = {0};
+        give_way(part);
         lock_part(cache, part);
         status = rrcache_sweep_some(&part->shelf, &sweep, &step);
         part->expired += step.removed;

@@ -40,6 +40,14 @@ def test_forgetting(build, libraries, tmp_path, capsys):
               *MORE.get(build, ()), standard="c11"), build, capsys)
 
 
+@pytest.mark.parametrize("build", ["archive", "sanitized"])
+def test_sweeps_give_way(build, libraries, tmp_path, capsys):
+    """sweep_tests.c makes each step of a sweep long. A step is a call of lib/, which is compiled
+    with the test."""
+    run(built("sweep_tests.c", build, libraries, tmp_path, "-Wl,--wrap=rrc_sweep_some",
+              *MORE["sanitized"], standard="c11"), build, capsys)
+
+
 def test_archives_are_legal(libraries, tmp_path, request):
     program = request.config.getoption("program")
     if not program.exists():
