@@ -9,8 +9,9 @@
 
    Threads
    - Any thread may call any function at any time. The exception is `rrcache_close`: no other call
-     on the cache may be running at that time, and none may follow. A call may block on a lock. No
-     function may be called in a signal handler, or in the child after a process with several
+     on the cache may be running at that time, and none may follow. A call may block on a lock. A
+     thread that is canceled in a call (`pthread_cancel`, not asynchronously) ends the call first.
+     No function may be called in a signal handler, or in the child after a process with several
      threads forks. After a process with one thread forks, parent and child each have a cache of
      their own, with the same seed: neither sees what the other stores. Processes cannot share a
      cache.
@@ -225,7 +226,8 @@ enum { RRCACHE_STATS_OCTETS = 384 };
    octets. The callback returns 0 to continue, and nonzero to stop. `state` is the pointer that the
    caller passed. No lock of a shelf is held during the callback, but the lock that guards the start
    and the end of recording is held. A call that takes this lock again would never return. So the
-   callback must not call any function on this cache. */
+   callback must not call any function on this cache, and it has to return: it must not be canceled,
+   call `longjmp` or throw an exception of C++. */
 typedef int (*rrcache_shelf_sink)(void *state, uint64_t shelf, const void *octets, size_t size);
 
 /* Opens a cache, and writes a pointer to it to `*cache`. A null `config` means a config of zeros.

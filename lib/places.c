@@ -33,17 +33,27 @@ static void pause_processor(void)
 #endif
 }
 
+/* Sleeps for a while. A thread may hold the lock of writers here, so it is not canceled before it
+   has released that. */
+static void sleep_uncanceled(void)
+{
+    const struct timespec moment = {.tv_nsec = 50000};
+    int state;
+    pthread_setcancelstate(PTHREAD_CANCEL_DISABLE, &state);
+    nanosleep(&moment, NULL);
+    pthread_setcancelstate(state, &state);
+}
+
 /* Lets some time pass for a thread that has looked so many times whether it may go on. What it
    waits for is short, unless the thread that does it has lost its processor. */
 static void rest(unsigned looked)
 {
-    const struct timespec moment = {.tv_nsec = 50000};
     if (looked < PAUSES)
         pause_processor();
     else if (looked < YIELDS)
         sched_yield();
     else
-        nanosleep(&moment, NULL);
+        sleep_uncanceled();
 }
 
 /* Takes the lock of writers. Whoever waits for it is counted. */
