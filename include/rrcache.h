@@ -73,6 +73,10 @@
      has the RRsets that fit, and `kind` and `end` are unspecified. The answer does not have the
      size that is needed: make the call again with a larger buffer. A second `rrcache_store` stores
      the response again.
+   - Memory that a call reads must not overlap memory that it writes, with two exceptions. The name
+     of a request and of a query, and the zone of a response, may lie in the buffer of the answer.
+     The name of a query and the zone may also lie in `end` of the answer. If the name of a request
+     lies there, a look-up returns RRCACHE_OVERLAP.
    - Every function that returns a status returns RRCACHE_NULL if a required pointer is null.
      RRCACHE_MEMORY means that malloc failed, RRCACHE_HISTORY_FULL that the event numbers are used
      up, and RRCACHE_MOMENT_TOO_LARGE that a timestamp is above 2^40. The comments below do not

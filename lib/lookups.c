@@ -316,16 +316,15 @@ enum rrcache_status rrcache_lookup_delegation(struct rrcache *cache,
     servers.mode = RRCACHE_NO_STALE;
     servers.takes_glue = true; /* the NS RRset of a referral answers no question */
     const struct rrcache_question question = question_of(&servers);
-    size_t at = 0;
-    enum rrcache_status status;
-    do {
-        status = rrcache_make_name(&answer->end, request->name + at, request->name_size - at,
-                                   &cache->parts);
-        if (status == RRCACHE_DONE)
-            status = find_servers(cache, &question, answer);
-        if (status != RRCACHE_DONE || answer->kind == RRCACHE_FRESH)
-            return end_answer(answer, status);
-        at += request->name[at] + (size_t)1; /* behind the first label */
-    } while (at < request->name_size);
-    return RRCACHE_DONE;
+    enum rrcache_status status =
+        rrcache_make_name(&answer->end, request->name, request->name_size, &cache->parts);
+    const struct rrcache_name name = answer->end; /* the caller's may lie in the buffer */
+    for (size_t at = 0; status == RRCACHE_DONE;) {
+        status = find_servers(cache, &question, answer);
+        at += name.octets[at] + (size_t)1; /* behind the first label */
+        if (status != RRCACHE_DONE || answer->kind == RRCACHE_FRESH || at >= name.size)
+            break;
+        status = rrcache_make_name(&answer->end, name.octets + at, name.size - at, &cache->parts);
+    }
+    return end_answer(answer, status);
 }

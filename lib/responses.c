@@ -5,6 +5,7 @@
 #include <stdlib.h>
 
 enum { SOA = 6, ANY = 255 };
+enum { MOST_NAME = 255 };
 /* In the third octet of a message (RFC 1035 section 4.1.1). */
 enum { AA = 0x04 };
 
@@ -296,24 +297,31 @@ static enum rrcache_status put_rest(const struct said *said, const struct rrcach
 /* ---- The whole answer. */
 
 /* What is relevant may be less than what a response says, as of a long chain of aliases or of a
-   large RRset: where that has no answer, all that it says may. An answer for ANY has all of it. */
+   large RRset: where that has no answer, all that it says may. An answer for ANY has all of it. The
+   names of the query and of the zone may lie in the answer, which is written meanwhile: a zone is
+   there after its delegation was looked up. So they are copied first. */
 enum rrcache_status tell_answer(const struct rrcache *cache, struct rrcache_offers *offers,
                                 const struct rrcache_summary *summary,
                                 const struct rrcache_query *query,
                                 const struct rrcache_response *response,
                                 struct rrcache_answer *answer)
 {
+    uint8_t name[MOST_NAME], zone[MOST_NAME];
+    struct rrcache_query asked = *query;
+    struct rrcache_response told = *response;
+    asked.name = memcpy(name, query->name, query->name_size);
+    told.zone = memcpy(zone, response->zone, response->zone_size);
     struct said said = {
-        .cache = cache, .offers = offers, .summary = summary, .rclass = query->rclass};
+        .cache = cache, .offers = offers, .summary = summary, .rclass = asked.rclass};
     bool has_answer = summary->kind != RRCACHE_RESPONSE_REFERRAL
                       && summary->kind != RRCACHE_RESPONSE_FAILURE && !summary->tc;
-    enum rrcache_status status = answer_from(&said, query, answer);
-    bool may_have_more = answer->kind == RRCACHE_MISS || query->rtype == ANY;
+    enum rrcache_status status = answer_from(&said, &asked, answer);
+    bool may_have_more = answer->kind == RRCACHE_MISS || asked.rtype == ANY;
     if (status == RRCACHE_DONE && has_answer && may_have_more && !answer->is_endless)
-        status = answer_from_whole(&said, query, response, answer);
-    may_have_more = answer->kind == RRCACHE_MISS || query->rtype == ANY;
+        status = answer_from_whole(&said, &asked, &told, answer);
+    may_have_more = answer->kind == RRCACHE_MISS || asked.rtype == ANY;
     if (status == RRCACHE_DONE && has_answer && may_have_more && !answer->is_endless
-        && is_unkept(query->rtype))
-        status = put_rest(&said, query, response, answer);
+        && is_unkept(asked.rtype))
+        status = put_rest(&said, &asked, &told, answer);
     return status;
 }

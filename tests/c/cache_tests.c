@@ -1293,6 +1293,28 @@ static void test_small_delegations(void)
     rrcache_close(cache);
 }
 
+/* The name of the request may lie anywhere in the buffer, where the SOA record of a denial is put
+   while zones are looked up. In `end` it is refused. */
+static void test_delegations_of_names_in_the_buffer(void)
+{
+    struct rrcache *cache = open_small();
+    struct wire wire = wire_of("a.host.sub.example");
+    struct rrcache_request request = request_of(&wire, 0, FIRST);
+    EXPECT(deny(cache, "a.host.sub.example", RRCACHE_NXDOMAIN, 60) == RRCACHE_KEPT
+           && keep_name(cache, "example", NS, "ns.example", 60) == RRCACHE_KEPT);
+    for (size_t at = 0; at < 200; at++) {
+        struct rrcache_answer answer = blank();
+        memcpy(space + at, wire.octets, wire.size);
+        request.name = space + at;
+        EXPECT(rrcache_lookup_delegation(cache, &request, &answer) == RRCACHE_DONE
+               && is_delegation(&answer, "example", 60));
+        memcpy(answer.end.octets, wire.octets, wire.size);
+        request.name = answer.end.octets;
+        EXPECT(rrcache_lookup_delegation(cache, &request, &answer) == RRCACHE_OVERLAP);
+    }
+    rrcache_close(cache);
+}
+
 static void test_referral(void)
 {
     static struct message message;
@@ -1799,6 +1821,32 @@ static void test_types_that_are_not_kept_behind_an_alias(void)
         EXPECT(try_to_store(cache, &message, "b.example", NAPTR, &report, &answer) == RRCACHE_SMALL
                && answer.size <= room);
     }
+    rrcache_close(cache);
+}
+
+/* The names of the query and of the zone may lie in the answer, as the zone does after its
+   delegation was looked up, although such a response is read twice. */
+static void test_names_of_a_response_in_the_answer(void)
+{
+    static struct message message;
+    struct rrcache *cache = open_small();
+    struct wire wire = wire_of("b.example");
+    struct rrcache_query query = query_of(&wire, NAPTR);
+    struct rrcache_report report;
+    begin(&message, AA, "b.example", NAPTR);
+    add_alias(&message, "b.example", "a.example", 60);
+    add(&message, RRCACHE_ANSWER_SECTION, "a.example", NAPTR, 60, OF(POINTED));
+    struct rrcache_response response = response_of(&message);
+    for (int in_end = 0; in_end < 2; in_end++)
+        for (size_t at = 0; at < (in_end ? 1 : 200); at++) {
+            struct rrcache_answer answer = blank();
+            uint8_t *here = in_end ? answer.end.octets : space + at;
+            query.name = memcpy(here, wire.octets, wire.size);
+            response.zone = query.name + 2; /* "example", the rest of the name */
+            EXPECT(rrcache_store(cache, &query, &response, &report, &answer) == RRCACHE_DONE
+                   && answer.kind == RRCACHE_FRESH && answer.aliases == 1 && count_of(&answer) == 2
+                   && is_name(&answer.end, "a.example"));
+        }
     rrcache_close(cache);
 }
 
@@ -3890,6 +3938,7 @@ static void (*const TESTS[])(void) = {
     test_entries_of_responses,
     test_delegations,
     test_small_delegations,
+    test_delegations_of_names_in_the_buffer,
     test_referral,
     test_store_answer,
     test_store_chain,
@@ -3908,6 +3957,7 @@ static void (*const TESTS[])(void) = {
     test_store_of_a_large_rrset,
     test_types_that_are_not_kept,
     test_types_that_are_not_kept_behind_an_alias,
+    test_names_of_a_response_in_the_answer,
     test_absence_of_types_that_are_not_kept,
     test_types_that_are_not_kept_and_cannot_be_read,
     test_store_of_an_alias_beside_data,
