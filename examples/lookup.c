@@ -9,14 +9,20 @@
 
 static uint8_t received[65536], buffer[RRCACHE_ANSWER_OCTETS];
 
+/* Prints the addresses of an answer. What a server sends as an address may have any size. */
 static void print(const struct rrcache_answer *answer)
 {
     struct rrcache_rrset rrset = {0};
     char text[INET_ADDRSTRLEN];
-    while (rrcache_next(answer, &rrset)) /* CNAME records first, and then the addresses */
-        for (size_t at = 2; rrset.set.rtype == 1 && at < rrset.set.data_size; at += 6)
-            printf("%s TTL %u\n", inet_ntop(AF_INET, rrset.set.data + at, text, sizeof text),
-                   rrset.set.ttl);
+    while (rrcache_next(answer, &rrset)) { /* CNAME records first, and then the addresses */
+        const uint8_t *data = rrset.set.data, *end = data + rrset.set.data_size;
+        for (size_t size; rrset.set.rtype == 1 && data < end; data += 2 + size) {
+            size = (size_t)data[0] << 8 | data[1];
+            if (size == 4)
+                printf("%s TTL %u\n", inet_ntop(AF_INET, data + 2, text, sizeof text),
+                       rrset.set.ttl);
+        }
+    }
 }
 
 /* Looks up the name of a query of so many octets, and returns whether there is an answer. */

@@ -312,9 +312,10 @@ RRCACHE_API bool rrcache_next(const struct rrcache_answer *answer, struct rrcach
    cached data. So a waiting client gets the data that the server sent. For type ANY, the answer has
    all RRsets of the name, which no look-up returns. At most RRCACHE_MOST_ALIASES CNAME records are
    followed, and RRsets of any size are returned. Fewer CNAME records and only smaller RRsets are
-   relevant, and therefore stored. If the type is not kept, such as NAPTR, each record is returned
-   as an RRset of its own, and RRCACHE_NODATA means that an SOA record denies the type. `kind` is
-   RRCACHE_MISS if only `report` has the result, as for a negative response without an SOA record.
+   relevant, and therefore stored. Rdata of types A and AAAA may have any length in this answer. If
+   the type is not kept, such as NAPTR, each record is returned as an RRset of its own, and
+   RRCACHE_NODATA means that an SOA record denies the type. `kind` is RRCACHE_MISS if only `report`
+   has the result, as for a negative response without an SOA record.
 
    Also returns RRCACHE_BAD_LIMITS if a limit is out of range, and RRCACHE_BAD_NAME if the zone or
    the name of the query is not in wire form. After these errors `report` is unmodified. Once the

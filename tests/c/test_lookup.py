@@ -42,6 +42,17 @@ def test_an_alias_and_its_addresses(look_up, server):
     assert len(server.asked) == 1
 
 
+def test_addresses_of_other_lengths(look_up, server):
+    """They are in the answer of a response as the server sent them, and are not printed."""
+    def answer(server, asked, name):
+        data = [b"\7", bytes([192, 0, 2, 9]), bytes(range(5))]
+        records = [b"\xc0\x0c\0\1\0\1\0\0\0\x3c" + len(it).to_bytes(2, "big") + it for it in data]
+        header = server.octets[:2] + bytes([0x81, 0x80, 0, 1, 0, len(records), 0, 0, 0, 0])
+        return [b"".join([header, server.octets[12:], *records])]
+    server.answer = answer
+    assert look_up("a.example") == (0, ["192.0.2.9"], [60])
+
+
 @pytest.mark.parametrize("rcode", [NXDOMAIN, SERVFAIL])
 def test_what_is_not_found(rcode, look_up, server):
     server.answer = told(rcode=rcode)  # a denial with no SOA record is stored nowhere
