@@ -197,7 +197,7 @@ static uint64_t oldest_left(const struct rrcache *cache, const struct rrcache_us
     if (cache->exact_recency)
         return 0;
     bool has_room =
-        usage->octets < cache->most_octets / 4 * 3 && usage->keys < cache->most_keys / 4 * 3;
+        usage->octets * 4 < cache->most_octets * 3 && usage->keys * 4 < cache->most_keys * 3;
     return has_room ? UINT64_MAX : usage->keys / 4;
 }
 

@@ -3309,6 +3309,24 @@ static void check_recency(bool exact_recency)
     rrcache_close(cache);
 }
 
+/* Five keys of seven are less than three quarters, so a look-up moves none, and six are more. */
+static void test_recency_of_few_keys(void)
+{
+    for (int held = 5; held <= 6; held++) {
+        struct rrcache_config config = config_of(1);
+        config.keys = 7;
+        struct rrcache *cache = open_by(&config);
+        for (int i = 0; i < held; i++)
+            EXPECT(keep(cache, link_of(i), 300) == RRCACHE_KEPT);
+        EXPECT(kind_of(cache, link_of(0), A, FIRST) == RRCACHE_FRESH);
+        for (int i = held; i < 8; i++)
+            EXPECT(keep(cache, link_of(i), 300) == RRCACHE_KEPT);
+        EXPECT(kind_of(cache, link_of(held == 5 ? 0 : 1), A, FIRST) == RRCACHE_MISS
+               && kind_of(cache, link_of(held == 5 ? 1 : 0), A, FIRST) == RRCACHE_FRESH);
+        rrcache_close(cache);
+    }
+}
+
 /* Each shelf holds its share of the keys, a part of one counted as one. */
 static void test_keys(void)
 {
@@ -4002,6 +4020,7 @@ static void (*const TESTS[])(void) = {
     test_records,
     test_failed_sinks,
     test_recency,
+    test_recency_of_few_keys,
     test_aliases_come_and_go,
     test_aliases_that_nobody_asks_for,
     test_aliases_that_end,
