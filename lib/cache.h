@@ -193,8 +193,9 @@ enum rrcache_status tell_answer(const struct rrcache *cache, struct rrcache_offe
                                 const struct rrcache_response *response,
                                 struct rrcache_answer *answer);
 
-/* Whether no data of a type are kept, although queries may ask for the type (docs/RULES.md). */
-bool is_unkept(uint16_t rtype);
+/* Whether no data of a type are kept in a class, although queries may ask for the type
+   (docs/RULES.md). */
+bool is_unkept(uint16_t rtype, uint16_t rclass);
 
 /* Appends to an answer the records of a response that are not kept: those in the answer section
    with the type of the query (any type if that is ANY) and with the name that the answer has

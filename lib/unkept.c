@@ -3,7 +3,7 @@
    of the octets of a response, all records of which were read before, to be told. */
 #include "cache.h"
 
-enum { SIG = 24, NXT = 30, NAPTR = 35, RRSIG = 46, FIRST_META = 128, ANY = 255 };
+enum { A = 1, SIG = 24, NXT = 30, NAPTR = 35, RRSIG = 46, FIRST_META = 128, ANY = 255 };
 /* How many octets a header has, what stands between a record's owner and its data, and a name. */
 enum { HEADER = 12, FIXED = 10, NAME = 255, MOST_DATA = 65535 };
 enum { POINTER = 0xc0, MOST_LABEL = 63, MOST_POINTERS = 127 };
@@ -21,10 +21,10 @@ struct writer {
     size_t room, size;
 };
 
-bool is_unkept(uint16_t rtype)
+bool is_unkept(uint16_t rtype, uint16_t rclass)
 {
     return rtype == SIG || rtype == NXT || rtype == NAPTR || rtype == RRSIG
-           || (rtype >= FIRST_META && rtype <= ANY);
+           || (rtype >= FIRST_META && rtype <= ANY) || (rtype == A && rclass == RRCACHE_CH);
 }
 
 static void put(struct writer *to, const void *octets, size_t size)
@@ -88,13 +88,15 @@ static bool read_record(const struct rrcache_response *message, size_t at, struc
 }
 
 /* Where the name begins that may be compressed in the data of a record of such a type (RFC 3597
-   section 4); the place behind them where there is none. */
+   section 4; for A, which is of class CH, RFC 1034 section 3.6); the place behind them where there
+   is none. */
 static size_t name_in(const uint8_t *message, const struct record *record)
 {
     size_t at = record->data + (record->rtype == SIG ? 18 : record->rtype == NAPTR ? 4 : 0);
     for (int strings = record->rtype == NAPTR ? 3 : 0; strings > 0 && at < record->end; strings--)
         at += message[at] + (size_t)1;
-    bool has_name = record->rtype == SIG || record->rtype == NXT || record->rtype == NAPTR;
+    bool has_name = record->rtype == A || record->rtype == SIG || record->rtype == NXT
+                    || record->rtype == NAPTR;
     return has_name && at < record->end ? at : record->end;
 }
 
@@ -161,7 +163,7 @@ static bool is_wanted(const struct rrcache *cache, const struct rrcache_query *q
     uint8_t owner[NAME];
     struct rrcache_name name = {0};
     size_t at = record->owner;
-    if (!is_unkept(record->rtype) || record->rclass != query->rclass
+    if (!is_unkept(record->rtype, record->rclass) || record->rclass != query->rclass
         || (record->rtype != query->rtype && query->rtype != ANY))
         return false;
     size_t size = expand(response->octets, response->size, &at, owner);

@@ -1519,6 +1519,32 @@ static void test_store_of_another_class(void)
     rrcache_close(cache);
 }
 
+/* An address of class CH is a name and two octets (RFC 1034 section 3.6). None is kept. */
+static void test_store_of_an_address_of_another_class(void)
+{
+    static struct message message;
+    static const uint8_t record[] = {0xc0, 12, 0, A, 0,    RRCACHE_CH, 0, 0,
+                                     0,    60, 0, 4, 0xc0, 14,         1, 2};
+    static const uint8_t expanded[] = "\7example\0\1\2";
+    struct rrcache *cache = open_small();
+    struct wire wire = wire_of("a.example");
+    struct rrcache_query query = query_of(&wire, A);
+    struct rrcache_answer answer = blank();
+    struct rrcache_report report;
+    query.rclass = RRCACHE_CH;
+    begin(&message, AA, "a.example", A);
+    message.octets[message.size - 1] = RRCACHE_CH;
+    put(&message, OF(record));
+    message.octets[7] = 1;
+    struct rrcache_response response = response_of(&message);
+    EXPECT(rrcache_store(cache, &query, &response, &report, &answer) == RRCACHE_DONE
+           && report.counts.kept == 0 && answer.kind == RRCACHE_FRESH && count_of(&answer) == 1);
+    struct rrcache_rrset rrset = nth(&answer, 0);
+    EXPECT(rrset.set.rclass == RRCACHE_CH && rrset.set.rtype == A && rrset.set.ttl == 60
+           && has_datum(&rrset, expanded, sizeof expanded - 1) && keys(cache) == 0);
+    rrcache_close(cache);
+}
+
 /* Behind a DNAME record stands the CNAME record that was made of it (RFC 6672 section 3.1). */
 static void test_store_of_a_dname(void)
 {
@@ -3964,6 +3990,7 @@ static void (*const TESTS[])(void) = {
     test_store_denials,
     test_store_that_clears,
     test_store_of_another_class,
+    test_store_of_an_address_of_another_class,
     test_store_of_a_dname,
     test_dnames,
     test_aliases_that_no_dname_made,
