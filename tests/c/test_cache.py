@@ -51,8 +51,8 @@ def test_canceled_threads(build, libraries, tmp_path, capsys):
 def test_sweeps_give_way(build, libraries, tmp_path, capsys):
     """sweep_tests.c makes each step of a sweep long. A step is a call of lib/, which is compiled
     with the test."""
-    run(built("sweep_tests.c", build, libraries, tmp_path, "-Wl,--wrap=rrc_sweep_some",
-              *MORE["sanitized"], standard="c11"), build, capsys)
+    run(built("sweep_tests.c", build, libraries, tmp_path, f"-I{TOP / 'lib'}",
+              "-Wl,--wrap=rrc_sweep_some", *MORE["sanitized"], standard="c11"), build, capsys)
 
 
 def test_archives_are_legal(libraries, tmp_path, request):
