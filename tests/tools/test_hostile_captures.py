@@ -12,7 +12,7 @@ from tests.tools import made_captures as made
 from tests.tools.made_messages import message, query
 from tests.tools.shared import TOP, ran
 from tests.tools.test_captures import (CLIENT, DNSTAP, NOW, PCAP, RESOLVER, SERVER, START, WWW,
-                                       lines_of, on_ethernet, read_in_time, tapped)
+                                       field, lines_of, on_ethernet, read_in_time, tapped)
 from tools.captures.packets import NoCapture
 from tools.captures.sides import Place
 from tools.mutation import changed_octets
@@ -211,6 +211,15 @@ def test_memory_grows_as_the_capture_does():
     assert taken[1] <= 1.2 * taken[0] and taken[0] <= 50
 
 
+def memory_for(capture):
+    """The most octets of memory that a capture takes at one time, and what was counted."""
+    tracemalloc.start()
+    _, counts = lines_of(capture, resolvers=RESOLVERS)
+    taken = tracemalloc.get_traced_memory()[1]
+    tracemalloc.stop()
+    return taken, counts
+
+
 @pytest.mark.parametrize("packet", [nested(300), nested(3_000)], ids=["300", "3,000"])
 def test_packets_within_each_other_are_counted(packet):
     """One of few is no message, and one of many is too deep for dpkt."""
@@ -237,6 +246,13 @@ def test_a_number_of_dnstap_has_at_most_ten_octets():
         number = b"\xff" * size + b"\1"
         body = b"\x72" + bytes([len(number) + 1]) + b"\x08" + number
         assert [it.startswith(reason) for it in lines_of(frame_of(body))[1]] == [True]
+
+
+def test_octets_in_place_of_the_seconds_of_dnstap_take_no_memory():
+    """A product of octets and a number is as many copies of them."""
+    query_time = field(8, bytes(1_000)) + field(10, query())
+    taken, counts = memory_for(frame_of(field(14, field(1, 5) + query_time)))
+    assert counts == {ODD_FRAME: 1} and taken < 2**20
 
 
 def test_the_command_ends_on_what_is_no_capture(tmp_path):

@@ -5,6 +5,8 @@ Of the formats, fstrm's frame streams, protocol buffers and dnstap.proto of dnst
 Python has protobuf alone, which needs a compiled schema. So the few fields that are needed are read
 here.
 """
+from operator import index
+
 from tools.captures.seen import MICROSECONDS, NoCapture, Peer, Seen
 from tools.messages import MESSAGE_MOST, name_at
 
@@ -96,7 +98,8 @@ def seen(message):
     server = Peer(message.get(RESPONSE_ADDRESS, b""), message.get(RESPONSE_PORT, 0))
     ends = (asker, server) if kind == QUERY else (server, asker)
     seconds, nanoseconds, octets = kind
-    at = message[seconds] * MICROSECONDS + message.get(nanoseconds, 0) // 1000
+    # octets in place of the seconds would be repeated a million times
+    at = index(message[seconds]) * MICROSECONDS + message.get(nanoseconds, 0) // 1000
     if len(message[octets]) > MESSAGE_MOST:
         raise ValueError("more octets than a message has")
     return Seen(at, *ends, message[octets], side, zone_of(message))
