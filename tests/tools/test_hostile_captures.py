@@ -22,6 +22,7 @@ RESOLVERS = [Place(RESOLVER)]
 # The link that has IP packets and nothing before them.
 RAW = 101
 ODD_HEADERS = "packet: headers that are not what they should be"
+OTHER_PROTOCOL = "packet: neither UDP nor TCP"
 ODD_FRAME = "frame: not what it should be"
 # The question of the messages below, and what a pointer to their first name is.
 QUESTION, FIRST_NAME = b"\3www\7example\0\0\1\0\1", b"\xc0\x0c"
@@ -171,6 +172,23 @@ def extended():
         + bytes(64_000)
 
 
+def chunks(size):
+    """An SCTP packet (protocol 132) of chunks that say that they have less than their headers."""
+    return made.ip4(CLIENT, RESOLVER, 132, b"\0\1" * (size // 2))
+
+
+def pcapng(*blocks):
+    """A pcapng file of a section with these blocks, each a type and a body."""
+    whole = [(0x0A0D0D0A, struct.pack(">IHHq", 0x1A2B3C4D, 1, 0, -1)), *blocks]
+    return b"".join(struct.pack(">2I", kind, 12 + len(body)) + body
+                    + struct.pack(">I", 12 + len(body)) for kind, body in whole)
+
+
+def on_interface(octets):
+    """The body of a block with a packet of the first interface."""
+    return struct.pack(">5I", 0, 0, 0, len(octets), len(octets)) + octets + bytes(-len(octets) % 4)
+
+
 def frame_of(body):
     return START + len(body).to_bytes(4, "big") + body
 
@@ -222,9 +240,45 @@ def memory_for(capture):
 
 @pytest.mark.parametrize("packet", [nested(300), nested(3_000)], ids=["300", "3,000"])
 def test_packets_within_each_other_are_counted(packet):
-    """One of few is no message, and one of many is too deep for dpkt."""
+    """What is in the first one is not read, however deep it is."""
     lines, counts = lines_of(made.pcap([(NOW, packet)]), resolvers=RESOLVERS)
-    assert lines == [] and counts == {ODD_HEADERS: 1}
+    assert lines == [] and counts == {OTHER_PROTOCOL: 1}
+
+
+def test_another_protocol_takes_no_memory():
+    """dpkt makes of each chunk of SCTP a copy of what is behind it."""
+    taken, counts = memory_for(made.pcap([(NOW, chunks(16_000))], RAW))
+    assert counts == {OTHER_PROTOCOL: 1} and taken < 2**20
+
+
+@pytest.mark.parametrize("kind", [0x0806, 0x2000, 0x88CC], ids=["ARP", "CDP", "LLDP"])
+def test_what_is_not_ip_is_counted_on_each_link(kind):
+    for link, head in ((1, bytes(12)), (113, bytes(14))):
+        packet = head + struct.pack(">H", kind) + bytes(40)
+        assert lines_of(made.pcap([(NOW, packet)], link)) == (
+            [], {"packet: not of IP, or not whole": 1})
+
+
+def test_a_packet_of_pcapng_has_a_bound():
+    """That of pcap: a block may be longer, and what dpkt takes is not linear. The packet behind is
+    the same message again."""
+    question = made.udp(CLIENT, RESOLVER, (4_000, 53), query())
+    for size, reason in ((262_144, "message: the same again within 10 milliseconds"),
+                         (262_145, "packet: of more than 262,144 octets")):
+        packets = [on_interface(question + bytes(size - len(question))), on_interface(question)]
+        blocks = [(1, struct.pack(">HHI", RAW, 0, 0)), *((6, it) for it in packets)]
+        lines, counts = lines_of(pcapng(*blocks), resolvers=RESOLVERS)
+        assert len(lines) == 1 and counts == {reason: 1}
+
+
+def test_interfaces_of_pcapng_have_a_bound():
+    """65,536 of them are read, with what is behind them; of one more, nothing."""
+    question = on_interface(made.udp(CLIENT, RESOLVER, (4_000, 53), query()))
+    interface = 1, struct.pack(">HHI", RAW, 0, 0)
+    for count, asks in ((65_536, 1), (65_537, 0)):
+        lines, counts = lines_of(pcapng(*[interface] * count, (6, question)), resolvers=RESOLVERS)
+        assert len(lines) == asks
+        assert any(it.startswith("file: more than 65,536 interfaces") for it in counts) != asks
 
 
 def test_a_message_of_dnstap_that_is_too_long_is_counted():

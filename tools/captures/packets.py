@@ -17,13 +17,27 @@ import dpkt
 from tools.captures.seen import CUT, MICROSECONDS, NoCapture, Peer, Seen
 
 PACKET_MOST = 262_144
-BLOCK_MOST = 16 * 2**20
+BLOCK_MOST, INTERFACES_MOST = 16 * 2**20, 65_536
 FRAGMENTED_MOST, FRAGMENTED_SECONDS, PIECES_MOST = 1_000, 30, 64
 STREAMS_MOST, STREAM_SECONDS, AHEAD_MOST, OCTETS_MOST = 10_000, 120, 64, 64 * 2**20
 # What dpkt raises on malformed octets, RecursionError of many headers within each other.
 ODD = (dpkt.UnpackError, struct.error, ValueError, IndexError, KeyError, TypeError, AttributeError,
        RecursionError)
 UDP, TCP, ICMP, ICMP6 = 17, 6, 1, 58
+
+
+def restrict(readers, kinds):
+    """Has dpkt read these kinds of what is in a packet, and leave all else as octets."""
+    for it in readers.keys() - kinds:
+        del readers[it]
+
+
+# dpkt would also read what is not needed here, and takes memory and time by the square of its size,
+# as for the chunks of SCTP. So of IP it reads UDP and TCP, and of Ethernet what may have IP in it,
+# and IPX, without which it fails.
+restrict(dpkt.ip.IP._protosw, {UDP, TCP})
+restrict(dpkt.ethernet.Ethernet._typesw,
+         {0x0800, 0x86DD, 0x880B, 0x8864, 0x6558, dpkt.ethernet.ETH_TYPE_IPX})
 
 
 # ---- files
@@ -115,6 +129,9 @@ def pcapng_packets(stream, counts):
             if kind == SECTION:
                 interfaces = []
             elif kind == INTERFACE:
+                if len(interfaces) == INTERFACES_MOST:
+                    counts["file: more than 65,536 interfaces; the rest was not read"] += 1
+                    return
                 interfaces.append(Interface.of(body, order))
             elif kind in (PACKET, OLD_PACKET):
                 form = order + ("5I" if kind == PACKET else "2H4I")
@@ -178,11 +195,12 @@ def ip_of(link, octets, counts):
 
 
 def vlan(packet):
-    """What is in a cooked packet behind VLAN tags, which dpkt reads on Ethernet alone."""
+    """What is in a cooked packet behind VLAN tags, which dpkt reads on Ethernet alone; octets if
+    that is not IP."""
     kind, at = packet.ethtype, 0
     while kind in (0x8100, 0x88A8):
         kind, at = struct.unpack_from(">H", packet.data, at + 2)[0], at + 4
-    return {0x0800: dpkt.ip.IP, 0x86DD: dpkt.ip6.IP6}[kind](packet.data[at:])
+    return {0x0800: dpkt.ip.IP, 0x86DD: dpkt.ip6.IP6}.get(kind, bytes)(packet.data[at:])
 
 
 # ---- IP: fragments put together (RFC 791 section 3.2, RFC 8200 section 4.5)
@@ -346,6 +364,10 @@ class Capture:
     def messages(self, stream):
         """What was seen in a file, in its order."""
         for at, link, octets in packets_of(stream, self.counts):
+            if len(octets) > PACKET_MOST:
+                # a block of pcapng may be longer
+                self.counts["packet: of more than 262,144 octets"] += 1
+                continue
             try:
                 ip = ip_of(link, octets, self.counts)
                 if ip is not None:
