@@ -67,6 +67,17 @@ def test_program(root):
         assert told.startswith(f"{command} {VERSION}\n")
 
 
+def test_removal_leaves_nothing_that_python_wrote(tmp_path):
+    """It succeeds even if the folder is gone."""
+    made = tmp_path / "usr" / "share" / "rrcache" / "tools" / "__pycache__"
+    made.mkdir(parents=True)
+    for _ in range(2):
+        subprocess.run(["sh", TOP / "packaging" / "debian" / "rrcache.prerm", "remove"], check=True,
+                       env={**os.environ, "DPKG_ROOT": str(tmp_path)})
+        assert not made.exists()
+        shutil.rmtree(tmp_path / "usr", ignore_errors=True)
+
+
 def test_symbols(root):
     """Those that a package says that the library has are those that it exports."""
     told = template("debian/symbols", SONAME=SONAME, MAJOR=VERSION.split(".")[0])
