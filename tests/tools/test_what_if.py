@@ -3,6 +3,7 @@
 import csv
 import io
 import json
+import resource
 import shutil
 import xml.etree.ElementTree as xml
 
@@ -232,6 +233,18 @@ def test_what_if_refuses_what_it_cannot_replay(asked, word):
 def test_what_if_refuses_what_is_no_trace(program, trace_of):
     run = ran("bin/what-if", "--program", program, trace_of(["ask"]))
     assert run.returncode == 1 and "line 0 is not a line of a trace" in run.stderr
+
+
+def test_what_if_reads_no_line_that_is_too_long(tmp_path):
+    """One of 4 GiB in the memory of 1 GiB, also where it lowers the TTLs of negative answers."""
+    path, limit = tmp_path / "trace", (2**30, 2**30)
+    with open(path, "wb") as stream:
+        stream.truncate(2**32)
+    for words in ([], ["--negative", 60]):
+        run = ran("bin/what-if", "--program", "false", *words, path,
+                  preexec_fn=lambda: resource.setrlimit(resource.RLIMIT_AS, limit))
+        assert (run.returncode, run.stdout) == (1, "")
+        assert run.stderr == "what-if: line 0 is not a line of a trace\n"
 
 
 @pytest.mark.parametrize("path", ["-", "/dev/stdin"])
