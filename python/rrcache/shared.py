@@ -15,7 +15,7 @@ from .handles import CLOSED, done, handed, opened
 from .library import Closing, library, seed_of
 from .offers import Summary, summary_of
 from .parts import AnyName, wire_form
-from .refusals import BadSeed
+from .refusals import BadSeed, Status
 from .replies import Counts, Limits, Query, Swept
 from .shelf import with_lengths
 from .writing import files_of, texts_of
@@ -246,11 +246,16 @@ class SharedCache(Closing):
         asked = (wire_form(query.name), query.id, query.rtype, query.rclass, query.with_case)
         came = (bytes(message), wire_form(zone), moment, *(limits or OF_THE_CACHE), lowest_ttl,
                 clears_denied)
+        terms = self._handle, handed(structs.Query, asked), handed(structs.Response, came)
         report, work = structs.Report(), work_for(len(message), query)
         work.answer.with_dnames = with_dnames
-        status = library().rrcache_store(self._handle, handed(structs.Query, asked),
-                                         handed(structs.Response, came), report, work.answer)
+        status = library().rrcache_store(*terms, report, work.answer)
         counts = Counts(*structs.numbers_in(report.counts))
+        while status == Status.SMALL:
+            # Everything is stored, and is stored again with the answer. The first report counts.
+            work = Work(4 * work.answer.room)
+            work.answer.with_dnames = with_dnames
+            status = library().rrcache_store(*terms, structs.Report(), work.answer)
         done(status, counts)
         return Report(summary_of(report.summary, report.name), counts, report.too_large,
                       answer_of(work))

@@ -9,7 +9,7 @@ import time
 import pytest
 from dns.flags import AA, RA, TC
 from dns.rcode import NXDOMAIN, REFUSED, SERVFAIL
-from dns.rdatatype import A, AAAA, ANY, CNAME, DNAME, NS, SOA, TXT
+from dns.rdatatype import A, AAAA, ANY, CNAME, DNAME, MX, NS, RRSIG, SOA, TXT
 
 import rrcache
 from rrcache import Kind, Mode, Outcome, ResponseKind, SharedCache, Trust
@@ -274,6 +274,31 @@ def test_a_large_response_to_any():
         report = store(cache, octets, "a.example", ANY)
         assert sorted(it.rtype for it in report.answer) == [*range(300, 4300)]
         assert {(it.owner_text, it.data) for it in report.answer} == {("a.example.", (b"",))}
+
+
+def many(name, rtype, count, data):
+    """A response of so many records of a name, which is at its front, and of a type."""
+    head = answered(name, rtype)
+    record = b"\xc0\x0c" + rtype.to_bytes(2, "big") + b"\0\1\0\0\0\x3c"
+    records = (record + len(it).to_bytes(2, "big") + it for it in map(data, range(count)))
+    return head[:6] + count.to_bytes(2, "big") + head[8:] + b"".join(records)
+
+
+@pytest.mark.parametrize("rtype, data, sets", [
+    (MX, lambda it: it.to_bytes(2, "big") + b"\xc0\x0c", 1),
+    (RRSIG, lambda it: it.to_bytes(2, "big") + bytes(18), 2000)])
+def test_answers_of_responses_that_a_usual_buffer_has_no_room_for(rtype, data, sets):
+    """2,000 records: an RRset whose data have each a long name that two octets point to, and such
+    as are not kept, which are told one by one. Nothing of either is stored."""
+    name = ".".join([it * 60 for it in "abcd"]) + ".example"
+    with opened() as cache:
+        report = store(cache, many(name, rtype, 2000, data), name, rtype)
+        assert (report.answer.kind, report.counts) == (FRESH, (0, 0, 0))
+        assert len(report.answer.rrsets) == sets
+        assert sum(len(it.data) for it in report.answer) == 2000
+        # The next answer has a usual buffer again.
+        assert store(cache, answered("a.example", A, *hosts("a.example")),
+                     "a.example").answer.rrsets[0].data == (ADDRESS,)
 
 
 def test_unequal_ttls_and_limits():
