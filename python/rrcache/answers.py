@@ -29,7 +29,8 @@ REQUEST, ANSWER, RRSET = map(structs.packer, (structs.Request, structs.Answer, s
 
 class AnswerSet(NamedTuple):
     """An RRset of an answer: its owner in wire form, as it was received, its type, its remaining
-    TTL in seconds, its rdata and its class.
+    TTL in seconds, its rdata and its class. The class is a number if no data of it are kept, as
+    `SharedCache.store` may return them.
 
     - `kind`: FRESH or STALE. For the SOA record of a negative answer (`is_negative`), which belongs
       in the authority section of a message, it is NODATA or NXDOMAIN.
@@ -53,7 +54,7 @@ class AnswerSet(NamedTuple):
     rtype: int
     ttl: int
     data: tuple[bytes, ...]
-    rclass: Class
+    rclass: Class | int
     kind: Kind
     entry: StoredEntry
 
@@ -163,8 +164,8 @@ def rrsets_in(work: Work, begin: int, size: int) -> tuple[AnswerSet, ...]:
         octets = work.buffer[owner - begin:data - begin + data_size]
         entry = entry_of(stored, trust, ttl, moment, number, age)
         found.append(new_tuple(AnswerSet, (octets[:owner_size], rtype, left,
-                                           data_of(octets, data - owner), CLASSES[rclass],
-                                           KINDS[kind], entry)))
+                                           data_of(octets, data - owner),
+                                           CLASSES.get(rclass, rclass), KINDS[kind], entry)))
     return tuple(found)
 
 

@@ -301,6 +301,19 @@ def test_answers_of_responses_that_a_usual_buffer_has_no_room_for(rtype, data, s
                      "a.example").answer.rrsets[0].data == (ADDRESS,)
 
 
+@pytest.mark.parametrize("rclass", [2, 254, 255])
+def test_an_answer_of_a_class_that_is_not_kept(rclass):
+    """Records of a type that is not kept are told in the class of the query, whichever that is."""
+    question = wire_name("a.example") + RRSIG.to_bytes(2, "big") + rclass.to_bytes(2, "big")
+    octets = (ID.to_bytes(2, "big") + bytes([0x84, 0, 0, 1, 0, 1, 0, 0, 0, 0]) + question
+              + b"\xc0\x0c" + question[-4:] + bytes([0, 0, 0, 60, 0, 20]) + bytes(20))
+    with opened() as cache:
+        query = rrcache.Query("a.example", RRSIG, ID, rclass)
+        report = cache.store(octets, "example", query, 100)
+        assert (report.summary.kind, report.counts) == (ResponseKind.UNUSABLE, (0, 0, 0))
+        assert [(it.rclass, it.data) for it in report.answer] == [(rclass, (bytes(20),))]
+
+
 def test_unequal_ttls_and_limits():
     """The lowest TTL counts where that is chosen, and the cache's limits where none are given."""
     lines = ["a.example 5000 A 192.0.2.1", "a.example 4000 A 192.0.2.2"]
