@@ -4,6 +4,7 @@ from __future__ import annotations
 
 import functools
 import os
+import threading
 from collections.abc import Callable
 from contextlib import ExitStack
 from ctypes import string_at
@@ -19,20 +20,42 @@ Take = Callable[[int, bytes], object]
 
 def written(export: str, cache: Handle, take: Take) -> None:
     """Makes a call of the library that passes octets to a function, with the number of their shelf.
-    An exception of the function ends the call, and is raised again."""
+    An exception of the function ends the call, and is raised again.
+
+    The call runs in a thread of its own. In the main thread, a signal that comes meanwhile may
+    raise an exception as soon as the callback begins, outside of its `try`. ctypes would drop this
+    exception with the octets, and return an arbitrary number to the library."""
     faults: list[BaseException] = []
+    statuses: list[int] = []
+    is_over = threading.Event()
 
     def sink(_: int | None, shelf: int, octets: int, size: int) -> bool:
         try:
-            take(shelf, string_at(octets, size))
+            if not faults:
+                take(shelf, string_at(octets, size))
         except BaseException as fault:
             faults.append(fault)
         return bool(faults)
 
-    status = getattr(library(), export)(cache, SINK(sink), None)
+    def call() -> None:
+        try:
+            statuses.append(getattr(library(), export)(cache, SINK(sink), None))
+        except BaseException as fault:
+            faults.append(fault)
+        finally:
+            is_over.set()
+
+    thread = threading.Thread(target=call)
+    thread.start()
+    while not is_over.is_set():
+        try:
+            is_over.wait()
+        except BaseException as fault:
+            faults.append(fault)
+    thread.join()
     if faults:
         raise faults[0]
-    done(status)
+    done(statuses[0])
 
 
 def texts_of(export: str, cache: Handle, shelves: int) -> list[str]:

@@ -3,6 +3,7 @@
 Responses are dnspython's. TTLs, kinds and ranks follow from RFC 1034, RFC 2181, RFC 2308, RFC 8767
 and RFC 9520."""
 import re
+import signal
 import subprocess
 import time
 
@@ -535,6 +536,44 @@ def test_files_that_cannot_be_written(tmp_path):
             with pytest.raises(FileNotFoundError):
                 write(tmp_path / "none")
         assert len(cache.dump()) == 4
+
+
+class Alarm(Exception):
+    """What the handler of a signal raises."""
+
+
+def test_signals_while_a_cache_is_written():
+    """What a handler raises while the library calls back ends the call and is raised, and else the
+    text is whole. Signals come at other moments of each dump."""
+    def handler(*_):
+        raise Alarm
+
+    def entries():
+        """What is behind the first line, which has another number in each dump."""
+        [text] = cache.dump()
+        return text.partition("\n")[2]
+
+    def interrupted(after):
+        try:
+            signal.setitimer(signal.ITIMER_REAL, after)
+            told = entries()
+            signal.setitimer(signal.ITIMER_REAL, 0)
+            return told
+        except Alarm:
+            return "none"
+
+    usual = signal.signal(signal.SIGALRM, handler)
+    try:
+        with SharedCache(shelves=1, seed=SEED) as cache:
+            for number in range(2000):
+                cache.store_set(f"a{number}.example", A, HIGH, 60, [ADDRESS], 100)
+            begun, whole = time.monotonic(), entries()
+            took = time.monotonic() - begun
+            assert {interrupted(took * it / 40) for it in range(1, 40)} <= {"none", whole}
+            assert interrupted(0.001) == "none" and entries() == whole
+    finally:
+        signal.setitimer(signal.ITIMER_REAL, 0)
+        signal.signal(signal.SIGALRM, usual)
 
 
 @pytest.fixture(scope="module")
