@@ -13,6 +13,7 @@ from .choices import Kind, ResponseKind
 from .library import Held, call, seed_of, sized, told
 from .names import to_wire
 from .parts import Name, Parts
+from .refusals import NoOffers
 from .replies import (BLOCK_OCTETS, ENTRY_OCTETS, INLINE_OCTETS, SHARED_OCTETS, VALUE_OCTETS,
                       Limits, Query, Reply)
 
@@ -55,6 +56,8 @@ class Offers(Held):
     def __iter__(self) -> Iterator[tuple[Name, Reply]]:
         for index in itertools.count():
             offer = told_offer(self._handle, index)
+            if offer is None and not self._handle.is_live:
+                raise NoOffers
             if offer is None:
                 return
             yield offer

@@ -146,6 +146,16 @@ def test_offers_that_were_closed():
     with rrcache.Shelf() as shelf, pytest.raises(rrcache.Refused) as refused:
         shelf.offer_read(offers, 0)
     assert refused.value.status == 18
+    with pytest.raises(rrcache.NoOffers):
+        list(offers)
+
+
+def test_offers_that_are_closed_while_they_are_told():
+    with read(answered("a.example", A, "a.example 60 A 192.0.2.9"), parts(4)) as offers:
+        told = iter(offers)
+        next(told)
+    with pytest.raises(rrcache.NoOffers):
+        next(told)
 
 
 def test_parts_that_offers_were_not_read_for():
