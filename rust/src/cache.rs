@@ -169,7 +169,8 @@ impl Cache {
     /// question. So store such a response only when no other server is left to ask. From a response
     /// with TC set nothing is stored: send the query again over TCP. If such a response ends inside
     /// a record, the error is `BadMessage`. The caller checks the address and port that a response
-    /// came from.
+    /// came from. After [`Memory`](Error::Memory) or [`HistoryFull`](Error::HistoryFull), a part of
+    /// the data may be stored.
     ///
     /// ```
     /// use rrcache::{Cache, Config, Name, Query, RecordType, Response, ResponseKind};
@@ -211,7 +212,10 @@ impl Cache {
     /// negative response without an SOA record.
     ///
     /// Returns [`Small`](Error::Small) if the buffer of the answer is too small, which may happen
-    /// for type ANY. Everything is then stored, and the answer has the RRsets that fit.
+    /// for type ANY, for a type that is not kept, such as RRSIG, and for an RRset of more than
+    /// 16,384 octets of rdata. The answer then has the RRsets that fit. Returns
+    /// [`BadData`](Error::BadData) if a record whose type is not kept cannot be read. Both errors
+    /// come after everything is stored.
     pub fn store_into(
         &self,
         query: &Query<'_>,
@@ -263,7 +267,8 @@ impl Cache {
 
     /// Removes the cached data of a name, a class and a type: the RRset or NODATA, the failure, and
     /// the NXDOMAIN of the name. With type ANY (255), it removes the data of every type. The mode
-    /// and `takes_glue` of the request are ignored.
+    /// and `takes_glue` of the request are ignored. Data that were removed before an error stay
+    /// removed.
     pub fn forget(&self, request: &Request<'_>) -> Result<(), Error> {
         // SAFETY: the name of the request is borrowed.
         check(unsafe { ffi::rrcache_forget(self.raw(), &request.raw()) })
@@ -271,8 +276,9 @@ impl Cache {
 
     /// Removes the keys that are fully expired at `moment`, which may be [`NOW`](crate::NOW), until
     /// at least `most` keys are removed or none is left. Returns [`BadRules`](Error::BadRules) if
-    /// `most` is 0. The next sweep continues in the shelf in which this one ended. A caller need
-    /// not sweep, because eviction makes room.
+    /// `most` is 0. Keys that were removed before another error stay removed. The next sweep
+    /// continues in the shelf in which this one ended. A caller need not sweep, because eviction
+    /// makes room.
     pub fn sweep(&self, moment: u64, most: u64) -> Result<Swept, Error> {
         let mut swept = ffi::rrcache_swept { removed: 0, is_done: 0 };
         // SAFETY: the pointer leads to what the call writes.

@@ -92,6 +92,39 @@ fn a_response_s_answer_with_too_little_room_is_refused() {
     assert_eq!(look(&cache, "www.example", RecordType::A, FIRST).kind(), AnswerKind::Fresh);
 }
 
+/// All is stored too if a record of a type that is not kept cannot be told.
+#[test]
+fn a_record_whose_data_cannot_be_told_is_refused() {
+    let cache = open();
+    let data = [0, 0, 0, 0, 0, 0, 0, 0x40]; // two numbers, three empty strings and no name
+    let message = Message::new(AA, "www.example", RecordType::ANY)
+        .with_address("www.example", 60)
+        .with(1, "www.example", RecordType::NAPTR, 60, &data);
+    let stored = message.store_into(&cache, "www.example", RecordType::ANY, &mut Answer::new());
+    assert_eq!(stored, Err(Error::BadData));
+    assert_eq!(look(&cache, "www.example", RecordType::A, FIRST).kind(), AnswerKind::Fresh);
+}
+
+/// 2,000 records of which each has a long name, that two octets point to.
+#[test]
+fn a_response_s_answer_may_need_more_than_the_usual_room() {
+    let cache = open();
+    let label = "a".repeat(60);
+    let of = format!("{label}.{label}.{label}.{label}.example");
+    let mut message = Message::new(AA, &of, RecordType::MX);
+    for number in 0..2000u16 {
+        message.0.extend(b"\xc0\x0c\0\x0f\0\x01\0\0\0\x3c\0\x04");
+        message.0.extend(number.to_be_bytes());
+        message.0.extend(b"\xc0\x0c");
+    }
+    message.0[6..8].copy_from_slice(&2000u16.to_be_bytes());
+    let mut answer = Answer::new();
+    assert_eq!(message.store_into(&cache, &of, RecordType::MX, &mut answer), Err(Error::Small));
+    let mut answer = Answer::with_room(1 << 20);
+    message.store_into(&cache, &of, RecordType::MX, &mut answer).unwrap();
+    assert_eq!(answer.rrsets().next().unwrap().data.count(), 2000);
+}
+
 /// RFC 5452 section 9.1: what does not answer the query is dropped.
 #[test]
 fn responses_to_other_queries_are_refused() {
