@@ -4,11 +4,12 @@ from __future__ import annotations
 
 import functools
 import os
-import threading
+from _thread import start_new_thread
 from collections.abc import Callable
 from contextlib import ExitStack
 from ctypes import string_at
 from pathlib import Path
+from threading import Lock
 from typing import BinaryIO
 
 from .handles import Handle, done
@@ -22,12 +23,14 @@ def written(export: str, cache: Handle, take: Take) -> None:
     """Makes a call of the library that passes octets to a function, with the number of their shelf.
     An exception of the function ends the call, and is raised again.
 
-    The call runs in a thread of its own. In the main thread, a signal that comes meanwhile may
-    raise an exception as soon as the callback begins, outside of its `try`. ctypes would drop this
-    exception with the octets, and return an arbitrary number to the library."""
+    The call runs in a thread of its own. In the main thread, the handler of a signal may raise an
+    exception as soon as the callback begins, outside of its `try`. ctypes would drop this exception
+    with the octets, and return an arbitrary number to the library. Objects of `threading` that are
+    written in Python do not bear such an exception either, so a plain lock says when the call has
+    ended."""
     faults: list[BaseException] = []
     statuses: list[int] = []
-    is_over = threading.Event()
+    caches, running = [cache], Lock()
 
     def sink(_: int | None, shelf: int, octets: int, size: int) -> bool:
         try:
@@ -38,21 +41,22 @@ def written(export: str, cache: Handle, take: Take) -> None:
         return bool(faults)
 
     def call() -> None:
+        status = 0
         try:
-            statuses.append(getattr(library(), export)(cache, SINK(sink), None))
+            # Once the call has ended, this thread has no reference to the cache.
+            status = getattr(library(), export)(caches.pop(), SINK(sink), None)
         except BaseException as fault:
             faults.append(fault)
-        finally:
-            is_over.set()
+        statuses.append(status)
+        running.release()
 
-    thread = threading.Thread(target=call)
-    thread.start()
-    while not is_over.is_set():
+    running.acquire()
+    start_new_thread(call, ())
+    while not statuses:
         try:
-            is_over.wait()
+            running.acquire()
         except BaseException as fault:
             faults.append(fault)
-    thread.join()
     if faults:
         raise faults[0]
     done(statuses[0])
