@@ -9,12 +9,17 @@ uint64_t most_shared;
 _Atomic uint64_t shared_octets;
 static _Atomic uint64_t octets_of[CLIENTS];
 
+/* The address becomes a name, since names are hashed under a secret seed. That folds the case of
+   letters, so each octet is two octets of the name, of which none is a letter. Else 192.0.2.65 and
+   192.0.2.97 would be one client. */
 unsigned client_at(const union address *address)
 {
     bool is_six = address->family == AF_INET6;
-    uint8_t name[10] = {is_six ? 8 : 4}; /* the form of a name in wire form, as it is hashed */
-    memcpy(name + 1, is_six ? (const void *)&address->six.sin6_addr : &address->four.sin_addr,
-           name[0]);
+    const uint8_t *octets =
+        is_six ? address->six.sin6_addr.s6_addr : (const uint8_t *)&address->four.sin_addr.s_addr;
+    uint8_t name[18] = {is_six ? 16 : 8}; /* the size of the only label */
+    for (size_t i = 0; i < name[0]; i++)
+        name[1 + i] = i % 2 == 0 ? octets[i / 2] >> 4 : octets[i / 2] & 15;
     return (unsigned)(hash_of(name, name[0] + 2u) % CLIENTS);
 }
 

@@ -125,6 +125,21 @@ def test_one_asks_all_the_time_and_others_get_answers(forwarder):
     one.close()
 
 
+def test_addresses_that_differ_like_a_letter_in_two_cases(forwarder):
+    """The last octets of 127.0.0.65 and 127.0.0.97 are those of `A` and `a`. They are two clients,
+    so what the one asks all the time does not replace what the other asked."""
+    it = forwarder(Server(behind(gate := threading.Event())))
+    with (datagrams(it.port, source="127.0.0.65") as one,
+          datagrams(it.port, source="127.0.0.97") as other):
+        other.send(octets_of(query("a1.example")))
+        it.wait_for("queries", 1)
+        for n in range(90):
+            one.send(octets_of(query("a1.example", id=n)))
+        it.wait_for("queries", 91)
+        gate.set()
+        assert data(read(other.recv(4096))) == [address(1)]
+
+
 def test_ids_and_ports_differ(forwarder):
     seen = []
 
