@@ -245,21 +245,22 @@ static bool is_lack(void)
 }
 
 /* Asks the next upstream by UDP. If all tries failed, the failure is stored, but not if this system
-   has no socket, port or buffer: that is not a failure of the name's servers. */
+   has no socket, port or buffer: that is not a failure of the name's servers. What it lacks for one
+   upstream it may have for another: a host whose IPv6 is turned off has an address of IPv4. */
 static void ask_next(struct fetch *fetch)
 {
-    while ((fetch->upstream = next_upstream(fetch)) != NULL) {
-        bool is_open = open_socket(fetch);
+    bool is_open = true, lacks = false;
+    while (is_open && (fetch->upstream = next_upstream(fetch)) != NULL) {
+        is_open = open_socket(fetch);
         if (is_open && send_query(fetch))
             return;
-        if (!is_open || is_lack()) {
-            give_up(fetch);
-            return;
-        }
+        lacks |= !is_open || is_lack();
         fetch->refused |= fetch->upstream->bit;
     }
-    count(FAILURES, 1);
-    remember_failure(&fetch->query.question);
+    if (!lacks) {
+        count(FAILURES, 1);
+        remember_failure(&fetch->query.question);
+    }
     give_up(fetch);
 }
 

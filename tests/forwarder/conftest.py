@@ -40,6 +40,7 @@ PROGRAMS = {
     "forwarder-refused": [*CHECKED, *WRAPPED, TESTS / "in_turn.c", *FORWARDER],
     "refusals.so": ["-O1", "-shared", "-fPIC", TESTS / "refusals.c"],
     "suspend.so": ["-O1", "-shared", "-fPIC", TESTS / "suspend.c"],
+    "families.so": ["-O1", "-shared", "-fPIC", TESTS / "families.c"],
 }
 # So many places lie between two tests that follow each other in their files.
 STRIDE = 24

@@ -1,16 +1,18 @@
 # SPDX-License-Identifier: MIT
 """IPv4 and IPv6, of clients and of upstreams, and several addresses that are listened on."""
 import contextlib
+import os
 import socket
 import subprocess
 import threading
 from pathlib import Path
 
 import pytest
+from dns.rcode import SERVFAIL
 
 from tests.forwarder.harness import (BUILD, Server, Stream, address, addresses, behind, bound,
                                      data, datagrams, octets_of, plain, query, read, silent, took,
-                                     truncated, with_id)
+                                     truncated, under, with_id)
 
 FOUR, SIX = "127.0.0.1", "::1"
 # Of /proc/net/if_inet6: what the scope of an address is that others reach too.
@@ -75,6 +77,31 @@ def test_upstreams_of_both_families(forwarder, hosts):
     two.stop()
     reply, seconds = took(it.ask, "a2.example")
     assert data(reply) == [address(2)] and seconds < 0.7
+
+
+def on_a_host(**setting):
+    """The environment of a program on a host that is set up so (families.c)."""
+    return {**os.environ, **setting, "LD_PRELOAD": str(BUILD / "families.so")}
+
+
+@under("forwarder")
+@pytest.mark.parametrize("hosts", [(SIX, FOUR), (FOUR, SIX), (SIX, SIX, FOUR)])
+def test_upstreams_of_both_families_where_ipv6_is_turned_off(forwarder, hosts):
+    """Those of IPv4 are asked, at once, and also after one of IPv6 when an answer is late."""
+    servers = [Server(host=it, delay=1.1) for it in hosts]
+    it = forwarder(*servers, environment=on_a_host(NO_SIX="1"))
+    reply, seconds = took(it.ask, "a1.example")
+    assert data(reply) == [address(1)] and seconds < 2
+    assert [bool(server.asked) for server in servers] == [host == FOUR for host in hosts]
+
+
+@under("forwarder")
+def test_no_address_is_no_failure_that_is_remembered(forwarder):
+    """Where there is only an upstream of IPv6, and no such address to ask from."""
+    it = forwarder(server := Server(host=SIX), environment=on_a_host(NO_SIX="1"))
+    for _ in range(2):
+        assert it.ask("a1.example").rcode() == SERVFAIL
+    assert (it.counted("sent", "failures"), server.asked) == ([2, 0], [])
 
 
 def test_several_addresses(forwarder):
