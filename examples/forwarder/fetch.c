@@ -281,6 +281,8 @@ static void upgrade(struct fetch *fetch)
     begin_try(fetch);
     fetch->way = CONNECTS;
     fetch->sock = socket(family, SOCK_STREAM | SOCK_NONBLOCK | SOCK_CLOEXEC, 0);
+    if (family == AF_INET6) /* as for UDP, whatever the system's default is (bindv6only) */
+        set_option(fetch->sock, IPPROTO_IPV6, IPV6_V6ONLY, 0);
     if (fetch->sock >= 0
         && (connect(fetch->sock, &address->any, address_size(address)) == 0
             || errno == EINPROGRESS))

@@ -104,6 +104,17 @@ def test_no_address_is_no_failure_that_is_remembered(forwarder):
     assert (it.counted("sent", "failures"), server.asked) == ([2, 0], [])
 
 
+@under("forwarder")
+def test_tcp_upstreams_of_both_families_where_sockets_speak_one(forwarder):
+    """A host may have each socket of IPv6 speak only that, unless it is told otherwise."""
+    it = forwarder(Server(silent, host=SIX), Server(many_or_one),
+                   environment=on_a_host(SIX_ALONE="1"))
+    assert ask(it.port, FOUR, "a1.example") == [address(1)]
+    with Stream(it.port) as stream:
+        assert len(data(stream.ask("n200.example"))) == 200
+    assert it.counted("upgraded") == [1]
+
+
 def test_several_addresses(forwarder):
     options = ("-q", "--listen", "::1@0", "--listen", "127.0.0.2@0")
     it = forwarder(server := Server(), options=options)
