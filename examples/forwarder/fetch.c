@@ -44,6 +44,7 @@ struct fetch {
     bool is_live; /* or the place is free */
     unsigned client, domain, turn, tries;
     unsigned asked, refused;   /* bits of the upstreams that this socket asked, and that refused */
+    unsigned plain;            /* bits of those that get no OPT record for this question */
     struct upstream *upstream; /* the one that was asked last */
     uint64_t began, try_ends, late_at;
     int sock;
@@ -210,7 +211,8 @@ static bool send_query(struct fetch *fetch)
     uint8_t octets[LENGTH + QUERY];
     const union address *to = fetch->way == BY_UDP ? &fetch->upstream->address : NULL;
     size_t skipped = fetch->way == BY_UDP ? LENGTH : 0;
-    fetch->query.has_edns = milliseconds() >= fetch->upstream->plain_until;
+    fetch->query.has_edns = milliseconds() >= fetch->upstream->plain_until
+                            && (fetch->plain & fetch->upstream->bit) == 0;
     size_t size = write_query(&fetch->query, octets + LENGTH);
     write_word(octets, (unsigned)size);
     size += LENGTH - skipped;
@@ -296,7 +298,7 @@ static void upgrade(struct fetch *fetch)
 /* Asks the upstream again on the same socket, without an OPT record (RFC 6891 section 6.2.2). */
 static void ask_plainly(struct fetch *fetch)
 {
-    fetch->upstream->plain_until = milliseconds() + PLAIN_MS;
+    fetch->plain |= fetch->upstream->bit;
     if (!draw_id(fetch) || !send_query(fetch))
         refused(fetch, fetch->upstream);
 }
@@ -329,6 +331,9 @@ static bool take_stray(struct fetch *fetch, struct upstream *upstream, const uin
         return false;
     }
     fetch->upstream = upstream; /* its answer counts, even if another one was asked since */
+    bool refused_opt = verdict != WANTS_PLAIN && (fetch->plain & upstream->bit) != 0;
+    if (refused_opt) /* and not the question, since it answers that without one */
+        upstream->plain_until = milliseconds() + PLAIN_MS;
     if (verdict == ANSWER)
         take_answer(fetch, message, size);
     else if (verdict == WANTS_PLAIN)

@@ -274,6 +274,19 @@ def test_edns_upstream_knows_it_though_it_refuses(forwarder, rcode):
     assert (len(server.asked), server.octets[10:12]) == (2, b"\0\1")
 
 
+@pytest.mark.parametrize("rcode", [FORMERR, NOTIMP])
+def test_edns_upstream_that_refuses_a_question_by_either_query(forwarder, rcode):
+    """It refuses the question, as that of a type it does not know, and not the OPT record. So other
+    questions come with one, or a client could have all answers above 512 octets come over TCP."""
+    refuses, knows = told(rcode=rcode), plain()
+    it = forwarder(server := Server(lambda *asked: (
+        refuses if asked[2] == "a1.example" else knows)(*asked)))
+    assert it.ask("a1.example").rcode() == SERVFAIL
+    assert (len(server.asked), server.octets[10:12]) == (2, b"\0\0")
+    assert data(it.ask("a2.example")) == [address(2)]
+    assert (len(server.asked), server.octets[10:12]) == (3, b"\0\1")
+
+
 def test_edns_upstream_of_those_alone_that_does_not_know_it(forwarder):
     """What one upstream does not know is sent to another."""
     def answer(server, asked, name):
