@@ -50,6 +50,7 @@ struct fetch {
     int sock;
     enum way way;
     uint8_t length[LENGTH], *message; /* what comes over TCP */
+    unsigned payer;                   /* the client of whose share the message is */
     size_t got;
 };
 
@@ -132,7 +133,7 @@ static void close_socket(struct fetch *fetch)
 {
     close(fetch->sock); /* or -1 */
     if (fetch->message != NULL)
-        give_back(fetch->client, fetch->message, word_at(fetch->length) + 1u);
+        give_back(fetch->payer, fetch->message, word_at(fetch->length) + 1u);
     fetch->sock = -1;
     fetch->message = NULL;
     fetch->got = 0;
@@ -395,6 +396,22 @@ static void begin_stream(struct fetch *fetch)
         refused(fetch, fetch->upstream);
 }
 
+/* Allocates memory for the message, of the share of the client that asked first, or else of another
+   one that waits: that the one has spent its share is not at the expense of the others. */
+static uint8_t *take_room(struct fetch *fetch, size_t size)
+{
+    struct bucket *bucket = bucket_of(&fetch->query.question);
+    fetch->payer = fetch->client;
+    uint8_t *room = take_share(fetch->payer, size);
+    pthread_mutex_lock(&bucket->lock);
+    for (struct asker *it = fetch->askers; it != NULL && room == NULL; it = it->next) {
+        fetch->payer = it->client;
+        room = take_share(fetch->payer, size);
+    }
+    pthread_mutex_unlock(&bucket->lock);
+    return room;
+}
+
 /* Reads what there is of the message over TCP, its length first. Returns true if it is whole. If it
    will never be, the fetch goes on. That there is no memory for it is not a failure of the name's
    servers either. */
@@ -414,7 +431,7 @@ static bool read_message(struct fetch *fetch)
         fetch->got += (size_t)got;
         if (!is_length || fetch->got < LENGTH)
             continue;
-        fetch->message = take_share(fetch->client, word_at(fetch->length) + 1u);
+        fetch->message = take_room(fetch, word_at(fetch->length) + 1u);
         if (fetch->message == NULL) {
             give_up(fetch);
             return false;
@@ -431,7 +448,7 @@ static void read_stream(struct fetch *fetch)
     fetch->got = 0;
     if (take_stray(fetch, fetch->upstream, message, word_at(fetch->length)))
         refused(fetch, fetch->upstream);
-    give_back(fetch->client, message, word_at(fetch->length) + 1u);
+    give_back(fetch->payer, message, word_at(fetch->length) + 1u);
 }
 
 void poll_fetches(const struct fetcher *fetcher, struct pollfd *polled)

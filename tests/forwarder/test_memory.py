@@ -4,11 +4,14 @@ which wait and of replies that nobody reads, of which each client has its share.
 import contextlib
 import itertools
 import struct
+import threading
 
 import pytest
+from dns.flags import TC
+from dns.rcode import NOERROR
 
-from tests.forwarder.harness import (Server, Stream, address, data, datagrams, many, octets_of,
-                                     plain, query, take, truncated, under)
+from tests.forwarder.harness import (MOST_SECONDS, Server, Stream, address, data, datagrams, many,
+                                     octets_of, plain, query, read, take, truncated, under)
 from tests.forwarder.test_shares import ATTACKER, OTHERS, Stage, Upstream
 
 MEBIBYTE = 1 << 20
@@ -94,6 +97,32 @@ def test_queries_that_wait_for_dead_names(forwarder):
             assert it.counters()["waiting"] <= MOST_WAITING
     assert missed == 0
     assert it.memory() < before + MOST_WAITING + BASE
+
+
+@under("forwarder")
+def test_message_for_which_the_share_of_one_client_has_no_room(forwarder):
+    """Two clients wait for a message over TCP. The one that asked first has half of all that may
+    wait already, but for less than the message has. The other one is answered all the same."""
+    def answer(server, asked, name):
+        if "dead" in name or (server.is_tcp and not gate.wait(MOST_SECONDS)):
+            return []
+        return many(server, asked, name) if server.is_tcp else [truncated(asked)]
+    gate, sent, asked = threading.Event(), 0, octets_of(query("n4000.example"))
+    it, queries = forwarder(Server(answer), options=OPTIONS), many_times(100, 64)
+    with (datagrams(it.port, source=ATTACKER) as attacker,
+          datagrams(it.port, source=OTHERS) as other):
+        while it.counters()["waiting"] < MOST_WAITING // 2 - 60000:
+            for octets in itertools.islice(queries, 100):
+                attacker.send(octets)
+            sent += 100
+            it.wait_for("queries", sent)
+        attacker.send(asked)
+        it.wait_for("upgraded", 1)
+        other.send(asked)
+        it.wait_for("queries", sent + 2)
+        gate.set()
+        reply = read(other.recv(4096))
+    assert (reply.rcode(), reply.flags & TC) == (NOERROR, TC)
 
 
 @under("forwarder")
