@@ -11,11 +11,13 @@
    fetch.c      queries to upstreams, and who waits for them
    shares.c     the memory that each client may have kept for it
    counters.c   what is counted, and the line a minute */
+#include <fcntl.h>
 #include <malloc.h>
 #include <signal.h>
 #include <stdio.h>
 #include <stdlib.h>
 #include <sys/resource.h>
+#include <unistd.h>
 
 #include "answers.h"
 #include "clients.h"
@@ -214,6 +216,16 @@ static bool block_signals(sigset_t *signals)
     return pthread_sigmask(SIG_BLOCK, signals, NULL) == 0;
 }
 
+/* Opens standard input, output and error if they are closed. Else sockets would get their numbers,
+   and a client would be sent the lines of the log. */
+static bool open_standard_files(void)
+{
+    bool is_open = true;
+    for (int file = 0; file <= STDERR_FILENO && is_open; file++)
+        is_open = fcntl(file, F_GETFD) >= 0 || open("/dev/null", O_RDWR) == file;
+    return is_open;
+}
+
 int main(int argc, char **argv)
 {
     struct options options;
@@ -223,7 +235,8 @@ int main(int argc, char **argv)
     mallopt(M_TRIM_THRESHOLD, TRIM_OCTETS); /* or it grows, and freed memory is kept */
     set_upstreams(options.upstream, options.upstreams);
     most_shared = options.octets / 4 < LEAST_SHARED ? LEAST_SHARED : options.octets / 4;
-    if (block_signals(&signals) && open_cache(options.octets, &options.identity)
+    if (open_standard_files() && block_signals(&signals)
+        && open_cache(options.octets, &options.identity)
         && open_listeners(options.listener, options.listeners))
         started = start(options.threads);
     if (started == 0) {

@@ -7,13 +7,14 @@ import re
 import resource
 import select
 import signal
+import socket
 import subprocess
 import time
 
 import pytest
 from dns.rcode import FORMERR, NOERROR, SERVFAIL
 
-from tests.forwarder.harness import (BUILD, MOST_SECONDS, Forwarder, Server, Stream, address,
+from tests.forwarder.harness import (BUILD, MOST_SECONDS, Forwarder, Server, Stream, address, bound,
                                      counts, data, datagrams, exchange, octets_of, plain, query,
                                      read, silent, under)
 
@@ -210,6 +211,37 @@ def test_pipes_whose_reader_is_gone(programs):
     time.sleep(1.2)
     assert data(it.ask("a1.example")) == [address(1)]
     assert it.end() == (0, "")
+
+
+def connected(port):
+    """A connection to a forwarder that starts."""
+    end = time.monotonic() + MOST_SECONDS
+    while True:
+        try:
+            return Stream(port)
+        except ConnectionRefusedError:
+            assert time.monotonic() < end
+            time.sleep(0.05)
+
+
+def test_standard_files_that_are_closed(programs):
+    """Their numbers are not those of sockets, so no client is sent a line of the log."""
+    taken, server = bound(True), Server()
+    port = taken[0].getsockname()[1]
+    for it in taken:
+        it.close()
+    words = [BUILD / "forwarder", "-l", "1", "127.0.0.1", str(port), "127.0.0.1", str(server.port)]
+    process = subprocess.Popen(["sh", "-c", 'exec "$0" "$@" <&- >&- 2>&-', *words])
+    try:
+        with connected(port) as stream:
+            assert data(stream.ask("a1.example")) == [address(1)]
+            stream.settimeout(2.5)
+            with pytest.raises(socket.timeout):
+                stream.recv(1)
+    finally:
+        process.terminate()
+        assert process.wait(MOST_SECONDS) == 0
+        server.is_over = True
 
 
 # ---- Arguments.
