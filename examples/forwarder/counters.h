@@ -5,7 +5,8 @@
 #include <stdint.h>
 #include <time.h>
 
-/* A query ends in one of the ways FRESH to TURNED_AWAY. */
+/* A query ends in one of the ways FRESH to TURNED_AWAY. One that waits, and that another query of
+   its client replaces, ends in none. */
 enum counter {
     QUERIES,     /* from clients */
     FRESH,       /* answered from the cache */
