@@ -1,8 +1,10 @@
 /* SPDX-License-Identifier: MIT */
 #include "clients.h"
 
+#include <linux/sockios.h>
 #include <netinet/tcp.h>
 #include <stdlib.h>
+#include <sys/ioctl.h>
 #include <sys/queue.h>
 #include <sys/socket.h>
 #include <unistd.h>
@@ -104,6 +106,23 @@ static void shut(struct connection *connection)
     connection->serial++;
 }
 
+/* Whether the system keeps replies that the client has not acknowledged. */
+static bool is_untaken(const struct connection *connection)
+{
+    int size = 0;
+    return ioctl(connection->sock, SIOCOUTQ, &size) == 0 && size > 0;
+}
+
+/* Shuts a connection, and drops what the client did not take. Else the system would keep that for
+   minutes, and a client that makes one connection after another could have it keep any amount. */
+static void reset(struct connection *connection)
+{
+    const struct linger at_once = {.l_onoff = 1};
+    if (is_untaken(connection))
+        setsockopt(connection->sock, SOL_SOCKET, SO_LINGER, &at_once, sizeof at_once);
+    shut(connection);
+}
+
 /* The size of the first query that was read, or 0 if it is not whole. */
 static size_t whole_query(const struct connection *connection)
 {
@@ -176,10 +195,10 @@ static void tend(struct connection *connection, int revents, uint64_t now)
     if (revents & POLLOUT)
         send_unsent(connection);
     bool is_done = connection->has_ended && connection->waiting == 0 && !is_behind(connection)
-                   && whole_query(connection) == 0;
+                   && whole_query(connection) == 0 && !is_untaken(connection);
     if (is_done || connection->is_broken || revents & (POLLERR | POLLHUP | POLLNVAL)
         || is_idle(connection, now, IDLE_MS))
-        shut(connection);
+        reset(connection);
 }
 
 /* ---- Places. If no place is free for a new connection, the client that holds most places, with
@@ -235,7 +254,7 @@ static void settle(struct clients *clients, int sock, unsigned client, uint64_t 
         return;
     }
     if (place->sock >= 0)
-        shut(place);
+        reset(place);
     set_option(sock, IPPROTO_TCP, TCP_NODELAY, 1);    /* each reply is one write */
     set_option(sock, SOL_SOCKET, SO_SNDBUF, MESSAGE); /* bounds what the system keeps */
     *place = (struct connection){
@@ -283,7 +302,7 @@ void poll_clients(struct clients *clients, struct pollfd *polled, uint64_t now)
         const struct connection *it = &clients->connections[i];
         bool reads = it->sock >= 0 && may_ask(it) && !it->has_ended;
         bool writes = it->sock >= 0 && is_behind(it);
-        polled[i].fd = reads || writes ? it->sock : -1;
+        polled[i].fd = it->sock; /* that it was reset is told without any event */
         polled[i].events = (short)((reads ? POLLIN : 0) | (writes ? POLLOUT : 0));
     }
     pthread_mutex_unlock(&clients->lock);

@@ -14,7 +14,7 @@ from dns.rcode import BADVERS, FORMERR, NOERROR, NOTIMP, NXDOMAIN, REFUSED, SERV
 
 from tests.forwarder.harness import (MOST_SECONDS, SOA, Server, Stream, address, counts, data,
                                      datagrams, edns, exchange, framed, many, octets_of, query,
-                                     read, record, silent, took)
+                                     read, record, silent, take, took)
 from tools.processes import Aside
 
 ASKED = query("a1.example", id=7)
@@ -283,6 +283,29 @@ def test_tcp_client_that_does_not_read(forwarder):
         time.sleep(5.5)
         stream.settimeout(MOST_SECONDS)
         assert len(stream.rest()) < 1 << 24
+
+
+@pytest.mark.parametrize("ends_its_side", [False, True])
+def test_tcp_client_that_takes_no_reply(forwarder, ends_its_side):
+    """After 5 seconds its connection is reset, so the system does not keep the reply for it. One
+    that takes its reply gets all of it, also if it sends no more."""
+    it = forwarder(Server(many))
+    with it.stream() as first:
+        assert first.gets_many(4000)
+    with socket.socket() as stream, Stream(it.port) as other:
+        stream.setsockopt(socket.SOL_SOCKET, socket.SO_RCVBUF, 4096)
+        stream.settimeout(MOST_SECONDS)
+        stream.connect(("127.0.0.1", it.port))
+        stream.sendall(framed(query("n4000.example")))
+        other.put(query("n4000.example"))
+        if ends_its_side:
+            stream.shutdown(socket.SHUT_WR)
+            other.shutdown(socket.SHUT_WR)
+        time.sleep(2)
+        assert len(other.read_octets()) > 64000
+        time.sleep(4)
+        with pytest.raises(ConnectionResetError):
+            take(stream, 64000)
 
 
 @pytest.mark.parametrize("octets", [
