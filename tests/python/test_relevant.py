@@ -3,7 +3,7 @@
 import pytest
 from dns.flags import AA, TC
 from dns.rcode import NXDOMAIN, SERVFAIL
-from dns.rdatatype import A, CNAME, DNAME, DS, MX, NS, SOA, TXT
+from dns.rdatatype import A, ANY, CNAME, DNAME, DS, MX, NS, SOA, TXT
 
 import rrcache
 from tests.forwarder.harness import (ID, SOA as SOA_RECORD, aliases, answered, hosts, record_of,
@@ -104,6 +104,17 @@ RELEVANT = {
         [(NAME, A, FRESH), ("a.example", DS, FRESH)]),
     "an address of three octets": (with_data(A, b"\xc0\0\2"), []),
 }
+
+
+def test_hosts_are_in_the_order_of_rrsets():
+    """Records of two RRsets alternate. The first has 12 names, and then 8 of the second count."""
+    exchanges, targets = ([f"{letter}{it}.example" for it in range(12)] for letter in "ms")
+    records = [line for it in zip(exchanges, targets) for line in (
+        f"{NAME} 60 MX 1 {it[0]}", f"{NAME} 60 SRV 1 1 53 {it[1]}")]
+    octets = answered(NAME, ANY, *records, additional=hosts(*targets, *exchanges))
+    with rrcache.read_response(octets, "example", rrcache.Query(NAME, ANY, ID), PARTS, 100) as it:
+        found = [reply.owner_text for _, reply in it if reply.rtype == A]
+    assert found == [f"{it}." for it in targets[:8] + exchanges]
 
 
 def offered_as_relevant(shelf, octets, query):
