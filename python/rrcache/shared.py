@@ -216,7 +216,8 @@ class SharedCache(Closing):
         `zone` is the zone whose server sent the response. `answer` of the report is for the waiting
         client: it has the data that the server sent, and for type ANY all RRsets of the name. Its
         kind is MISS if only `summary` has the result, as for a negative response without an SOA
-        record.
+        record. It is also MISS if the data, or a CNAME record that leads to them, are left out
+        because their TTLs differ.
 
         The caller checks the address and port that a response came from. Raises `OtherQuery` if the
         octets do not answer the query: the caller then drops them and keeps waiting. `BadMessage`

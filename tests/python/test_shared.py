@@ -315,6 +315,19 @@ def test_an_answer_of_a_class_that_is_not_kept(rclass):
         assert [(it.rclass, it.data) for it in report.answer] == [(rclass, (bytes(20),))]
 
 
+@pytest.mark.parametrize("is_lowest, kind, rrsets", [
+    (False, MISS, []), (True, FRESH, [("a.example.", CNAME, 30), ("b.example.", A, 60)])])
+def test_unequal_ttls_of_an_alias(is_lowest, kind, rrsets):
+    """They do not affect the kind of the response. But the answer does not have the alias if it is
+    left out, nor what it leads to."""
+    octets = answered("a.example", A, *(f"a.example {it} CNAME b.example" for it in (60, 30)),
+                      "b.example 60 A 192.0.2.1", flags=0)
+    with opened() as cache:
+        report = store(cache, octets, "a.example", lowest_ttl=is_lowest)
+        assert (report.summary.kind, report.answer.kind) == (ResponseKind.ANSWER, kind)
+        assert told(report.answer) == rrsets
+
+
 def test_unequal_ttls_and_limits():
     """The lowest TTL counts where that is chosen, and the cache's limits where none are given."""
     lines = ["a.example 5000 A 192.0.2.1", "a.example 4000 A 192.0.2.2"]
