@@ -64,6 +64,13 @@ def test_an_audit_says_that_it_could_not_write(program):
     assert (run.returncode, run.stderr) == (1, b"rrcache: what was found could not be written\n")
 
 
+@pytest.mark.parametrize("word", ["--help", "-V"])
+def test_help_that_cannot_be_written_is_no_fault(program, word):
+    with open("/dev/full", "wb") as full:
+        run = subprocess.run([program, word], stdout=full, stderr=subprocess.PIPE, timeout=LIMIT)
+    assert (run.returncode, run.stderr) == (0, b"")
+
+
 @pytest.mark.parametrize("words, wanted", [
     ([], b""), (["--progress"], b"rrcache: at line 256\n")])
 def test_progress_is_told_where_it_is_asked_for(program, words, wanted):
