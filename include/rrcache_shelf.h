@@ -1504,6 +1504,9 @@ static inline enum rrcache_status rrcache_tell_octets(const struct rrcache_name 
 {
     if (name == NULL || told == NULL || octets == NULL || !rrcache_is_there(buffer, buffer_size))
         return RRCACHE_NULL;
+    if (rrcache_touch(name, sizeof *name, told, sizeof *told, octets, sizeof *octets)
+        || rrcache_overlap(octets, sizeof *octets, buffer, buffer_size))
+        return RRCACHE_OVERLAP;
     if (told->owner_size > buffer_size || told->data_size > buffer_size - told->owner_size)
         return RRCACHE_SMALL;
     *octets = RRCACHE_ENTRY_OCTETS + RRCACHE_SHARED_OCTETS + rrcache_room(name->size);

@@ -4364,6 +4364,27 @@ static void test_overlaps_of_messages(struct rrcache_shelf *shelf)
     OVERLAPS(rrcache_offer_read(shelf, offers, AT(struct rrcache_share, 80), counts));
 }
 
+/* The octets of an offer with what it was told: a name at NAMED, what is told at TOLD, a buffer. A
+   size that they overwrote there would be that of octets behind the buffer. */
+static void test_overlaps_of_octets(void)
+{
+    const struct rrcache_name *name = AT(struct rrcache_name, NAMED);
+    struct rrcache_told *told = AT(struct rrcache_told, TOLD);
+    const uint8_t *buffer = memory + BUFFER;
+    memset(told, 0, sizeof *told);
+    told->kind = RRCACHE_FRESH;
+    told->data_size = 6;
+    OVERLAPS(rrcache_tell_octets(name, told, buffer, 64, &told->data_size));
+    OVERLAPS(rrcache_tell_octets(name, told, buffer, 64, AT(uint64_t, NAMED + sizeof *name - 8)));
+    OVERLAPS(rrcache_tell_octets(name, told, buffer, 64, AT(uint64_t, BUFFER + 56)));
+    OVERLAPS(rrcache_tell_octets(name, told, buffer, 63, AT(uint64_t, BUFFER + 56)));
+    IS_NULL(rrcache_tell_octets(name, told, NULL, 64, &told->data_size));
+    EXPECT(rrcache_tell_octets(name, told, buffer, 5, &told->data_size) == RRCACHE_OVERLAP
+           && told->data_size == 6);
+    EXPECT(rrcache_tell_octets(name, told, buffer, 56, AT(uint64_t, BUFFER + 56)) == RRCACHE_DONE
+           && *AT(uint64_t, BUFFER + 56) != 0);
+}
+
 /* What is composed lies at BUFFER, and how many octets it has at 64. The query and what a response
    was parsed to are read before anything is written, but for its array of sets. */
 static void test_overlaps_of_composing(void)
@@ -4528,6 +4549,7 @@ static void test_overlaps(void)
     memcpy(&held, shelf, sizeof held);
     test_overlaps_of_asks(shelf);
     test_overlaps_of_messages(shelf);
+    test_overlaps_of_octets();
     test_overlaps_of_composing();
     test_overlaps_of_offers(shelf);
     test_overlaps_of_upkeep(shelf);
