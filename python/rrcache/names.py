@@ -5,9 +5,10 @@ from __future__ import annotations
 import re
 
 LABEL_MOST, NAME_MOST = 63, 255
-# A backslash and the octet that it escapes, or any other octet except a dot.
-LABEL = re.compile(rb"(?:\\.|[^.\\])+", re.S)
-NAME = re.compile(rb"(?:%b\.)*(?:%b)?" % (LABEL.pattern, LABEL.pattern), re.S)
+# A backslash and the octet that it escapes, or any other octet except a dot. A digit cannot be
+# escaped: it begins the number of an octet.
+LABEL = re.compile(rb"(?:\\[0-9]{3}|\\[^0-9]|[^.\\])+")
+NAME = re.compile(rb"(?:%b\.)*(?:%b)?" % (LABEL.pattern, LABEL.pattern))
 ESCAPE = re.compile(rb"\\([0-9]{3}|.)", re.S)
 
 

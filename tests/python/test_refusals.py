@@ -18,7 +18,8 @@ def test_names(text, octets):
 
 
 @pytest.mark.parametrize("text", [
-    "a..b", ".a", "a\\", "\\999", "a" * 64, ".".join(["a" * 63] * 4), "\u00fc\u0100"])
+    "a..b", ".a", "a\\", "\\999", "\\1", "a\\12.b", "a" * 64, ".".join(["a" * 63] * 4),
+    "\u00fc\u0100"])
 def test_texts_that_are_no_names(text):
     with pytest.raises(rrcache.NameFault):
         rrcache.to_wire(text)
