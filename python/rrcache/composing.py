@@ -108,7 +108,8 @@ def compose_response(query: Query, answer: Iterable[AnySet] = (),
     """
     if not 0 <= rcode < RCODES:
         raise BadChoice
-    flags = QR | AA * aa | TC * tc | RA * ra | rcode
+    # a flag may be a number, as `header & AA` is, of which no bit may get into another field
+    flags = QR | (AA if aa else 0) | (TC if tc else 0) | (RA if ra else 0) | rcode
     try:
         return put_message(query, flags, (answer, authority, additional))
     except struct.error as fault:

@@ -278,3 +278,10 @@ def test_what_is_refused(status, query, one, rcode):
 def test_numbers_without_room(query, one):
     with pytest.raises(ValueError):
         compose_response(query, [one])
+
+
+def test_flags_that_are_numbers():
+    """A flag may be a number, of which no bit gets into the opcode or RD."""
+    for flags in ({"aa": 2}, {"tc": 4}, {"ra": 0x80}):
+        truth = dict.fromkeys(flags, True)
+        assert compose_response(QUERY, [ONE], **flags) == compose_response(QUERY, [ONE], **truth)
