@@ -10,10 +10,12 @@ from .choices import Class, Kind, Mode, Purpose
 from .library import Closing
 from .offers import Offers, read_message_unchecked, read_response
 from .parts import AnyName, Name, Parts, names_under
+from .refusals import Refused
 from .replies import Counts, Limits, Query, Reply, Trimmed
 from .shelf import KEYS_MOST, Shelf
 
 LINKS_MOST = 16
+NONE = Counts(0, 0, 0)
 
 
 class Cache(Closing):
@@ -105,12 +107,16 @@ class Cache(Closing):
 
     def _offer(self, offers: Offers, line: int) -> Counts:
         """Offers to each shelf its share of the offers, and frees the offers."""
-        total = Counts(0, 0, 0)
+        total = NONE
         with offers:
             for part in offers.concerned:
                 lock, shelf = self._shelves[part]
-                with lock:
-                    total = total.plus(shelf.offer_read(offers, part, line))
+                try:
+                    with lock:
+                        total = total.plus(shelf.offer_read(offers, part, line))
+                except Refused as fault:
+                    fault.counts = total.plus(fault.counts or NONE)
+                    raise
         return total
 
     def offer_response(self, message: bytes, zone: str | bytes, query: Query, moment: int,
@@ -119,7 +125,7 @@ class Cache(Closing):
         """Stores the response of a zone's server to a query. The message is read once, without a
         lock, as `read_response` does, and each shelf gets the relevant offers of its names. If the
         call on one shelf fails, its exception is raised, and other shelves keep the data that they
-        stored.
+        stored. `counts` of the exception has the offers to all shelves.
 
         >>> from rrcache import ParsedSet, compose_response
         >>> query = Query("www.example.", 1, id=0x1234)

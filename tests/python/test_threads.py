@@ -166,6 +166,21 @@ def test_a_reading_of_another_seed():
             assert refused.value.counts == (0, 0, 0) and shelf.sizes().events == 0
 
 
+def test_offers_before_a_refusal_are_counted():
+    """One of two shelves is closed, so that it refuses its share; the other has stored its own."""
+    owners = [f"{it}.example." for it in range(16)]
+    first = [it for it in owners if rrcache.make_name(it, rrcache.Parts(2, SEED)).part == 0]
+    query = rrcache.Query(owners[0], 1, id=1)
+    message = rrcache.compose_response(
+        query, [rrcache.ParsedSet(it, 1, 60, [bytes(4)]) for it in owners])
+    cache = rrcache.Cache(2, seed=SEED)
+    cache._shelves[1][1].close()
+    with pytest.raises(rrcache.NoShelf) as refused:
+        cache.offer_message_unchecked(message, ".", 1000)
+    assert 0 < len(first) < len(owners) and refused.value.counts == (len(first), 0, 0)
+    assert cache._shelves[0][1].sizes().keys == len(first)
+
+
 # ---- The hash.
 
 def siphash13(key, octets):
