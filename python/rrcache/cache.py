@@ -158,7 +158,8 @@ class Cache(Closing):
 
     def sweep(self, moment: int) -> int:
         """Sweeps each shelf, one after another, and returns the number of keys that were removed.
-        If the history is recorded, the closed chapters of each shelf are dropped.
+        If the history is recorded, the closed chapters of each shelf are dropped. If the call on
+        one shelf fails, its exception is raised, and the shelves before it stay swept.
 
         >>> with Cache() as cache:
         ...     cache.sweep(moment=1000)
@@ -175,7 +176,8 @@ class Cache(Closing):
         """Limits the memory of the cache. Trims each shelf, one after another, to an equal share of
         `limit`, and removes at most `most` keys from each (`Shelf.trim`). Returns the total. If the
         history is recorded, the closed chapters of each shelf are dropped. Raises `BadRules` if
-        `limit` is less than the number of shelves, or `most` is 0.
+        `limit` is less than the number of shelves, or `most` is 0. If the call on one shelf fails,
+        its exception is raised, and the shelves before it stay trimmed.
 
         >>> with Cache(parts=4) as cache:
         ...     cache.trim(moment=1000, limit=64_000_000)
