@@ -15,3 +15,4 @@ pub mod OneLine
 pub mod OneTurn
 pub mod OneReport
 pub mod OfferMoments
+pub mod CallSteps

@@ -1,5 +1,6 @@
 -- SPDX-License-Identifier: MIT
 pub mod Answers
+pub mod Called
 pub mod Faults
 pub mod Limits
 pub mod Reports

@@ -1,8 +1,10 @@
 // SPDX-License-Identifier: MIT
-ghost use Rattle.std.specs.Prelude.{◌≤◌};
+ghost use Rattle.std.specs.Prelude.{◌≤◌, IfOk, OnOk};
 ghost use Rattle.std.specs.List.{All};
 ghost use Rattle.rrc_history.specs.Lives.{LAST_MOMENT};
 ghost use Rattle.rrc_trace.specs.Lawful.{IsLawful};
+ghost use Rattle.rrc_script.specs.Scripts.{failure_of};
+ghost use Rattle.rrc_report.specs.Called.{IsOffered, AreOffered, IsResponded, IsFirstLook, IsFetched, IsFetchAnswer, AreSwept, AreClosed, IsCalled};
 
 use crate::calls::{Calls, Refused};
 use rrc_history::{Mode, Offer, Reply, Tag};
@@ -16,6 +18,7 @@ use std::alloc::Global;
 /// Makes an offer, and tells what became of it. Whom it evicted no call answers.
 fn tell<C: Calls>(cache: &mut C, tag: Tag, offer: Offer) -> Result<Told, Refused>
     requires { offer.moment ≤ LAST_MOMENT }
+    ensures { IfOk result (IsOffered C.offered tag offer) }
 {
     Ok(Told {
         outcome: cache.offer(tag, offer)?,
@@ -32,6 +35,7 @@ fn tell_all<C: Calls>(
 ) -> Result<Sequence<Told>, Refused>
     requires first { first.place ≤ 1 }
     requires timely { All (λ offer. offer.moment ≤ LAST_MOMENT) offers.items }
+    ensures { IfOk result (AreOffered C.offered first.line first.place offers.items) }
 {
     // No room to spare: a trace may have as many of these lists as lines.
     let mut told = Sequence::from_vec(Vec::with_capacity(alloc, offers.len())?);
@@ -53,6 +57,7 @@ fn fail<C: Calls>(
     failed: &Failed,
 ) -> Result<Told, Refused>
     requires { failed.now.moment ≤ LAST_MOMENT }
+    ensures { IfOk result (IsOffered C.offered first (failure_of limits.now failed.now.moment failed.now.name failed.now.class failed.now.rtype)) }
 {
     let offer = failure_at(
         failed.moment,
@@ -70,12 +75,13 @@ fn respond<C: Calls>(
     alloc: Global,
     cache: &mut C,
     limits: &Limits,
-    first: Tag,
+    line: u64,
     response: &Response,
 ) -> Result<Answer, Refused>
-    requires place { first.place ≤ 1 }
-    requires timely { response.now.moment ≤ LAST_MOMENT }
+    requires { response.now.moment ≤ LAST_MOMENT }
+    ensures { IfOk result (IsResponded C.offered limits.now line response.now) }
 {
+    let first = Tag { line, place: 0 };
     let octets = response.octets.as_slice();
     match offers_in(alloc, octets, &response.zone, response.moment, limits) {
         Ok(offers) => Ok(Answer::Response(tell_all(alloc, cache, first, offers)?)),
@@ -92,6 +98,7 @@ fn sweep<C: Calls>(
     moment: u64,
 ) -> Result<Sequence<usize>, Refused>
     requires { moment ≤ LAST_MOMENT }
+    ensures { IfOk result (AreSwept C.swept line moment 0 (C.count cache.old)) }
 {
     let parts = cache.parts();
     let mut counts = Sequence::from_vec(Vec::with_capacity(alloc, parts)?);
@@ -106,7 +113,9 @@ fn sweep<C: Calls>(
 }
 
 /// Closes the chapter of each part.
-fn close<C: Calls>(cache: &mut C) -> Result<(), Refused> {
+fn close<C: Calls>(cache: &mut C) -> Result<(), Refused>
+    ensures { OnOk result (AreClosed C.closed (C.count cache.old)) }
+{
     let parts = cache.parts();
     for part in 0..parts {
         cache.close_part(part)?;
@@ -115,12 +124,15 @@ fn close<C: Calls>(cache: &mut C) -> Result<(), Refused> {
 }
 
 /// What the cache has for a fetch, or when to try again. `None` where it is to be fetched.
+///
+/// `Spent` where the numbers of the part are spent, and `Memory` where memory is refused.
 pub fn first_look<C: Calls>(
     cache: &mut C,
     line: u64,
     fetch: &Fetch,
 ) -> Result<Option<Answer>, Refused>
     requires { fetch.now.moment ≤ LAST_MOMENT }
+    ensures { IfOk result (IsFirstLook C.asked line fetch.now) }
 {
     match cache.ask(Tag { line, place: 0 }, &ask_at(fetch, Mode::Failed)?)? {
         Reply::Miss {
@@ -132,6 +144,9 @@ pub fn first_look<C: Calls>(
 }
 
 /// Offers what a fetch got, and asks again.
+///
+/// `Spent` where the numbers of a part are spent, and `Memory` where memory is refused. The calls
+/// before that were made.
 #[tactic(auto, using(crate::proofs::OfferMoments::fetched))]
 pub fn fetched<C: Calls>(
     alloc: Global,
@@ -141,6 +156,7 @@ pub fn fetched<C: Calls>(
     fetch: &Fetch,
 ) -> Result<Answer, Refused>
     requires { fetch.now.moment ≤ LAST_MOMENT }
+    ensures { IfOk result (IsFetched C.offered C.asked limits.now line fetch.now) }
 {
     let Ok(offers) = offers_fetched(alloc, fetch, limits) else {
         return Err(Refused::Memory);
@@ -161,6 +177,7 @@ fn answer_fetch<C: Calls>(
     fetch: &Fetch,
 ) -> Result<Answer, Refused>
     requires { fetch.now.moment ≤ LAST_MOMENT }
+    ensures { IfOk result (IsFetchAnswer C.offered C.asked limits.now line fetch.now) }
 {
     match first_look(cache, line, fetch)? {
         Some(answer) => Ok(answer),
@@ -169,6 +186,9 @@ fn answer_fetch<C: Calls>(
 }
 
 /// Makes the calls of a line, and tells what they got. Beside a fetch no other worker fetches.
+///
+/// `Spent` where the numbers of a part are spent, and `Memory` where memory is refused. The calls
+/// before that were made.
 pub fn answer_line<C: Calls>(
     alloc: Global,
     cache: &mut C,
@@ -177,6 +197,7 @@ pub fn answer_line<C: Calls>(
     line: &Line,
 ) -> Result<Answer, Refused>
     requires { IsLawful line.now }
+    ensures { IfOk result (IsCalled C.offered C.asked C.swept C.closed limits.now (C.count cache.old) number line.now) }
 {
     let first = Tag {
         line: number,
@@ -186,7 +207,7 @@ pub fn answer_line<C: Calls>(
         Line::Put(put) => Ok(Answer::Put(tell(cache, first, offer_at(put, limits)?)?)),
         Line::Ask(ask) => Ok(Answer::Ask(cache.ask(first, ask)?)),
         Line::Fail(failed) => Ok(Answer::Fail(fail(cache, limits, first, failed)?)),
-        Line::Response(response) => respond(alloc, cache, limits, first, response),
+        Line::Response(response) => respond(alloc, cache, limits, number, response),
         Line::Fetch(fetch) => answer_fetch(alloc, cache, limits, number, fetch),
         Line::Sweep(moment) => Ok(Answer::Swept(sweep(alloc, cache, number, *moment)?)),
         Line::Checkpoint => {

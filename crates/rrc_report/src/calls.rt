@@ -1,5 +1,10 @@
 // SPDX-License-Identifier: MIT
-ghost use Rattle.std.specs.Prelude.{◌≡◌, ◌≢◌, ◌<◌, ◌≤◌, ℕ, Ok, Err, IfOk, IfErr};
+ghost use Rattle.std.specs.Prelude.{◌≡◌, ◌≢◌, ◌<◌, ◌≤◌, ℕ, Ok, Err, IfOk, IfErr, OnOk};
+ghost use Rattle.rrc_history.specs.declared.event.Outcome.{Outcome};
+ghost use Rattle.rrc_history.specs.declared.event.Reply.{Reply};
+ghost use Rattle.rrc_history.specs.declared.event.Tag.{Tag};
+ghost use Rattle.rrc_history.specs.Asked.{AskOf};
+ghost use Rattle.rrc_history.specs.Fits.{OfferOf};
 ghost use Rattle.rrc_history.specs.Lives.{LAST_MOMENT};
 
 use rrc_cache::Refusal;
@@ -28,8 +33,25 @@ impl<T: Drop> From<AllocFailed<T>> for Refused {
 
 /// The calls that a line makes on a cache of several parts. The moment of each is one that a part
 /// takes, as that of each line is.
+///
+/// What its calls may answer is for each cache to say, by the relations `offered`, `asked`, `swept`
+/// and `closed`. A function that is generic over caches knows of these only that the answer of a
+/// call stands in them for the arguments of that call. So what its clauses tell by them is what
+/// calls with just these arguments answered.
 pub trait Calls {
     ghost count: { Self → ℕ };
+
+    // The offer with this tag got this outcome.
+    ghost offered: { Tag → OfferOf → Outcome → Type 0 };
+
+    // The ask with this tag got this reply.
+    ghost asked: { Tag → AskOf → Reply → Type 0 };
+
+    // From this part the sweep with this tag, of this moment, removed so many keys.
+    ghost swept: { ℕ → Tag → ℕ → ℕ → Type 0 };
+
+    // The chapter of this part was closed.
+    ghost closed: { ℕ → Type 0 };
 
     /// How many parts there are.
     fn parts(&self) -> usize
@@ -37,22 +59,26 @@ pub trait Calls {
 
     /// Makes an offer to the part that its name lies in.
     fn offer(&mut self, tag: Tag, offer: Offer) -> Result<Outcome, Refused>
-        requires { offer.moment ≤ LAST_MOMENT };
+        requires { offer.moment ≤ LAST_MOMENT }
+        ensures { IfOk result (λ outcome. offered tag offer outcome) };
 
     /// Asks the part that the name lies in.
     fn ask(&mut self, tag: Tag, ask: &Ask) -> Result<Reply, Refused>
-        requires { ask.now.moment ≤ LAST_MOMENT };
+        requires { ask.now.moment ≤ LAST_MOMENT }
+        ensures { IfOk result (λ reply. asked tag ask.now reply) };
 
     /// Sweeps a part, and counts the keys that went from it.
     fn sweep_part(&mut self, part: usize, tag: Tag, moment: u64) -> Result<usize, Refused>
         requires below { part < count self.old }
         requires timely { moment ≤ LAST_MOMENT }
-        ensures { count self.new ≡ count self.old };
+        ensures count { count self.new ≡ count self.old }
+        ensures ok { IfOk result (λ gone. swept part tag moment gone) };
 
     /// Closes the chapter of a part.
     fn close_part(&mut self, part: usize) -> Result<(), Refused>
         requires { part < count self.old }
-        ensures { count self.new ≡ count self.old };
+        ensures count { count self.new ≡ count self.old }
+        ensures ok { OnOk result (closed part) };
 }
 
 /// What a call on a part answered, or why its line could not be answered. No line has a moment that
