@@ -309,11 +309,13 @@ RRCACHE_API bool rrcache_next(const struct rrcache_answer *answer, struct rrcach
 
    `answer` may be null. Otherwise it gets the answer that the response itself gives, including data
    that are not stored: data with TTL 0, data that were left out, and data of lower rank than the
-   cached data. So a waiting client gets the data that the server sent. For type ANY, the answer has
-   all RRsets of the name, which no look-up returns. At most RRCACHE_MOST_ALIASES CNAME records are
-   followed, and RRsets of any size are returned. Fewer CNAME records and only smaller RRsets are
-   relevant, and therefore stored. Rdata of types A and AAAA may have any length in this answer. If
-   the type is not kept, such as NAPTR, each record is returned as an RRset of its own, and
+   cached data. So a waiting client gets the data that the server sent. An RRset with unequal TTLs
+   is left out here too, if AA is clear and `lowest_ttl` is not set. `kind` is then RRCACHE_MISS if
+   the RRset has the data, or a CNAME record that leads to them. For type ANY, the answer has all
+   other RRsets of the name, which no look-up returns. At most RRCACHE_MOST_ALIASES CNAME records
+   are followed, and RRsets of any size are returned. Fewer CNAME records and only smaller RRsets
+   are relevant, and therefore stored. Rdata of types A and AAAA may have any length in this answer.
+   If the type is not kept, such as NAPTR, each record is returned as an RRset of its own, and
    RRCACHE_NODATA means that an SOA record denies the type. `kind` is RRCACHE_MISS if only `report`
    has the result, as for a negative response without an SOA record.
 

@@ -1317,12 +1317,13 @@ static inline enum rrcache_status rrcache_can_read(const struct rrcache_response
      (any type if that is ANY). Its owner must be the name of the question, or one of at most 11
      names to which CNAME records lead from there. A DNAME RRset above one of these names is
      relevant too.
-   - In the authority section, the first RRset at or above the last of these names is relevant, for
-     each of the types NS, SOA and DS.
+   - In the authority section, the first RRset at or above the final name is relevant, for each of
+     the types NS, SOA and DS. The final name is reached from the name of the question by at most 16
+     CNAME records.
    - In the additional section, the A and AAAA RRsets of hosts are relevant. The hosts are the first
-     20 names in the rdata of relevant NS, MX and SRV records, those of NS records first, otherwise
-     in the order of the message. A name that occurs twice counts once. A name that is out of
-     bailiwick counts, although its addresses are left out.
+     20 names in the rdata of relevant NS, MX and SRV RRsets, those of NS RRsets first. Otherwise,
+     RRsets are in the order of their first records. A name that occurs twice counts once. A name
+     that is out of bailiwick counts, although its addresses are left out.
    - The negative answer or the failure is always relevant.
 
    These RRsets are not relevant:
