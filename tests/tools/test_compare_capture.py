@@ -146,7 +146,7 @@ class Wire:
     def payloads(self, ip):
         """The messages that a packet ends."""
         told = ip.data
-        if isinstance(told, dpkt.icmp.ICMP):
+        if ip.p == dpkt.ip.IP_PROTO_ICMP:
             return
         if ip.mf or ip.offset:
             piece = self.pieces.setdefault(ip.id, bytearray())
