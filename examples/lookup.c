@@ -25,7 +25,7 @@ static void print(const struct rrcache_answer *answer)
     }
 }
 
-/* Looks up the name of a query of so many octets, and returns whether there is an answer. */
+/* Looks up the name of a query of `size` octets, and returns whether there is an answer. */
 static bool look_up(struct rrcache *cache, const uint8_t *sent, int size)
 {
     struct rrcache_query query = {.name = sent + 12, .rtype = 1, .rclass = 1};

@@ -15,12 +15,13 @@
      threads forks. After a process with one thread forks, parent and child each have a cache of
      their own, with the same seed: neither sees what the other stores. Processes cannot share a
      cache.
-   - A hash under a secret seed chooses the shelf of each name. Each shelf has `readers` places, and
-     threads are assigned to these places in turn. A look-up that does not move its entry takes only
-     the place of its thread, or another place if that one is taken. Such look-ups do not block each
-     other, even for the same name, as long as there are at least as many places as threads. A call
-     that changes a shelf keeps new look-ups out of the shelf, and waits for those that have begun.
-     No call holds locks of two shelves at the same time.
+   - A hash under a secret seed chooses the shelf of each name. Each shelf has `readers` places. A
+     place is a lock that one thread at a time holds for a look-up. Threads are assigned to these
+     places in turn. A look-up that does not move its entry takes only the place of its thread, or
+     another place if that one is taken. Such look-ups do not block each other, even for the same
+     name, as long as there are at least as many places as threads. A call that changes a shelf
+     keeps new look-ups out of the shelf, and waits for those that have begun. No call holds locks
+     of two shelves at the same time.
    - If a thread asks for a name again and again within a second, in lower case, the answer is
      copied from a memo as long as nothing has changed in the shelf of the name. Only an answer of
      one RRset and a negative answer have memos. Such a look-up takes no place. What it returns and
@@ -62,16 +63,16 @@
      CLOCK_BOOTTIME, which cannot be set and keeps running while the machine is suspended.
    - A program passes 0 in every call, or it passes timestamps from its own clock in every call.
      That clock must never be set back. If a program mixes the two clocks, data expire too late or
-     too early. A program that passes 0 may also pass seconds of CLOCK_BOOTTIME, for example when
-     it restores a dump: this is the same clock. `retry_from` is a timestamp of the same clock.
+     too early. A program that passes 0 may also pass seconds of CLOCK_BOOTTIME, for example when it
+     restores a dump: this is the same clock. `retry_from` is a timestamp of the same clock.
 
    Errors
    - The header rrcache_shelf.h describes the wire form of names, the ownership of memory, and each
      status. On error, outputs are unmodified, unless the comment of the function says otherwise.
    - A function that fills an answer empties the answer first. On error the answer stays empty: its
-     `kind` is RRCACHE_MISS, and `end` has no name. The exception is RRCACHE_SMALL: the answer then
-     has the RRsets that fit, and `kind` and `end` are unspecified. The answer does not have the
-     size that is needed: make the call again with a larger buffer. A second `rrcache_store` stores
+     `kind` is RRCACHE_MISS, and `end` holds no name. The exception is RRCACHE_SMALL: the answer
+     then has the RRsets that fit, and `kind` and `end` are unspecified. The answer does not say
+     which size is needed: make the call again with a larger buffer. A second `rrcache_store` stores
      the response again.
    - Memory that a call reads must not overlap memory that it writes, with two exceptions. The name
      of a request and of a query, and the zone of a response, may lie in the buffer of the answer.
@@ -188,10 +189,11 @@ struct rrcache_rrset {
     struct rrcache_entry entry; /* the entry that the RRset comes from. Its `ttl` and `moment`, as
                                    they were stored, tell a resolver when to prefetch. `number` is
                                    unique only within the shelf of the owner's name, and in a
-                                   negative answer within that of `end`. No field has the shelf, but
-                                   this name and `number` together are unique: a caller can use them
-                                   to find its own data about the entry, such as a security status.
-                                   In an answer of `rrcache_store`, `number` and `age` are 0 */
+                                   negative answer within that of `end`. No field says which shelf
+                                   that is, but this name and `number` together are unique: a caller
+                                   can use them to find its own data about the entry, such as a
+                                   security status. In an answer of `rrcache_store`, `number` and
+                                   `age` are 0 */
     size_t next;                /* the offset of the next RRset in the buffer */
 };
 
@@ -312,12 +314,12 @@ RRCACHE_API bool rrcache_next(const struct rrcache_answer *answer, struct rrcach
    cached data. So a waiting client gets the data that the server sent. An RRset with unequal TTLs
    is left out here too, if AA is clear and `lowest_ttl` is not set. `kind` is then RRCACHE_MISS if
    the RRset has the data, or a CNAME record that leads to them. For type ANY, the answer has all
-   other RRsets of the name, which no look-up returns. At most RRCACHE_MOST_ALIASES CNAME records
-   are followed, and RRsets of any size are returned. Fewer CNAME records and only smaller RRsets
-   are relevant, and therefore stored. Rdata of types A and AAAA may have any length in this answer.
-   If the type is not kept, such as NAPTR, each record is returned as an RRset of its own, and
-   RRCACHE_NODATA means that an SOA record denies the type. `kind` is RRCACHE_MISS if only `report`
-   has the result, as for a negative response without an SOA record.
+   other RRsets of the name. A look-up of type ANY never returns these. At most RRCACHE_MOST_ALIASES
+   CNAME records are followed, and RRsets of any size are returned. Fewer CNAME records and only
+   smaller RRsets are relevant, and therefore stored. Rdata of types A and AAAA may have any length
+   in this answer. If the type is not kept, such as NAPTR, each record is returned as an RRset of
+   its own, and RRCACHE_NODATA means that an SOA record denies the type. `kind` is RRCACHE_MISS if
+   only `report` has the result, as for a negative response without an SOA record.
 
    Also returns RRCACHE_BAD_LIMITS if a limit is out of range, and RRCACHE_BAD_NAME if the zone or
    the name of the query is not in wire form. After these errors `report` is unmodified. Once the

@@ -55,8 +55,8 @@
      threads forks.
 
    Memory
-   - The library allocates only by malloc and realloc, and frees only by free. If an allocation
-     fails, the call returns RRCACHE_MEMORY.
+   - The library allocates memory only with malloc and realloc, and frees it only with free. If an
+     allocation fails, the call returns RRCACHE_MEMORY.
    - These calls never allocate and never return RRCACHE_MEMORY, even for long names:
      `rrcache_peek`, `rrcache_peek_alias`, `rrcache_tell_stored`, `rrcache_make_name`,
      `rrcache_tell_response`, `rrcache_tell_offer` and `rrcache_compose_response`. While nothing is
@@ -75,9 +75,9 @@
      they fail: `rrcache_offer_read`, `rrcache_offer_message_unchecked`,
      `rrcache_offer_part_unchecked`, `rrcache_sweep_some` and `rrcache_trim`. These functions make
      several offers, sweeps or evictions, one after another. If one of these fails, those before it
-     are not undone. `counts` has the number of these offers, and `swept` the number of keys that
-     these sweeps removed. `rrcache_write_chapter` and `rrcache_write_line` may have written the
-     beginning of their text.
+     are not undone. `counts` has the number of the offers before it, and `swept` the number of keys
+     that the sweeps before it removed. `rrcache_write_chapter` and `rrcache_write_line` may have
+     written the beginning of their text.
    - If chapters cannot be taken, they stay in the shelf. If recording cannot be stopped, it
      continues.
    - On error, outputs are unmodified, with these exceptions: `counts` and `swept`, and after
@@ -164,7 +164,7 @@
 
    History and chapters
    - The history of a shelf is a log. Each ask, each sweep, and each offer that returns RRCACHE_DONE
-     is one event of the history. A message causes one event for each of its offers that was made. A
+     is one event of the history. A message causes one event for each of its offers that is made. A
      trim causes one or two events for each key that it removes.
    - A new shelf does not record. While a shelf does not record, an event has a number but uses no
      memory, no chapter is full or closed, and there is nothing to drop. `rrcache_record` starts to
@@ -178,12 +178,12 @@
    - The time to close a chapter grows with the number of keys in the shelf, now or at the beginning
      of the chapter. The call writes 16 octets for each key, and copies an entry of 56 octets for
      each key that was used since the chapter began. At the end of the first chapter, the call
-     copies the entries of all keys. It does the same at the end of a chapter with more uses and
-     removals than keys at its beginning. Names, data and events are not copied. A good chapter size
-     is about as many events as the shelf has keys.
+     copies the entries of all keys. It does the same at the end of a chapter in which there were
+     more uses and removals of keys than there were keys at its beginning. Names, data and events
+     are not copied. A good chapter size is about as many events as the shelf has keys.
    - A caller that records should regularly take the closed chapters with `rrcache_take_chapters`,
      or drop them with `rrcache_drop_chapters`. Taking them is one step, regardless of their number.
-     Dropping them frees each of their events, and each copied entry that is not used elsewhere. So
+     Dropping them frees all their events, and all copied entries that are not used elsewhere. So
      the time to drop them grows with the number of events since the last time, and is spent under
      the lock: it is short if chapters are dropped often. `rrcache_free_chapters` frees taken
      chapters without a lock.
@@ -220,10 +220,10 @@
      numbers are used up, and RRCACHE_MOMENT_TOO_LARGE if the timestamp is above 2^40. The comments
      of the functions do not repeat these conditions.
 
-   Names are in wire form (RFC 1035 section 3.1): whole, without compression pointers, at most 255
-   octets including the zero octet at the end, and in any case. `line` in a struct is a number that
-   the caller chooses and that is kept with the event of the call; 0 is fine. A pointer may be null
-   only if its size is 0.
+   Names are in wire form (RFC 1035 section 3.1): whole, without compression pointers, and at most
+   255 octets including the zero octet at the end. Letters may be in upper or lower case. `line` in
+   a struct is a number that the caller chooses and that is kept with the event of the call; 0 is
+   fine. A pointer may be null only if its size is 0.
 
    The exported functions of the library begin with `rrc_`. The exported functions require pointers
    that are not null, and buffers that do not overlap. The inline functions below check these
@@ -272,16 +272,16 @@ enum rrcache_status {
                                      returns the reason */
     RRCACHE_BAD_CHOICE = 11,      /* no purpose, mode, kind, trust, section or RCODE has this
                                      number */
-    RRCACHE_BAD_TYPE = 12,        /* in an offer: data of this type are not kept in this class, such
-                                     as OPT and the types that only questions have. In a question:
-                                     its class is not kept, or its type is 0. In a parsed response
-                                     and its query: a class or a type is 0 */
+    RRCACHE_BAD_TYPE = 12,        /* in an offer: data of this type are not kept in this class, as
+                                     for type OPT and the types that occur only in questions. In a
+                                     question: its class is not kept, or its type is 0. In a parsed
+                                     response and its query: a class or a type is 0 */
     RRCACHE_BAD_DATA = 13,        /* the rdata do not fill the layout of their type, or are cut
                                      off */
     RRCACHE_WRONG_BODY = 14,      /* an RRset has no data, or a TTL is above 2^31 - 1 */
     RRCACHE_WIDE = 15,            /* the rdata of a record of the reply have more than 65,535
                                      octets, which no message can have, or all rdata together have
-                                     2^64 */
+                                     at least 2^64 octets */
     RRCACHE_SMALL = 16,           /* the buffer is too small: `told` or `size` has the size that is
                                      needed, and no event was written */
     RRCACHE_NULL = 17,            /* a pointer is null (only from inline functions) */
@@ -593,7 +593,7 @@ struct rrcache_line {
 };
 
 /* ---- Arguments of functions. Each name has the number of its octets next to it. Name the fields
-   when you initialize such a struct, and the other fields are 0.
+   when you initialize such a struct: the fields that you leave out are then 0.
 
    All structs of this header and of rrcache.h are part of the ABI of the library, because exported
    functions read or write them. They keep their size and their fields in all versions with the same
@@ -921,7 +921,7 @@ static inline const char *rrcache_status_text(enum rrcache_status status)
     return "no such status";
 }
 
-/* Returns a valid pointer for a list of no octets. */
+/* Returns the pointer to a list of octets, or a valid pointer if the list is empty. */
 static inline const uint8_t *rrcache_octets(const uint8_t *octets, size_t size)
 {
     static const uint8_t none = 0;
@@ -961,8 +961,8 @@ static inline bool rrcache_holds(const struct rrcache_shelf *shelf, const void *
    under the seed of the rules. The seed must be random and secret. Otherwise an attacker can choose
    names with similar hashes, which makes calls slow.
 
-   Returns RRCACHE_HAS_SHELF if the handle holds a shelf, even if the rules are wrong: that shelf is
-   unchanged. Returns RRCACHE_BAD_RULES if a number in the rules is out of range, and
+   Returns RRCACHE_HAS_SHELF if the handle already holds a shelf, even if the rules are not valid.
+   That shelf is unchanged. Returns RRCACHE_BAD_RULES if a number in the rules is out of range, and
    RRCACHE_BAD_SEED if the seed is all 0. Needs the write lock. */
 static inline enum rrcache_status rrcache_make(struct rrcache_shelf *shelf,
                                                const struct rrcache_rules *rules)
@@ -974,7 +974,7 @@ static inline enum rrcache_status rrcache_make(struct rrcache_shelf *shelf,
     return (enum rrcache_status)rrc_make(shelf, rules);
 }
 
-/* Frees the shelf of a handle, with each of its keys and recorded events. The handle then holds no
+/* Frees the shelf of a handle, with all its keys and recorded events. The handle then holds no
    shelf. Needs the write lock. */
 static inline enum rrcache_status rrcache_free(struct rrcache_shelf *shelf)
 {
@@ -1011,7 +1011,7 @@ static inline enum rrcache_status rrcache_record(struct rrcache_shelf *shelf)
     return (enum rrcache_status)rrc_record(shelf);
 }
 
-/* Stops recording, and frees each recorded event of the closed chapters and of the open chapter.
+/* Stops recording, and frees all recorded events of the closed chapters and of the open chapter.
    Replies do not change, and no key is lost. If nothing is recorded, the call does nothing. The
    call never allocates, and its only errors are RRCACHE_NULL and RRCACHE_NO_SHELF. Needs the write
    lock. */
@@ -1221,8 +1221,8 @@ static inline size_t rrcache_put_response(const struct rrcache_query *query,
 /* Writes a response that a resolver parsed itself to the front of a buffer, as a message of `size`
    octets (RFC 1035 section 4). The caller then passes the message to `rrcache_read_response`, with
    the same query, like any other response. So relevance, ranks, negative answers, referrals and
-   failures are those of the parsed response. The call never allocates, needs no lock, and its time
-   is linear in the octets of its arguments.
+   failures are those of the parsed response. The call never allocates and needs no lock, and its
+   time is linear in the octets of its arguments.
 
    The caller must first compare the response with its query (RFC 5452 section 9.1): QR, the opcode,
    the identifier and the question. If the query has `with_case`, the caller must also compare the
@@ -1306,11 +1306,11 @@ static inline enum rrcache_status rrcache_can_read(const struct rrcache_response
    not read further, so such octets cost almost nothing. Anyone may have sent them, and the caller
    drops them and keeps waiting. The call also returns RRCACHE_OTHER_QUERY if there are too few
    octets for an identifier, or if QR is clear. If the query has `with_case`, a name with letters in
-   another case differs. A question whose name has a compression pointer differs too. Two errors are
-   failures of the server (RFC 8767 section 5): RRCACHE_BAD_MESSAGE if the octets answer the query
-   but cannot be read and TC is clear, and RRCACHE_NO_QUESTION if the response is a header without a
-   question. A server that returns FORMERR without a question may not support EDNS (RFC 6891 section
-   7).
+   another case differs. A question whose name has a compression pointer counts as different too.
+   Two errors are failures of the server (RFC 8767 section 5): RRCACHE_BAD_MESSAGE if the octets
+   answer the query but cannot be read and TC is clear, and RRCACHE_NO_QUESTION if the response is a
+   header without a question. A server that returns FORMERR without a question may not support EDNS
+   (RFC 6891 section 7).
 
    These RRsets are relevant:
    - In the answer section, an RRset is relevant if its type is CNAME or the type of the question
@@ -1332,7 +1332,8 @@ static inline enum rrcache_status rrcache_can_read(const struct rrcache_response
      referral (RFC 1034 section 4.3.2): AA is clear and the owner is below `zone`. So the servers of
      a zone do not renew their own delegation. A repeated referral does renew its NS RRset. A caller
      that wants a delegation to end with its first TTL peeks for that RRset. If an unexpired NS
-     RRset with the same data is cached, the caller does not offer the share of that part.
+     RRset with the same data is cached, the caller does not offer the share of the part that has
+     the owner of the RRset.
    - An RRset with more than 16,384 octets of rdata.
    - In class IN, an RRset of type A with rdata that are not 4 octets long, or an RRset of type AAAA
      with rdata that are not 16 octets long.
@@ -1401,11 +1402,11 @@ rrcache_read_message_unchecked(struct rrcache_offers *offers,
 
 /* Offers to a shelf the offers of one part, with the timestamp of the response. `share->part` is
    counted from 0, and is below the number of parts for which the message was read. The handle keeps
-   the offers, so a part may be offered again. The shelf keeps the data that it stored even if the
-   handle is freed. No names or data are copied. `counts` has the number of offers with each
-   outcome, even if a later offer fails. Returns RRCACHE_BAD_RULES if there is no such part, and
-   RRCACHE_OTHER_SEED if the seed of the shelf is not the seed of the parts, because no ask would
-   find the data. Needs the write lock of the shelf. */
+   the offers, so the offers of a part may be made again. The shelf keeps the data that it stored
+   even if the handle is freed. No names or data are copied. `counts` has the number of offers with
+   each outcome, even if a later offer fails. Returns RRCACHE_BAD_RULES if there is no such part,
+   and RRCACHE_OTHER_SEED if the seed of the shelf is not the seed of the parts, because no ask
+   would find the data. Needs the write lock of the shelf. */
 static inline enum rrcache_status rrcache_offer_read(struct rrcache_shelf *shelf,
                                                      struct rrcache_offers *offers,
                                                      const struct rrcache_share *share,
@@ -1521,10 +1522,11 @@ static inline enum rrcache_status rrcache_tell_octets(const struct rrcache_name 
 
 /* Offers one of the offers of a handle to a shelf, and writes the outcome to `outcome`
    (`enum rrcache_outcome`). So a caller that makes its own decisions, such as a validator, can
-   store some offers and not others. `pick->index` is counted from 0. The shelf must be the one for
-   the part of the offer, which `rrcache_tell_offer` returns; the call does not check this. Returns
-   RRCACHE_NO_OFFERS if there is no offer with this number, and RRCACHE_OTHER_SEED if the seed of
-   the shelf is not the seed of the parts. Needs the write lock of the shelf. */
+   store some offers and not others. `pick->index` is counted from 0. The shelf must be that of the
+   offer's part, which is `part` of the name that `rrcache_tell_offer` writes. The call does not
+   check this. Returns RRCACHE_NO_OFFERS if there is no offer with this number, and
+   RRCACHE_OTHER_SEED if the seed of the shelf is not the seed of the parts. Needs the write lock of
+   the shelf. */
 static inline enum rrcache_status rrcache_offer_one(struct rrcache_shelf *shelf,
                                                     struct rrcache_offers *offers,
                                                     const struct rrcache_offer_pick *pick,
@@ -1950,8 +1952,9 @@ static inline enum rrcache_status rrcache_trim(struct rrcache_shelf *shelf,
     return (enum rrcache_status)rrc_trim(shelf, trim, trimmed);
 }
 
-/* Frees the closed chapters of the shelf with each of their events, and writes their number to
-   `dropped`, which is 0 while nothing is recorded. Replies do not change. Needs the write lock. */
+/* Frees the closed chapters of the shelf, with all their events, and writes the number of these
+   chapters to `dropped`. The number is 0 while nothing is recorded. Replies do not change. Needs
+   the write lock. */
 static inline enum rrcache_status rrcache_drop_chapters(struct rrcache_shelf *shelf,
                                                         uint64_t *dropped)
 {
@@ -2086,8 +2089,8 @@ static inline enum rrcache_status rrcache_write_chapter(struct rrcache_chapters 
     return status == RRCACHE_NO_LINE ? RRCACHE_DONE : status; /* there is no line left */
 }
 
-/* Frees the chapters of a handle, with each of their events. The handle then holds no chapters.
-   Returns RRCACHE_NO_CHAPTERS if the handle holds no chapters. Needs no lock of a shelf. */
+/* Frees the chapters of a handle, with all their events. The handle then holds no chapters. Returns
+   RRCACHE_NO_CHAPTERS if the handle holds no chapters. Needs no lock of a shelf. */
 static inline enum rrcache_status rrcache_free_chapters(struct rrcache_chapters *chapters)
 {
     if (chapters == NULL)

@@ -21,7 +21,7 @@ enum rrcache_status insert_rrset(struct rrcache_answer *answer, size_t at,
     return RRCACHE_DONE;
 }
 
-/* The target is in the first rdata of the CNAME record, behind the two octets of their length. */
+/* The target is in the first rdata of the CNAME record, after the two octets of their length. */
 enum rrcache_status follow_alias(const struct rrcache *cache, struct rrcache_answer *answer,
                                  const struct rrcache_told *told)
 {

@@ -1,5 +1,5 @@
 /* SPDX-License-Identifier: MIT */
-/* cache.c: a cache is opened and closed, how it keeps within its limits, and its statistics. */
+/* cache.c: opening and closing a cache, keeping it within its limits, and its statistics. */
 #include "memos.h"
 
 #include <inttypes.h>
@@ -9,7 +9,7 @@
 #include <unistd.h>
 
 enum { SHELVES = 64, READERS = 16, MOST_READERS = 64, SHELF_KEYS = 65536 };
-/* The events of a chapter, if histories are recorded. */
+/* The maximum number of events of a chapter, if histories are recorded. */
 enum { CHAPTER_EVENTS = 65536 };
 static const uint64_t OCTETS = UINT64_C(64) << 20, LEAST_OCTETS = 65536;
 static const uint64_t MOST_OCTETS = UINT64_C(1) << 46;
@@ -60,7 +60,7 @@ static enum rrcache_status refusal_of(const struct rrcache_config *config)
     return are_good(&config->limits) ? RRCACHE_DONE : RRCACHE_BAD_LIMITS;
 }
 
-/* Makes the locks and the shelf of a part. If that fails, nothing of it is left. */
+/* Makes the locks and the shelf of a part. If that fails, neither is left. */
 static enum rrcache_status make_part(const struct rrcache *cache, struct part *part,
                                      const struct rrcache_rules *rules)
 {
@@ -77,7 +77,8 @@ static void free_part(struct part *part)
     rrcache_free(&part->shelf);
 }
 
-/* The places of all readers, each with one more than there are parts (places.h). */
+/* The number of places of all readers. Each reader has one more place than there are parts
+   (places.h). */
 static uint64_t place_count(const struct rrcache_config *config)
 {
     return config->readers * (config->shelves + 1);
@@ -189,9 +190,9 @@ uint64_t moment_now(void)
     return (uint64_t)now.tv_sec;
 }
 
-/* The age up to which a look-up moves no entry. No key is evicted while there is room, so look-ups
-   need not move anything until three quarters of it are taken: the last quarter is enough for names
-   that are asked for to come to the front. */
+/* The age up to which a look-up does not move an entry. No key is evicted while there is room, so
+   look-ups need not move entries until three quarters of the room are taken. While the last quarter
+   fills, names that are asked for have time to come to the front. */
 static uint64_t oldest_left(const struct rrcache *cache, const struct rrcache_usage *usage)
 {
     if (cache->exact_recency)
@@ -201,9 +202,9 @@ static uint64_t oldest_left(const struct rrcache *cache, const struct rrcache_us
     return has_room ? UINT64_MAX : usage->keys / 4;
 }
 
-/* A trim may remove failures without a TTL that it does not count, so the keys may be fewer than
-   are noted here until the next call; how many they are matters only if they may be all that there
-   may be. */
+/* A trim may remove failures with TTL 0 that it does not count. So there may be fewer keys than are
+   noted here, until the next call. The exact number of keys matters only if it may be the
+   maximum. */
 void settle(const struct rrcache *cache, struct part *part, uint64_t moment)
 {
     const struct rrcache_trim_to trim = {

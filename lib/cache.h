@@ -42,8 +42,8 @@ struct owners {
 /* A shelf with its locks. A look-up reads the first two cache lines of the processor. A writer
    changes the first and the last one. */
 struct part {
-    _Alignas(LINE) atomic_uint_fast64_t turn; /* counted up when a writer begins and when it ends:
-                                                 it is odd while one changes the shelf */
+    _Alignas(LINE) atomic_uint_fast64_t turn; /* incremented when a writer begins and when it ends,
+                                                 so it is odd while a writer changes the shelf */
     struct rrcache_shelf shelf;
     uint64_t oldest_left; /* a look-up does not move an entry whose age is at most this */
     bool is_recorded;
@@ -67,10 +67,13 @@ struct rrcache {
     uint64_t swept_part;     /* the part in which the next sweep continues */
     void *block;             /* the memory of the parts and their places */
     struct part *part;
-    struct place *places; /* those of the first reader in all parts, then those of the next */
-    uint8_t *memos;       /* those of the first reader, then those of the next (memos.h), or null */
+    struct place *places; /* the places of the first reader in all parts, then those of the next
+                             reader */
+    uint8_t *memos;       /* the memos of the first reader, then those of the next reader (memos.h),
+                             or null */
     size_t octets_of_memos;
-    unsigned mark_shift; /* a mark has 32 bits, and those above these are the number of its slot */
+    unsigned mark_shift; /* a mark has 32 bits; without its lowest `mark_shift` bits it is the
+                            number of its slot */
 };
 
 /* Returns the timestamp of a call: `moment`, or now if that is 0. */
@@ -84,12 +87,12 @@ static inline uint64_t moment_of(uint64_t moment)
 bool make_locks(const struct rrcache *cache, struct part *part);
 void free_locks(struct part *part);
 
-/* Take a part to change it, and release it. No place of it is taken in between. */
+/* Lock a part to change it, and release it. No place of the part is taken in between. */
 void lock_part(const struct rrcache *cache, struct part *part);
 void unlock_part(const struct rrcache *cache, struct part *part);
 
-/* Lets the threads that wait for a part take it first. Called without its lock by a call that takes
-   the part again and again. */
+/* Lets the threads that wait for a part take it first. A call that takes the part again and again
+   calls this function without the lock of the part. */
 void give_way(const struct part *part);
 
 /* Evicts keys from a locked part until it meets its limit of octets, and sets `oldest_left`. Called
@@ -131,7 +134,7 @@ void note_alias(struct part *part, const struct rrcache_name *name);
    RRset. */
 void renew_owners(struct part *part);
 
-/* What stands in front of the owner and the data of an RRset. */
+/* What precedes the owner and the data of an RRset in the buffer of an answer. */
 struct head {
     struct rrcache_told told;
     uint16_t rclass;

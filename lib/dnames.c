@@ -3,13 +3,13 @@
 #include "cache.h"
 
 enum { MOST_LABELS = 127 };
-/* A DNAME RRset has one record: an owner, and another name behind the two octets of its length. */
+/* A DNAME RRset has one record: an owner, and another name after the two octets of its length. */
 enum { DNAME_OCTETS = 255 + 2 + 255 };
-/* The most names that are looked up for an answer. */
+/* The maximum number of names that are looked up for an answer. */
 enum { MOST_SOUGHT = 16 };
 
-/* Returns how many labels two names have in common at the front, and writes where each of them
-   ends. */
+/* Returns how many labels two names have in common at the beginning, and writes where each of these
+   labels ends. */
 static size_t common_labels(const struct rrcache_name *one, const struct rrcache_name *other,
                             uint8_t ends[MOST_LABELS])
 {
@@ -22,15 +22,16 @@ static size_t common_labels(const struct rrcache_name *one, const struct rrcache
     return count;
 }
 
-/* Makes a name of the first rdata of an RRset, which stand behind their length. */
+/* Makes a name from the first rdata of an RRset, which come after the two octets of their
+   length. */
 static enum rrcache_status make_target(const struct rrcache *cache, const uint8_t *data,
                                        struct rrcache_name *name)
 {
     return rrcache_make_name(name, data + 2, (size_t)data[0] << 8 | data[1], &cache->parts);
 }
 
-/* Whether a reply is a DNAME RRset with one record, whose target is the rest of a name from an
-   octet on. */
+/* Whether a reply is a DNAME RRset with one record, and the target of this record is the rest of a
+   name from an offset on. */
 static bool has_made(const struct rrcache *cache, const struct rrcache_told *told,
                      const uint8_t *octets, const struct rrcache_name *target, size_t from)
 {
@@ -43,9 +44,9 @@ static bool has_made(const struct rrcache *cache, const struct rrcache_told *tol
            && memcmp(name.octets, target->octets + from, name.size) == 0;
 }
 
-/* The owner and the target of such a CNAME record begin with the same labels, and behind these
-   stand the owner and the target of the DNAME record (RFC 6672 section 2.2). Mostly they have no
-   other labels in common at the front, so all common labels are tried first. */
+/* The owner and the target of a synthesized CNAME record begin with the same labels. After these
+   labels they continue with the owner and the target of the DNAME record (RFC 6672 section 2.2).
+   These two usually do not begin with a common label, so all common labels are tried first. */
 enum rrcache_status put_dname(const struct rrcache *cache, struct dname_search *search,
                               struct rrcache_answer *answer, size_t at,
                               const struct rrcache_told *alias)
@@ -63,7 +64,7 @@ enum rrcache_status put_dname(const struct rrcache *cache, struct dname_search *
         rrcache_make_name(&owner, answer->end.octets + front, answer->end.size - front,
                           &cache->parts);
         status = search->find(search->from, &owner, &told, octets, sizeof octets);
-        if (status == RRCACHE_SMALL) /* with more than one record it made no CNAME */
+        if (status == RRCACHE_SMALL) /* an RRset of several records made no CNAME record */
             status = RRCACHE_DONE;
         else if (status == RRCACHE_DONE && has_made(cache, &told, octets, &target, front))
             return insert_rrset(answer, at, &told, octets, search->rclass);

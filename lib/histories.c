@@ -1,8 +1,9 @@
 /* SPDX-License-Identifier: MIT */
-/* histories.c: the histories of a cache's shelves are recorded and written, and what they hold. */
+/* histories.c: recording and writing the histories of a cache's shelves, and writing their
+   contents. */
 #include "cache.h"
 
-/* Where the lines of a shelf go. */
+/* The sink for the lines of a shelf. */
 struct line_sink {
     rrcache_shelf_sink sink;
     void *state;
@@ -113,7 +114,7 @@ enum rrcache_status rrcache_stop_recording_all(struct rrcache *cache, rrcache_sh
     return status;
 }
 
-/* Writes what a part holds: a chapter that begins with it and ends at once. */
+/* Writes the contents of a part: a chapter that begins with them and ends immediately. */
 static enum rrcache_status dump_part(struct rrcache *cache, struct line_sink *to)
 {
     struct part *part = &cache->part[to->shelf];

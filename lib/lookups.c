@@ -1,9 +1,9 @@
 /* SPDX-License-Identifier: MIT */
-/* lookups.c: names are looked up in a cache, one by one. */
+/* lookups.c: looking up names in a cache, one by one. */
 #include "memos.h"
 
 enum { NS = 2 };
-/* The greatest timestamp, which an ask checks and a peek does not. */
+/* The maximum timestamp. An ask checks it, and a peek does not. */
 static const uint64_t LAST_MOMENT = UINT64_C(1) << 40;
 
 /* ---- One name. */
@@ -29,7 +29,8 @@ struct lookup {
     struct rrcache_told *told;
     uint8_t *buffer;
     size_t room;
-    uint64_t turn; /* gets that of the part if the reply is what a peek told, else NO_TURN */
+    uint64_t turn; /* gets the turn of the part if a peek returned the reply, and otherwise
+                      NO_TURN */
 };
 
 /* Whether the entry that was found has to move to the front: too many keys may be in front of
@@ -39,23 +40,24 @@ static bool is_due(const struct part *part, const struct rrcache_told *told)
     return told->entry.kind != 0 && told->entry.age > part->oldest_left;
 }
 
-/* Notes whether a look-up moved what it found. If most do, as with names that are asked for at
-   random, it costs less to begin with all places than to peek first. */
+/* Notes whether a look-up moved the entry that it found. If most look-ups do, for example because
+   names are asked for at random, it costs less to take all places at once than to peek first. */
 static void note_move(struct place *place, bool is_moved)
 {
     int moves = is_moved ? place->moves + 1 : place->moves - 2;
     place->moves = moves < 0 ? 0 : moves > MOST_MOVES ? MOST_MOVES : moves;
 }
 
-/* How to look up a name in a part. One that is no alias is looked up by itself: the reply is the
-   same. */
+/* How to look up a name in a part. A name that is not an alias is looked up by itself: the reply is
+   the same. */
 static const struct manner *manner_of(const struct part *part, const struct lookup *it)
 {
     return it->manner == &WITH_ALIAS && !may_be_alias(part, it->name) ? &BY_ITSELF : it->manner;
 }
 
-/* Peeks under a place. Returns false if the name has to be asked for instead,
-   because what is found has to move to the front, is expected to, or has to be recorded. */
+/* Peeks while a place is held. Returns false if an ask has to be made instead: because the entry
+   that was found has to move to the front, or is expected to move, or because a history is
+   recorded. */
 static bool peek(struct part *part, struct place *place, struct lookup *it,
                  enum rrcache_status *status)
 {
@@ -81,7 +83,7 @@ static bool is_cname(const struct rrcache_told *told)
            && told->rtype == RRTYPE_CNAME;
 }
 
-/* Asks under all places. */
+/* Asks while all places are held. */
 static enum rrcache_status ask(struct part *part, struct place *place, const struct lookup *it)
 {
     enum rrcache_status status = (enum rrcache_status)manner_of(part, it)->ask(
@@ -112,7 +114,7 @@ static enum rrcache_status look_up(struct rrcache *cache, struct lookup *it)
 
 /* ---- A CNAME chain. */
 
-/* The way along the CNAME chain of a name. */
+/* A walk along the CNAME chain of a name. */
 struct walk {
     struct rrcache *cache;
     struct rrcache_answer *answer;
@@ -135,7 +137,7 @@ static enum rrcache_status find_dname(void *from, const struct rrcache_name *own
     return look_up(walk->cache, &lookup);
 }
 
-/* Inserts the DNAME RRset of a CNAME record that begins at an octet of the answer. */
+/* Inserts the DNAME RRset of the CNAME record that begins at an offset of the answer. */
 static enum rrcache_status put_dname_above(struct walk *walk, size_t at,
                                            const struct rrcache_told *told)
 {
@@ -162,7 +164,7 @@ static enum rrcache_status take_step(struct walk *walk, struct rrcache_told *tol
     return is_cname(told) && answer->with_dnames ? put_dname_above(walk, at, told) : RRCACHE_DONE;
 }
 
-/* Whether a reply is a CNAME record that leads on. */
+/* Whether a reply is a CNAME record that is to be followed. */
 static bool is_alias(const struct walk *walk, const struct rrcache_told *told)
 {
     return (told->kind == RRCACHE_FRESH || told->kind == RRCACHE_STALE)
@@ -255,8 +257,8 @@ static bool is_of_one_part(const struct walk *walk)
     return answer->size != 0 && answer->aliases == 0 && walk->question.rtype != RRTYPE_CNAME;
 }
 
-/* Walks from the name of a question, which was recalled or is made first, and keeps the answer if
-   it may. */
+/* Walks from the name of a question, which was recalled or is made first, and keeps the answer in a
+   memo if this is allowed. */
 static enum rrcache_status answer_by_walk(struct walk *walk, const struct recall *recall)
 {
     const struct rrcache_request *request = recall->request;
@@ -318,10 +320,10 @@ enum rrcache_status rrcache_lookup_delegation(struct rrcache *cache,
     const struct rrcache_question question = question_of(&servers);
     enum rrcache_status status =
         rrcache_make_name(&answer->end, request->name, request->name_size, &cache->parts);
-    const struct rrcache_name name = answer->end; /* the caller's may lie in the buffer */
+    const struct rrcache_name name = answer->end; /* the caller's name may be in the buffer */
     for (size_t at = 0; status == RRCACHE_DONE;) {
         status = find_servers(cache, &question, answer);
-        at += name.octets[at] + (size_t)1; /* behind the first label */
+        at += name.octets[at] + (size_t)1; /* after the first label */
         if (status != RRCACHE_DONE || answer->kind == RRCACHE_FRESH || at >= name.size)
             break;
         status = rrcache_make_name(&answer->end, name.octets + at, name.size - at, &cache->parts);

@@ -2,8 +2,8 @@
 /* memos.c: where memos are, and how they are recalled and kept. */
 #include "memos.h"
 
-/* The most memos of a reader, and the share that those of all readers take of the cache's octets.
- */
+/* The maximum number of memos of a reader. The memos of all readers take at most the cache's octets
+   divided by SHARE_OF_OCTETS. */
 enum { MOST_MEMOS = 512, SHARE_OF_OCTETS = 16 };
 
 /* ---- Where they are. */
@@ -13,7 +13,7 @@ static size_t in_lines(size_t octets)
     return (octets + LINE - 1) / LINE * LINE;
 }
 
-/* What the memos of one reader take. */
+/* The octets that the memos of one reader take. */
 static size_t octets_of_reader(const struct rrcache *cache, uint64_t count)
 {
     size_t told = cache->parts.count * sizeof(*((struct memos *)NULL)->told);
@@ -121,8 +121,8 @@ static void count_told(struct memos *memos, const struct memo *memo)
     atomic_store_explicit(told, before + 1, memory_order_relaxed);
 }
 
-/* The turn of a part is read while the answer's call runs. If it is the memo's, no writer had begun
-   to change the part then, and the answer is right at that point. */
+/* The turn of a part is read during the call that gets the answer. If it is the turn of the memo,
+   no writer had begun to change the part by then, so the answer is right at that point. */
 static bool is_current(const struct rrcache *cache, const struct memo *memo)
 {
     const struct part *part = &cache->part[memo->part];
@@ -175,7 +175,8 @@ static void fill_memo(struct memo *memo, const struct rrcache_question *question
     memcpy(memo->answer, answer->buffer, answer->size);
 }
 
-/* Whether the memo of a slot has to make way for that of a question. One in use is spared once. */
+/* Whether the memo of a slot has to make way for the memo of a question. A memo in use is spared
+   once. */
 static bool makes_way(const struct recall *it)
 {
     struct memo *memo = memo_of(it);

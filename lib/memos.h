@@ -1,20 +1,22 @@
 /* SPDX-License-Identifier: MIT */
-/* memos.h: answers that readers keep of look-ups, for names that are asked for again and again.
+/* memos.h: answers to look-ups that readers keep, for names that are asked for again and again.
 
-   Each reader of a cache has a table of memos. A memo is the whole answer to a question that one
-   RRset or negative answer of a part gave to a peek, with the turn that the part had then. As long
-   as that is the part's turn nothing has changed in it, so it would give the same reply, octet for
-   octet: a look-up then copies the memo's, and takes no place. If the turn is another one, or the
-   question differs in something else than the name and the type, the memo still has the name as it
-   was folded and hashed. A name is kept only if it was asked for in lower case, as it was folded,
-   and it is compared whole.
+   Each reader of a cache has a table of memos. A memo is the whole answer to a question for which a
+   peek found one RRset or one negative answer in a part. It also has the turn that the part had
+   then. As long as the part has the same turn, nothing has changed in the part, so it would give
+   the same reply, octet for octet. A look-up then copies the answer of the memo, and takes no
+   place. If the turn has changed, or the question differs in something other than the name and the
+   type, a look-up can still use the name of the memo, which is already folded and hashed. A name is
+   kept only if it was asked for in lower case, so that it equals the folded name. The whole name is
+   compared.
 
-   A table is taken by one thread at a time, and another one that comes then does without it. It is
-   not taken either if the mark of the question is not that of the memo in its slot. A memo is made
-   if a question comes that was also the last one of its slot for which there was none, unless the
-   slot's memo has answered since the last time when another was to be made. So questions that come
-   once cost little, and do not drive out others, and a name in use stays. Marks are not secret: who
-   chooses names that share a slot can make memos come and go, which costs time only. */
+   One thread at a time can take a table. Another thread that comes in the meantime does without the
+   table. A thread does not take the table either if the mark of the question is not that of the
+   memo in its slot. A memo is made for a question that was also the last question of its slot
+   without a memo, unless the memo of the slot has answered since the last time that a memo was to
+   replace it. So questions that come only once cost little and do not displace memos, and the memo
+   of a name in use stays. Marks are not secret: someone who chooses names that share a slot can
+   make memos come and go, but this costs only time. */
 #ifndef MEMOS_H
 #define MEMOS_H
 
@@ -22,8 +24,8 @@
 
 #include <string.h>
 
-/* The octets of a name and of an answer that a memo has room for. With these a memo takes seven
-   cache lines of the processor. */
+/* The maximum number of octets of the name and of the answer in a memo. With these numbers, a memo
+   takes seven cache lines of the processor. */
 enum { MEMO_NAME = 95, MEMO_ANSWER = 296 };
 
 /* A turn that no part has while a reader is in it. */
@@ -37,12 +39,13 @@ struct memo {
     uint32_t mode, kind;
     uint16_t rtype, rclass, size;
     uint8_t purpose, name_size;
-    bool is_used; /* it has answered since another memo was last to be made in its slot */
+    bool is_used; /* it has answered since the last time that a memo was to replace it */
     uint8_t name[MEMO_NAME];
     uint8_t answer[MEMO_ANSWER];
 };
 
-/* The marks of the question of the memo in a slot, and of the last one that had none; 0 is none. */
+/* The mark of the question of the memo in a slot, and the mark of the last question of the slot
+   that had no memo. 0 means that there is none. */
 struct slot {
     atomic_uint held, seen;
 };
@@ -56,8 +59,8 @@ struct memos {
                                             of their replies */
 };
 
-/* The octets that the memos of a cache take, and where they are. The cache has none if it has too
-   little room. */
+/* Return the octets that the memos of a cache take, and set where the memos are. A cache with too
+   little room has none. */
 size_t memo_octets(const struct rrcache *cache);
 void place_memos(struct rrcache *cache, void *octets);
 
@@ -83,7 +86,7 @@ static inline uint64_t told_by_memos(const struct rrcache *cache, const struct p
                                 memory_order_relaxed);
 }
 
-/* What was kept of a question. */
+/* What a memo has for a question. */
 enum recalled { NOTHING, NAME, ANSWER };
 
 static inline struct slot *slot_of(const struct rrcache *cache, const struct memos *memos,
@@ -92,16 +95,16 @@ static inline struct slot *slot_of(const struct rrcache *cache, const struct mem
     return &memos->slots[(uint64_t)mark >> cache->mark_shift];
 }
 
-/* Mixes eight octets into a sum. Each of its bits depends on those of the product below it, so the
-   highest depend on all. */
+/* Mixes eight octets into a sum. Each bit of the product depends on the bits below it, so the
+   highest bits depend on all bits. */
 static inline uint64_t mixed(uint64_t sum, uint64_t word)
 {
     return (sum ^ word ^ sum >> 32) * UINT64_C(0x9e3779b97f4a7c15);
 }
 
-/* The mark of a name and a type, which is odd. It tells which memo may have the answer, and its
-   highest bits choose the slot. The last eight octets are mixed in whole, even if some of them were
-   before. */
+/* The mark of a name and a type, which is odd. It says which memo may have the answer, and its
+   highest bits choose the slot. The last eight octets are mixed in together, even if some of them
+   were mixed in before. */
 static inline uint32_t mark_of(const uint8_t *name, size_t size, uint16_t rtype)
 {
     uint64_t sum = (uint64_t)size << 16 | rtype, word = 0;
@@ -118,7 +121,8 @@ static inline uint32_t mark_of(const uint8_t *name, size_t size, uint16_t rtype)
     return (uint32_t)(mixed(sum, word) >> 32) | 1;
 }
 
-/* Whether a memo may be kept of a request, whose answer does not lie where its name does. */
+/* Whether a memo may be kept for a request. This requires that `end` of the answer does not overlap
+   the name of the request. */
 static inline bool may_be_kept(const struct rrcache *cache, const struct rrcache_request *request,
                                const struct rrcache_answer *answer)
 {
@@ -126,7 +130,7 @@ static inline bool may_be_kept(const struct rrcache *cache, const struct rrcache
            && !rrcache_overlap(&answer->end, sizeof answer->end, request->name, request->name_size);
 }
 
-/* What a look-up has to do with memos. */
+/* What a look-up knows about memos. */
 struct recall {
     const struct rrcache *cache;
     const struct rrcache_request *request;
@@ -138,8 +142,8 @@ struct recall {
     enum recalled recalled;
 };
 
-/* Recalls what was kept of a question whose mark is that of a memo: the answer, or only its name,
-   in `end`. */
+/* Recalls what the memo with the mark of a question has for it: the answer, or only the name, in
+   `end`. */
 enum recalled recall_memo(const struct recall *it);
 
 static inline void recall(struct recall *it)
@@ -156,11 +160,12 @@ static inline void recall(struct recall *it)
         it->recalled = recall_memo(it);
 }
 
-/* Writes a memo of an answer that one part gave in a turn, if it has room. */
+/* Writes a memo of an answer that one part gave in a turn, if a memo has room for the answer. */
 void write_memo(const struct recall *it, uint64_t turn);
 
-/* Keeps an answer that one part gave in a turn, if the name was recalled or the question was the
-   last one of its slot that had no memo. If neither, it is now. */
+/* Keeps an answer that one part gave in a turn, if the name was recalled, or if the question was
+   the last one of its slot that had no memo. Otherwise the question is now the last one that had no
+   memo. */
 static inline void keep(const struct recall *it, uint64_t turn)
 {
     if (it->recalled == NOTHING

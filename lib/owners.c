@@ -2,10 +2,11 @@
 /* owners.c: which names may be aliases, so that look-ups of other names ask for no CNAME RRset. */
 #include "cache.h"
 
-/* The bits for each CNAME RRset that a part has room for. If every fourth key is an alias, about a
-   hundredth of the other names are taken for aliases, and if all keys are, about a sixth. */
+/* The number of bits for each CNAME RRset that a part has room for. If every fourth key is an
+   alias, about 1 in 100 of the other names is taken for an alias. If all keys are aliases, about 1
+   in 6 is. */
 enum { BITS_OF_OWNER = 8 };
-/* The least that a CNAME RRset takes (`rrcache_sizes`). */
+/* The minimum number of octets that a CNAME RRset takes (`rrcache_sizes`). */
 enum { ALIAS_OCTETS = RRCACHE_ENTRY_OCTETS + 2 * RRCACHE_SHARED_OCTETS + 2 * RRCACHE_VALUE_OCTETS };
 
 uint64_t owner_words(const struct rrcache *cache)
@@ -39,7 +40,7 @@ void note_alias(struct part *part, const struct rrcache_name *name)
     set(owners->late, other);
 }
 
-/* A part evicts the least recently used key. So as long as it holds one that was last used before
+/* A part evicts the least recently used key. So as long as it holds a key that was last used before
    `late` began, it evicts only keys that it held then, and fewer than all of them. */
 void renew_owners(struct part *part)
 {

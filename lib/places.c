@@ -5,12 +5,13 @@
 #include <sched.h>
 #include <time.h>
 
-/* How often a thread looks again before it gives up its processor, and before it sleeps. */
+/* How often a thread checks again before it yields its processor, and before it sleeps. */
 enum { PAUSES = 64, YIELDS = 128 };
-/* How often a thread looks that gives way, which is about two milliseconds. */
+/* How often a thread that gives way checks, which takes about two milliseconds. */
 enum { MOST_RESTS = YIELDS + 20 };
-/* Numbers of threads begin anew behind this one. Up to 2^26 `reader_here` is exact: what the share
-   is rounded up by is less than 64, and its multiple by the number has to stay below 2^32. */
+/* After this number, the numbers of threads begin again. `reader_here` is exact up to the number
+   2^26: the amount by which the share is rounded up is less than 64, and the product of this amount
+   and the number has to stay below 2^32. */
 enum { MOST_THREADS = 1 << 20 };
 
 _Thread_local uint32_t thread_number __attribute__((tls_model("initial-exec")));
@@ -34,7 +35,7 @@ static void pause_processor(void)
 }
 
 /* Sleeps for a while. A thread may hold the lock of writers here, so it is not canceled before it
-   has released that. */
+   has released this lock. */
 static void sleep_uncanceled(void)
 {
     const struct timespec moment = {.tv_nsec = 50000};
@@ -44,8 +45,9 @@ static void sleep_uncanceled(void)
     pthread_setcancelstate(state, &state);
 }
 
-/* Lets some time pass for a thread that has looked so many times whether it may go on. What it
-   waits for is short, unless the thread that does it has lost its processor. */
+/* Lets some time pass for a thread that has checked `looked` times whether it can continue. It
+   waits for something that takes little time, unless the thread that does this has lost its
+   processor. */
 static void rest(unsigned looked)
 {
     if (looked < PAUSES)
@@ -56,7 +58,7 @@ static void rest(unsigned looked)
         sleep_uncanceled();
 }
 
-/* Takes the lock of writers. Whoever waits for it is counted. */
+/* Takes the lock of writers. The threads that wait for it are counted. */
 static void lock_writer(struct part *part)
 {
     if (pthread_mutex_trylock(&part->writer) == 0)
@@ -66,9 +68,9 @@ static void lock_writer(struct part *part)
     atomic_fetch_sub_explicit(&part->waiting, 1, memory_order_relaxed);
 }
 
-/* A mutex is not fair: a thread that releases it and takes it again at once has it before another
-   one wakes up. So this thread waits until the others have come to their turn. New ones may keep
-   coming, so it does not wait for long. */
+/* A mutex is not fair: a thread that releases it and immediately takes it again gets it before
+   another thread wakes up. So this thread waits until the others have had their turn. New threads
+   may keep coming, so it does not wait for long. */
 void give_way(const struct part *part)
 {
     for (unsigned looked = 0;
@@ -79,7 +81,7 @@ void give_way(const struct part *part)
 
 /* ---- Readers. */
 
-/* Takes any place of a part, from this thread's on, or returns null. */
+/* Takes any free place of a part, beginning with this thread's, or returns null. */
 static struct place *try_places(const struct rrcache *cache, struct part *part)
 {
     uint64_t own = reader_here(cache);
@@ -92,8 +94,8 @@ static struct place *try_places(const struct rrcache *cache, struct part *part)
     return NULL;
 }
 
-/* A reader first waits on its processor. Then it waits as a writer does, so writers cannot keep it
-   out for long. While it holds their lock, the part is not changed. */
+/* A reader first spins on its processor. Then it waits as a writer does, so writers cannot keep it
+   out for long. While it holds the lock of writers, the part is not changed. */
 struct place *wait_for_place(const struct rrcache *cache, struct part *part)
 {
     struct place *place = NULL;
@@ -114,7 +116,8 @@ struct place *wait_for_place(const struct rrcache *cache, struct part *part)
 
 /* ---- Writers. */
 
-/* A writer that waits for another one spins a while before it sleeps, since writing is short. */
+/* A writer that waits for another writer spins for a while before it sleeps, because a write takes
+   little time. */
 bool make_locks(const struct rrcache *cache, struct part *part)
 {
     pthread_mutexattr_t spins;

@@ -1,35 +1,36 @@
 /* SPDX-License-Identifier: MIT */
-/* places.h: how a reader takes a part, which each look-up does.
+/* places.h: how a reader takes a part, as each look-up does.
 
-   A reader takes a place of the part, and then looks whether a writer has begun. A writer begins,
-   and then looks whether a place is taken. Each of them writes first and reads then, in the one
-   order of all operations that are memory_order_seq_cst, so at least one of two sees the other. If
-   a reader sees a writer it leaves its place, so a writer waits only for readers that were there
-   before it. A reader writes only to its own place, and a writer only reads places. So readers do
-   not wait for each other's lines of the processor's cache, and neither do writers. */
+   A reader takes a place of the part, and then checks whether a writer has begun. A writer begins,
+   and then checks whether a place is taken. Each of them first writes and then reads, in the single
+   order of all operations that are memory_order_seq_cst. So at least one of the two sees the other.
+   If a reader sees a writer, the reader leaves its place, so a writer waits only for readers that
+   were there before it. A reader writes only to its own place, and a writer only reads places. So
+   readers do not wait for each other's cache lines of the processor, and neither do writers. */
 #ifndef PLACES_H
 #define PLACES_H
 
 #include "cache.h"
 #include "watched.h"
 
-/* The number of this thread, from 1 on, or 0 if it has none yet. Each look-up reads it, and in this
-   model without a call into the loader. */
+/* The number of this thread, counted from 1, or 0 if it has none yet. Each look-up reads the
+   number. With this TLS model, the read needs no call into the loader. */
 extern _Thread_local uint32_t thread_number __attribute__((tls_model("initial-exec")));
 
-/* Numbers this thread. */
+/* Gives this thread a number, and returns the number. */
 uint32_t number_thread(void);
 
-/* Which place of each part is this thread's, counted from 0: the remainder of its number, by a
-   multiplication, since a division takes as long as all else here. */
+/* Returns which place of each part is this thread's, counted from 0. It is the remainder of the
+   thread's number after division by the number of readers. A multiplication computes it, because a
+   division takes as long as everything else here. */
 static inline uint64_t reader_here(const struct rrcache *cache)
 {
     uint64_t number = thread_number != 0 ? thread_number : number_thread();
     return number - cache->readers * (number * cache->share_of_reader >> 32);
 }
 
-/* The place of a reader in a part. The places of one reader lie one behind another, and a line of
-   the processor's cache is left between those of two. */
+/* The place of a reader in a part. The places of one reader are next to each other in memory.
+   Between the places of two readers, one cache line of the processor is left free. */
 static inline struct place *place_at(const struct rrcache *cache, const struct part *part,
                                      uint64_t reader)
 {
@@ -66,8 +67,8 @@ static inline struct place *take_place(const struct rrcache *cache, struct part 
     return try_place(part, place) ? place : wait_for_place(cache, part);
 }
 
-/* The turn of a part of which this thread has a place: a writer may have begun since it was taken,
-   which waits. */
+/* Returns the turn of a part in which this thread holds a place, without the increment of a writer
+   that has begun since the place was taken. Such a writer waits. */
 static inline uint64_t turn_here(const struct part *part)
 {
     uint64_t turn = atomic_load_explicit(&part->turn, memory_order_relaxed);

@@ -1,5 +1,5 @@
 /* SPDX-License-Identifier: MIT */
-/* responses.c: the answer that a response has by itself, whatever of it is kept. */
+/* responses.c: the answer that a response gives by itself, even if its data are not stored. */
 #include "cache.h"
 
 #include <stdlib.h>
@@ -9,14 +9,15 @@ enum { MOST_NAME = 255 };
 /* In the third octet of a message (RFC 1035 section 4.1.1). */
 enum { AA = 0x04 };
 
-/* What a response says: its offers, and what it comes to. */
+/* What a response says: its offers, and its kind. */
 struct said {
     const struct rrcache *cache;
     struct rrcache_offers *offers;
     const struct rrcache_summary *summary;
     uint16_t rclass;
     bool is_raised;   /* it was read as if AA were set */
-    uint64_t *hashes; /* of the name of each offer, where these may be thousands; else null */
+    uint64_t *hashes; /* of the name of each offer, if there may be thousands of offers; otherwise
+                         null */
     uint64_t count;
 };
 
@@ -34,8 +35,8 @@ static bool is_answer(const struct rrcache_told *told)
                || told->entry.trust == RRCACHE_NON_AUTHORITATIVE_ANSWER);
 }
 
-/* Whether a reply is for a type, or for any if that is ANY: an RRset, NODATA, NXDOMAIN or a
-   failure. */
+/* Whether a reply is for a type (any type if that is ANY). A reply is an RRset, NODATA, NXDOMAIN or
+   a failure. */
 static bool is_of(const struct rrcache_told *told, uint16_t rtype)
 {
     if (told->kind == RRCACHE_FRESH)
@@ -43,8 +44,8 @@ static bool is_of(const struct rrcache_told *told, uint16_t rtype)
     return told->kind == RRCACHE_NXDOMAIN || told->rtype == rtype;
 }
 
-/* Finds the next offer of a response, from a number on, that is for a name and a type. If there is
-   none, `told` is a miss. */
+/* Finds the next offer of a response for a name and a type, starting at the number `index`. If
+   there is none, `told` is a miss. */
 static enum rrcache_status find_said(struct said *said, const struct rrcache_name *wanted,
                                      uint16_t rtype, uint64_t *index, struct rrcache_told *told,
                                      uint8_t *buffer, size_t room)
@@ -66,8 +67,8 @@ static enum rrcache_status find_said(struct said *said, const struct rrcache_nam
     return status;
 }
 
-/* Finds the next offer that is for the name that the answer of a response has reached, and appends
-   it to that answer. */
+/* Finds the next offer for the name that the answer of a response has reached, and appends the
+   offer to this answer. */
 static enum rrcache_status take_said(struct said *said, struct rrcache_answer *answer,
                                      uint16_t rtype, uint64_t *index, struct rrcache_told *told)
 {
@@ -79,8 +80,9 @@ static enum rrcache_status take_said(struct said *said, struct rrcache_answer *a
     return status;
 }
 
-/* Whether a response has an alias of a name instead of a type: it has nothing of the type, or has
-   that before the alias, since the later of both would govern in a shelf. */
+/* Whether a response has a CNAME record for a name in place of data of a type: it has no data of
+   the type, or it has them before the CNAME record. In a shelf the later of the two would
+   govern. */
 static bool is_aliased(struct said *said, const struct rrcache_name *name, uint16_t rtype)
 {
     struct rrcache_told told;
@@ -92,8 +94,8 @@ static bool is_aliased(struct said *said, const struct rrcache_name *name, uint1
     return told.kind == RRCACHE_MISS || of_type < of_alias;
 }
 
-/* Appends what a response says of one name to its answer: what it has for the type, everything if
-   that is ANY, or the alias instead. */
+/* Appends to the answer of a response what the response says about one name: what it has for the
+   type (everything if that is ANY), or the CNAME record instead. */
 static enum rrcache_status take_name(struct said *said, uint16_t rtype,
                                      struct rrcache_answer *answer, struct rrcache_told *told)
 {
@@ -116,8 +118,8 @@ static enum rrcache_status find_dname(void *from, const struct rrcache_name *own
     return find_said(from, owner, RRTYPE_DNAME, &index, told, octets, room);
 }
 
-/* Appends what a response says of the name that its answer has reached, and inserts the DNAME RRset
-   of a CNAME record in front of that, if the caller wants it. */
+/* Appends what a response says about the name that its answer has reached. If this is a CNAME
+   record and the caller requests DNAME RRsets, inserts its DNAME RRset before it. */
 static enum rrcache_status take_step(struct said *said, uint16_t rtype, struct dname_search *dnames,
                                      struct rrcache_answer *answer, struct rrcache_told *told)
 {
@@ -129,7 +131,8 @@ static enum rrcache_status take_step(struct said *said, uint16_t rtype, struct d
     return status;
 }
 
-/* Makes the answer of a response: the CNAME chain of its question, and what stands at its end. */
+/* Makes the answer of a response: the CNAME chain of its question, and the reply for the name at
+   the end of the chain. */
 static enum rrcache_status answer_from(struct said *said, const struct rrcache_query *query,
                                        struct rrcache_answer *answer)
 {
@@ -155,13 +158,13 @@ static enum rrcache_status answer_from(struct said *said, const struct rrcache_q
     return status;
 }
 
-/* An RRset has a record of 11 octets or more, and there may be a negative answer besides. */
+/* An RRset has a record of 11 octets or more, and there may also be a negative answer. */
 size_t most_offers(const struct rrcache_response *response)
 {
     return response->size / 11 + 1;
 }
 
-/* Notes the hash of the name of each offer, so that the names of an answer are found fast. */
+/* Notes the hash of the name of each offer, so that the names of an answer are found quickly. */
 static void note_hashes(struct said *said, uint64_t most)
 {
     struct rrcache_name name = {0};
@@ -172,9 +175,9 @@ static void note_hashes(struct said *said, uint64_t most)
         said->hashes[said->count++] = name.hash;
 }
 
-/* Reads a response again, in a block of memory, without limits on the aliases that are followed and
-   on the size of an RRset. Such a reading leaves out RRsets whose TTLs differ if AA is clear. So if
-   `lowest_ttl` is chosen, AA is set first. */
+/* Reads a response again, as a copy in a block of memory, without limits on the number of CNAME
+   records that are followed and on the size of an RRset. Such a reading leaves out RRsets whose
+   TTLs differ if AA is clear. So if `lowest_ttl` is chosen, AA is set first. */
 static enum rrcache_status read_whole(struct said *said, void *block,
                                       const struct rrcache_response *response)
 {
@@ -224,8 +227,8 @@ static bool is_in(const struct rrcache_name *name, const struct rrcache_name *zo
            && memcmp(name->octets + at, zone->octets, zone->size) == 0;
 }
 
-/* Finds the SOA record of a zone that a name is in, in the authority section: the number of its
-   offer. Where there is none a miss is told. */
+/* Finds in the authority section the SOA record of a zone that contains a name, and returns the
+   number of its offer. If there is none, `told` is a miss. */
 static uint64_t find_soa(const struct said *said, const struct rrcache_name *name,
                          struct rrcache_told *told)
 {
@@ -242,9 +245,9 @@ static uint64_t find_soa(const struct said *said, const struct rrcache_name *nam
     return index - 1;
 }
 
-/* Makes an SOA record that was told a denial (RFC 2308 sections 2.2 and 5): it lives for MINIMUM,
-   its last four octets, where that is less than its TTL. Of more records than one the first counts.
- */
+/* Turns an SOA record into a negative answer (RFC 2308 sections 2.2 and 5). The TTL of the negative
+   answer is at most `cap`, and at most MINIMUM, the last four octets of the record. If there are
+   several records, the first one counts. */
 static void make_denial(struct rrcache_told *told, const uint8_t *data, uint32_t cap)
 {
     size_t size = 2 + ((size_t)data[0] << 8 | data[1]);
@@ -257,7 +260,7 @@ static void make_denial(struct rrcache_told *told, const uint8_t *data, uint32_t
     told->left = told->left < most ? told->left : most;
 }
 
-/* Puts into an answer that there are no data of a type, where an SOA record says so. */
+/* Appends NODATA to an answer, if an SOA record says that there are no data of the type. */
 static enum rrcache_status put_absence(const struct said *said,
                                        const struct rrcache_response *response,
                                        struct rrcache_answer *answer)
@@ -279,7 +282,7 @@ static enum rrcache_status put_absence(const struct said *said,
     return RRCACHE_DONE;
 }
 
-/* Puts the records of types that no shelf keeps into an answer, or that there are none. */
+/* Appends to an answer the records of types that no shelf keeps, or NODATA if there are none. */
 static enum rrcache_status put_rest(const struct said *said, const struct rrcache_query *query,
                                     const struct rrcache_response *response,
                                     struct rrcache_answer *answer)
@@ -296,10 +299,11 @@ static enum rrcache_status put_rest(const struct said *said, const struct rrcach
 
 /* ---- The whole answer. */
 
-/* What is relevant may be less than what a response says, as of a long chain of aliases or of a
-   large RRset: where that has no answer, all that it says may. An answer for ANY has all of it. The
-   names of the query and of the zone may lie in the answer, which is written meanwhile: a zone is
-   there after its delegation was looked up. So they are copied first. */
+/* The relevant offers may be less than what a response says, for example if the CNAME chain is long
+   or an RRset is large. If they have no answer, all offers of the response may have one. An answer
+   for type ANY has all data of the response. The name of the query and the zone may be in the
+   memory of the answer, which this call writes: for example, a zone is there after its delegation
+   was looked up. So both are copied first. */
 enum rrcache_status tell_answer(const struct rrcache *cache, struct rrcache_offers *offers,
                                 const struct rrcache_summary *summary,
                                 const struct rrcache_query *query,

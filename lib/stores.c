@@ -2,22 +2,24 @@
 /* stores.c: storing in a cache, forgetting and sweeping. */
 #include "places.h"
 
-/* The most that an RRset of a response takes in a cache, without its rdata: so many octets for each
-   octet of the response, since a record has 11 or more and takes 64 in addition to its rdata, and
-   so many for its names and the rest. */
+/* The maximum number of octets that an RRset of a response takes in a cache, without its rdata:
+   OCTETS_FOR_ONE for each octet of the response, because a record has 11 octets or more and takes
+   64 in addition to its rdata; and OCTETS_BESIDE for its names and the rest. */
 enum { OCTETS_FOR_ONE = 6, OCTETS_BESIDE = 2048 };
-/* The most that its rdata take: so many octets for each octet of the response, since a record of 15
-   may have pointers to two names of 255, and in all what `rrcache_read_response` takes at most. */
+/* The maximum number of octets that its rdata take: DATA_FOR_ONE for each octet of the response,
+   because a record of 15 octets may have pointers to two names of 255 octets; and in total
+   MOST_DATA, the limit of `rrcache_read_response`. */
 enum { DATA_FOR_ONE = 34, MOST_DATA = 16384 };
 /* A buffer of this size has room for each RRset, negative answer or failure of a response that was
    read for a query (`rrcache_tell_offer`). */
 enum { OFFER_OCTETS = 28551 };
-/* The keys that go in one step of a sweep, and the types that one step of forgetting looks at. */
+/* The number of keys that one step of a sweep removes, and the number of types that one step of
+   forgetting checks. */
 enum { STEP_KEYS = 64, STEP_TYPES = 256 };
 enum { TYPES = 65536 };
 
-/* The key of what is stored: an RRset and NODATA have the key of their name and type, a failure has
-   another one for these, and an NXDOMAIN has a key without a type. */
+/* The key of stored data. An RRset and NODATA have the key of their name and type, a failure has
+   another key for its name and type, and an NXDOMAIN has a key without a type. */
 struct key {
     const struct rrcache_name *name;
     uint32_t kind; /* enum rrcache_kind */
@@ -40,8 +42,8 @@ static bool is_held(const struct part *part, const struct key *key)
     return entry->kind != 0;
 }
 
-/* Whether a locked part evicts a key if it keeps this one: it has as many as it may have, and does
-   not hold this one. */
+/* Whether a locked part evicts a key if it stores this one: it has the maximum number of keys, and
+   does not hold this one. */
 static bool will_evict(const struct rrcache *cache, const struct part *part, const struct key *key)
 {
     return part->keys >= cache->most_keys && !is_held(part, key);
@@ -62,8 +64,8 @@ struct intake {
     struct rrcache_offers offers;
     struct rrcache_report report;
     uint64_t concerned;  /* a bit for each shelf */
-    uint64_t one_by_one; /* the shelves in which offers are stored one by one */
-    uint64_t most_keys;  /* an upper bound of the keys that it stores */
+    uint64_t one_by_one; /* the shelves in which the offers are stored one by one */
+    uint64_t most_keys;  /* an upper bound of the number of keys that it stores */
     uint64_t moment;
     uint16_t rclass;
 };
@@ -75,7 +77,7 @@ static void add_counts(struct intake *intake, const struct rrcache_counts *count
     intake->report.counts.outranked += counts->outranked;
 }
 
-/* Stores the share of a locked part in what was read. */
+/* Stores in a locked part its share of the offers that were read. */
 static enum rrcache_status store_share(struct intake *intake, struct part *part,
                                        const struct rrcache_share *share)
 {
@@ -88,9 +90,9 @@ static enum rrcache_status store_share(struct intake *intake, struct part *part,
     return status;
 }
 
-/* Stores the share of each shelf in what was read, except in shelves in which it is stored one by
-   one. These include shelves that may reach their number of keys, so that evicted keys are counted.
- */
+/* Stores in each shelf its share of the offers that were read, except in shelves in which the
+   offers are stored one by one. These include shelves that may reach their maximum number of keys,
+   so that evicted keys are counted. */
 static enum rrcache_status store_shares(struct intake *intake)
 {
     struct rrcache_share share = {0};
@@ -132,8 +134,8 @@ static enum rrcache_status store_one(struct intake *intake, uint64_t index, cons
     return status;
 }
 
-/* Stores offers one by one, in the shelves that are not stored in at once, except offers that are
-   too large for a shelf. */
+/* Stores offers one by one in the shelves whose shares were not stored at once, except offers that
+   are too large for a shelf. */
 static enum rrcache_status store_what_fits(struct intake *intake)
 {
     uint8_t buffer[OFFER_OCTETS];
@@ -161,7 +163,7 @@ static enum rrcache_status store_what_fits(struct intake *intake)
     }
 }
 
-/* Whether all that octets of a response may say has room in a shelf, each by itself. */
+/* Whether each offer that a response of this size can have surely fits into a shelf by itself. */
 static bool fits_surely(const struct rrcache *cache, const struct rrcache_response *response)
 {
     size_t data = response->size * DATA_FOR_ONE;
@@ -229,9 +231,10 @@ enum rrcache_status rrcache_store(struct rrcache *cache, const struct rrcache_qu
     return status;
 }
 
-/* ---- What a caller has of its own. */
+/* ---- The caller's own data. */
 
-/* What a key takes, from its owner and the room of its data (`rrcache_sizes`). */
+/* Returns the octets that a key takes, given its owner and the octets of its data
+   (`rrcache_sizes`). */
 static uint64_t key_octets(const struct rrcache_name *name, const uint8_t *owner, size_t owner_size,
                            uint64_t data_room)
 {
@@ -329,8 +332,8 @@ enum rrcache_status rrcache_store_failure(struct rrcache *cache,
 
 /* ---- Forgetting. */
 
-/* Clears the NXDOMAIN of a name, or what is held for a type: offers a negative answer with TTL 0,
-   of the highest rank, and with an SOA record of zeros. */
+/* Clears the NXDOMAIN of a name, or its RRset or NODATA of a type. To do so, offers a negative
+   answer with TTL 0, the highest rank, and an SOA record of zeros. */
 static enum rrcache_status clear(struct part *part, const struct rrcache_request *request,
                                  enum rrcache_kind kind, uint64_t moment)
 {
@@ -352,8 +355,8 @@ static enum rrcache_status clear(struct part *part, const struct rrcache_request
     return rrcache_offer_negative(&part->shelf, &negative, &outcome);
 }
 
-/* Clears a failure: replaces it by one with TTL 0, and removes that by a sweep at timestamp 0, at
-   which nothing else is expired. */
+/* Clears a failure: replaces it with a failure with TTL 0, and removes this one by a sweep at
+   timestamp 0, at which only keys with TTL 0 are fully expired. */
 static enum rrcache_status clear_failure(struct part *part, const struct rrcache_request *request,
                                          uint64_t moment)
 {
@@ -388,7 +391,7 @@ static enum rrcache_status clear_all(struct part *part, const struct rrcache_nam
     return status;
 }
 
-/* Forgets what is held of a name, a class and a type. */
+/* Forgets what is held for a name, a class and a type. */
 static enum rrcache_status forget_type(struct rrcache *cache, const struct rrcache_name *name,
                                        const struct rrcache_request *request)
 {
@@ -400,7 +403,8 @@ static enum rrcache_status forget_type(struct rrcache *cache, const struct rrcac
     return status;
 }
 
-/* Forgets what is held of a name, a class and a type and was stored before the name's NXDOMAIN. */
+/* Forgets the RRset or NODATA of a name, a class and a type, if it was stored before the NXDOMAIN
+   of the name. */
 static enum rrcache_status forget_hidden(struct rrcache *cache, const struct rrcache_name *name,
                                          const struct rrcache_request *request)
 {
@@ -429,8 +433,8 @@ static bool is_denied(struct rrcache *cache, const struct rrcache_name *name, ui
     return stored.nxdomain.kind != 0;
 }
 
-/* Looks at up to STEP_TYPES types of a name, from `next` on. Returns whether a part holds something
-   for one of them, and sets `next` to the first such type. */
+/* Checks up to STEP_TYPES types of a name, starting with `next`. Returns whether a part holds
+   something for one of them, and sets `next` to the first such type. */
 static bool step_to_held(const struct part *part, const struct rrcache_name *name, uint16_t rclass,
                          uint32_t *next)
 {
@@ -445,9 +449,9 @@ static bool step_to_held(const struct part *part, const struct rrcache_name *nam
     return false;
 }
 
-/* Finds the first type, from `next` on, for which something is held of a name. No call of a shelf
-   lists the types of a name, so it looks at each of them. It takes a place anew for each step, so
-   that no other thread waits long. */
+/* Finds the first type, starting with `next`, for which something is held for a name. No call of a
+   shelf lists the types of a name, so this function checks each type. It takes a place again for
+   each step, so that no other thread waits for long. */
 static bool find_held(struct rrcache *cache, const struct rrcache_name *name, uint16_t rclass,
                       uint32_t *next)
 {
@@ -461,7 +465,7 @@ static bool find_held(struct rrcache *cache, const struct rrcache_name *name, ui
     return is_held;
 }
 
-/* Forgets what is held of a name and a class for each type, in a way. */
+/* Calls `forget` for each type for which something is held for a name and a class. */
 static enum rrcache_status
 forget_types(struct rrcache *cache, const struct rrcache_name *name,
              const struct rrcache_request *request,
@@ -478,8 +482,8 @@ forget_types(struct rrcache *cache, const struct rrcache_name *name,
     return status;
 }
 
-/* Forgets all that is held of a name and a class. What an NXDOMAIN hides goes before the NXDOMAIN,
-   so that no look-up finds it in between. */
+/* Forgets all that is held for a name and a class. What an NXDOMAIN hides is removed before the
+   NXDOMAIN, so that no look-up finds it in between. */
 static enum rrcache_status forget_name(struct rrcache *cache, const struct rrcache_name *name,
                                        const struct rrcache_request *request)
 {
@@ -487,7 +491,7 @@ static enum rrcache_status forget_name(struct rrcache *cache, const struct rrcac
     if (is_denied(cache, name, request->rclass))
         status = forget_types(cache, name, request, forget_hidden);
     if (status == RRCACHE_DONE)
-        status = forget_type(cache, name, request); /* with ANY it is the NXDOMAIN only */
+        status = forget_type(cache, name, request); /* with type ANY, only the NXDOMAIN */
     if (status == RRCACHE_DONE)
         status = forget_types(cache, name, request, forget_type);
     return status;
@@ -508,7 +512,7 @@ enum rrcache_status rrcache_forget(struct rrcache *cache, const struct rrcache_r
 
 /* ---- Sweeping. */
 
-/* Sweeps one part in steps, until so many keys are removed. */
+/* Sweeps one part in steps, until `most` keys are removed or the sweep is done. */
 static enum rrcache_status sweep_part(struct rrcache *cache, struct part *part, uint64_t moment,
                                       uint64_t most, struct rrcache_swept *swept)
 {

@@ -1,10 +1,12 @@
 /* SPDX-License-Identifier: MIT */
-/* unkept.c: records of types that no shelf keeps, as RRSIG and NAPTR (docs/RULES.md). They are read
-   of the octets of a response, all records of which were read before, to be told. */
+/* unkept.c: records of types that no shelf keeps, such as RRSIG and NAPTR (docs/RULES.md). They are
+   read from the octets of a response, to be returned in an answer. All records of the response were
+   read before. */
 #include "cache.h"
 
 enum { A = 1, SIG = 24, NXT = 30, NAPTR = 35, RRSIG = 46, FIRST_META = 128, ANY = 255 };
-/* How many octets a header has, what stands between a record's owner and its data, and a name. */
+/* The number of octets of a header, of the fields between the owner and the data of a record, of a
+   name at most, and of the data at most. */
 enum { HEADER = 12, FIXED = 10, NAME = 255, MOST_DATA = 65535 };
 enum { POINTER = 0xc0, MOST_LABEL = 63, MOST_POINTERS = 127 };
 
@@ -15,7 +17,7 @@ struct record {
     uint32_t ttl;
 };
 
-/* Where octets are written to, as far as there is room. */
+/* Memory to which octets are written, as far as there is room. */
 struct writer {
     uint8_t *octets;
     size_t room, size;
@@ -44,9 +46,9 @@ static uint32_t number_at(const uint8_t *octets, int size)
     return number;
 }
 
-/* Reads the name at a place of a message, and moves the place behind it. It may go on behind
-   pointers (RFC 1035 section 4.1.4), of which no more are followed than a name has labels. Returns
-   its size, or 0 where there is none. */
+/* Reads the name at an offset of a message, and moves the offset to the end of the name.
+   Compression pointers are followed (RFC 1035 section 4.1.4), but at most as many as a name can
+   have labels. Returns the size of the name, or 0 if there is none. */
 static size_t expand(const uint8_t *message, size_t size, size_t *place, uint8_t name[NAME])
 {
     size_t got = 0, at = *place, behind = 0;
@@ -69,7 +71,7 @@ static size_t expand(const uint8_t *message, size_t size, size_t *place, uint8_t
     return is_whole ? got + 1 : 0;
 }
 
-/* Reads the record at a place of a message; false where none is whole. */
+/* Reads the record at an offset of a message. Returns false if there is no complete record. */
 static bool read_record(const struct rrcache_response *message, size_t at, struct record *record)
 {
     const uint8_t *octets = message->octets;
@@ -87,9 +89,9 @@ static bool read_record(const struct rrcache_response *message, size_t at, struc
     return record->end <= message->size;
 }
 
-/* Where the name begins that may be compressed in the data of a record of such a type (RFC 3597
-   section 4; for A, which is of class CH, RFC 1034 section 3.6); the place behind them where there
-   is none. */
+/* Returns the offset of the name that may be compressed in the data of a record of such a type (RFC
+   3597 section 4; for type A, which is of class CH here, RFC 1034 section 3.6). Returns the end of
+   the data if there is no such name. */
 static size_t name_in(const uint8_t *message, const struct record *record)
 {
     size_t at = record->data + (record->rtype == SIG ? 18 : record->rtype == NAPTR ? 4 : 0);
@@ -100,10 +102,10 @@ static size_t name_in(const uint8_t *message, const struct record *record)
     return has_name && at < record->end ? at : record->end;
 }
 
-/* ---- What is told. */
+/* ---- Answers. */
 
-/* Writes the data of a record behind their length, with that name in full; false where it cannot be
-   read. */
+/* Writes the length of the data of a record, and then the data, with that name in full. Returns
+   false if the name cannot be read or the data are too long. */
 static bool put_data(struct writer *to, const uint8_t *message, const struct record *record)
 {
     uint8_t name[NAME];
@@ -127,7 +129,7 @@ static bool put_data(struct writer *to, const uint8_t *message, const struct rec
     return true;
 }
 
-/* Puts a record into an answer, as an RRset of its own under the name that was reached. */
+/* Appends a record to an answer, as an RRset of its own under the name that was reached. */
 static enum rrcache_status put_record(const struct rrcache_response *response, bool aa,
                                       const struct record *record, struct rrcache_answer *answer)
 {
@@ -155,7 +157,7 @@ static enum rrcache_status put_record(const struct rrcache_response *response, b
     return RRCACHE_DONE;
 }
 
-/* Whether a record is of a type that was asked for, and of the name that was reached. */
+/* Whether a record has a type that was asked for, and the name that was reached. */
 static bool is_wanted(const struct rrcache *cache, const struct rrcache_query *query,
                       const struct rrcache_response *response, const struct record *record,
                       const struct rrcache_name *reached)

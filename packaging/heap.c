@@ -1,9 +1,9 @@
 /* SPDX-License-Identifier: MIT */
 /* The three functions by which the proved code gets memory, as the Rattle kit has them for x86-64:
    over malloc, realloc and free, whose memory is aligned for all that the code stores. A call
-   returns two words, whether memory came and where it is. For 0 octets it asks for as many as the
-   alignment, since malloc(0) may return NULL. If no memory came, the address is one that is aligned
-   and not NULL. */
+   returns two words: whether it got memory, and where this memory is. For 0 octets it asks for as
+   many octets as the alignment, because malloc(0) may return NULL. If it got no memory, the address
+   is aligned and not NULL. */
 #include <stdint.h>
 #include <stdlib.h>
 

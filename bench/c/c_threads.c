@@ -1,9 +1,10 @@
 /* SPDX-License-Identifier: MIT */
-/* c_threads THREADS CALLS shared|own ask|put|both: times the library for C. So many threads make so
-   many calls in all on 16 shelves, each shelf under a lock: `shared`, each thread picks the shelf
-   of each name; `own`, each thread has 16 shelves of its own and takes no lock. To ask takes the
-   making of the name too, which is under no lock. It prints how many calls there were and the
-   nanoseconds that they took, by the clock. `bench/run c` runs it. */
+/* c_threads THREADS CALLS shared|own ask|put|both: times the library for C. THREADS threads
+   together make CALLS calls on 16 shelves. With `shared`, each shelf has a lock, and each thread
+   picks the shelf of each name. With `own`, each thread has 16 shelves of its own and takes no
+   lock. The time of an ask includes the making of the name, for which no lock is held. The program
+   prints the number of calls and the nanoseconds of elapsed time that they took. `bench/run c` runs
+   it. */
 #include <pthread.h>
 #include <stdio.h>
 #include <stdlib.h>
@@ -17,15 +18,15 @@ enum { SHELVES = 16, MOST_THREADS = 64, NAMES = 16384, MOMENT = 100, TTL = 3600 
 struct shelf {
     pthread_mutex_t lock;
     struct rrcache_shelf cache;
-    char apart[64]; /* so that two locks lie on two lines of the processor's cache */
+    char apart[64]; /* so that two locks are on two cache lines of the processor */
 };
 
 struct worker {
     pthread_t thread;
-    struct shelf *shelves; /* NULL where the thread is to make its own */
+    struct shelf *shelves; /* NULL if the thread is to make its own */
     uint64_t calls, seed, done;
     bool is_locked;
-    unsigned puts; /* of 16 calls so many are puts */
+    unsigned puts; /* how many of 16 calls are puts */
 };
 
 #define SEED "sixteen octets."

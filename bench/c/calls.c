@@ -1,5 +1,5 @@
 /* SPDX-License-Identifier: MIT */
-/* calls KIND COUNT: makes so many calls of one kind, on a cache that holds NAMES addresses, as many
+/* calls KIND COUNT: makes COUNT calls of one kind, on a cache that holds NAMES addresses, as many
    aliases and as many names without data. The kinds are those of CALLS. `bench/run calls` counts
    the instructions. */
 #include <stdio.h>

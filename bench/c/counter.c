@@ -1,6 +1,6 @@
 /* SPDX-License-Identifier: MIT */
-/* A library to be loaded before a program (LD_PRELOAD): at the program's end it prints how often
-   memory was asked for, in all and between two readings of a thread's clock.
+/* A library that is loaded before a program (LD_PRELOAD). At the end of the program it prints how
+   often memory was requested, in total and between two readings of a thread's clock.
    `bench/run allocations` makes it. */
 extern void *__libc_malloc(unsigned long);
 extern void *__libc_realloc(void *, unsigned long);
@@ -44,7 +44,7 @@ __attribute__((destructor)) static void tell(void)
     dprintf(2, "%lu %lu\n", all, timed);
 }
 
-/* A program with threads ends by this one, and then nothing tells at the end. */
+/* A program with threads ends with this call, and nothing else then reports the end. */
 void _exit(int status)
 {
     tell();

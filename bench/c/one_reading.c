@@ -1,9 +1,9 @@
 /* SPDX-License-Identifier: MIT */
 /* one_reading MESSAGE TIMES RUNS: times what it takes to offer a message to one shelf, to 16
    shelves by one reading of it, and to 16 shelves by a reading for each. It prints the nanoseconds
-   of processor time of each, the least of so many runs of so many times, and then those of the
-   longest call of `rrcache_offer_read`, for which a shelf's lock is held, in the run in which that
-   took least. `bench/run one-reading` runs it. */
+   of processor time of each, the least of RUNS runs of TIMES times. Then it prints those of the
+   longest call of `rrcache_offer_read`, for which a shelf's lock is held, in the run in which this
+   call took least. `bench/run one-reading` runs it. */
 #include <stdio.h>
 #include <stdlib.h>
 #include <time.h>
@@ -63,7 +63,7 @@ static void offer_read(struct rrcache_shelf *shelves)
     check(rrcache_free_offers(&offers));
 }
 
-/* The same, once, on empty shelves: how long the share took that took longest. */
+/* The same, once, on empty shelves: the time of the share that took longest. */
 static uint64_t took_longest(void)
 {
     struct rrcache_shelf shelves[SHELVES] = {{0}};

@@ -1,5 +1,5 @@
 /* SPDX-License-Identifier: MIT */
-/* addresses.h: addresses with ports, of IPv4 and of IPv6, and what their sockets need. */
+/* addresses.h: IPv4 and IPv6 addresses with ports, and what their sockets need. */
 #pragma once
 
 #include <errno.h>
@@ -7,7 +7,7 @@
 #include <stdbool.h>
 #include <string.h>
 
-/* All octets that an address does not use are 0. The largest member stands first, so that {0} sets
+/* All octets that an address does not use are 0. The largest member comes first, so that {0} sets
    all of them to 0. */
 union address {
     struct sockaddr_in6 six;

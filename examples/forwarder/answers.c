@@ -71,13 +71,14 @@ enum rrcache_kind look_up(const struct question *question, enum rrcache_mode mod
         refuse(reply, SERVFAIL);
     if (!is_good || status != RRCACHE_DONE)
         return 0;
-    return kind == RRCACHE_FRESH && answer.is_stale ? RRCACHE_STALE : kind; /* by a CNAME record */
+    return kind == RRCACHE_FRESH && answer.is_stale ? RRCACHE_STALE : kind; /* because of a stale
+                                                                               CNAME record */
 }
 
 /* The limits of the library apply: data live a week at most (RFC 8767 section 4). All queries go to
    the upstreams, so the lowest of different TTLs applies even if AA is clear (RFC 2181 section
-   5.2). What an authoritative NXDOMAIN denies is cleared, so it does not come back when the
-   NXDOMAIN expires. If memory is refused, a second call may store a part. */
+   5.2). An authoritative NXDOMAIN clears the data that it denies, so they do not come back when the
+   NXDOMAIN expires. If memory is refused, a second call may store a part of the response. */
 const struct reply *keep(const struct question *question, const uint8_t *message, size_t size,
                          struct reply replies[2])
 {
@@ -116,7 +117,7 @@ void remember_failure(const struct question *question)
     rrcache_store_failure(cache, &failure, &outcome);
 }
 
-/* ---- What the forwarder says of itself. */
+/* ---- What the forwarder says about itself. */
 
 void identify(const struct question *question, struct reply *reply)
 {

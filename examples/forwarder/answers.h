@@ -6,7 +6,7 @@
 #include "counters.h"
 #include "dns.h"
 
-/* What the host says of itself (RFC 4892), or NULL. */
+/* What the host says about itself (RFC 4892), or NULL. */
 struct identity {
     const char *version, *name;
 };
@@ -20,7 +20,7 @@ static inline bool is_found(enum rrcache_kind kind)
            || kind == RRCACHE_NXDOMAIN;
 }
 
-/* What a reply of such a kind counts as. */
+/* The counter for a reply of this kind. */
 static inline enum counter counter_of(enum rrcache_kind kind)
 {
     return kind == RRCACHE_FRESH ? FRESH : kind == RRCACHE_STALE ? STALE : NEGATIVE;
@@ -29,21 +29,23 @@ static inline enum counter counter_of(enum rrcache_kind kind)
 /* Opens the cache. Returns false if that fails. */
 bool open_cache(uint64_t octets, const struct identity *said);
 
-/* Hashes a name in lower case, under a secret seed. */
+/* Hashes the lower-case form of a name under a secret seed. */
 uint64_t hash_of(const uint8_t *name, size_t size);
 
 /* Answers a question from the cache, with its CNAME chain. If nothing was found, the reply is
-   SERVFAIL. Returns 0 if no reply can have the answer, as for a loop of CNAME records. */
+   SERVFAIL. Returns 0 if no reply can have the answer, for example because of a loop of CNAME
+   records. */
 enum rrcache_kind look_up(const struct question *question, enum rrcache_mode mode,
                           struct reply *reply);
 
 /* Stores a response to a question. Returns one of two replies: what the response says, or what the
-   cache knows, if the response says only a part. Returns NULL if it answers nothing. */
+   cache has if the response says only a part. Returns NULL if the response answers nothing. */
 const struct reply *keep(const struct question *question, const uint8_t *message, size_t size,
                          struct reply replies[2]);
 
-/* Stores for 30 seconds that the resolution of a question failed (RFC 2308 section 7). */
+/* Stores for 30 seconds that a question could not be resolved (RFC 2308 section 7). */
 void remember_failure(const struct question *question);
 
-/* Answers what a host is asked of itself in class CH. Any other reply is REFUSED. */
+/* Answers questions about the host itself in class CH. The reply to any other question is
+   REFUSED. */
 void identify(const struct question *question, struct reply *reply);

@@ -11,7 +11,7 @@
 
 enum { BACKLOG = 128, BURST = 64, SHUT_MS = 100, PORT_TRIES = 16 };
 
-/* The rest of a reply that is not sent yet. It is of the client's share. */
+/* The rest of a reply that is not sent yet. Its memory comes from the client's share. */
 struct unsent {
     STAILQ_ENTRY(unsent) others;
     size_t size, sent;
@@ -19,27 +19,28 @@ struct unsent {
 };
 
 struct connection {
-    int sock; /* -1: the place is free */
+    int sock; /* -1 if the place is free */
     unsigned client;
     uint64_t serial; /* increases when the connection is shut */
     unsigned waiting;
     uint64_t active_at; /* when a query was taken, or some of a reply was sent */
-    bool has_ended;     /* the client sends no more */
+    bool has_ended;     /* the client sends nothing more */
     bool is_broken;     /* it will be shut */
     STAILQ_HEAD(, unsent) unsent;
     size_t in_size;
     uint8_t in[LENGTH + MOST_QUERY];
 };
 
-static int listeners[2 * MOST_LISTENERS]; /* of each address that for UDP and that for TCP */
+static int listeners[2 * MOST_LISTENERS]; /* for each address, the socket for UDP and that for
+                                             TCP */
 size_t listener_count;
-/* Added to the time at which a connection was active, if it is not idle. */
+/* Added to the time at which a connection was last active, if the connection is not idle. */
 static const uint64_t BUSY = UINT64_MAX / 2;
 
 /* ---- Listeners. */
 
-/* A datagram comes with the address that it was sent to, TCP gets its port at once after a restart,
-   and a socket of IPv6 takes nothing that is sent over IPv4. */
+/* Makes a socket. A datagram comes with the address to which it was sent, TCP gets its port
+   immediately after a restart, and an IPv6 socket receives nothing that is sent over IPv4. */
 static int bound_socket(int kind, union address *address)
 {
     bool is_six = address->family == AF_INET6, is_udp = kind == SOCK_DGRAM;
@@ -57,8 +58,8 @@ static int bound_socket(int kind, union address *address)
     return -1;
 }
 
-/* Opens both sockets of an address. A port that the system picks for UDP may be taken for TCP. Then
-   it picks another. */
+/* Opens both sockets of an address. If the port that the system picks for UDP is already taken for
+   TCP, the system picks another. */
 static bool open_both(int sockets[2], union address *address)
 {
     const union address wanted = *address;
@@ -82,7 +83,7 @@ bool open_listeners(union address *addresses, size_t count)
     return true;
 }
 
-/* ---- A connection. The lock is held by the caller, here and up to the sending of replies. */
+/* ---- A connection. In this section and the next, the caller holds the lock. */
 
 /* Whether replies wait to be sent. */
 static bool is_behind(const struct connection *connection)
@@ -113,8 +114,9 @@ static bool is_untaken(const struct connection *connection)
     return ioctl(connection->sock, SIOCOUTQ, &size) == 0 && size > 0;
 }
 
-/* Shuts a connection, and drops what the client did not take. Else the system would keep that for
-   minutes, and a client that makes one connection after another could have it keep any amount. */
+/* Shuts a connection, and drops the replies that the client did not take. Otherwise the system
+   would keep these replies for minutes, and a client that makes one connection after another could
+   make it keep any amount. */
 static void reset(struct connection *connection)
 {
     const struct linger at_once = {.l_onoff = 1};
@@ -123,20 +125,21 @@ static void reset(struct connection *connection)
     shut(connection);
 }
 
-/* The size of the first query that was read, or 0 if it is not whole. */
+/* The size of the first query that was read, or 0 if the query is not complete. */
 static size_t whole_query(const struct connection *connection)
 {
     size_t size = connection->in_size < LENGTH ? 0 : word_at(connection->in);
     return connection->in_size < LENGTH + size ? 0 : size;
 }
 
-/* A client that does not read its replies, or waits for many, may not ask more. */
+/* Whether a client may ask more. It may not if it does not read its replies, or waits for many. */
 static bool may_ask(const struct connection *connection)
 {
     return !connection->is_broken && !is_behind(connection) && connection->waiting < MOST_WAITING;
 }
 
-/* Whether nothing was done for so long, and the client is the one to do something. */
+/* Whether a connection was inactive for `most` milliseconds although it is the client's turn to
+   act. */
 static bool is_idle(const struct connection *connection, uint64_t now, uint64_t most)
 {
     bool may_be = connection->waiting == 0 || is_behind(connection);
@@ -154,7 +157,7 @@ static void read_more(struct connection *connection)
     connection->in_size += got > 0 ? (size_t)got : 0;
 }
 
-/* Sends what it can, and returns how many octets. */
+/* Sends as many octets as it can, and returns their number. */
 static size_t send_some(struct connection *connection, const uint8_t *octets, size_t size)
 {
     ssize_t sent = send(connection->sock, octets, size, MSG_NOSIGNAL);
@@ -187,7 +190,7 @@ static void send_unsent(struct connection *connection)
     }
 }
 
-/* Reads and writes, and shuts a connection that is at its end. */
+/* Reads and writes, and shuts a connection that has ended. */
 static void tend(struct connection *connection, int revents, uint64_t now)
 {
     if (revents & POLLIN)
@@ -201,15 +204,16 @@ static void tend(struct connection *connection, int revents, uint64_t now)
         reset(connection);
 }
 
-/* ---- Places. If no place is free for a new connection, the client that holds most places, with
-   the new connection counted, gives up the place of its connection that was active least recently.
-   If it holds more places than the client of the new connection, even a busy connection gives way,
-   and otherwise only an idle one. So one client alone may have all places, and each of two gets
-   half of them.
+/* ---- Places. If no place is free for a new connection, the client that holds the most places,
+   counting the new connection, gives up the place of its least recently active connection. If this
+   client holds more places than the client of the new connection, even a busy connection gives way;
+   otherwise only an idle connection does. So a single client may have all places, and each of two
+   clients gets half of them.
 
-   A new connection that gets no place is shut, since others wait behind it in the queue of the
-   system, as long as a client without a place would get one. If it would not, each place is
-   another client's, and new connections wait in the queue until one is idle. */
+   A new connection that gets no place is shut, because others wait after it in the queue of the
+   system. This applies as long as a client without a place would get one. If it would not, each
+   place is held by a different client, and new connections wait in the queue until a connection is
+   idle. */
 
 static size_t held_by(const struct clients *clients, unsigned client)
 {
@@ -263,8 +267,8 @@ static void settle(struct clients *clients, int sock, unsigned client, uint64_t 
     count(CONNECTIONS, 1);
 }
 
-/* Accepts the connections that wait at a listener. If descriptors or memory run out, none is
-   accepted for a while, since the listener would be ready all the time. */
+/* Accepts the connections that wait at a listener. If descriptors or memory run out, no connection
+   is accepted for a while, because the listener would be ready all the time. */
 static void accept_all(struct clients *clients, int listener, uint64_t now)
 {
     for (int i = 0; i < BURST && is_open(clients, now); i++) {
@@ -280,7 +284,7 @@ static void accept_all(struct clients *clients, int listener, uint64_t now)
     }
 }
 
-/* ---- The connections of a thread. Their lock is not held by the caller from here on. */
+/* ---- The connections of a thread. From here on, the caller does not hold their lock. */
 
 bool make_clients(struct clients *clients, size_t places)
 {
@@ -302,7 +306,7 @@ void poll_clients(struct clients *clients, struct pollfd *polled, uint64_t now)
         const struct connection *it = &clients->connections[i];
         bool reads = it->sock >= 0 && may_ask(it) && !it->has_ended;
         bool writes = it->sock >= 0 && is_behind(it);
-        polled[i].fd = it->sock; /* that it was reset is told without any event */
+        polled[i].fd = it->sock; /* a reset is reported even if no event is requested */
         polled[i].events = (short)((reads ? POLLIN : 0) | (writes ? POLLOUT : 0));
     }
     pthread_mutex_unlock(&clients->lock);
@@ -340,8 +344,8 @@ static struct msghdr datagram(const struct asker *asker, struct iovec *octets)
                            .msg_controllen = asker->control_size};
 }
 
-/* The reply goes out from the address that was asked, since clients compare it, but not through the
-   same interface, since the routes choose that. */
+/* The reply is sent from the address that was asked, because clients compare it. It is not tied to
+   the interface of the query, because the routes choose the interface. */
 bool take_datagram(int sock, uint8_t octets[MOST_QUERY], size_t *size, struct asker *asker)
 {
     *asker = (struct asker){.sock = sock, .control_size = CONTROL, .from.family = AF_INET6};
@@ -361,7 +365,8 @@ bool take_datagram(int sock, uint8_t octets[MOST_QUERY], size_t *size, struct as
     return true;
 }
 
-/* Takes the first query that was read. Anything else breaks the connection. */
+/* Takes the first query that was read. If the client sent anything else, the connection is marked
+   as broken. */
 size_t take_message(struct clients *clients, size_t place, uint8_t octets[MOST_QUERY],
                     struct asker *asker)
 {
@@ -391,7 +396,7 @@ size_t take_message(struct clients *clients, size_t place, uint8_t octets[MOST_Q
     return size;
 }
 
-/* Sends a message on a connection, if it is still the one that the query came on. */
+/* Sends a message on a connection, if this is still the connection of the query. */
 static void send_message(const struct asker *asker, const uint8_t *octets, size_t size)
 {
     struct clients *clients = asker->clients;

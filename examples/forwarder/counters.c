@@ -20,7 +20,8 @@ void count(enum counter which, uint64_t by)
     atomic_fetch_add_explicit(&counters[which], by, memory_order_relaxed);
 }
 
-/* A pipe that is ready takes 4,096 octets at once (PIPE_BUF), and no line has as many. */
+/* Whether a line can be written. A pipe that is ready takes 4,096 octets at once (PIPE_BUF), and no
+   line has that many. */
 static bool takes_line(int file)
 {
     return poll(&(struct pollfd){.fd = file, .events = POLLOUT}, 1, 0) == 1;

@@ -8,10 +8,11 @@ enum { QR = 0x80, OPCODE = 0x78, TC = 0x02, RD = 0x01, RA = 0x80, CD = 0x10, RCO
 enum { POINTER = 0xc0, MOST_LABEL = 63, MOST_LABELS = 127 };
 enum { RECORD = 10 };        /* the octets between the owner of a record and its data */
 enum { DNSSEC_OK = 0x8000 }; /* in the TTL of an OPT record (RFC 3225) */
-enum { FIRST_META = 128 };   /* of the types of queries alone, up to ANY */
+enum { FIRST_META = 128 };   /* the first of the types that occur only in queries, up to ANY */
 
-/* The OPT records of a message. There may be one at most, whose owner is the root (RFC 6891 section
-   6.1.1). Its class is a size, and its TTL has the upper octet of the RCODE, the version and DO. */
+/* The OPT records of a message. There may be at most one, and its owner is the root (RFC 6891
+   section 6.1.1). Its class is a size, and its TTL has the upper octet of the RCODE, the version
+   and DO. */
 struct edns {
     unsigned count, payload, ttl;
     bool is_broken;
@@ -33,14 +34,14 @@ bool is_same_question(const struct question *one, const struct question *other)
            && is_same_name(one->name, one->size, other->name, other->size);
 }
 
-/* Below in-addr.arpa a domain is that of a /24, and below ip6.arpa that of a /48, as networks
-   mostly have them. Below the label of a country, one of at most three letters is mostly shared, as
-   in `co.uk`. */
+/* Below in-addr.arpa a domain is a /24, and below ip6.arpa a /48, because most networks have such a
+   domain. Below the label of a country, a label of at most three letters is usually shared, as in
+   `co.uk`. */
 size_t domain_of(const uint8_t *name, size_t size)
 {
     static const uint8_t FOUR[] = "\7in-addr\4arpa", SIX[] = "\3ip6\4arpa";
     uint8_t starts[MOST_LABELS + 2] = {0};
-    size_t count = 2; /* of labels, with two before the first one */
+    size_t count = 2; /* the number of labels, plus two */
     for (size_t at = 0; at < size && name[at] != 0; at += name[at] + 1u)
         starts[count++] = (uint8_t)at;
     const uint8_t *end = name + starts[count - 2];
@@ -53,7 +54,7 @@ size_t domain_of(const uint8_t *name, size_t size)
     return count - 2 <= labels ? 0 : starts[count - labels];
 }
 
-/* Returns where labels end that begin at an offset. */
+/* Returns where the labels that begin at an offset end. */
 static size_t end_of_labels(const uint8_t *octets, size_t size, size_t at)
 {
     while (at < size && octets[at] != 0 && octets[at] <= MOST_LABEL)
@@ -63,8 +64,8 @@ static size_t end_of_labels(const uint8_t *octets, size_t size, size_t at)
 
 /* ---- Records. */
 
-/* Reads the record at an offset (RFC 1035 section 4.1.3). Returns where it ends, or 0 if it is not
-   whole. All options of an OPT record are passed over (RFC 6891 section 6.1.2). */
+/* Reads the record at an offset (RFC 1035 section 4.1.3). Returns where the record ends, or 0 if it
+   is not complete. All options of an OPT record are skipped (RFC 6891 section 6.1.2). */
 static size_t read_record(const uint8_t *message, size_t size, size_t owner, struct edns *edns)
 {
     size_t at = end_of_labels(message, size, owner);
@@ -88,7 +89,7 @@ static size_t read_record(const uint8_t *message, size_t size, size_t owner, str
     return end;
 }
 
-/* Reads so many records. Returns where they end, or 0 if they are not whole. */
+/* Reads `count` records. Returns where they end, or 0 if they are not complete. */
 static size_t read_records(const uint8_t *message, size_t size, size_t at, unsigned count,
                            struct edns *edns)
 {
@@ -100,7 +101,7 @@ static size_t read_records(const uint8_t *message, size_t size, size_t at, unsig
 
 /* ---- Queries. */
 
-/* Reads the question of a message. Returns where it ends, or 0 if it is not whole. */
+/* Reads the question of a message. Returns where the question ends, or 0 if it is not complete. */
 static size_t read_question(const uint8_t *octets, size_t size, struct question *question)
 {
     size_t last = end_of_labels(octets, size, HEADER), end = last + 5;
@@ -126,7 +127,8 @@ enum rcode read_query(const uint8_t *octets, size_t size, struct query *query)
     end = read_records(octets, size, end, word_at(octets + 10), &edns);
     query->has_edns = edns.count != 0;
     query->is_dnssec_ok = edns.ttl & DNSSEC_OK;
-    if (edns.payload > PLAIN_PAYLOAD) /* less is taken as that (RFC 6891 section 6.2.3) */
+    if (edns.payload > PLAIN_PAYLOAD) /* a smaller size counts as this size (RFC 6891 section
+                                         6.2.3) */
         query->payload = edns.payload < PAYLOAD ? edns.payload : PAYLOAD;
     if (end != size || edns.is_broken)
         return FORMERR;
@@ -136,7 +138,8 @@ enum rcode read_query(const uint8_t *octets, size_t size, struct query *query)
     return question->type == 0 || question->type == OPT || is_meta ? NOTIMP : NOERROR;
 }
 
-/* Adds an OPT record to a message that has no additional record, and returns the size of both. */
+/* Adds an OPT record to a message that has no additional record, and returns the new size of the
+   message. */
 static size_t add_opt(uint8_t *octets, size_t size, unsigned rcode, bool is_dnssec_ok)
 {
     const uint8_t upper = (uint8_t)(rcode >> 4), flags = is_dnssec_ok ? DNSSEC_OK >> 8 : 0;
@@ -165,7 +168,8 @@ void refuse(struct reply *reply, enum rcode rcode)
 }
 
 /* Composes a reply, or only its header and question with TC set. An owner that is the name of the
-   question is spelled like that, so that a pointer to it is written. */
+   question gets the spelling of the question, so that it is written as a pointer to the
+   question. */
 static enum rrcache_status compose(const struct reply *reply, const struct query *query,
                                    bool is_cut, uint8_t *octets, size_t room, size_t *size)
 {

@@ -1,7 +1,7 @@
 /* SPDX-License-Identifier: MIT */
 /* dns.h: DNS messages as octets (RFC 1035 section 4): queries are read and written, replies are
-   written, and responses are judged. Nothing here allocates, blocks or asks the cache. Names are in
-   wire form. */
+   written, and responses are judged. No function of this file allocates, blocks or asks the cache.
+   Names are in wire form. */
 #pragma once
 
 #include <stdbool.h>
@@ -10,13 +10,13 @@
 
 #include "rrcache.h"
 
-/* Sizes in octets: a header, an OPT record without options, a name at most, a message at most, the
-   length that precedes a message over TCP, and a query to an upstream at most. */
+/* Sizes in octets: a header, an OPT record without options, the longest name, the longest message,
+   the length that precedes a message over TCP, and the longest query to an upstream. */
 enum { HEADER = 12, OPT_RECORD = 11, NAME = 255, MESSAGE = 65535, LENGTH = 2 };
 enum { QUERY = HEADER + NAME + 4 + OPT_RECORD };
 
-/* The most octets of a reply over UDP: without EDNS (RFC 1035 section 4.2.1), and with EDNS, so
-   that no path has to fragment it. */
+/* The maximum number of octets of a reply over UDP: without EDNS (RFC 1035 section 4.2.1), and with
+   EDNS, so that no path has to fragment the reply. */
 enum { PLAIN_PAYLOAD = 512, PAYLOAD = 1232 };
 
 enum rcode { NOERROR, FORMERR, SERVFAIL, NXDOMAIN, NOTIMP, REFUSED, BADVERS = 16 };
@@ -24,7 +24,7 @@ enum type { TXT = 16, OPT = 41, ANY = 255 };
 
 struct question {
     uint8_t name[NAME]; /* as it was spelled */
-    size_t size;        /* 0: there is no question */
+    size_t size;        /* 0 if there is no question */
     uint16_t type, class;
     uint64_t hash; /* of the name in lower case, under a secret seed (answers.h) */
 };
@@ -33,11 +33,11 @@ struct question {
 struct query {
     uint8_t id[2], flags[2];
     struct question question;
-    size_t payload; /* the most octets of a reply over UDP: 512 to 1,232 */
+    size_t payload; /* the maximum number of octets of a reply over UDP: 512 to 1,232 */
     bool has_edns, is_dnssec_ok;
 };
 
-/* The most RRsets of a reply, and the most octets that they use. */
+/* The maximum number of RRsets of a reply, and of the octets that they use. */
 enum { MOST_SETS = 256, REPLY_ROOM = 2 * RRCACHE_ANSWER_OCTETS };
 
 /* A reply to all clients that asked the same question. */
@@ -48,12 +48,12 @@ struct reply {
     uint8_t buffer[REPLY_ROOM]; /* has the owners and the data of the sets */
 };
 
-/* What octets from an upstream are, for the query that was sent there. */
+/* What octets from an upstream mean for the query that was sent to it. */
 enum verdict {
     STRAY,       /* not a response to this query */
     ANSWER,      /* a response with the RCODE NOERROR or NXDOMAIN */
     TRUNCATED,   /* a response with TC set */
-    WANTS_PLAIN, /* the upstream does not know OPT records (RFC 6891 section 7) */
+    WANTS_PLAIN, /* the upstream does not support OPT records (RFC 6891 section 7) */
     FAILURE      /* any other RCODE, or a message that cannot be read */
 };
 
@@ -68,7 +68,7 @@ static inline void write_word(uint8_t *octets, unsigned word)
     octets[1] = (uint8_t)word;
 }
 
-/* A question with an identifier, as the library takes it. */
+/* Returns a question and an identifier in the form that the library takes. */
 static inline struct rrcache_query query_of(const struct question *question, const uint8_t id[2])
 {
     return (struct rrcache_query){.name = question->name,
@@ -82,8 +82,8 @@ static inline struct rrcache_query query_of(const struct question *question, con
 bool is_same_name(const uint8_t *one, size_t one_size, const uint8_t *other, size_t other_size);
 bool is_same_question(const struct question *one, const struct question *other);
 
-/* Returns where the domain of a name begins: its last two labels, as `example.com`, or more if many
-   share these, as in `example.co.uk` and in reverse zones. */
+/* Returns where the domain of a name begins: its last two labels, as in `example.com`, or more
+   labels if many domains share these two, as in `example.co.uk` and in reverse zones. */
 size_t domain_of(const uint8_t *name, size_t size);
 
 /* Reads a query of a client, of at least HEADER octets. Returns NOERROR, or the RCODE of a refusal:
@@ -97,9 +97,9 @@ size_t write_query(const struct query *query, uint8_t octets[QUERY]);
 /* Makes a reply without records. */
 void refuse(struct reply *reply, enum rcode rcode);
 
-/* Writes a reply to a query, with an OPT record if the query has one, and returns its size. If it
-   has more than `most` octets, it gets no records and TC (RFC 2181 section 9), or becomes SERVFAIL
-   if no message has room for the records. */
+/* Writes a reply to a query, with an OPT record if the query has one, and returns its size. If the
+   reply has more than `most` octets, it is written without records and with TC set (RFC 2181
+   section 9), or as SERVFAIL if no message has room for the records. */
 size_t write_reply(const struct reply *reply, const struct query *query, size_t most,
                    uint8_t *octets);
 

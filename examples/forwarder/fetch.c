@@ -1,7 +1,7 @@
 /* SPDX-License-Identifier: MIT */
 /* A fetch asks one upstream after another by UDP, first the one that answered last. All tries have
-   one port and one identifier, both random, so an answer that is late for its try still counts. A
-   truncated response is asked for again over TCP. */
+   one port and one identifier, both random, so an answer that is late for its try still counts. If
+   a response is truncated, the query is sent again over TCP. */
 #include "fetch.h"
 
 #include <stdlib.h>
@@ -14,43 +14,46 @@
 enum {
     TRIES = 4,
     TRY_MS = 800,      /* the time of the first try */
-    LONGER_MS = 100,   /* how much longer each try is than the one before */
-    LATE_MS = 1800,    /* from when on who waits gets stale data (RFC 8767 section 5) */
-    AGAIN_MS = 100,    /* and how often they are looked for */
-    PLAIN_MS = 900000, /* for how long an upstream that does not know OPT records gets none */
-    GRACE_MS = 200,    /* for how long a fetch does not give way to one that weighs as much */
-    MOST_ASKERS = 256, /* the most queries that wait for a fetch */
-    ASKER_SHARE = 4    /* those of one client are at most a fourth of them */
+    LONGER_MS = 100,   /* how much longer each try takes than the previous one */
+    LATE_MS = 1800,    /* the time after which waiting clients get stale data (RFC 8767 section
+                          5) */
+    AGAIN_MS = 100,    /* how often stale data are looked up after that */
+    PLAIN_MS = 900000, /* for how long an upstream that does not support OPT records gets none */
+    GRACE_MS = 200,    /* for how long a fetch does not give way to another of the same weight */
+    MOST_ASKERS = 256, /* the maximum number of queries that wait for a fetch */
+    ASKER_SHARE = 4    /* one client may have at most a fourth of them */
 };
 enum { BUCKETS = 64, BURST = 64, PORT_TRIES = 8, FIRST_PORT = 1024 };
 
 struct upstream {
     union address address;
-    unsigned bit;                 /* in sets of upstreams */
-    _Atomic uint64_t plain_until; /* it gets no OPT record before, in milliseconds */
+    unsigned bit;                 /* the bit of this upstream in sets of upstreams */
+    _Atomic uint64_t plain_until; /* it gets no OPT record before this time, in milliseconds */
 };
 
 enum way { BY_UDP, CONNECTS, BY_TCP };
 
 struct fetch {
-    /* Under the lock of the bucket. */
+    /* Guarded by the lock of the bucket. */
     LIST_ENTRY(fetch) others;
     struct asker *askers;
     unsigned count;
 
-    /* Of its thread alone, except that others read the question, which does not change. */
-    struct query query; /* the one that was sent last */
+    /* Used only by its thread, except that other threads read the question, which does not
+       change. */
+    struct query query; /* the query that was sent last */
     struct fetcher *fetcher;
-    bool is_live; /* or the place is free */
+    bool is_live; /* false if the place is free */
     unsigned client, domain, turn, tries;
-    unsigned asked, refused;   /* bits of the upstreams that this socket asked, and that refused */
+    unsigned asked, refused;   /* bits of the upstreams that this socket asked, and of those that
+                                  refused */
     unsigned plain;            /* bits of those that get no OPT record for this question */
-    struct upstream *upstream; /* the one that was asked last */
+    struct upstream *upstream; /* the upstream that was asked last */
     uint64_t began, try_ends, late_at;
     int sock;
     enum way way;
-    uint8_t length[LENGTH], *message; /* what comes over TCP */
-    unsigned payer;                   /* the client of whose share the message is */
+    uint8_t length[LENGTH], *message; /* the message that arrives over TCP */
+    unsigned payer;                   /* the client whose share the message counts against */
     size_t got;
 };
 
@@ -64,10 +67,10 @@ static struct bucket under_way[BUCKETS] = {[0 ... BUCKETS - 1] = {PTHREAD_MUTEX_
 static struct upstream upstreams[MOST_UPSTREAMS];
 static unsigned upstream_count;
 static _Atomic unsigned preferred;   /* the upstream that answered last */
-static sa_family_t family = AF_INET; /* of the sockets of fetches */
+static sa_family_t family = AF_INET; /* the address family of the sockets of fetches */
 
-/* One socket of a fetch asks all upstreams. So if one of them has IPv6, it speaks both, and has
-   IPv4 addresses mapped (RFC 4291 section 2.5.5.2). */
+/* One socket of a fetch asks all upstreams. So if one of the upstreams has an IPv6 address, the
+   socket uses IPv6, and IPv4 addresses are mapped (RFC 4291 section 2.5.5.2). */
 void set_upstreams(const union address *addresses, size_t count)
 {
     for (size_t i = 0; i < count; i++)
@@ -92,7 +95,7 @@ bool make_fetcher(struct fetcher *fetcher, size_t places)
     return fetcher->fetches != NULL;
 }
 
-/* ---- Who waits. */
+/* ---- Waiting clients. */
 
 static struct bucket *bucket_of(const struct question *question)
 {
@@ -109,7 +112,7 @@ static struct fetch *find(struct bucket *bucket, const struct question *question
     return fetch;
 }
 
-/* Replies to all who wait for a fetch. */
+/* Replies to all clients that wait for a fetch. */
 static void tell(struct fetch *fetch, const struct reply *reply, enum counter what, bool is_over)
 {
     struct bucket *bucket = bucket_of(&fetch->query.question);
@@ -149,7 +152,7 @@ static void end_fetch(struct fetch *fetch, const struct reply *reply, enum count
     tell(fetch, reply, what, true);
 }
 
-/* Ends a fetch without a response. Who waits gets what is cached, even if it is stale. */
+/* Ends a fetch without a response. The waiting clients get cached data, even if these are stale. */
 static void give_up(struct fetch *fetch)
 {
     struct reply reply;
@@ -157,7 +160,7 @@ static void give_up(struct fetch *fetch)
     end_fetch(fetch, &reply, counter_of(kind));
 }
 
-/* Replies with stale data to who waits for a fetch that is late, and goes on with it. */
+/* Sends stale data to the clients that wait for a fetch that is late. The fetch continues. */
 static void turn_late(struct fetch *fetch, uint64_t now)
 {
     struct reply reply;
@@ -184,8 +187,8 @@ static bool draw_id(struct fetch *fetch)
     return getentropy(fetch->query.id, sizeof fetch->query.id) == 0;
 }
 
-/* Opens a socket for UDP, if this is not one. It is not connected, since it asks one upstream after
-   another. With IP_RECVERR it still learns which upstream's port is closed. */
+/* Opens a UDP socket, if the fetch has none. The socket is not connected, because it asks one
+   upstream after another. With IP_RECVERR it still learns which upstream's port is closed. */
 static bool open_socket(struct fetch *fetch)
 {
     bool is_six = family == AF_INET6;
@@ -205,8 +208,8 @@ static void begin_try(struct fetch *fetch)
     fetch->try_ends = milliseconds() + TRY_MS + (uint64_t)LONGER_MS * (fetch->tries - 1);
 }
 
-/* Sends the query. Over TCP its length precedes it, and all of it fits into an empty buffer. A call
-   may return an error of an older datagram, and is then made again. */
+/* Sends the query. Over TCP the length precedes the query, and both fit into an empty buffer. A
+   call may return an error of an older datagram. Then it is made again. */
 static bool send_query(struct fetch *fetch)
 {
     uint8_t octets[LENGTH + QUERY];
@@ -228,7 +231,8 @@ static bool send_query(struct fetch *fetch)
     return sent == (ssize_t)size;
 }
 
-/* The next upstream in turn that did not refuse, or NULL if all tries were made. */
+/* The next upstream in turn that has not refused, or NULL if all tries were made or all upstreams
+   refused. */
 static struct upstream *next_upstream(struct fetch *fetch)
 {
     for (unsigned i = 0; i < upstream_count && fetch->tries < TRIES; i++) {
@@ -247,9 +251,10 @@ static bool is_lack(void)
     return errno == EAGAIN || errno == EADDRNOTAVAIL || errno == ENOBUFS || errno == ENOMEM;
 }
 
-/* Asks the next upstream by UDP. If all tries failed, the failure is stored, but not if this system
-   has no socket, port or buffer: that is not a failure of the name's servers. What it lacks for one
-   upstream it may have for another: a host whose IPv6 is turned off has an address of IPv4. */
+/* Asks the next upstream by UDP. If all tries failed, the failure is stored. It is not stored if
+   this system had no socket, port or buffer, because that is not a failure of the name's servers.
+   What the system lacks for one upstream it may have for another: a host with IPv6 turned off still
+   has an IPv4 address. */
 static void ask_next(struct fetch *fetch)
 {
     bool is_open = true, lacks = false;
@@ -267,8 +272,8 @@ static void ask_next(struct fetch *fetch)
     give_up(fetch);
 }
 
-/* An upstream cannot answer, and is not asked this question again. If another one was asked since,
-   that one may still answer. */
+/* Called if an upstream cannot answer: it is not asked this question again. If another upstream was
+   asked since, that one may still answer. */
 static void refused(struct fetch *fetch, const struct upstream *upstream)
 {
     fetch->refused |= upstream->bit;
@@ -284,7 +289,7 @@ static void upgrade(struct fetch *fetch)
     begin_try(fetch);
     fetch->way = CONNECTS;
     fetch->sock = socket(family, SOCK_STREAM | SOCK_NONBLOCK | SOCK_CLOEXEC, 0);
-    if (family == AF_INET6) /* as for UDP, whatever the system's default is (bindv6only) */
+    if (family == AF_INET6) /* as for UDP, regardless of the system's default (bindv6only) */
         set_option(fetch->sock, IPPROTO_IPV6, IPV6_V6ONLY, 0);
     if (fetch->sock >= 0
         && (connect(fetch->sock, &address->any, address_size(address)) == 0
@@ -304,7 +309,7 @@ static void ask_plainly(struct fetch *fetch)
         refused(fetch, fetch->upstream);
 }
 
-/* ---- What comes back. */
+/* ---- Responses. */
 
 static void take_answer(struct fetch *fetch, const uint8_t *message, size_t size)
 {
@@ -318,8 +323,8 @@ static void take_answer(struct fetch *fetch, const uint8_t *message, size_t size
     end_fetch(fetch, reply, FETCHED);
 }
 
-/* Takes a message of an upstream that was asked. Returns true if it is a stray one, after which the
-   answer may come. */
+/* Takes a message from an upstream that was asked. Returns true if the message is a stray one, so
+   that the answer may still come. */
 static bool take_stray(struct fetch *fetch, struct upstream *upstream, const uint8_t *message,
                        size_t size)
 {
@@ -331,9 +336,10 @@ static bool take_stray(struct fetch *fetch, struct upstream *upstream, const uin
         refused(fetch, upstream);
         return false;
     }
-    fetch->upstream = upstream; /* its answer counts, even if another one was asked since */
+    fetch->upstream = upstream; /* its answer counts, even if another upstream was asked since */
     bool refused_opt = verdict != WANTS_PLAIN && (fetch->plain & upstream->bit) != 0;
-    if (refused_opt) /* and not the question, since it answers that without one */
+    if (refused_opt) /* and not the question, because the upstream answers it without an OPT
+                        record */
         upstream->plain_until = milliseconds() + PLAIN_MS;
     if (verdict == ANSWER)
         take_answer(fetch, message, size);
@@ -374,8 +380,8 @@ static int error_of(int sock)
     return getsockopt(sock, SOL_SOCKET, SO_ERROR, &error, &size) != 0 ? errno : error;
 }
 
-/* Reads which upstream's query came back, by ICMP. If its port is closed, it refused. Anything else
-   may be over soon. */
+/* Reads which upstream's query was returned by ICMP. If the port of this upstream is closed, it has
+   refused. Any other error may be over soon. */
 static void read_error(struct fetch *fetch)
 {
     uint8_t query[QUERY];
@@ -388,7 +394,7 @@ static void read_error(struct fetch *fetch)
         refused(fetch, upstream);
 }
 
-/* Goes on when a connection to the upstream is made, or failed. */
+/* Continues after a connection to the upstream was made, or failed. */
 static void begin_stream(struct fetch *fetch)
 {
     fetch->way = BY_TCP;
@@ -396,8 +402,9 @@ static void begin_stream(struct fetch *fetch)
         refused(fetch, fetch->upstream);
 }
 
-/* Allocates memory for the message, of the share of the client that asked first, or else of another
-   one that waits: that the one has spent its share is not at the expense of the others. */
+/* Allocates memory for the message from the share of the client that asked first, or otherwise from
+   the share of another client that waits. So the others can get the answer even if the first client
+   has spent its share. */
 static uint8_t *take_room(struct fetch *fetch, size_t size)
 {
     struct bucket *bucket = bucket_of(&fetch->query.question);
@@ -412,9 +419,9 @@ static uint8_t *take_room(struct fetch *fetch, size_t size)
     return room;
 }
 
-/* Reads what there is of the message over TCP, its length first. Returns true if it is whole. If it
-   will never be, the fetch goes on. That there is no memory for it is not a failure of the name's
-   servers either. */
+/* Reads as much of the message as has arrived over TCP, first its length. Returns true if the
+   message is complete. If it can never be complete, the fetch continues without it. If there is no
+   memory for the message, that is not a failure of the name's servers either. */
 static bool read_message(struct fetch *fetch)
 {
     for (;;) {
@@ -443,7 +450,7 @@ static void read_stream(struct fetch *fetch)
 {
     if (!read_message(fetch))
         return;
-    uint8_t *message = fetch->message; /* has to stay while it is judged */
+    uint8_t *message = fetch->message; /* has to be kept while it is judged */
     fetch->message = NULL;
     fetch->got = 0;
     if (take_stray(fetch, fetch->upstream, message, word_at(fetch->length)))
@@ -483,18 +490,20 @@ void tend_fetches(struct fetcher *fetcher, const struct pollfd *polled, uint64_t
             tend(&fetcher->fetches[i], polled[i].revents, now);
 }
 
-/* ---- Places. If none is free, a fetch gives way to a new one by its weight: the number of places
-   of its client, and the number of places of its domain. So neither a client that asks for names
-   nobody answers, nor a domain whose servers are dead, keeps others from a place. */
+/* ---- Places. If no place is free, a fetch gives way to a new fetch according to its weight: the
+   number of places of its client, plus the number of places of its domain. So a client that asks
+   for names that nobody answers does not keep others from getting a place, and neither does a
+   domain whose servers are dead. */
 
 static unsigned weight_of(const struct fetcher *fetcher, const struct fetch *fetch)
 {
     return 0u + fetcher->by_client[fetch->client] + fetcher->by_domain[fetch->domain];
 }
 
-/* The place for a new fetch: a free one, or that of the first of those that weigh most, if that is
-   more than the new one would weigh, or of the first of those that weigh as much, if it had its
-   time. That fetch ends. Returns NULL if none gives way. */
+/* Returns the place for a new fetch. This is a free place if there is one. Otherwise, if the
+   heaviest fetch weighs more than the new fetch would, it is the place of the heaviest fetch, or of
+   the first of these. Otherwise it is the place of the first fetch that weighs as much, if this
+   fetch has had its time. The fetch in that place ends. Returns NULL if no fetch gives way. */
 static struct fetch *place_for(struct fetcher *fetcher, const struct fetch *new)
 {
     struct fetch *heaviest = fetcher->fetches, *first = NULL;
@@ -510,7 +519,7 @@ static struct fetch *place_for(struct fetcher *fetcher, const struct fetch *new)
         if (its >= weight && (first == NULL || it->began < first->began))
             first = it;
     }
-    if (most > weight + 2) /* the new one would count itself in both */
+    if (most > weight + 2) /* the new fetch would count itself in both numbers */
         first = heaviest;
     else if (first == NULL || new->began < first->began + GRACE_MS)
         return NULL;
@@ -535,8 +544,8 @@ static struct fetch new_fetch(struct fetcher *fetcher, const struct asker *asker
                           .sock = -1};
 }
 
-/* Returns whom a query by UDP replaces: the same query, which was sent again, or, if its client has
-   its share of those who wait, the one that came first. */
+/* Returns the waiting query that a query over UDP replaces: the same query, if it was sent again;
+   or the first query of its client, if the client already has its share of the waiting queries. */
 static struct asker *older_of(const struct fetch *fetch, const struct asker *asker)
 {
     struct asker *first = NULL;
@@ -582,7 +591,7 @@ bool await_fetch(struct fetcher *fetcher, const struct asker *asker)
     pthread_mutex_lock(&bucket->lock);
     struct fetch *fetch = find(bucket, &asker->query.question), *place = NULL;
     if (fetch == NULL) {
-        pthread_mutex_unlock(&bucket->lock); /* the place may be that of a fetch in any bucket */
+        pthread_mutex_unlock(&bucket->lock); /* the fetch in the place may be in any bucket */
         place = place_for(fetcher, &new);
         pthread_mutex_lock(&bucket->lock);
         fetch = find(bucket, &asker->query.question);

@@ -2,15 +2,15 @@
 /* A DNS forwarder over UDP and TCP, IPv4 and IPv6, as an example of the library for C. README.md
    has the path of a query, and `--help` lists the options.
 
-   main.c       threads, each of which polls all sockets, and what becomes of a query
+   main.c       threads, each of which polls all sockets, and what is done with a query
    options.c    the command line
    clients.c    the sockets of clients: queries come in, replies go out
    addresses.h  addresses of both families
    dns.c        messages: queries are read, replies are written, responses are judged
    answers.c    the cache: what is answered from it, and what is stored
-   fetch.c      queries to upstreams, and who waits for them
+   fetch.c      queries to upstreams, and the clients that wait for them
    shares.c     the memory that each client may have kept for it
-   counters.c   what is counted, and the line a minute */
+   counters.c   what is counted, and the line that is logged every minute */
 #include <fcntl.h>
 #include <malloc.h>
 #include <signal.h>
@@ -25,9 +25,9 @@
 #include "options.h"
 
 enum { BURST = 64, TICK_MS = 50, TRIM_OCTETS = 1 << 17, LEAST_SHARED = 1 << 20 };
-/* The places of each thread, if there are enough descriptors. It has one more descriptor for a
-   connection that has no place yet. Others are for standard input, output and error, and for what
-   the C library opens. */
+/* The places of each thread, if there are enough descriptors. Each thread has one more descriptor
+   for a connection that has no place yet. The other descriptors are for standard input, output and
+   error, and for what the C library opens. */
 enum { MOST_FETCHES = 200, MOST_CONNECTIONS = 64, LEAST_PLACES = 4, OTHER_DESCRIPTORS = 6 };
 
 struct worker {
@@ -43,8 +43,8 @@ static atomic_bool is_over;
 /* ---- Queries. */
 
 /* Answers a question from the cache, or lets the query wait for a fetch if RD is set. If that fetch
-   ended after the look-up, the question is fetched again. A query that may not wait, and has no
-   stale answer, tries once more, since malloc may have failed. */
+   ended after the look-up, the question is fetched again. If a query may not wait and gets no stale
+   answer, it tries once more, because malloc may have failed. */
 static void answer(struct worker *worker, const struct asker *asker)
 {
     const struct question *question = &asker->query.question;
@@ -103,8 +103,8 @@ static void take_messages(struct worker *worker, size_t place)
 
 /* ---- Threads. */
 
-/* Waits until something can be done. If the system does not poll, as when the limit of descriptors
-   was lowered, everything is tried now and then. */
+/* Waits until something can be done. If poll fails, for example because the limit of descriptors
+   was lowered, everything is tried at intervals. */
 static void wait_for_work(struct worker *worker, size_t size)
 {
     if (poll(worker->polled, size, TICK_MS) >= 0 || errno == EINTR)
@@ -115,7 +115,7 @@ static void wait_for_work(struct worker *worker, size_t size)
     nanosleep(&(struct timespec){.tv_nsec = TICK_MS * 1000000L}, NULL);
 }
 
-/* Does what can be done. Fetches go on first, since clients may wait for them. */
+/* Does what can be done. Fetches come first, because clients may wait for them. */
 static void work_once(struct worker *worker)
 {
     size_t connections = worker->clients.places;
@@ -153,8 +153,8 @@ static bool make_worker(struct worker *worker, size_t descriptors)
            && make_fetcher(&worker->fetcher, fetches);
 }
 
-/* Starts the threads, or as many as descriptors and memory suffice for, and returns their
-   number. */
+/* Starts the threads, or as many of them as there are descriptors and memory for, and returns the
+   number of threads started. */
 static size_t start(size_t threads)
 {
     struct rlimit limit;
@@ -177,7 +177,7 @@ static void stop(size_t started)
     is_over = true;
     for (size_t i = 0; i < started; i++)
         pthread_join(workers[i].thread, NULL);
-    for (size_t i = 0; i < started; i++) /* replies on connections of any thread */
+    for (size_t i = 0; i < started; i++) /* this sends replies on connections of any thread */
         free_fetcher(&workers[i].fetcher);
     for (size_t i = 0; i < started; i++) {
         free_clients(&workers[i].clients);
@@ -205,7 +205,7 @@ static void keep_house(const sigset_t *signals, const struct options *options)
     }
 }
 
-/* Blocks the signals that are waited for, in all threads that start later. */
+/* Blocks the signals for which the process waits, in all threads that start later. */
 static bool block_signals(sigset_t *signals)
 {
     signal(SIGPIPE, SIG_IGN); /* the reader of standard output or error may be gone */
@@ -216,8 +216,8 @@ static bool block_signals(sigset_t *signals)
     return pthread_sigmask(SIG_BLOCK, signals, NULL) == 0;
 }
 
-/* Opens standard input, output and error if they are closed. Else sockets would get their numbers,
-   and a client would be sent the lines of the log. */
+/* Opens standard input, output and error if they are closed. Otherwise sockets would get their
+   numbers, and the lines of the log would be sent to a client. */
 static bool open_standard_files(void)
 {
     bool is_open = true;
@@ -232,7 +232,8 @@ int main(int argc, char **argv)
     sigset_t signals;
     size_t started = 0;
     read_options(argc, argv, &options);
-    mallopt(M_TRIM_THRESHOLD, TRIM_OCTETS); /* or it grows, and freed memory is kept */
+    mallopt(M_TRIM_THRESHOLD, TRIM_OCTETS); /* otherwise this threshold grows, and freed memory is
+                                               kept */
     set_upstreams(options.upstream, options.upstreams);
     most_shared = options.octets / 4 < LEAST_SHARED ? LEAST_SHARED : options.octets / 4;
     if (open_standard_files() && block_signals(&signals)

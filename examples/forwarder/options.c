@@ -48,7 +48,7 @@ static const struct option LONG_OPTIONS[] = {
     {"identity", required_argument, NULL, IDENTITY},
     {0}};
 
-/* Reads a number in a range. A unit may follow it, each 1,024 times the one before. */
+/* Reads a number in a range. A unit may follow it. Each unit is 1,024 times the one before it. */
 static bool read_number(const char *word, const char *units, uint64_t least, uint64_t most,
                         uint64_t *number)
 {

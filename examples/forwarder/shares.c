@@ -9,9 +9,9 @@ uint64_t most_shared;
 _Atomic uint64_t shared_octets;
 static _Atomic uint64_t octets_of[CLIENTS];
 
-/* The address becomes a name, since names are hashed under a secret seed. That folds the case of
-   letters, so each octet is two octets of the name, of which none is a letter. Else 192.0.2.65 and
-   192.0.2.97 would be one client. */
+/* The address becomes a name, because names are hashed under a secret seed. The hash ignores the
+   case of letters, so each octet of the address becomes two octets of the name, neither of which is
+   a letter. Otherwise 192.0.2.65 and 192.0.2.97 would be one client. */
 unsigned client_at(const union address *address)
 {
     bool is_six = address->family == AF_INET6;
@@ -23,7 +23,8 @@ unsigned client_at(const union address *address)
     return (unsigned)(hash_of(name, name[0] + 2u) % CLIENTS);
 }
 
-/* The octets count before the bound is checked, so it holds if several threads take some. */
+/* The octets are counted before the bound is checked, so the bound holds even if several threads
+   take octets at once. */
 void *take_share(unsigned client, size_t size)
 {
     uint64_t own = atomic_fetch_add(&octets_of[client], size) + size;

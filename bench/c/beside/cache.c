@@ -1,8 +1,8 @@
 /* SPDX-License-Identifier: MIT */
-/* `struct rrcache` under work.c, which has its locks in it. */
+/* `struct rrcache` for work.c. It has its own locks. */
 #include "sets.h"
 
-/* What a set of one address takes (`rrcache_sizes`), of a name that is stored in itself. */
+/* The octets that an RRset of one address takes (`rrcache_sizes`), if its name is stored inline. */
 enum { SET_OCTETS = RRCACHE_ENTRY_OCTETS + 2 * RRCACHE_SHARED_OCTETS + 2 * RRCACHE_VALUE_OCTETS };
 
 static struct rrcache *cache;

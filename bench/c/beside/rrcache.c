@@ -1,7 +1,7 @@
 /* SPDX-License-Identifier: MIT */
-/* rrcache under work.c: 64 shelves, each with a lock, that record no history. A lock is a mutex
-   that spins a while before it sleeps; with SPINS defined it is a spin lock, as unbound's are. With
-   PEEKS defined it is a lock for readers, under which an ask is a peek. */
+/* rrcache for work.c: 64 shelves, each with a lock, that record no history. A lock is a mutex that
+   spins for a while before it sleeps. With SPINS defined it is a spin lock, as in unbound. With
+   PEEKS defined it is a readers-writer lock, under which an ask is a peek. */
 #define _GNU_SOURCE
 #include <pthread.h>
 
@@ -35,7 +35,7 @@ typedef pthread_mutex_t lock;
 struct shelf {
     lock lock;
     struct rrcache_shelf cache;
-    char apart[64]; /* so that two locks lie on two lines of the processor's cache */
+    char apart[64]; /* so that two locks are on two cache lines of the processor */
 };
 
 static struct shelf shelves[SHARDS];

@@ -1,6 +1,6 @@
 /* SPDX-License-Identifier: MIT */
-/* The RRset cache of unbound under work.c, with 64 slabs, as its resolver calls it.
-   `bench/run unbound` builds it beside unbound's own source. */
+/* The RRset cache of unbound for work.c, with 64 slabs, called as unbound's resolver calls it.
+   `bench/run unbound` builds this file with unbound's own source. */
 #include "config.h"
 
 #include "services/cache/rrset.h"
@@ -101,7 +101,7 @@ bool ask(void *argument, const struct name *name)
     return is_copied;
 }
 
-/* How many octets a set of one address takes, of many. */
+/* The octets that an RRset of one address takes, if there are many RRsets. */
 static size_t octets_of_a_set(void)
 {
     enum { SETS = 1024 };

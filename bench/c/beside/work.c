@@ -1,10 +1,11 @@
 /* SPDX-License-Identifier: MIT */
-/* THREADS CALLS hit|zipf|hot|replace|evict NAMES: times a cache of RRsets. So many threads make so
-   many calls in all on names `host<i>.example`, each with one A record, in random order: `hit` asks
-   for names that are there, `zipf` too, but for the n-th of them as often as 1 / n is large, `hot`
-   always for one; `replace` puts names that are there with another address, `evict` names that are
-   not there into a cache that has no room. It prints how many calls there were, the nanoseconds
-   that they took by the clock, and those of processor time. */
+/* THREADS CALLS hit|zipf|hot|replace|evict NAMES: times a cache of RRsets. THREADS threads together
+   make CALLS calls on names `host<i>.example`, each with one A record, in random order. `hit` asks
+   for names that are cached; `zipf` does too, but asks for the n-th name with a frequency
+   proportional to 1 / n; `hot` always asks for one name. `replace` puts cached names with another
+   address, and `evict` puts names that are not cached into a cache that has no room. The program
+   prints the number of calls, the nanoseconds of elapsed time that they took, and the nanoseconds
+   of processor time. */
 #include "work.h"
 
 #include <pthread.h>
@@ -25,7 +26,7 @@ struct worker {
 
 static const char *const KINDS[] = {"hit", "zipf", "hot", "replace", "evict"};
 static struct name *names;
-static uint32_t by_zipf[1 << 16]; /* names, each as often as Zipf's law has it */
+static uint32_t by_zipf[1 << 16]; /* names, each as often as Zipf's law says */
 static size_t name_count, worker_count;
 static enum kind kind;
 static pthread_barrier_t start;
@@ -66,8 +67,8 @@ static void make_names(size_t count)
     }
 }
 
-/* Names by Zipf's law: the n-th of them stands in the table as often as 1 / n is large. Which shard
-   one lies in goes by its hash, so that the first ones lie anywhere. */
+/* Names by Zipf's law: the n-th name is in the table with a frequency proportional to 1 / n. The
+   hash of a name decides in which shard it is, so the first names may be in any shard. */
 static void make_table(void)
 {
     const size_t room = sizeof by_zipf / sizeof *by_zipf;
@@ -81,8 +82,8 @@ static void make_table(void)
     }
 }
 
-/* The name of a call. Puts that evict go round all names, of which the cache holds the last half.
- */
+/* The name of a call. Puts that evict cycle through all names, and the cache holds the last half of
+   these. */
 static size_t place_of(struct worker *worker, uint64_t turn)
 {
     if (kind == HOT)

@@ -1,5 +1,5 @@
 /* SPDX-License-Identifier: MIT */
-/* What a cache of RRsets does under work.c. */
+/* What a cache of RRsets does for work.c. */
 #ifndef WORK_H
 #define WORK_H
 
@@ -14,10 +14,10 @@ struct name {
     size_t size;
 };
 
-/* Makes the cache, with room for about so many sets of one address. */
+/* Makes the cache, with room for about this number of RRsets of one address. */
 void make_cache(size_t sets);
 
-/* What a thread needs beside the cache. */
+/* What a thread needs in addition to the cache. */
 void *begin_thread(unsigned number);
 
 /* Puts one address of a name; `turn` picks which. */
