@@ -7,7 +7,12 @@
    are tested, not proved. A program with one thread, or with its own locks, can use the shelves
    directly.
 
+   SECURITY.md, "A caller's checklist", lists what is left to a resolver, and examples/stub.c is a
+   whole caller. A process may have several caches, for example one for each view. Each cache has
+   its own seed and limits.
+
    Threads
+   - The library starts no thread.
    - Any thread may call any function at any time. The exception is `rrcache_close`: no other call
      on the cache may be running at that time, and none may follow. A call may block on a lock. A
      thread that is canceled in a call (`pthread_cancel`, not asynchronously) ends the call first.
@@ -31,24 +36,32 @@
    - Eviction is LRU, but a look-up does not always move its entry to the front of the LRU order,
      because a move changes the shelf. In a shelf that is at least three quarters full, by octets or
      by keys, a look-up moves its entry if more than a quarter of the shelf's keys may have been
-     used after that entry. In all other cases a look-up moves its entry only if most of the recent
-     look-ups moved theirs. With `exact_recency` every look-up moves its entry. docs/RULES.md says
-     which order a caller can rely on.
+     used after that entry. In all other cases a look-up leaves its entry in its place, unless most
+     of the recent look-ups moved their entries: it then moves its entry too. With `exact_recency`
+     every look-up moves its entry. docs/RULES.md says which order a caller can rely on.
 
    Memory
+   - An answer is a copy in the caller's buffer. It stays valid after its entries are evicted and
+     after `rrcache_close`, and does not count against `octets`.
    - The keys use at most `octets` of memory, as counted by `rrcache_sizes`. Each shelf has an equal
      share of `octets`, even while other shelves have room. A call that stores in a shelf evicts the
      least recently used keys of that shelf, if necessary, before it returns. If malloc fails during
      the eviction, the call still succeeds, and the next call that stores in that shelf evicts the
-     rest. An allocator uses more memory than is counted. So set `octets` to four tenths of the
-     memory that the cache may use, not counting the memory that the next paragraph describes.
-     SECURITY.md has the measurements behind this factor.
+     rest. `octets` covers only the keys, and an allocator uses more memory for them than is
+     counted. So plan for two and a half times `octets`, and in addition for the memory that the
+     next paragraph describes. Together this is about 2.575 times `octets`, plus 4 octets for each
+     of `keys`. SECURITY.md has the measurements behind this factor, and says what was not measured.
    - In addition, `rrcache_open` allocates the places, memos of answers, and a filter of the names
-     that may be aliases. The memos use at most 1/16 of `octets`, and at most about 235 KiB for each
-     of `readers`. The filter uses at most about 1/80 of `octets`, and at most 128 KiB for each
-     shelf. A second filter, of the names that may have a negative answer or a failure, uses 2 to 4
-     octets for each of `keys`, whatever `octets` is: 8 MiB with the default number of keys. So set
-     `keys` too if `octets` is small.
+     that may be aliases. All memos together use at most 1/16 of `octets`, and at most about 235 KiB
+     for each of `readers`. The filter uses at most about 1/80 of `octets`, and at most 128 KiB for
+     each shelf. A second filter, of the names that may have a negative answer or a failure, uses 2
+     to 4 octets for each of `keys`, whatever `octets` is: 8 MiB with the default number of keys. So
+     set `keys` too if `octets` is small.
+   - A cache has at most 64 shelves of 65,536 keys, which are 4,194,304 keys. RRsets of one address
+     with a short name use 320 octets each. So of such RRsets a cache holds about 1.3 GB at most,
+     whatever `octets` is.
+   - The configuration of an open cache cannot be changed. Memory that the library frees goes back
+     to malloc, and malloc decides whether it goes back to the system.
    - An RRset that would use more than the share of its shelf is left out. The largest RRset of a
      response used 242,208 octets in tests. So with 64 shelves set `octets` to at least 16 MiB, and
      use fewer shelves if `octets` is smaller.
@@ -187,13 +200,14 @@ struct rrcache_rrset {
     uint32_t kind;                 /* enum rrcache_kind: fresh, stale, NODATA or NXDOMAIN */
     uint32_t trust;                /* its rank: enum rrcache_trust */
     struct rrcache_entry entry; /* the entry that the RRset comes from. Its `ttl` and `moment`, as
-                                   they were stored, tell a resolver when to prefetch. `number` is
-                                   unique only within the shelf of the owner's name, and in a
-                                   negative answer within that of `end`. No field says which shelf
-                                   that is, but this name and `number` together are unique: a caller
-                                   can use them to find its own data about the entry, such as a
-                                   security status. In an answer of `rrcache_store`, `number` and
-                                   `age` are 0 */
+                                   they were stored, tell a resolver when to prefetch. Two entries
+                                   of one shelf never have the same `number`, but entries of two
+                                   shelves may, and no field has the shelf. So a caller that keeps
+                                   data about entries, such as a security status, finds them by a
+                                   name and `number`: by the name of the owner, or in a negative
+                                   answer by that of `end`. docs/RULES.md, "DNSSEC", says how the
+                                   caller gets the number. In an answer of `rrcache_store`, `number`
+                                   and `age` are 0 */
     size_t next;                /* the offset of the next RRset in the buffer */
 };
 
@@ -255,10 +269,15 @@ RRCACHE_API void rrcache_close(struct rrcache *cache);
    chooses between a CNAME record and data of the type (RFC 1034 section 4.3.2). No CNAME record is
    followed for types CNAME and ANY.
 
-   With the mode RRCACHE_STALE_IF_FAILED, stale data are acceptable for every name of the chain if
-   the question has failed recently (RFC 8767 section 5). The failure must have been stored after
-   the CNAME record of the question's name. Otherwise stale data are acceptable only for names for
-   which the type has failed recently.
+   With the mode RRCACHE_STALE_IF_FAILED, stale data are acceptable for a name of the chain if the
+   type has failed recently for that name (RFC 8767 section 5). If the question itself has failed
+   recently, stale data are acceptable for every name of the chain. This does not apply if the name
+   of the question is an alias, and its CNAME record was stored after the failure. docs/RULES.md,
+   "Serving stale data", has the whole course, with the timers.
+
+   CNAME RRsets before a miss are not yet an answer for a client: the resolver goes on from `end`,
+   and sends SERVFAIL if that fails. The cache does not join queries. If several clients miss the
+   same `end` and type, the caller has to send one query for all of them.
 
    Returns RRCACHE_BAD_NAME if the name is not in wire form, RRCACHE_BAD_CHOICE if `mode` is not a
    mode, RRCACHE_BAD_TYPE if the type is 0 or the class is not kept, and RRCACHE_SMALL if the buffer
@@ -321,6 +340,11 @@ RRCACHE_API bool rrcache_next(const struct rrcache_answer *answer, struct rrcach
    its own, and RRCACHE_NODATA means that an SOA record denies the type. `kind` is RRCACHE_MISS if
    only `report` has the result, as for a negative response without an SOA record.
 
+   If the response has only the beginning of a CNAME chain, its kind is RRCACHE_RESPONSE_ALIAS, and
+   `kind` of the answer is RRCACHE_MISS. Keep the CNAME RRsets of this answer, and look up `end`
+   next. Do not look up the name of the query again: a CNAME record with TTL 0 is not stored, so the
+   look-up would be a miss again.
+
    Also returns RRCACHE_BAD_LIMITS if a limit is out of range, and RRCACHE_BAD_NAME if the zone or
    the name of the query is not in wire form. After these errors `report` is unmodified. Once the
    response has been read, `report` is written, even if the call then fails with
@@ -359,7 +383,8 @@ RRCACHE_API enum rrcache_status rrcache_store_failure(struct rrcache *cache,
    tries each type in turn, which takes about 10 milliseconds, and releases its lock after every 256
    types. Data that other threads store for the name in the meantime may remain. The first time that
    a failure is removed from a shelf, the call takes as long as the first sweep of the shelf, which
-   visits all its keys. The fields `mode` and `takes_glue` of the request are ignored.
+   visits all its keys. The fields `mode` and `takes_glue` of the request are ignored. No call
+   removes all names below a name: docs/RULES.md, "Flushing", says what to do instead.
 
    Returns RRCACHE_BAD_NAME if the name is not in wire form, and RRCACHE_BAD_TYPE if the type is 0
    or the class is not kept. If something is cached, also returns RRCACHE_HISTORY_FULL,
@@ -418,9 +443,10 @@ RRCACHE_API enum rrcache_status rrcache_stop_recording_all(struct rrcache *cache
    allocates memory for the keys of one shelf at a time. No call reads such contents back. A caller
    can store each entry in a new cache, with the rank, TTL and timestamp of its line, in the order
    of event numbers. CLOCK_BOOTTIME starts again at zero when the machine restarts: the caller then
-   converts the timestamps first (docs/RULES.md, "Listing and saving keys"). Returns
-   RRCACHE_HAS_CHAPTERS while histories are recorded, and RRCACHE_SINK if the sink returns nonzero.
-   Also returns RRCACHE_HISTORY_FULL and RRCACHE_MEMORY. */
+   converts the timestamps first (docs/RULES.md, "Listing and saving keys"). docs/CAPTURES.md, "A
+   wrong answer", says what a dump shows about an answer. Returns RRCACHE_HAS_CHAPTERS while
+   histories are recorded, and RRCACHE_SINK if the sink returns nonzero. Also returns
+   RRCACHE_HISTORY_FULL and RRCACHE_MEMORY. */
 RRCACHE_API enum rrcache_status rrcache_dump(struct rrcache *cache, rrcache_shelf_sink sink,
                                              void *state);
 

@@ -1307,10 +1307,11 @@ static inline enum rrcache_status rrcache_can_read(const struct rrcache_response
    drops them and keeps waiting. The call also returns RRCACHE_OTHER_QUERY if there are too few
    octets for an identifier, or if QR is clear. If the query has `with_case`, a name with letters in
    another case differs. A question whose name has a compression pointer counts as different too.
-   Two errors are failures of the server (RFC 8767 section 5): RRCACHE_BAD_MESSAGE if the octets
-   answer the query but cannot be read and TC is clear, and RRCACHE_NO_QUESTION if the response is a
-   header without a question. A server that returns FORMERR without a question may not support EDNS
-   (RFC 6891 section 7).
+   Two errors are failures of the server (RFC 8767 section 5). RRCACHE_NO_QUESTION means that the
+   response is a header without a question. RRCACHE_BAD_MESSAGE means that the octets answer the
+   query but cannot be read. If TC is set, RRCACHE_BAD_MESSAGE is not a failure: send the query
+   again over TCP. A server that returns FORMERR without a question may not support EDNS (RFC 6891
+   section 7).
 
    These RRsets are relevant:
    - In the answer section, an RRset is relevant if its type is CNAME or the type of the question
