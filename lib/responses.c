@@ -7,7 +7,7 @@
 enum { SOA = 6, ANY = 255 };
 enum { MOST_NAME = 255 };
 /* In the third octet of a message (RFC 1035 section 4.1.1). */
-enum { AA = 0x04 };
+enum { AA = 0x04, OPCODE = 0x78 };
 
 /* What a response says: its offers, and its kind. */
 struct said {
@@ -227,19 +227,18 @@ static bool is_in(const struct rrcache_name *name, const struct rrcache_name *zo
            && memcmp(name->octets + at, zone->octets, zone->size) == 0;
 }
 
-/* Finds in the authority section the SOA record of a zone that contains a name, and returns the
-   number of its offer. If there is none, `told` is a miss. */
+/* Finds behind the answer section the first SOA record of a zone that contains a name, and returns
+   the number of its offer. If there is none, `told` is a miss. */
 static uint64_t find_soa(const struct said *said, const struct rrcache_name *name,
-                         struct rrcache_told *told)
+                         struct rrcache_name *zone, struct rrcache_told *told)
 {
-    struct rrcache_name zone = {0};
     uint64_t index = 0;
     enum rrcache_status status;
     do {
-        status = rrcache_tell_offer(said->offers, index++, &zone, told, NULL, 0);
+        status = rrcache_tell_offer(said->offers, index++, zone, told, NULL, 0);
     } while (status != RRCACHE_NO_OFFERS
              && (told->kind != RRCACHE_FRESH || told->rtype != SOA || is_answer(told)
-                 || !is_in(name, &zone)));
+                 || !is_in(name, zone)));
     if (status == RRCACHE_NO_OFFERS)
         *told = (struct rrcache_told){.kind = RRCACHE_MISS};
     return index - 1;
@@ -260,8 +259,10 @@ static void make_denial(struct rrcache_told *told, const uint8_t *data, uint32_t
     told->left = told->left < most ? told->left : most;
 }
 
-/* Appends NODATA to an answer, if an SOA record says that there are no data of the type. */
-static enum rrcache_status put_absence(const struct said *said,
+/* Appends NODATA to an answer, if an SOA record of the authority section says that there are no data
+   of the type. If AA is clear, the rank of an offer does not tell this section from the additional
+   one, whose offers are the last, so the octets are read. */
+static enum rrcache_status put_absence(const struct said *said, const struct rrcache_query *query,
                                        const struct rrcache_response *response,
                                        struct rrcache_answer *answer)
 {
@@ -269,8 +270,8 @@ static enum rrcache_status put_absence(const struct said *said,
     struct rrcache_told told;
     size_t room;
     uint8_t *buffer = begin_rrset(answer, &room);
-    uint64_t index = find_soa(said, &answer->end, &told);
-    if (told.kind == RRCACHE_MISS)
+    uint64_t index = find_soa(said, &answer->end, &zone, &told);
+    if (told.kind == RRCACHE_MISS || !has_soa(said->cache, query, response, &zone))
         return RRCACHE_DONE;
     enum rrcache_status status =
         rrcache_tell_offer(said->offers, index, &zone, &told, buffer, room);
@@ -282,18 +283,31 @@ static enum rrcache_status put_absence(const struct said *said,
     return RRCACHE_DONE;
 }
 
+/* Whether records that are not kept may belong to an answer, as for those that are kept: the
+   response is to a standard query, and the name that was reached is in the zone (RFC 5452 section
+   6). */
+static bool may_have_rest(const struct said *said, const struct rrcache_response *response,
+                          const struct rrcache_answer *answer)
+{
+    struct rrcache_name zone = {0};
+    rrcache_make_name(&zone, response->zone, response->zone_size, &said->cache->parts);
+    return (response->octets[2] & OPCODE) == 0 && is_in(&answer->end, &zone);
+}
+
 /* Appends to an answer the records of types that no shelf keeps, or NODATA if there are none. */
 static enum rrcache_status put_rest(const struct said *said, const struct rrcache_query *query,
                                     const struct rrcache_response *response,
                                     struct rrcache_answer *answer)
 {
     size_t before = answer->size;
+    if (!may_have_rest(said, response, answer))
+        return RRCACHE_DONE;
     enum rrcache_status status =
         put_unkept(said->cache, query, response, said->summary->aa, answer);
     if (status == RRCACHE_DONE && answer->size != before)
         answer->kind = RRCACHE_FRESH;
     if (status == RRCACHE_DONE && answer->kind == RRCACHE_MISS && said->summary->rcode == 0)
-        status = put_absence(said, response, answer);
+        status = put_absence(said, query, response, answer);
     return status;
 }
 

@@ -4,7 +4,7 @@
    read before. */
 #include "cache.h"
 
-enum { A = 1, SIG = 24, NXT = 30, NAPTR = 35, RRSIG = 46, FIRST_META = 128, ANY = 255 };
+enum { A = 1, SOA = 6, SIG = 24, NXT = 30, NAPTR = 35, RRSIG = 46, FIRST_META = 128, ANY = 255 };
 /* The number of octets of a header, of the fields between the owner and the data of a record, of a
    name at most, and of the data at most. */
 enum { HEADER = 12, FIXED = 10, NAME = 255, MOST_DATA = 65535 };
@@ -157,20 +157,26 @@ static enum rrcache_status put_record(const struct rrcache_response *response, b
     return RRCACHE_DONE;
 }
 
+/* Whether a name is the owner of a record. */
+static bool is_owned_by(const struct rrcache *cache, const struct rrcache_response *response,
+                        const struct record *record, const struct rrcache_name *wanted)
+{
+    uint8_t owner[NAME];
+    struct rrcache_name name = {0};
+    size_t at = record->owner;
+    size_t size = expand(response->octets, response->size, &at, owner);
+    return rrcache_make_name(&name, owner, size, &cache->parts) == RRCACHE_DONE
+           && name.size == wanted->size && memcmp(name.octets, wanted->octets, name.size) == 0;
+}
+
 /* Whether a record has a type that was asked for, and the name that was reached. */
 static bool is_wanted(const struct rrcache *cache, const struct rrcache_query *query,
                       const struct rrcache_response *response, const struct record *record,
                       const struct rrcache_name *reached)
 {
-    uint8_t owner[NAME];
-    struct rrcache_name name = {0};
-    size_t at = record->owner;
-    if (!is_unkept(record->rtype, record->rclass) || record->rclass != query->rclass
-        || (record->rtype != query->rtype && query->rtype != ANY))
-        return false;
-    size_t size = expand(response->octets, response->size, &at, owner);
-    return rrcache_make_name(&name, owner, size, &cache->parts) == RRCACHE_DONE
-           && name.size == reached->size && memcmp(name.octets, reached->octets, name.size) == 0;
+    return is_unkept(record->rtype, record->rclass) && record->rclass == query->rclass
+           && (record->rtype == query->rtype || query->rtype == ANY)
+           && is_owned_by(cache, response, record, reached);
 }
 
 enum rrcache_status put_unkept(const struct rrcache *cache, const struct rrcache_query *query,
@@ -184,4 +190,17 @@ enum rrcache_status put_unkept(const struct rrcache *cache, const struct rrcache
         if (is_wanted(cache, query, response, &record, &answer->end))
             status = put_record(response, aa, &record, answer);
     return status;
+}
+
+bool has_soa(const struct rrcache *cache, const struct rrcache_query *query,
+             const struct rrcache_response *response, const struct rrcache_name *zone)
+{
+    struct record record = {.end = HEADER + query->name_size + 4};
+    uint32_t answers = number_at(response->octets + 6, 2);
+    uint32_t behind = answers + number_at(response->octets + 8, 2);
+    for (uint32_t i = 0; i < behind && read_record(response, record.end, &record); i++)
+        if (i >= answers && record.rtype == SOA && record.rclass == query->rclass
+            && is_owned_by(cache, response, &record, zone))
+            return true;
+    return false;
 }

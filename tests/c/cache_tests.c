@@ -1901,6 +1901,52 @@ static void test_absence_of_types_that_are_not_kept(void)
     rrcache_close(cache);
 }
 
+/* An SOA record denies only from the authority section (RFC 2181 section 7.1), with AA or not. */
+static void test_absence_by_another_section(void)
+{
+    static struct message message;
+    static const unsigned FLAGS[] = {0, AA};
+    struct rrcache *cache = open_small();
+    struct rrcache_answer answer;
+    for (int i = 0; i < 2; i++) {
+        begin(&message, FLAGS[i], "a.example", RRSIG);
+        add(&message, RRCACHE_ADDITIONAL_SECTION, "example", SOA, 300, OF(SOA_DATA));
+        store(cache, &message, "a.example", RRSIG, &answer);
+        EXPECT(is_miss(&answer, 0, "a.example"));
+        begin(&message, FLAGS[i], "a.example", RRSIG);
+        add_answer(&message, "b.example", 60);
+        add(&message, RRCACHE_AUTHORITY_SECTION, "example", SOA, 300, OF(SOA_DATA));
+        add(&message, RRCACHE_ADDITIONAL_SECTION, "a.example", SOA, 30, OF(SOA_DATA));
+        store(cache, &message, "a.example", RRSIG, &answer);
+        EXPECT(is_denial(&answer, RRCACHE_NODATA, 60));
+    }
+    rrcache_close(cache);
+}
+
+/* As of other types, none of another zone is told (RFC 5452 section 6): neither behind an alias nor
+   of a question that is out of bailiwick; nor of a response that is to no standard query. */
+static void test_types_that_are_not_kept_of_another_zone(void)
+{
+    static struct message message;
+    struct rrcache *cache = open_small();
+    struct rrcache_answer answer;
+    enum { NOTIFY = 4 << 11 };
+    begin(&message, AA, "b.example", NAPTR);
+    add_alias(&message, "b.example", "a.other", 60);
+    add(&message, RRCACHE_ANSWER_SECTION, "a.other", NAPTR, 60, OF(EXPANDED));
+    store(cache, &message, "b.example", NAPTR, &answer);
+    EXPECT(is_miss(&answer, 1, "a.other") && count_of(&answer) == 1);
+    begin(&message, AA, "a.other", RRSIG);
+    add(&message, RRCACHE_ANSWER_SECTION, "a.other", RRSIG, 60, OF(ADDRESS));
+    store(cache, &message, "a.other", RRSIG, &answer);
+    EXPECT(is_miss(&answer, 0, "a.other"));
+    begin(&message, AA | NOTIFY, "a.example", RRSIG);
+    add(&message, RRCACHE_ANSWER_SECTION, "a.example", RRSIG, 60, OF(ADDRESS));
+    store(cache, &message, "a.example", RRSIG, &answer);
+    EXPECT(is_miss(&answer, 0, "a.example"));
+    rrcache_close(cache);
+}
+
 /* A name in their data that cannot be read: it leads to itself, or behind the message, or is cut.
  */
 static void test_types_that_are_not_kept_and_cannot_be_read(void)
@@ -4004,6 +4050,8 @@ static void (*const TESTS[])(void) = {
     test_types_that_are_not_kept_behind_an_alias,
     test_names_of_a_response_in_the_answer,
     test_absence_of_types_that_are_not_kept,
+    test_absence_by_another_section,
+    test_types_that_are_not_kept_of_another_zone,
     test_types_that_are_not_kept_and_cannot_be_read,
     test_store_of_an_alias_beside_data,
     test_store_of_no_time,
