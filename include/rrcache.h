@@ -326,7 +326,11 @@ RRCACHE_API bool rrcache_next(const struct rrcache_answer *answer, struct rrcach
    the referral, `rrcache_lookup_delegation` returns the NS RRset, and look-ups with `takes_glue`
    return the addresses. NS RRsets and addresses with TTL 0 are not stored, so look-ups do not find
    them: read such a referral without storing it, as above. An NS RRset with unequal TTLs is left
-   out, unless `lowest_ttl` is set.
+   out, unless `lowest_ttl` is set. The NS RRset has the lowest rank. So as long as an unexpired
+   NODATA for type NS or NXDOMAIN of the zone is cached, because somebody asked before the zone was
+   delegated, `rrcache_lookup_delegation` returns a zone above or none. If it returns no zone below
+   the one that was asked, call `rrcache_forget` with type NS for the zone of the referral, and
+   store the response again.
 
    `answer` may be null. Otherwise it gets the answer that the response itself gives, including data
    that are not stored: data with TTL 0, data that were left out, and data of lower rank than the

@@ -185,6 +185,26 @@ def test_delegations_and_glue():
         assert cache.lookup_delegation("www.a.example", 160).kind is MISS
 
 
+@pytest.mark.parametrize("rtype, others, outranked", [
+    (NS, {}, 1), (A, {"rcode": NXDOMAIN}, 0), (AAAA, {}, None)])
+def test_a_referral_to_a_zone_that_was_denied(rtype, others, outranked):
+    """Whoever asked before the zone was delegated got a negative answer of higher rank. For its NS
+    RRset that has to be forgotten."""
+    referral = answered("www.a.example", A, authority=["a.example 60 NS ns.a.example"], flags=0)
+    with opened() as cache:
+        cache.store_set("example", NS, HIGH, 60, [wire_name("ns.example")], 100)
+        store(cache, answered("a.example", rtype, authority=[SOA_LINE], **others), "a.example",
+              rtype)
+        report = store(cache, referral, "www.a.example")
+        assert (report.summary.kind, report.counts.outranked) == (
+            ResponseKind.REFERRAL, outranked or 0)
+        found = "a.example." if outranked is None else "example."
+        assert cache.lookup_delegation("www.a.example", 100).end_text == found
+        cache.forget("a.example", NS, 100)
+        store(cache, referral, "www.a.example")
+        assert cache.lookup_delegation("www.a.example", 100).end_text == "a.example."
+
+
 @pytest.mark.parametrize("size, count", [(65_535, 1), (255, 2000), (65_535, 40)])
 def test_answers_that_a_usual_buffer_has_no_room_for(size, count):
     """Sets of the caller's own may take any room. The answer after them is as it was."""
