@@ -223,20 +223,38 @@ def offer_unless_delegated(shelf, octets, zone, moment):
         offer_relevant(shelf, octets, zone, moment)
 
 
+def end_of_delegation(offer):
+    """While the delegation is held its servers are asked each 20 seconds, for 1,000 at most."""
+    moment = 0
+    with rrcache.Shelf(seed=SEED) as shelf:
+        offer_relevant(shelf, REFERRAL, "example", moment)
+        while is_delegated(shelf, moment) and moment < 1000:
+            offer(shelf, moment)
+            moment += 20
+    return moment
+
+
 @pytest.mark.parametrize("octets, zone, offer, ends", [
     (ANSWER, "z.example", offer_relevant, 100), (ANSWER, "z.example", offer_all, 1000),
     (REFERRAL, "example", offer_unless_delegated, 100), (REFERRAL, "example", offer_relevant, 1000),
 ])
 def test_when_a_delegation_ends(octets, zone, offer, ends):
-    """It came with a TTL of 100, and its parent took it back at once. While it is held these
-    servers are asked each 20 seconds, for 1,000 seconds at most."""
-    moment = 0
-    with rrcache.Shelf(seed=SEED) as shelf:
-        offer_relevant(shelf, REFERRAL, "example", moment)
-        while is_delegated(shelf, moment) and moment < 1000:
-            offer(shelf, octets, zone, moment)
-            moment += 20
-    assert moment == ends
+    """It came with a TTL of 100, and its parent took it back at once."""
+    assert end_of_delegation(lambda shelf, moment: offer(shelf, octets, zone, moment)) == ends
+
+
+@pytest.mark.parametrize("rtype, ends", [(A, 100), (NS, 1000)])
+def test_what_a_minimized_query_renews(rtype, ends):
+    """The servers of the zone deny that a name below it has data of the type, and add their NS
+    RRset. That counts only if NS was asked for, so RFC 9156 section 2.1 recommends another type."""
+    query = rrcache.Query("x.z.example", rtype, ID)
+    octets = answered("x.z.example", rtype, authority=["z." + SOA_RECORD, *SERVERS])
+
+    def offer(shelf, moment):
+        with rrcache.read_response(octets, "z.example", query, PARTS, moment) as offers:
+            assert offers.summary.kind is rrcache.ResponseKind.NODATA
+            shelf.offer_read(offers, 0)
+    assert end_of_delegation(offer) == ends
 
 
 def told(octets, query=None, zone="example"):
