@@ -207,10 +207,11 @@ enum rrcache_status put_unkept(const struct rrcache *cache, const struct rrcache
                                const struct rrcache_response *response, bool aa,
                                struct rrcache_answer *answer);
 
-/* Whether a zone has an SOA record in the authority section of a response. One in another section
-   denies nothing (RFC 2181 section 7.1). */
-bool has_soa(const struct rrcache *cache, const struct rrcache_query *query,
-             const struct rrcache_response *response, const struct rrcache_name *zone);
+/* Whether a name has a record of a type in the answer section or the authority section of a
+   response, even if no RRset of it is offered. */
+bool has_record(const struct rrcache *cache, const struct rrcache_query *query,
+                const struct rrcache_response *response, enum rrcache_section section,
+                uint16_t rtype, const struct rrcache_name *name);
 
 /* Sets `end` of an answer to the target of the CNAME record with which the answer ends. */
 enum rrcache_status follow_alias(const struct rrcache *cache, struct rrcache_answer *answer,

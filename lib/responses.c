@@ -259,9 +259,19 @@ static void make_denial(struct rrcache_told *told, const uint8_t *data, uint32_t
     told->left = told->left < most ? told->left : most;
 }
 
-/* Appends NODATA to an answer, if an SOA record of the authority section says that there are no data
-   of the type. If AA is clear, the rank of an offer does not tell this section from the additional
-   one, whose offers are the last, so the octets are read. */
+/* Whether an SOA record denies data of the name that was reached. The record must be in the authority
+   section (RFC 2181 section 7.1): if AA is clear, its rank does not tell this section from the
+   additional one, whose offers are the last. The name must have no CNAME record that was left out.
+ */
+static bool is_denied(const struct said *said, const struct rrcache_query *query,
+                      const struct rrcache_response *response, const struct rrcache_name *name,
+                      const struct rrcache_name *zone)
+{
+    return has_record(said->cache, query, response, RRCACHE_AUTHORITY_SECTION, SOA, zone)
+           && !has_record(said->cache, query, response, RRCACHE_ANSWER_SECTION, RRTYPE_CNAME, name);
+}
+
+/* Appends NODATA to an answer, if an SOA record says that there are no data of the type. */
 static enum rrcache_status put_absence(const struct said *said, const struct rrcache_query *query,
                                        const struct rrcache_response *response,
                                        struct rrcache_answer *answer)
@@ -271,7 +281,7 @@ static enum rrcache_status put_absence(const struct said *said, const struct rrc
     size_t room;
     uint8_t *buffer = begin_rrset(answer, &room);
     uint64_t index = find_soa(said, &answer->end, &zone, &told);
-    if (told.kind == RRCACHE_MISS || !has_soa(said->cache, query, response, &zone))
+    if (told.kind == RRCACHE_MISS || !is_denied(said, query, response, &answer->end, &zone))
         return RRCACHE_DONE;
     enum rrcache_status status =
         rrcache_tell_offer(said->offers, index, &zone, &told, buffer, room);
@@ -306,7 +316,9 @@ static enum rrcache_status put_rest(const struct said *said, const struct rrcach
         put_unkept(said->cache, query, response, said->summary->aa, answer);
     if (status == RRCACHE_DONE && answer->size != before)
         answer->kind = RRCACHE_FRESH;
-    if (status == RRCACHE_DONE && answer->kind == RRCACHE_MISS && said->summary->rcode == 0)
+    bool may_be_denied = answer->kind == RRCACHE_MISS && said->summary->rcode == 0
+                         && said->summary->kind != RRCACHE_RESPONSE_ANSWER; /* all left out */
+    if (status == RRCACHE_DONE && may_be_denied)
         status = put_absence(said, query, response, answer);
     return status;
 }

@@ -4,7 +4,7 @@
    read before. */
 #include "cache.h"
 
-enum { A = 1, SOA = 6, SIG = 24, NXT = 30, NAPTR = 35, RRSIG = 46, FIRST_META = 128, ANY = 255 };
+enum { A = 1, SIG = 24, NXT = 30, NAPTR = 35, RRSIG = 46, FIRST_META = 128, ANY = 255 };
 /* The number of octets of a header, of the fields between the owner and the data of a record, of a
    name at most, and of the data at most. */
 enum { HEADER = 12, FIXED = 10, NAME = 255, MOST_DATA = 65535 };
@@ -192,15 +192,18 @@ enum rrcache_status put_unkept(const struct rrcache *cache, const struct rrcache
     return status;
 }
 
-bool has_soa(const struct rrcache *cache, const struct rrcache_query *query,
-             const struct rrcache_response *response, const struct rrcache_name *zone)
+bool has_record(const struct rrcache *cache, const struct rrcache_query *query,
+                const struct rrcache_response *response, enum rrcache_section section,
+                uint16_t rtype, const struct rrcache_name *name)
 {
     struct record record = {.end = HEADER + query->name_size + 4};
     uint32_t answers = number_at(response->octets + 6, 2);
-    uint32_t behind = answers + number_at(response->octets + 8, 2);
-    for (uint32_t i = 0; i < behind && read_record(response, record.end, &record); i++)
-        if (i >= answers && record.rtype == SOA && record.rclass == query->rclass
-            && is_owned_by(cache, response, &record, zone))
+    bool is_first = section == RRCACHE_ANSWER_SECTION;
+    uint32_t begin = is_first ? 0 : answers;
+    uint32_t end = is_first ? answers : answers + number_at(response->octets + 8, 2);
+    for (uint32_t i = 0; i < end && read_record(response, record.end, &record); i++)
+        if (i >= begin && record.rtype == rtype && record.rclass == query->rclass
+            && is_owned_by(cache, response, &record, name))
             return true;
     return false;
 }

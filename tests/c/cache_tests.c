@@ -1923,6 +1923,28 @@ static void test_absence_by_another_section(void)
     rrcache_close(cache);
 }
 
+/* An SOA record denies nothing of a name whose records are left out for unequal TTLs. */
+static void test_absence_beside_what_is_left_out(void)
+{
+    static struct message message;
+    struct rrcache *cache = open_small();
+    struct rrcache_answer answer;
+    begin(&message, 0, "a.example", ANY);
+    add_answer(&message, "a.example", 60);
+    add_answer(&message, "a.example", 30);
+    add_soa(&message, "example", 300);
+    EXPECT(store(cache, &message, "a.example", ANY, &answer).summary.kind
+           == RRCACHE_RESPONSE_ANSWER);
+    EXPECT(is_miss(&answer, 0, "a.example"));
+    begin(&message, 0, "a.example", RRSIG);
+    add_alias(&message, "a.example", "b.example", 60);
+    add_alias(&message, "a.example", "b.example", 30);
+    add_soa(&message, "example", 300);
+    store(cache, &message, "a.example", RRSIG, &answer);
+    EXPECT(is_miss(&answer, 0, "a.example"));
+    rrcache_close(cache);
+}
+
 /* As of other types, none of another zone is told (RFC 5452 section 6): neither behind an alias nor
    of a question that is out of bailiwick; nor of a response that is to no standard query. */
 static void test_types_that_are_not_kept_of_another_zone(void)
@@ -4051,6 +4073,7 @@ static void (*const TESTS[])(void) = {
     test_names_of_a_response_in_the_answer,
     test_absence_of_types_that_are_not_kept,
     test_absence_by_another_section,
+    test_absence_beside_what_is_left_out,
     test_types_that_are_not_kept_of_another_zone,
     test_types_that_are_not_kept_and_cannot_be_read,
     test_store_of_an_alias_beside_data,
