@@ -361,7 +361,8 @@ enum rrcache_response_kind {
                                           their TTLs differ, AA is clear, and `lowest_ttl` is not
                                           set */
     RRCACHE_RESPONSE_NODATA = 3,       /* the name has no data of the type (RFC 2308 section 2.2).
-                                          Without an SOA record no negative answer is offered */
+                                          Without an SOA record no negative answer is offered. For
+                                          type ANY, data of types that are not kept do not count */
     RRCACHE_RESPONSE_NXDOMAIN = 4, /* the name does not exist (RFC 2308 section 2.1). Without an SOA
                                       record no negative answer is offered */
     RRCACHE_RESPONSE_REFERRAL = 5, /* AA is clear, and there are NS records of a zone that is below
