@@ -259,10 +259,10 @@ static void make_denial(struct rrcache_told *told, const uint8_t *data, uint32_t
     told->left = told->left < most ? told->left : most;
 }
 
-/* Whether an SOA record denies data of the name that was reached. The record must be in the authority
-   section (RFC 2181 section 7.1): if AA is clear, its rank does not tell this section from the
-   additional one, whose offers are the last. The name must have no CNAME record that was left out.
- */
+/* Whether an SOA record denies data of the name that was reached. The record must be in the
+   authority section (RFC 2181 section 7.1): if AA is clear, its rank does not tell this section
+   from the additional one, whose offers are the last. The name must have no CNAME record that was
+   left out. */
 static bool is_denied(const struct said *said, const struct rrcache_query *query,
                       const struct rrcache_response *response, const struct rrcache_name *name,
                       const struct rrcache_name *zone)
