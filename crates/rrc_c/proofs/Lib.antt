@@ -2,16 +2,7 @@
 pub mod AsBox
 pub mod Crossing
 pub mod SameMemory
-pub mod Filling
-pub mod Answering
-pub mod Taking
-pub mod Refusing
-pub mod Querying
-pub mod SetFits
-pub mod Sharing
 pub mod Loan
 pub mod Looking
 pub mod Lending
-pub mod Telling
-pub mod Trimming
-pub mod Sweeping
+pub mod Holding

@@ -3,17 +3,17 @@
 use Rattle.std.specs.Prelude.{Option, Some, true, refl}
 use Rattle.std.specs.Borrow.{Lends, LendsIf, MutBor, Fml, RattleType}
 use Rattle.rrc_c.specs.declared.boxed.Content.{Content}
-use Rattle.rrc_c.specs.contracts.boxed.Content as Content
 use Rattle.rrc_c.specs.declared.boxed.Boxed.{Boxed}
+use Rattle.rrc_c.specs.declared.handle.Handle.{Handle}
+use Rattle.rrc_c.specs.declared.offers.Offers.{Offers}
+use Rattle.rrc_c.specs.declared.chapters.Chapters.{Chapters}
+use Rattle.rrc_c.specs.contracts.boxed.Content as Content
 use Rattle.rrc_c.specs.contracts.boxed.Boxed as Boxed
 use Rattle.rrc_share.specs.contracts.cache_shelf.CacheShelf as Shelf
-use Rattle.rrc_c.specs.declared.handle.Handle.{Handle}
 use Rattle.rrc_c.specs.contracts.handle.Handle as Handle
-use Rattle.rrc_c.specs.contracts.reading.Reading as Reading
-use Rattle.rrc_c.specs.declared.offers.Offers.{Offers}
+use Rattle.rrc_shelf.specs.contracts.reading.Reading as Reading
 use Rattle.rrc_c.specs.contracts.offers.Offers as Offers
-use Rattle.rrc_c.specs.contracts.taken.Taken as Taken
-use Rattle.rrc_c.specs.declared.chapters.Chapters.{Chapters}
+use Rattle.rrc_shelf.specs.contracts.taken.Taken as Taken
 use Rattle.rrc_c.specs.contracts.chapters.Chapters as Chapters
 
 module _ (T : RattleType) where

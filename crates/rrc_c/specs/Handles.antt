@@ -1,8 +1,10 @@
 -- SPDX-License-Identifier: MIT
--- What a handle holds before and after a call.
+-- What the handle of a shelf holds before and after a call.
 use Rattle.std.specs.Prelude.{◌≡◌, ℕ, Option, None, Some}
 use Rattle.rrc_share.specs.CacheShelf.{CacheShelfOf}
-use Rattle.rrc_c.specs.Shelves.{IsLeftAs}
+use Rattle.rrc_shelf.specs.Refusals.{NewDue}
+use Rattle.rrc_shelf.specs.Shelves.{IsLeftAs}
+use Rattle.rrc_shelf.specs.declared.terms.ShelfRules.{ShelfRules}
 
 -- the handle holds a shelf, and held one, of which two this is true
 abbrev pub BothHold : Option CacheShelfOf → Option CacheShelfOf → (CacheShelfOf → CacheShelfOf → Type 0) → Type 0
@@ -28,3 +30,12 @@ HoldsNone (Some before) after = ⊥
 abbrev pub TellsNone : Option CacheShelfOf → ℕ → Type 0
 TellsNone None status = status ≡ 1
 TellsNone (Some shelf) status = status ≡ 1 → ⊥
+
+-- what holds where a call answers that the handle holds no shelf
+abbrev pub OnNoShelf : ℕ → Type 0 → Type 0
+OnNoShelf status fact = status ≡ 1 → fact
+
+-- when a shelf is made in a handle, and when that is refused with what: 2 is answered exactly where the handle holds a shelf
+abbrev pub MakingDue : ShelfRules → Option CacheShelfOf → ℕ → Type 0
+MakingDue rules (Some shelf) number = number ≡ 2
+MakingDue rules None number = NewDue rules number

@@ -1,35 +1,20 @@
 // SPDX-License-Identifier: MIT
-ghost use Rattle.std.specs.Prelude.{◌≡◌, None, OnErr, length};
-ghost use Rattle.rrc_c.specs.Statuses.{number_of_reply, OnDone, OnRefused, OnSmall, OnUntold};
+ghost use Rattle.std.specs.Prelude.{◌≡◌, length, IfSome};
+ghost use Rattle.rrc_shelf.specs.Statuses.{number_of_reply, OnDone, OnRefused, OnSmall, OnUntold};
 ghost use Rattle.rrc_c.specs.Handles.{BothHold, IsKept, TellsNone};
-ghost use Rattle.rrc_c.specs.Aliases.{ask_or_alias};
-ghost use Rattle.rrc_c.specs.Asks.{asked, Answers, Shows, TellsSizeAlone};
-ghost use Rattle.rrc_c.specs.Refusals.{AskAliasDue, AskDue, IfHeld, IsQuestion, PeekAliasDue, PeekDue, StoredDue};
-ghost use Rattle.rrc_c.specs.Stored.{TellsStored};
+ghost use Rattle.rrc_shelf.specs.Aliases.{ask_or_alias};
+ghost use Rattle.rrc_shelf.specs.Asks.{asked, Answers, Shows, TellsSizeAlone};
+ghost use Rattle.rrc_shelf.specs.Refusals.{AskAliasDue, AskDue, IsQuestion, PeekAliasDue, PeekDue, StoredDue};
+ghost use Rattle.rrc_shelf.specs.Stored.{TellsStored};
 
-use crate::asking::{ask_shelf, ask_shelf_alias, peek_at_alias, peek_at_shelf};
-use crate::folded_name::FoldedName;
+use crate::handle_status::NO_SHELF;
 use crate::look::ShelfLook;
-use crate::lookup::stored_in;
-use crate::reply_record::ReplyRecord;
 use crate::shelf_handle::ShelfHandle;
-use crate::status::{NO_SHELF, SMALL_BUFFER, Status};
-use crate::stored::Stored;
-use crate::terms::Question;
+use rrc_shelf::{
+    FoldedName, Question, ReplyRecord, Stored, ask_shelf, ask_shelf_alias, number_of_reply,
+    peek_at_alias, peek_at_shelf, stored_in,
+};
 use std::alloc::Global;
-
-/// What C is told of a call that tells a reply.
-pub(crate) fn number_of_reply(fits: Result<bool, Status>) -> u32
-    ensures value { result ≡ number_of_reply fits }
-    ensures shelf { result ≡ 1 → ⊥ }
-    ensures offers { result ≡ 18 → ⊥ }
-{
-    match fits {
-        Ok(true) => 0,
-        Ok(false) => SMALL_BUFFER,
-        Err(status) => status.number(),
-    }
-}
 
 /// Asks a shelf, which is one event.
 #[unsafe(no_mangle)]
@@ -49,7 +34,7 @@ pub extern "C" fn rrc_ask(
     ensures told { OnUntold result (told.new ≡ told.old) }
     ensures seed { handle.new.seed ≡ handle.old.seed }
     ensures fit { OnDone result (IsQuestion name.now question.now handle.old.seed) }
-    ensures due { IfHeld handle.old.held.seal.shelf (λ shelf. AskDue name.now question.now handle.old.seed (length buffer.old) shelf result) }
+    ensures due { IfSome handle.old.held.seal.shelf (λ shelf. AskDue name.now question.now handle.old.seed (length buffer.old) shelf result) }
 {
     let seed = handle.seed;
     let Some(shelf) = handle.held.get_mut() else {
@@ -78,7 +63,7 @@ pub extern "C" fn rrc_ask_alias(
     ensures told { OnUntold result (told.new ≡ told.old) }
     ensures seed { handle.new.seed ≡ handle.old.seed }
     ensures fit { OnDone result (IsQuestion name.now question.now handle.old.seed) }
-    ensures due { IfHeld handle.old.held.seal.shelf (λ shelf. AskAliasDue name.now question.now handle.old.seed (length buffer.old) shelf result) }
+    ensures due { IfSome handle.old.held.seal.shelf (λ shelf. AskAliasDue name.now question.now handle.old.seed (length buffer.old) shelf result) }
 {
     let seed = handle.seed;
     let Some(shelf) = handle.held.get_mut() else {
@@ -105,7 +90,7 @@ pub extern "C" fn rrc_peek(
     ensures buffer { OnRefused result (buffer.new ≡ buffer.old) }
     ensures told { OnUntold result (told.new ≡ told.old) }
     ensures fit { OnDone result (IsQuestion name.now question.now look.old.seed) }
-    ensures due { IfHeld look.old.look.sight.shelf (λ shelf. PeekDue name.now question.now look.old.seed (length buffer.old) shelf result) }
+    ensures due { IfSome look.old.look.sight.shelf (λ shelf. PeekDue name.now question.now look.old.seed (length buffer.old) shelf result) }
 {
     let seed = look.seed;
     let Some(glance) = look.look.take() else {
@@ -133,7 +118,7 @@ pub extern "C" fn rrc_peek_alias(
     ensures buffer { OnRefused result (buffer.new ≡ buffer.old) }
     ensures told { OnUntold result (told.new ≡ told.old) }
     ensures fit { OnDone result (IsQuestion name.now question.now look.old.seed) }
-    ensures due { IfHeld look.old.look.sight.shelf (λ shelf. PeekAliasDue name.now question.now look.old.seed (length buffer.old) shelf result) }
+    ensures due { IfSome look.old.look.sight.shelf (λ shelf. PeekAliasDue name.now question.now look.old.seed (length buffer.old) shelf result) }
 {
     let seed = look.seed;
     let Some(glance) = look.look.take() else {
@@ -158,7 +143,7 @@ pub extern "C" fn rrc_stored(
     ensures none { TellsNone look.old.look.sight.shelf result }
     ensures done { OnDone result (BothHold look.old.look.sight.shelf look.new.look.sight.shelf (TellsStored name.now question.now stored.new)) }
     ensures stored { OnRefused result (stored.new ≡ stored.old) }
-    ensures due { IfHeld look.old.look.sight.shelf (λ shelf. StoredDue name.now question.now look.old.seed result) }
+    ensures due { IfSome look.old.look.sight.shelf (λ shelf. StoredDue name.now question.now look.old.seed result) }
 {
     let seed = look.seed;
     let Some(glance) = look.look.take() else {

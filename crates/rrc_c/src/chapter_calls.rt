@@ -1,16 +1,14 @@
 // SPDX-License-Identifier: MIT
-ghost use Rattle.std.specs.Prelude.{◌≡◌, None, Some, IfOk, OnErr, length};
-ghost use Rattle.rrc_c.specs.Chapters.{HoldsChapters, IfTaken, LineDue, StoppingDue, StopsRecord, TakesClosed, TakingDue, TellsLine, TellsNoChapters};
+ghost use Rattle.std.specs.Prelude.{◌≡◌, None, Some, IfOk, OnErr, length, IsSomeAnd, IfSome};
+ghost use Rattle.rrc_shelf.specs.Chapters.{LineDue, StopsRecord, TakesClosed, TellsLine};
 ghost use Rattle.rrc_c.specs.Handles.{BothHold, TellsNone};
-ghost use Rattle.rrc_c.specs.Refusals.{IfHeld};
-ghost use Rattle.rrc_c.specs.Statuses.{number_of_call, OnDone, OnRefused};
+ghost use Rattle.rrc_shelf.specs.Statuses.{number_of_call, OnDone, OnRefused};
+ghost use Rattle.rrc_c.specs.HeldChapters.{StoppingDue, TakingDue, TellsNoChapters};
 
-use crate::chapter_lines::{Line, tell_line};
 use crate::chapters::Chapters;
+use crate::handle_status::{HAS_CHAPTERS, NO_CHAPTERS, NO_SHELF};
 use crate::shelf_handle::ShelfHandle;
-use crate::status::{HAS_CHAPTERS, NO_CHAPTERS, NO_SHELF, Status};
-use crate::taken::{Taken, stop_recording, take_chapters};
-use crate::terms::LinePlace;
+use rrc_shelf::{Line, LinePlace, Status, Taken, stop_recording, take_chapters, tell_line};
 use std::alloc::Global;
 
 /// Puts chapters that were taken into a handle, in the place of none, and tells how many they are.
@@ -41,9 +39,9 @@ pub extern "C" fn rrc_take_chapters(
     count: &mut u64,
 ) -> u32
     ensures none { TellsNone handle.old.held.seal.shelf result }
-    ensures due { IfHeld handle.old.held.seal.shelf (λ shelf. TakingDue chapters.old.seal.chapters result) }
-    ensures done { OnDone result (HoldsChapters chapters.new.seal.chapters (λ held. BothHold handle.old.held.seal.shelf handle.new.held.seal.shelf (TakesClosed held))) }
-    ensures count { OnDone result (HoldsChapters chapters.new.seal.chapters (λ held. count.new ≡ length held)) }
+    ensures due { IfSome handle.old.held.seal.shelf (λ shelf. TakingDue chapters.old.seal.chapters result) }
+    ensures done { OnDone result (IsSomeAnd chapters.new.seal.chapters (λ held. BothHold handle.old.held.seal.shelf handle.new.held.seal.shelf (TakesClosed held))) }
+    ensures count { OnDone result (IsSomeAnd chapters.new.seal.chapters (λ held. count.new ≡ length held)) }
     ensures refused { OnRefused result (handle.new.held.seal.shelf ≡ handle.old.held.seal.shelf) }
     ensures seed { handle.new.seed ≡ handle.old.seed }
     ensures kept { OnRefused result (chapters.new.seal.chapters ≡ chapters.old.seal.chapters) }
@@ -69,9 +67,9 @@ pub extern "C" fn rrc_stop_recording(
     count: &mut u64,
 ) -> u32
     ensures none { TellsNone handle.old.held.seal.shelf result }
-    ensures due { IfHeld handle.old.held.seal.shelf (λ shelf. StoppingDue chapters.old.seal.chapters shelf result) }
-    ensures done { OnDone result (HoldsChapters chapters.new.seal.chapters (λ held. BothHold handle.old.held.seal.shelf handle.new.held.seal.shelf (StopsRecord held))) }
-    ensures count { OnDone result (HoldsChapters chapters.new.seal.chapters (λ held. count.new ≡ length held)) }
+    ensures due { IfSome handle.old.held.seal.shelf (λ shelf. StoppingDue chapters.old.seal.chapters shelf result) }
+    ensures done { OnDone result (IsSomeAnd chapters.new.seal.chapters (λ held. BothHold handle.old.held.seal.shelf handle.new.held.seal.shelf (StopsRecord held))) }
+    ensures count { OnDone result (IsSomeAnd chapters.new.seal.chapters (λ held. count.new ≡ length held)) }
     ensures refused { OnRefused result (handle.new.held.seal.shelf ≡ handle.old.held.seal.shelf) }
     ensures seed { handle.new.seed ≡ handle.old.seed }
     ensures kept { OnRefused result (chapters.new.seal.chapters ≡ chapters.old.seal.chapters) }
@@ -99,8 +97,8 @@ pub extern "C" fn rrc_chapter_line(
     told: &mut Line,
 ) -> u32
     ensures none { TellsNoChapters chapters.old.seal.chapters result }
-    ensures due { IfTaken chapters.old.seal.chapters (λ held. LineDue held place.now result) }
-    ensures done { OnDone result (HoldsChapters chapters.old.seal.chapters (λ held. TellsLine held place.now told.new buffer.old buffer.new)) }
+    ensures due { IfSome chapters.old.seal.chapters (λ held. LineDue held place.now result) }
+    ensures done { OnDone result (IsSomeAnd chapters.old.seal.chapters (λ held. TellsLine held place.now told.new buffer.old buffer.new)) }
     ensures told { OnRefused result (told.new ≡ told.old) }
     ensures buffer { OnRefused result (buffer.new ≡ buffer.old) }
     ensures kept { chapters.new.seal.chapters ≡ chapters.old.seal.chapters }

@@ -1,17 +1,17 @@
 // SPDX-License-Identifier: MIT
-ghost use Rattle.std.specs.Prelude.{◌≡◌, ◌⊎◌, true, IfOk, OnErr};
-ghost use Rattle.rrc_c.specs.Statuses.{number_of_call, OnDone, OnNoShelf, OnRefused};
-ghost use Rattle.rrc_c.specs.Handles.{BothHold, HoldsNone, IsKept, TellsNone};
-ghost use Rattle.rrc_c.specs.Intake.{denial_offer, failure_offer, TakesMessage, TakesOne, TakesSet, TakesSome};
-ghost use Rattle.rrc_c.specs.PartIntake.{IsPart, TakesPart, TakesSomeOfPart};
-ghost use Rattle.rrc_c.specs.Refusals.{DenialDue, FailureDue, IfHeld, IsDenial, IsFailure, IsSet, SetDue, is_seed};
+ghost use Rattle.std.specs.Prelude.{◌≡◌, ◌⊎◌, true, IfSome};
+ghost use Rattle.rrc_shelf.specs.Statuses.{number_of_call, OnDone, OnRefused};
+ghost use Rattle.rrc_c.specs.Handles.{OnNoShelf, BothHold, HoldsNone, IsKept, TellsNone};
+ghost use Rattle.rrc_shelf.specs.Intake.{denial_offer, failure_offer, TakesMessage, TakesOne, TakesSet, TakesSome};
+ghost use Rattle.rrc_shelf.specs.PartIntake.{IsPart, TakesPart, TakesSomeOfPart};
+ghost use Rattle.rrc_shelf.specs.Refusals.{DenialDue, FailureDue, IsDenial, IsFailure, IsSet, SetDue, is_seed};
 
-use crate::counts::Counts;
-use crate::intake::{offer_message, offer_part, take_failure, take_negative, take_set};
-use crate::numbers::{number_of_call, number_of_u32};
+use crate::handle_status::NO_SHELF;
 use crate::shelf_handle::ShelfHandle;
-use crate::status::NO_SHELF;
-use crate::terms::{FailureTerms, NegativeTerms, ResponseTerms, SetTerms};
+use rrc_shelf::{
+    Counts, FailureTerms, NegativeTerms, ResponseTerms, SetTerms, number_of_call, number_of_u32,
+    offer_message, offer_part, take_failure, take_negative, take_set,
+};
 use std::alloc::Global;
 
 /// Offers all that a message offers, which it compares with no query, each offer as one event.
@@ -81,7 +81,7 @@ pub extern "C" fn rrc_offer_set(
     ensures outcome { OnRefused result (outcome.new ≡ outcome.old) }
     ensures seed { handle.new.seed ≡ handle.old.seed }
     ensures fit { OnDone result (IsSet owner.now set.now octets.now) }
-    ensures due { IfHeld handle.old.held.seal.shelf (λ shelf. SetDue owner.now set.now octets.now shelf result) }
+    ensures due { IfSome handle.old.held.seal.shelf (λ shelf. SetDue owner.now set.now octets.now shelf result) }
 {
     let Some(shelf) = handle.held.get_mut() else {
         return NO_SHELF;
@@ -107,7 +107,7 @@ pub extern "C" fn rrc_offer_negative(
     ensures outcome { OnRefused result (outcome.new ≡ outcome.old) }
     ensures seed { handle.new.seed ≡ handle.old.seed }
     ensures fit { OnDone result (IsDenial name.now negative.now soa_owner.now soa.now) }
-    ensures due { IfHeld handle.old.held.seal.shelf (λ shelf. DenialDue name.now negative.now soa_owner.now soa.now shelf result) }
+    ensures due { IfSome handle.old.held.seal.shelf (λ shelf. DenialDue name.now negative.now soa_owner.now soa.now shelf result) }
 {
     let Some(shelf) = handle.held.get_mut() else {
         return NO_SHELF;
@@ -131,7 +131,7 @@ pub extern "C" fn rrc_offer_failure(
     ensures outcome { OnRefused result (outcome.new ≡ outcome.old) }
     ensures seed { handle.new.seed ≡ handle.old.seed }
     ensures fit { OnDone result (IsFailure name.now failure.now) }
-    ensures due { IfHeld handle.old.held.seal.shelf (λ shelf. FailureDue name.now failure.now shelf result) }
+    ensures due { IfSome handle.old.held.seal.shelf (λ shelf. FailureDue name.now failure.now shelf result) }
 {
     let Some(shelf) = handle.held.get_mut() else {
         return NO_SHELF;

@@ -5,10 +5,10 @@ ghost use Rattle.std.specs.Coded.{coded_option};
 ghost use Rattle.std.specs.Option.{option_map};
 ghost use Rattle.std_heap.specs.contracts.GlobalAllocator.TheImpl.{ghosts};
 ghost use Rattle.rrc_c.specs.Sealed.{sealed_owns};
-ghost use Rattle.rrc_c.specs.contracts.reading.Reading.{the_row};
+ghost use Rattle.rrc_shelf.specs.contracts.reading.Reading.{the_row};
 
 use crate::boxed::Boxed;
-use crate::reading::Reading;
+use rrc_shelf::Reading;
 use std::alloc::Global;
 use std::marker::Model;
 

@@ -1,26 +1,21 @@
 // SPDX-License-Identifier: MIT
-ghost use Rattle.std.specs.Prelude.{◌≡◌, ◌<◌, ◌⊎◌, drop, length, None, true, false, IfSome};
-ghost use Rattle.rrc_c.specs.Offered.{offer_in, IsOfferAnd, OfferDue, OneDue, TakesOffer, TellsNoSuchOffer, TellsOfferOr};
-ghost use Rattle.rrc_c.specs.Handles.{IsKept, TellsNone};
-ghost use Rattle.rrc_c.specs.Readings.{parts_below, AllHold, HoldsReading, IfRead, IsReading, OneLacks, ReadingDue, TakesShare, TakesSomeOfShare, TellsNoOffers};
-ghost use Rattle.rrc_c.specs.Refusals.{IfHeld};
-ghost use Rattle.rrc_c.specs.Responses.{IsResponseReading, ResponseDue};
-ghost use Rattle.rrc_c.specs.Summaries.{SummaryDue, TellsSummary};
-ghost use Rattle.rrc_c.specs.Statuses.{OnDone, OnNoOffers, OnNoShelf, OnRefused, OnSmall, OnUntold};
+ghost use Rattle.std.specs.Prelude.{◌≡◌, ◌<◌, ◌⊎◌, drop, length, None, true, false, IfSome, IsSomeAnd};
+ghost use Rattle.rrc_shelf.specs.Offered.{offer_in, IsOfferAnd, OfferDue, OneDue, TakesOffer, TellsOfferOr};
+ghost use Rattle.rrc_c.specs.Handles.{IsKept, TellsNone, OnNoShelf, BothHold};
+ghost use Rattle.rrc_shelf.specs.Readings.{parts_below, IsReading, TakesShare, TakesSomeOfShare};
+ghost use Rattle.rrc_shelf.specs.Responses.{IsResponseReading};
+ghost use Rattle.rrc_shelf.specs.Summaries.{SummaryDue, TellsSummary};
+ghost use Rattle.rrc_shelf.specs.Statuses.{OnDone, OnRefused, OnSmall, OnUntold};
+ghost use Rattle.rrc_c.specs.HeldOffers.{TellsNoSuchOffer, OneLacks, ReadingDue, TellsNoOffers, ResponseDue, OnNoOffers};
 
-use crate::counts::Counts;
-use crate::folded_name::FoldedName;
-use crate::message::read;
-use crate::numbers::number_of_call;
-use crate::offered::{take_offer_at, tell_offer_at};
+use crate::handle_status::{HAS_OFFERS, NO_SHELF, OTHER_QUERY};
 use crate::offers::Offers;
-use crate::reply_record::ReplyRecord;
-use crate::response::read_response;
-use crate::shares::{offer_share, parts_concerned};
 use crate::shelf_handle::ShelfHandle;
-use crate::status::{HAS_OFFERS, NO_OFFERS, NO_SHELF, OTHER_QUERY};
-use crate::summary::{SummaryRecord, tell_summary};
-use crate::terms::{OfferPick, ResponseTerms, Share};
+use rrc_shelf::{
+    Counts, FoldedName, NO_OFFERS, OfferPick, ReplyRecord, ResponseTerms, Share, SummaryRecord,
+    number_of_call, offer_share, parts_concerned, read, read_response, take_offer_at,
+    tell_offer_at, tell_summary,
+};
 use std::alloc::Global;
 
 /// Reads a message, which it compares with no query, into a handle that holds no offers, and tells
@@ -35,8 +30,8 @@ pub extern "C" fn rrc_read_message_unchecked(
     concerned: &mut u64,
 ) -> u32
     ensures due { ReadingDue octets.now zone.now terms.now offers.old.seal.reading result }
-    ensures done { OnDone result (HoldsReading offers.new.seal.reading (IsReading octets.now zone.now terms.now)) }
-    ensures concerned { OnDone result (HoldsReading offers.new.seal.reading (λ reading. concerned.new ≡ parts_below reading.placed.items terms.now.parts.count)) }
+    ensures done { OnDone result (IsSomeAnd offers.new.seal.reading (IsReading octets.now zone.now terms.now)) }
+    ensures concerned { OnDone result (IsSomeAnd offers.new.seal.reading (λ reading. concerned.new ≡ parts_below reading.placed.items terms.now.parts.count)) }
     ensures refused { OnRefused result (offers.new.seal.reading ≡ offers.old.seal.reading) }
     ensures untold { OnRefused result (concerned.new ≡ concerned.old) }
 {
@@ -66,8 +61,8 @@ pub extern "C" fn rrc_read_response(
     concerned: &mut u64,
 ) -> u32
     ensures due { ResponseDue octets.now zone.now name.now terms.now offers.old.seal.reading result }
-    ensures done { OnDone result (HoldsReading offers.new.seal.reading (IsResponseReading octets.now zone.now name.now terms.now)) }
-    ensures concerned { OnDone result (HoldsReading offers.new.seal.reading (λ reading. concerned.new ≡ parts_below reading.placed.items terms.now.parts.count)) }
+    ensures done { OnDone result (IsSomeAnd offers.new.seal.reading (IsResponseReading octets.now zone.now name.now terms.now)) }
+    ensures concerned { OnDone result (IsSomeAnd offers.new.seal.reading (λ reading. concerned.new ≡ parts_below reading.placed.items terms.now.parts.count)) }
     ensures refused { OnRefused result (offers.new.seal.reading ≡ offers.old.seal.reading) }
     ensures untold { OnRefused result (concerned.new ≡ concerned.old) }
 {
@@ -95,12 +90,12 @@ pub extern "C" fn rrc_tell_response(
     told: &mut SummaryRecord,
 ) -> u32
     ensures none { TellsNoOffers offers.old.seal.reading result }
-    ensures done { OnDone result (HoldsReading offers.old.seal.reading (λ reading. TellsSummary reading told.new name.old name.new)) }
+    ensures done { OnDone result (IsSomeAnd offers.old.seal.reading (λ reading. TellsSummary reading told.new name.old name.new)) }
     ensures name { OnRefused result (name.new ≡ name.old) }
     ensures behind { drop name.new.size name.new.octets ≡ drop name.new.size name.old.octets }
     ensures told { OnRefused result (told.new ≡ told.old) }
     ensures kept { offers.new.seal.reading ≡ offers.old.seal.reading }
-    ensures due { IfRead offers.old.seal.reading (λ reading. SummaryDue reading result) }
+    ensures due { IfSome offers.old.seal.reading (λ reading. SummaryDue reading result) }
 {
     let Some(reading) = offers.get_mut() else {
         return NO_OFFERS;
@@ -119,14 +114,14 @@ pub extern "C" fn rrc_tell_offer(
     buffer: &mut [u8],
 ) -> u32
     ensures none { TellsNoSuchOffer offers.old.seal.reading index result }
-    ensures done { OnDone result (HoldsReading offers.old.seal.reading (λ reading. IsOfferAnd (offer_in reading index) (λ offer. TellsOfferOr true reading offer name.new told.new buffer.old buffer.new))) }
-    ensures small { OnSmall result (HoldsReading offers.old.seal.reading (λ reading. IsOfferAnd (offer_in reading index) (λ offer. TellsOfferOr false reading offer name.new told.new buffer.old buffer.new))) }
+    ensures done { OnDone result (IsSomeAnd offers.old.seal.reading (λ reading. IsOfferAnd (offer_in reading index) (λ offer. TellsOfferOr true reading offer name.new told.new buffer.old buffer.new))) }
+    ensures small { OnSmall result (IsSomeAnd offers.old.seal.reading (λ reading. IsOfferAnd (offer_in reading index) (λ offer. TellsOfferOr false reading offer name.new told.new buffer.old buffer.new))) }
     ensures name { OnUntold result (name.new ≡ name.old) }
     ensures behind { drop name.new.size name.new.octets ≡ drop name.new.size name.old.octets }
     ensures told { OnUntold result (told.new ≡ told.old) }
     ensures buffer { OnRefused result (buffer.new ≡ buffer.old) }
     ensures kept { offers.new.seal.reading ≡ offers.old.seal.reading }
-    ensures due { IfRead offers.old.seal.reading (λ reading. IfSome (offer_in reading index) (λ offer. OfferDue reading offer (length buffer.old) result)) }
+    ensures due { IfSome offers.old.seal.reading (λ reading. IfSome (offer_in reading index) (λ offer. OfferDue reading offer (length buffer.old) result)) }
 {
     let Some(reading) = offers.get_mut() else {
         return NO_OFFERS;
@@ -144,11 +139,11 @@ pub extern "C" fn rrc_offer_read(
     counts: &mut Counts,
 ) -> u32
     ensures none { TellsNone handle.old.held.seal.shelf result }
-    ensures no_offers { IfHeld handle.old.held.seal.shelf (λ shelf. TellsNoOffers offers.old.seal.reading result) }
-    ensures done { OnDone result (AllHold offers.old.seal.reading handle.old.held.seal.shelf handle.new.held.seal.shelf (TakesShare share.now counts.new)) }
-    ensures part { OnDone result (HoldsReading offers.old.seal.reading (λ reading. share.now.part < reading.parts)) }
-    ensures seeded { OnDone result (HoldsReading offers.old.seal.reading (λ reading. reading.seed ≡ handle.old.seed)) }
-    ensures refused { OnRefused result (OneLacks offers.old.seal.reading handle.old.held.seal.shelf handle.new.held.seal.shelf ⊎ AllHold offers.old.seal.reading handle.old.held.seal.shelf handle.new.held.seal.shelf (TakesSomeOfShare result share.now handle.old.seed counts.new)) }
+    ensures no_offers { IfSome handle.old.held.seal.shelf (λ shelf. TellsNoOffers offers.old.seal.reading result) }
+    ensures done { OnDone result (IsSomeAnd offers.old.seal.reading (λ reading. BothHold handle.old.held.seal.shelf handle.new.held.seal.shelf (TakesShare share.now counts.new reading))) }
+    ensures part { OnDone result (IsSomeAnd offers.old.seal.reading (λ reading. share.now.part < reading.parts)) }
+    ensures seeded { OnDone result (IsSomeAnd offers.old.seal.reading (λ reading. reading.seed ≡ handle.old.seed)) }
+    ensures refused { OnRefused result (OneLacks offers.old.seal.reading handle.old.held.seal.shelf handle.new.held.seal.shelf ⊎ IsSomeAnd offers.old.seal.reading (λ reading. BothHold handle.old.held.seal.shelf handle.new.held.seal.shelf (TakesSomeOfShare result share.now handle.old.seed counts.new reading))) }
     ensures counts { OnNoShelf result (counts.new ≡ counts.old) }
     ensures uncounted { OnNoOffers result (counts.new ≡ counts.old) }
     ensures kept { offers.new.seal.reading ≡ offers.old.seal.reading }
@@ -174,13 +169,13 @@ pub extern "C" fn rrc_offer_one(
     outcome: &mut u32,
 ) -> u32
     ensures none { TellsNone handle.old.held.seal.shelf result }
-    ensures no_offer { IfHeld handle.old.held.seal.shelf (λ shelf. TellsNoSuchOffer offers.old.seal.reading pick.now.index result) }
-    ensures done { OnDone result (AllHold offers.old.seal.reading handle.old.held.seal.shelf handle.new.held.seal.shelf (λ reading old new. IsOfferAnd (offer_in reading pick.now.index) (λ offer. TakesOffer pick.now.line reading offer handle.old.seed outcome.new old new))) }
+    ensures no_offer { IfSome handle.old.held.seal.shelf (λ shelf. TellsNoSuchOffer offers.old.seal.reading pick.now.index result) }
+    ensures done { OnDone result (IsSomeAnd offers.old.seal.reading (λ reading. BothHold handle.old.held.seal.shelf handle.new.held.seal.shelf (λ old new. IsOfferAnd (offer_in reading pick.now.index) (λ offer. TakesOffer pick.now.line reading offer handle.old.seed outcome.new old new)))) }
     ensures refused { OnRefused result (IsKept handle.old.held.seal.shelf handle.new.held.seal.shelf) }
     ensures outcome { OnRefused result (outcome.new ≡ outcome.old) }
     ensures kept { offers.new.seal.reading ≡ offers.old.seal.reading }
     ensures seed { handle.new.seed ≡ handle.old.seed }
-    ensures due { IfHeld handle.old.held.seal.shelf (λ shelf. IfRead offers.old.seal.reading (λ reading. IfSome (offer_in reading pick.now.index) (λ offer. OneDue reading offer handle.old.seed shelf result))) }
+    ensures due { IfSome handle.old.held.seal.shelf (λ shelf. IfSome offers.old.seal.reading (λ reading. IfSome (offer_in reading pick.now.index) (λ offer. OneDue reading offer handle.old.seed shelf result))) }
 {
     let seed = handle.seed;
     let Some(shelf) = handle.held.get_mut() else {

@@ -1,25 +1,22 @@
 // SPDX-License-Identifier: MIT
-ghost use Rattle.std.specs.Prelude.{◌≡◌, ◌⊎◌, None, drop};
-ghost use Rattle.rrc_c.specs.Statuses.{number_of_call, OnDone, OnNoShelf, OnRefused};
-ghost use Rattle.rrc_c.specs.Folding.{FoldingDue, IsFoldedName};
-ghost use Rattle.rrc_c.specs.Handles.{BothHold, HoldsNone, IsKept, TellsNone};
-ghost use Rattle.rrc_c.specs.Refusals.{IfHeld, OutOfMemory, RecordDue, WriteDue};
-ghost use Rattle.rrc_c.specs.Shelves.{DropsRecord, MakesSweep, StartsRecord};
-ghost use Rattle.rrc_c.specs.SweepSteps.{SweepsSome, SweepsUntil};
-ghost use Rattle.rrc_c.specs.Trims.{TrimsShelf, TrimsUntil};
-ghost use Rattle.rrc_c.specs.Upkeep.{DropsChapters, TellsExpiry, TellsFault, TellsSizes};
+ghost use Rattle.std.specs.Prelude.{◌≡◌, ◌⊎◌, None, drop, IfSome};
+ghost use Rattle.rrc_shelf.specs.Statuses.{number_of_call, OnDone, OnRefused};
+ghost use Rattle.rrc_shelf.specs.Folding.{FoldingDue, IsFoldedName};
+ghost use Rattle.rrc_c.specs.Handles.{OnNoShelf, BothHold, HoldsNone, IsKept, TellsNone};
+ghost use Rattle.rrc_shelf.specs.Refusals.{OutOfMemory, RecordDue, WriteDue};
+ghost use Rattle.rrc_shelf.specs.Shelves.{DropsRecord, MakesSweep, StartsRecord};
+ghost use Rattle.rrc_shelf.specs.SweepSteps.{SweepsSome, SweepsUntil};
+ghost use Rattle.rrc_shelf.specs.Trims.{TrimsShelf, TrimsUntil};
+ghost use Rattle.rrc_shelf.specs.Upkeep.{DropsChapters, TellsExpiry, TellsFault, TellsSizes};
 
-use crate::folded_name::FoldedName;
+use crate::handle_status::NO_SHELF;
 use crate::look::ShelfLook;
-use crate::names::fold_name;
-use crate::numbers::{number_of_call, number_of_u32, number_of_u64};
 use crate::shelf_handle::ShelfHandle;
-use crate::sizes::Sizes;
-use crate::status::NO_SHELF;
-use crate::sweeps::{Swept, sweep, sweep_some};
-use crate::terms::{Division, SweepTerms, TrimTerms};
-use crate::trims::{Trimmed, trim};
-use crate::upkeep::{drop_chapters, expiry_of, fault_in, record, sizes_of, stop_and_drop};
+use rrc_shelf::{
+    Division, FoldedName, Sizes, SweepTerms, Swept, TrimTerms, Trimmed, drop_chapters, expiry_of,
+    fault_in, fold_name, number_of_call, number_of_u32, number_of_u64, record, sizes_of,
+    stop_and_drop, sweep, sweep_some, trim,
+};
 use std::alloc::Global;
 
 /// Removes the keys that are fully expired at a moment, which is one event, and tells how many.
@@ -30,7 +27,7 @@ pub extern "C" fn rrc_sweep(handle: &mut ShelfHandle, terms: &SweepTerms, remove
     ensures refused { OnRefused result (IsKept handle.old.held.seal.shelf handle.new.held.seal.shelf) }
     ensures removed { OnRefused result (removed.new ≡ removed.old) }
     ensures seed { handle.new.seed ≡ handle.old.seed }
-    ensures due { IfHeld handle.old.held.seal.shelf (λ shelf. WriteDue shelf terms.now.moment result) }
+    ensures due { IfSome handle.old.held.seal.shelf (λ shelf. WriteDue shelf terms.now.moment result) }
 {
     let Some(shelf) = handle.held.get_mut() else {
         return NO_SHELF;
@@ -96,7 +93,7 @@ pub extern "C" fn rrc_record(handle: &mut ShelfHandle) -> u32
     ensures done { OnDone result (BothHold handle.old.held.seal.shelf handle.new.held.seal.shelf StartsRecord) }
     ensures refused { OnRefused result (handle.new.held.seal.shelf ≡ handle.old.held.seal.shelf) }
     ensures seed { handle.new.seed ≡ handle.old.seed }
-    ensures due { IfHeld handle.old.held.seal.shelf (λ shelf. RecordDue shelf result) }
+    ensures due { IfSome handle.old.held.seal.shelf (λ shelf. RecordDue shelf result) }
 {
     let Some(shelf) = handle.held.get_mut() else {
         return NO_SHELF;

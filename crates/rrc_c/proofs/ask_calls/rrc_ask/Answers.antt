@@ -1,8 +1,8 @@
 -- SPDX-License-Identifier: MIT
 use Rattle.std.proofs.Common.{length}
-use Rattle.rrc_c.specs.Refusals.{AskDue}
-use Rattle.rrc_c.specs.Statuses.{number_of_reply}
-use Rattle.rrc_c.proofs.Refusing.{told_of_held}
+use Rattle.rrc_shelf.specs.Refusals.{AskDue}
+use Rattle.rrc_shelf.specs.Statuses.{number_of_reply}
+use Rattle.rrc_c.proofs.Holding.{told_of_held}
 use Rattle.rrc_c.proofs.ask_calls.rrc_ask.Goals as goal
 
 pub returns-clause-due : goal.returns-clause-due

@@ -1,9 +1,9 @@
 -- SPDX-License-Identifier: MIT
 use Rattle.std.proofs.Common.{length, Some, ap, ◌∙◌}
 use Rattle.rrc_share.specs.CacheShelf.{CacheShelfOf}
-use Rattle.rrc_c.specs.Refusals.{PeekAliasDue}
-use Rattle.rrc_c.specs.Statuses.{number_of_reply}
-use Rattle.rrc_c.proofs.Refusing.{told_of_held}
+use Rattle.rrc_shelf.specs.Refusals.{PeekAliasDue}
+use Rattle.rrc_shelf.specs.Statuses.{number_of_reply}
+use Rattle.rrc_c.proofs.Holding.{told_of_held}
 use Rattle.rrc_c.proofs.ask_calls.rrc_peek_alias.Goals as goal
 
 pub returns-clause-due : goal.returns-clause-due

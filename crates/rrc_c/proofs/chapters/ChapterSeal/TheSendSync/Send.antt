@@ -6,8 +6,8 @@ use denote.Param.Send.{IsSend, AllSend, owning_send, struct_send, sendable}
 use Rattle.std_alloc.proofs.SendSync.{quiet}
 use Rattle.std_heap.proofs.Global.TheSendSync as handle
 use Rattle.rrc_c.proofs.Crossing.{crosses}
-use Rattle.rrc_c.specs.contracts.taken.Taken.{the_row as T}
-use Rattle.rrc_c.proofs.taken.Taken.TheSendSync.{the_send}
+use Rattle.rrc_shelf.specs.contracts.taken.Taken.{the_row as T}
+use Rattle.rrc_shelf.proofs.taken.Taken.TheSendSync.{the_send}
 use Rattle.rrc_c.specs.contracts.chapters.ChapterSeal.{the_row, the_type}
 
 pub send : IsSend the_row

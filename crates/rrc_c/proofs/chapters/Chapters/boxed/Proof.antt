@@ -6,7 +6,7 @@ use denote.Memory.{part_of}
 use denote.Triple.Spec.{triple_of}
 use denote.Triple.Table.{entered}
 use Rattle.rrc_c.specs.Boxed.{boxed_chapters, chapters_of_boxed}
-use Rattle.rrc_c.specs.contracts.taken.Taken.{the_row as T}
+use Rattle.rrc_shelf.specs.contracts.taken.Taken.{the_row as T}
 use Rattle.rrc_c.specs.contracts.chapters.Chapters as Chapters
 use Rattle.rrc_c.specs.contracts.boxed.Boxed as Boxed
 use Rattle.rrc_c.specs.contracts.chapters.Chapters.boxed as F

@@ -1,7 +1,7 @@
 -- SPDX-License-Identifier: MIT
 use Rattle.std.proofs.Common.{◌∙◌}
 use Rattle.rrc_c.specs.Boxed.{chapters_of_boxed}
-use Rattle.rrc_c.specs.contracts.taken.Taken.{the_row as T}
+use Rattle.rrc_shelf.specs.contracts.taken.Taken.{the_row as T}
 use Rattle.rrc_c.proofs.SameMemory.{same_lent}
 use Rattle.rrc_c.proofs.chapters.Chapters.get_mut.Goals as goal
 

@@ -1,8 +1,0 @@
--- SPDX-License-Identifier: MIT
--- the bits of the parts so far
-use Rattle.std.proofs.Common.{◌≡◌, ◌<◌, ◌^◌}
-use Rattle.rrc_c.specs.Readings.{parts_below}
-use Rattle.rrc_c.proofs.shares.parts_concerned.Given as goal
-
-abbrev pub invariant-loop-part : goal.invariant-loop-part
-invariant-loop-part l = (l.bits ≡ parts_below l.placed l.part) × (l.bits < 2 ^ l.part)

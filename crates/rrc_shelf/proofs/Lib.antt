@@ -1,0 +1,11 @@
+-- SPDX-License-Identifier: MIT
+pub mod Filling
+pub mod Answering
+pub mod Taking
+pub mod Refusing
+pub mod Querying
+pub mod SetFits
+pub mod Sharing
+pub mod Telling
+pub mod Trimming
+pub mod Sweeping

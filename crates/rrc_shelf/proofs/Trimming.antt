@@ -1,0 +1,16 @@
+-- SPDX-License-Identifier: MIT
+-- What a trim leaves where it is refused.
+use Rattle.std.proofs.Common.{◌≡◌, ℕ, inl, inr, false, Err, refl, arith}
+use Rattle.rrc_cache.specs.declared.refusal.Refusal.{Refusal}
+use Rattle.rrc_cache.specs.declared.refusal.Refusal.TheVariants.{HistoryFull, MomentTooLarge, Memory}
+use Rattle.rrc_share.specs.CacheShelf.{CacheShelfOf}
+use Rattle.rrc_share.specs.Trims.{IsLeanRefusal, IsTrimDue}
+use Rattle.rrc_shelf.specs.Statuses.{number_of, refused_as}
+use Rattle.rrc_shelf.specs.Trims.{GoesOn, IsTrim, TrimsUntil}
+use Rattle.rrc_shelf.specs.declared.terms.TrimTerms.{TrimTerms}
+
+pub stops : (trim : TrimTerms) (old new : CacheShelfOf) (refusal : Refusal) → IsTrim trim → GoesOn trim old new → IsTrimDue {A = ℕ} trim.moment (Err refusal)
+    → (old.records ≡ false → IsLeanRefusal old.shelf.part new.shelf.part trim.moment refusal) → TrimsUntil (number_of (refused_as refusal)) trim old new
+stops trim old new HistoryFull fit goes due lean = inr (record { fit = fit; goes = goes; why = inl refl; lean = λ is. inl (refl, lean is) })
+stops trim old new MomentTooLarge fit goes due lean = absurd (omega (arith, fit.moment, due))
+stops trim old new Memory fit goes due lean = inr (record { fit = fit; goes = goes; why = inr refl; lean = λ is. inr (refl, lean is) })

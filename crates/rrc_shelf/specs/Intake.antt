@@ -1,0 +1,151 @@
+-- SPDX-License-Identifier: MIT
+-- What C offers, and what it is told of it.
+use Rattle.std.specs.Prelude.{◌≡◌, ℕ, ◌+◌, ◌⊎◌, List, [], ◌∷◌, ◌++◌, length, reverse, if◌then◌else◌, ◌==◌}
+use Rattle.std.specs.List.{All}
+use Rattle.rrc_name.specs.Wire.{folded, IsWireForm}
+use Rattle.rrc_name.specs.declared.slot.Slot.{Slot}
+use Rattle.rrc_name.specs.declared.slot.Slot.TheVariants.{Set, Nx, Failed}
+use Rattle.rrc_history.specs.Fits.{OfferOf}
+use Rattle.rrc_history.specs.declared.body.Body.TheVariants.{Positive, Negative, Failure}
+use Rattle.rrc_history.specs.declared.body.Trust.{Trust}
+use Rattle.rrc_history.specs.declared.body.Trust.TheVariants.{Additional, NonAuthoritativeAnswer, Authority, AuthoritativeAnswer}
+use Rattle.rrc_history.specs.declared.event.Outcome.{Outcome}
+use Rattle.rrc_history.specs.declared.event.Outcome.TheVariants.{Kept, Cleared, LessTrusted}
+use Rattle.rrc_share.specs.CacheShelf.{CacheShelfOf}
+use Rattle.rrc_sets.specs.Limits.{LimitsAre}
+use Rattle.rrc_sets.specs.Message.{Brings}
+use Rattle.rrc_sets.specs.declared.limits.Limits.{Limits}
+use Rattle.rrc_shelf.specs.Shelves.{IsLeftAs, MakesOffer}
+use Rattle.rrc_shelf.specs.ReplyRecord.{data_text}
+use Rattle.rrc_shelf.specs.Refusals.{OffersRefused, WriteDue}
+use Rattle.rrc_shelf.specs.declared.counts.Counts.{Counts}
+use Rattle.rrc_shelf.specs.declared.terms.FailureTerms.{FailureTerms}
+use Rattle.rrc_shelf.specs.declared.terms.NegativeTerms.{NegativeTerms}
+use Rattle.rrc_shelf.specs.declared.terms.ResponseTerms.{ResponseTerms}
+use Rattle.rrc_shelf.specs.declared.terms.SetTerms.{SetTerms}
+
+-- ---- one offer
+
+-- the trust of a number, 1 to 4 from low to high
+abbrev pub trust_of : ℕ → Trust
+trust_of number = if number == 1 then Additional else (if number == 2 then NonAuthoritativeAnswer else (if number == 3 then Authority else AuthoritativeAnswer))
+
+-- what a negative answer denies: data of its type, by 3, or the name, by 4
+abbrev pub denied : NegativeTerms → Slot
+denied negative = if negative.denial == 3 then Set negative.rtype else Nx
+
+-- the number of what became of an offer
+abbrev pub outcome_number : Outcome → ℕ
+outcome_number Kept = 1
+outcome_number Cleared = 2
+outcome_number LessTrusted = 3
+
+-- a set is offered, whose data stand in some octets each behind its length
+pub record IsSetOffer (owner : List ℕ) (set : SetTerms) (octets : List ℕ) (offer : OfferOf) : Type 0 where
+  pub items : List (List ℕ)
+  pub stand : data_text items ≡ octets
+  pub is : offer ≡ record {
+    key = record { name = folded owner; class = set.rclass; slot = Set set.rtype };
+    body = Positive (trust_of set.trust) set.ttl owner items;
+    moment = set.moment;
+  }
+
+-- that a name has no data of a type, or does not exist, with the SOA record that says so
+abbrev pub denial_offer : List ℕ → NegativeTerms → List ℕ → List ℕ → OfferOf
+denial_offer name negative soa_owner soa = record {
+  key = record { name = folded name; class = negative.rclass; slot = denied negative };
+  body = Negative (trust_of negative.trust) negative.ttl soa_owner soa;
+  moment = negative.moment;
+}
+
+-- that asking for data of a type failed
+abbrev pub failure_offer : List ℕ → FailureTerms → OfferOf
+failure_offer name failure =
+    record { key = record { name = folded name; class = failure.rclass; slot = Failed failure.rtype }; body = Failure failure.ttl; moment = failure.moment }
+
+-- an offer is written, which is one event, and what became of it is told by its number
+pub record TakesOne (line : ℕ) (offer : OfferOf) (number : ℕ) (old new : CacheShelfOf) : Type 0 where
+  pub outcome : Outcome
+  pub made : MakesOffer old new (record { line = line; place = 0 }) offer outcome
+  pub told : number ≡ outcome_number outcome
+
+-- the same of an offer of a set
+pub record TakesSet (owner : List ℕ) (set : SetTerms) (octets : List ℕ) (number : ℕ) (old new : CacheShelfOf) : Type 0 where
+  pub offer : OfferOf
+  pub is_offer : IsSetOffer owner set octets offer
+  pub takes : TakesOne set.line offer number old new
+
+-- ---- a whole message
+
+-- one more outcome counted
+abbrev pub count_more : Outcome → Counts → Counts
+count_more Kept counts = record { kept = counts.kept + 1; cleared = counts.cleared; outranked = counts.outranked }
+count_more Cleared counts = record { kept = counts.kept; cleared = counts.cleared + 1; outranked = counts.outranked }
+count_more LessTrusted counts = record { kept = counts.kept; cleared = counts.cleared; outranked = counts.outranked + 1 }
+
+-- how many offers were kept, cleared and outranked
+abbrev pub counts_of : List Outcome → Counts
+counts_of [] = record { kept = 0; cleared = 0; outranked = 0 }
+counts_of (outcome ∷ before) = count_more outcome (counts_of before)
+
+-- offers were written, each as one event with its place among them; the last offer comes first
+abbrev pub Takes : ℕ → List OfferOf → List Outcome → CacheShelfOf → CacheShelfOf → Type 0
+Takes line [] [] old new = new ≡ old
+Takes line [] (outcome ∷ before) old new = ⊥
+Takes line (offer ∷ earlier) [] old new = ⊥
+Takes line (offer ∷ earlier) (outcome ∷ before) old new =
+    (middle : CacheShelfOf) × Takes line earlier before old middle × MakesOffer middle new (record { line = line; place = length earlier }) offer outcome
+
+-- all offers were written, and what became of them is counted
+pub record TakesAll (line : ℕ) (offers : List OfferOf) (counts : Counts) (old new : CacheShelfOf) : Type 0 where
+  pub outcomes : List Outcome
+  pub takes : Takes line (reverse offers) outcomes old new
+  pub counted : counts ≡ counts_of outcomes
+
+-- all offers are of one moment
+abbrev pub AreAt : ℕ → List OfferOf → Type 0
+AreAt at offers = All (λ offer. offer.moment ≡ at) offers
+
+-- the first of the offers were written, and what became of them is counted; the next one, which there is, was refused by this number at their moment
+pub record TakesFirst (number line at : ℕ) (offers : List OfferOf) (counts : Counts) (old new : CacheShelfOf) : Type 0 where
+  pub taken : List OfferOf
+  pub next : OfferOf
+  pub others : List OfferOf
+  pub parts : offers ≡ taken ++ next ∷ others
+  pub middle : CacheShelfOf
+  pub all : TakesAll line taken counts old middle
+  pub due : WriteDue middle at number
+  pub left : IsLeftAs middle new
+
+-- what the message offers that some octets are
+pub record AreOffered (octets zone : List ℕ) (terms : ResponseTerms) (offers : List OfferOf) : Type 0 where
+  pub zone_is : IsWireForm zone
+  pub limits : Limits
+  pub are_limits : LimitsAre limits terms.limits.cap terms.limits.negative_cap terms.limits.recheck
+  pub brought : Brings limits octets zone terms.moment offers
+
+-- all that a message offers was written
+pub record TakesMessage (octets zone : List ℕ) (terms : ResponseTerms) (counts : Counts) (old new : CacheShelfOf) : Type 0 where
+  pub offers : List OfferOf
+  pub offered : AreOffered octets zone terms offers
+  pub takes : TakesAll terms.line offers counts old new
+
+-- the first of what a message offers was written, and then it was refused by this number
+pub record TakesBeginning (number : ℕ) (octets zone : List ℕ) (terms : ResponseTerms) (counts : Counts) (old new : CacheShelfOf) : Type 0 where
+  pub offers : List OfferOf
+  pub offered : AreOffered octets zone terms offers
+  pub takes : TakesFirst number terms.line terms.moment offers counts old new
+
+-- nothing was written and nothing counted
+pub record TakesNone (counts : Counts) (old new : CacheShelfOf) : Type 0 where
+  pub counted : counts ≡ counts_of []
+  pub kept : new ≡ old
+
+-- what a refusal by this number leaves: nothing was written, as what was handed in is refused, or the first of what the message offers
+abbrev pub TakesSome : ℕ → List ℕ → List ℕ → ResponseTerms → Counts → CacheShelfOf → CacheShelfOf → Type 0
+TakesSome number octets zone terms counts old new =
+    (TakesNone counts old new × OffersRefused octets zone terms.limits number) ⊎ TakesBeginning number octets zone terms counts old new
+
+-- how many offers were counted
+abbrev pub total : Counts → ℕ
+total counts = counts.kept + counts.cleared + counts.outranked

@@ -1,0 +1,67 @@
+-- SPDX-License-Identifier: MIT
+-- What a response says beside what it offers, and what C is told of that.
+use Rattle.std.specs.Prelude.{◌≡◌, ℕ, List, Option, None, Some}
+use Rattle.rrc_wire.specs.declared.message.Message.{Message}
+use Rattle.rrc_sets.specs.Kinds.{kind_of}
+use Rattle.rrc_sets.specs.Relevance.{AreDefault}
+use Rattle.rrc_sets.specs.declared.kind.ResponseKind.{ResponseKind}
+use Rattle.rrc_sets.specs.declared.kind.ResponseKind.TheVariants.{Answer, UnequalTtls, NoData, NxDomain, Referral, Alias, Failure, Unusable}
+use Rattle.rrc_sets.specs.declared.relevance.RelevanceLimits.{RelevanceLimits}
+use Rattle.rrc_shelf.specs.Folding.{FoldingDue, IsFoldedName}
+use Rattle.rrc_shelf.specs.Offered.{division_of}
+use Rattle.rrc_shelf.specs.declared.folded_name.FoldedName.{FoldedName}
+use Rattle.rrc_shelf.specs.declared.reading.Reading.{Reading}
+use Rattle.rrc_shelf.specs.declared.summary.Summary.{Summary}
+use Rattle.rrc_shelf.specs.declared.summary.SummaryRecord.{SummaryRecord}
+use Rattle.rrc_shelf.specs.declared.terms.Division.{Division}
+use Rattle.rrc_shelf.specs.declared.terms.ResponseTerms.{ResponseTerms}
+
+-- the limits of relevance of a call: those that are set by default, but for what it chooses
+pub record AreChosen (terms : ResponseTerms) (relevance : RelevanceLimits) : Type 0 where
+  pub default : RelevanceLimits
+  pub are_default : AreDefault default
+  pub chosen : relevance ≡ record default { lowest_ttl = terms.lowest_ttl; clears_denied = terms.clears_denied }
+
+-- what a message says for a zone, by limits of relevance
+abbrev pub summary_of : RelevanceLimits → Message → List ℕ → Summary
+summary_of relevance message zone = record { rcode = message.rcode; aa = message.aa; tc = message.tc; kind = kind_of message zone relevance }
+
+-- the number of a kind
+abbrev pub number_of_kind : ResponseKind → ℕ
+number_of_kind Answer = 1
+number_of_kind UnequalTtls = 2
+number_of_kind NoData = 3
+number_of_kind NxDomain = 4
+number_of_kind (Referral zone) = 5
+number_of_kind (Alias name) = 6
+number_of_kind Failure = 7
+number_of_kind Unusable = 8
+
+-- the name of a kind, if it has one: the zone that a referral leads to, or the name that an alias leads to
+abbrev pub name_of_kind : ResponseKind → Option (List ℕ)
+name_of_kind (Referral zone) = Some zone
+name_of_kind (Alias name) = Some name
+name_of_kind kind = None
+
+-- what C is told of a reading
+abbrev pub record_of_summary : Summary → SummaryRecord
+record_of_summary summary = record { kind = number_of_kind summary.kind; rcode = summary.rcode; aa = summary.aa; tc = summary.tc }
+
+-- a name is made of octets, if there are some, and else it is as it was
+abbrev pub IsMadeOf : Option (List ℕ) → Division → FoldedName → FoldedName → Type 0
+IsMadeOf None division before after = after ≡ before
+IsMadeOf (Some octets) division before after = IsFoldedName octets division after
+
+-- C is told what a reading says, and the name of its kind is made
+pub record TellsSummary (reading : Reading) (told : SummaryRecord) (before after : FoldedName) : Type 0 where
+  pub told_is : told ≡ record_of_summary reading.summary
+  pub name_is : IsMadeOf (name_of_kind reading.summary.kind) (division_of reading) before after
+
+-- when a name is made of octets, if there are some, and when that is refused with what
+abbrev pub MakingDue : Option (List ℕ) → Division → ℕ → Type 0
+MakingDue None division number = number ≡ 0
+MakingDue (Some octets) division number = FoldingDue octets division number
+
+-- when it is told what a reading says, and when that is refused with what
+abbrev pub SummaryDue : Reading → ℕ → Type 0
+SummaryDue reading = MakingDue (name_of_kind reading.summary.kind) (division_of reading)

@@ -1,0 +1,83 @@
+-- SPDX-License-Identifier: MIT
+-- A sweep in steps, so that no call is long.
+use Rattle.std.specs.Prelude.{◌≡◌, ℕ, ◌+◌, ◌-◌, ◌^◌, ◌<◌, min, ◌≤◌, ◌⊎◌, List, [], ◌∷◌, length}
+use Rattle.std.specs.List.{AllByRecursion}
+use Rattle.rrc_cache.specs.Expiry.{NoneFullyExpiresBefore}
+use Rattle.rrc_history.specs.Lives.{LAST_MOMENT}
+use Rattle.rrc_share.specs.CacheShelf.{CacheShelfOf}
+use Rattle.rrc_shelf.specs.Refusals.{Because, Then, WriteDue}
+use Rattle.rrc_shelf.specs.Shelves.{IsLeftAs, MakesSweep}
+use Rattle.rrc_shelf.specs.declared.status.Status.TheVariants.{BadRules, MomentTooLarge}
+use Rattle.rrc_shelf.specs.declared.sweeps.Swept.{Swept}
+use Rattle.rrc_shelf.specs.declared.terms.SweepTerms.{SweepTerms}
+
+-- a step: the moment of a sweep, and how many keys it removed
+pub record StepOf : Type 0 where
+  pub moment : ℕ
+  pub removed : ℕ
+
+-- sweeps were written, each as one event; the last one comes first
+abbrev pub Sweeps : ℕ → List StepOf → CacheShelfOf → CacheShelfOf → Type 0
+Sweeps line [] old new = new ≡ old
+Sweeps line (step ∷ earlier) old new =
+    (middle : CacheShelfOf) × Sweeps line earlier old middle × MakesSweep middle new (record { line = line; place = 0 }) step.moment step.removed
+
+-- how many keys they removed, as far as 64 bits count
+abbrev pub removed_by : List StepOf → ℕ
+removed_by [] = 0
+removed_by (step ∷ earlier) = min (removed_by earlier + step.removed) (2 ^ 64 - 1)
+
+-- so far there were such sweeps, none later than the moment of the call, and so many keys were removed
+pub record SweepsTo (sweep : SweepTerms) (removed : ℕ) (steps : List StepOf) (old new : CacheShelfOf) : Type 0 where
+  pub sweeps : Sweeps sweep.line steps old new
+  pub timely : AllByRecursion (λ (step : StepOf). step.moment ≤ sweep.moment) steps
+  pub few : length steps ≤ sweep.most
+  pub counted : removed ≡ removed_by steps
+
+-- the sweep in steps may be made
+pub record AreSteps (sweep : SweepTerms) : Type 0 where
+  pub some : 1 ≤ sweep.most
+  pub moment : sweep.moment ≤ LAST_MOMENT
+
+-- there were such sweeps, until no key is left that is fully expired at the moment, or as many keys were removed as were to be, or as
+-- many sweeps made
+pub record SweepsAll (sweep : SweepTerms) (removed : ℕ) (old new : CacheShelfOf) : Type 0 where
+  pub steps : List StepOf
+  pub goes : SweepsTo sweep removed steps old new
+  pub ends : NoneFullyExpiresBefore new.shelf.part (sweep.moment + 1) ⊎ ((sweep.most ≤ removed) ⊎ (length steps ≡ sweep.most))
+
+-- it is told by 1 that no key is left which is fully expired at the moment
+pub record SweepsSome (sweep : SweepTerms) (swept : Swept) (old new : CacheShelfOf) : Type 0 where
+  pub fit : AreSteps sweep
+  pub sweeps : SweepsAll sweep swept.removed old new
+  pub known : swept.is_done ≤ 1
+  pub done : swept.is_done ≡ 1 → NoneFullyExpiresBefore new.shelf.part (sweep.moment + 1)
+
+-- the first sweeps were made, and the next was refused by this number
+pub record SweepsUpTo (number : ℕ) (sweep : SweepTerms) (removed : ℕ) (old new : CacheShelfOf) : Type 0 where
+  pub steps : List StepOf
+  pub middle : CacheShelfOf
+  pub goes : SweepsTo sweep removed steps old middle
+  pub left : IsLeftAs middle new
+  pub at : ℕ
+  pub timely : at ≤ sweep.moment
+  pub due : WriteDue middle at number
+
+-- the same, and it is told that it is not done
+pub record SweepsFirst (number : ℕ) (sweep : SweepTerms) (swept : Swept) (old new : CacheShelfOf) : Type 0 where
+  pub fit : AreSteps sweep
+  pub sweeps : SweepsUpTo number sweep swept.removed old new
+  pub undone : swept.is_done ≡ 0
+
+-- nothing was swept
+pub record SweepsNothing (swept : Swept) (old new : CacheShelfOf) : Type 0 where
+  pub kept : new ≡ old
+  pub none : swept ≡ record { removed = 0; is_done = 0 }
+
+-- a sweep of no keys, and one at a moment that is too large, are refused at once
+abbrev pub StepsRefused : SweepTerms → ℕ → Type 0
+StepsRefused sweep = Then (Because BadRules (sweep.most ≡ 0)) (1 ≤ sweep.most) (Because MomentTooLarge (LAST_MOMENT < sweep.moment))
+
+-- what a refusal by this number leaves
+abbrev pub SweepsUntil : ℕ → SweepTerms → Swept → CacheShelfOf → CacheShelfOf → Type 0
+SweepsUntil number sweep swept old new = (SweepsNothing swept old new × StepsRefused sweep number) ⊎ SweepsFirst number sweep swept old new

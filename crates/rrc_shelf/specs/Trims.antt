@@ -1,0 +1,58 @@
+-- SPDX-License-Identifier: MIT
+-- A trim to a limit of octets, which one call makes of a shelf.
+use Rattle.std.specs.Prelude.{◌≡◌, ℕ, ◌+◌, ◌^◌, ◌<◌, ◌≤◌, ◌⊎◌, false}
+use Rattle.rrc_cache.specs.Expiry.{IsAfterLastSweep}
+use Rattle.rrc_cache.specs.Part.{PartOf, next_number}
+use Rattle.rrc_cache.specs.Sizes.{HoldsOctets}
+use Rattle.rrc_history.specs.Lives.{LAST_MOMENT}
+use Rattle.rrc_share.specs.CacheShelf.{CacheShelfOf}
+use Rattle.rrc_share.specs.Trims.{Evicts, Trims}
+use Rattle.rrc_shelf.specs.Refusals.{Because, OutOfMemory, Then}
+use Rattle.rrc_shelf.specs.Statuses.{number_of}
+use Rattle.rrc_shelf.specs.declared.status.Status.TheVariants.{BadRules, HistoryFull, MomentTooLarge}
+use Rattle.rrc_shelf.specs.declared.terms.TrimTerms.{TrimTerms}
+use Rattle.rrc_shelf.specs.declared.trims.Trimmed.{Trimmed}
+
+-- a trim may be made
+pub record IsTrim (trim : TrimTerms) : Type 0 where
+  pub limit : 1 ≤ trim.limit
+  pub most : 1 ≤ trim.most
+  pub moment : trim.moment ≤ LAST_MOMENT
+
+-- one to no octets or of no keys is refused at once, and one at a moment that is too large
+abbrev pub TrimRefused : TrimTerms → ℕ → Type 0
+TrimRefused trim =
+    Then (Because BadRules ((trim.limit ≡ 0) ⊎ (trim.most ≡ 0))) ((1 ≤ trim.limit) × (1 ≤ trim.most)) (Because MomentTooLarge (LAST_MOMENT < trim.moment))
+
+-- the history goes on by evictions alone
+pub record GoesOn (trim : TrimTerms) (old new : CacheShelfOf) : Type 0 where
+  pub records : new.records ≡ old.records
+  pub evicts : Evicts (record { line = trim.line; place = 0 }) trim.moment old.shelf new.shelf
+
+-- the keys touched least recently went, as many as had to, and it is told how many, and the octets that are left
+pub record TrimsShelf (trim : TrimTerms) (trimmed : Trimmed) (old new : CacheShelfOf) : Type 0 where
+  pub fit : IsTrim trim
+  pub goes : GoesOn trim old new
+  pub trims : Trims trim.limit trim.most old.shelf new.shelf trimmed.removed
+  pub octets : HoldsOctets new.shelf.part trimmed.octets
+
+-- why a trim stops, while nothing is recorded: the numbers of events are spent, or memory, which it asks
+-- for only if no sweep came after the last offer
+abbrev pub IsLeanStop : PartOf → PartOf → ℕ → Type 0
+IsLeanStop old new number = ((number ≡ number_of HistoryFull) × (2 ^ 62 ≤ next_number new + 1)) ⊎ (OutOfMemory number × IsAfterLastSweep old 0)
+
+-- some of them went, and then an event was refused by this number
+pub record TrimsSome (number : ℕ) (trim : TrimTerms) (old new : CacheShelfOf) : Type 0 where
+  pub fit : IsTrim trim
+  pub goes : GoesOn trim old new
+  pub why : (number ≡ number_of HistoryFull) ⊎ OutOfMemory number
+  pub lean : old.records ≡ false → IsLeanStop old.shelf.part new.shelf.part number
+
+-- it was refused at once, and nothing was done
+pub record TrimsNothing (number : ℕ) (trim : TrimTerms) (old new : CacheShelfOf) : Type 0 where
+  pub kept : new ≡ old
+  pub why : TrimRefused trim number
+
+-- what a refusal by this number leaves
+abbrev pub TrimsUntil : ℕ → TrimTerms → CacheShelfOf → CacheShelfOf → Type 0
+TrimsUntil number trim old new = TrimsNothing number trim old new ⊎ TrimsSome number trim old new
