@@ -12,8 +12,8 @@
 #include "answers.h"
 
 enum {
-    TRIES = 4,
-    TRY_MS = 800,      /* the time of the first try */
+    TRIES = 4,         /* or more, one for each upstream */
+    TRY_MS = 800,      /* the time of the first of four tries */
     LONGER_MS = 100,   /* how much longer each try takes than the previous one */
     LATE_MS = 1800,    /* the time after which waiting clients get stale data (RFC 8767 section
                           5) */
@@ -43,7 +43,8 @@ struct fetch {
        change. */
     struct query query; /* the query that was sent last */
     struct fetcher *fetcher;
-    bool is_live; /* false if the place is free */
+    bool is_live;  /* false if the place is free */
+    bool was_sent; /* to any upstream */
     unsigned client, domain, turn, tries;
     unsigned asked, refused;   /* bits of the upstreams that this socket asked, and of those that
                                   refused */
@@ -69,23 +70,41 @@ static unsigned upstream_count;
 static _Atomic unsigned preferred;   /* the upstream that answered last */
 static sa_family_t family = AF_INET; /* the address family of the sockets of fetches */
 
+/* Whether this host has IPv6 sockets at all. Its kernel may have none (`ipv6.disable`). */
+static bool has_six(void)
+{
+    int sock = socket(AF_INET6, SOCK_DGRAM | SOCK_CLOEXEC, 0);
+    bool has = sock >= 0 || errno != EAFNOSUPPORT;
+    close(sock); /* or -1 */
+    return has;
+}
+
+static void add_upstream(union address address)
+{
+    if (address.family != family) {
+        const struct in_addr four = address.four.sin_addr;
+        address.six = (struct sockaddr_in6){.sin6_family = family, .sin6_port = address.port};
+        memset(address.six.sin6_addr.s6_addr + 10, 0xff, 2);
+        memcpy(address.six.sin6_addr.s6_addr + 12, &four, sizeof four);
+    }
+    upstreams[upstream_count].address = address;
+    upstreams[upstream_count].bit = 1u << upstream_count;
+    upstream_count++;
+}
+
 /* One socket of a fetch asks all upstreams. So if one of the upstreams has an IPv6 address, the
-   socket uses IPv6, and IPv4 addresses are mapped (RFC 4291 section 2.5.5.2). */
+   socket uses IPv6, and IPv4 addresses are mapped (RFC 4291 section 2.5.5.2). If the host has no
+   IPv6 sockets, upstreams with IPv6 addresses are left out, and the others are asked by IPv4. */
 void set_upstreams(const union address *addresses, size_t count)
 {
+    size_t of_six = 0;
     for (size_t i = 0; i < count; i++)
-        if (addresses[i].family == AF_INET6)
-            family = AF_INET6;
-    for (; upstream_count < count; upstream_count++) {
-        union address address = addresses[upstream_count];
-        if (address.family != family) {
-            address.six = (struct sockaddr_in6){.sin6_family = family, .sin6_port = address.port};
-            memset(address.six.sin6_addr.s6_addr + 10, 0xff, 2);
-            memcpy(address.six.sin6_addr.s6_addr + 12, &addresses[upstream_count].four.sin_addr, 4);
-        }
-        upstreams[upstream_count].address = address;
-        upstreams[upstream_count].bit = 1u << upstream_count;
-    }
+        of_six += addresses[i].family == AF_INET6;
+    bool leaves_out = of_six > 0 && of_six < count && !has_six();
+    family = of_six > 0 && !leaves_out ? AF_INET6 : AF_INET;
+    for (size_t i = 0; i < count; i++)
+        if (!leaves_out || addresses[i].family == AF_INET)
+            add_upstream(addresses[i]);
 }
 
 bool make_fetcher(struct fetcher *fetcher, size_t places)
@@ -203,9 +222,26 @@ static bool open_socket(struct fetch *fetch)
            && bind_anywhere(fetch->sock) && draw_id(fetch);
 }
 
+/* Each upstream has a try, so that one that is alive is found behind any number of dead ones. */
+static unsigned most_tries(void)
+{
+    return upstream_count > TRIES ? upstream_count : TRIES;
+}
+
+/* The time of so many tries, one after another, if there are four. */
+static uint64_t time_of(uint64_t tries)
+{
+    return tries * TRY_MS + tries * (tries - 1) / 2 * LONGER_MS;
+}
+
+/* If there are more than four tries, they are shorter, and take no longer together: an answer that
+   is late for its try still counts. Over TCP none would count. */
 static void begin_try(struct fetch *fetch)
 {
-    fetch->try_ends = milliseconds() + TRY_MS + (uint64_t)LONGER_MS * (fetch->tries - 1);
+    uint64_t time = TRY_MS + (uint64_t)LONGER_MS * (fetch->tries - 1);
+    if (fetch->way == BY_UDP)
+        time = time * time_of(TRIES) / time_of(most_tries());
+    fetch->try_ends = milliseconds() + time;
 }
 
 /* Sends the query. Over TCP the length precedes the query, and both fit into an empty buffer. A
@@ -235,7 +271,7 @@ static bool send_query(struct fetch *fetch)
    refused. */
 static struct upstream *next_upstream(struct fetch *fetch)
 {
-    for (unsigned i = 0; i < upstream_count && fetch->tries < TRIES; i++) {
+    for (unsigned i = 0; i < upstream_count && fetch->tries < most_tries(); i++) {
         struct upstream *upstream = &upstreams[fetch->turn++ % upstream_count];
         if ((fetch->refused & upstream->bit) == 0) {
             fetch->tries++;
@@ -245,27 +281,39 @@ static struct upstream *next_upstream(struct fetch *fetch)
     return NULL;
 }
 
-/* Whether a call failed because this system lacks something. */
+/* Has an upstream not be asked this question again. If it was asked last, its try ended early, and
+   does not count: another upstream may need all tries. */
+static void leave_out(struct fetch *fetch, const struct upstream *upstream)
+{
+    fetch->refused |= upstream->bit;
+    fetch->tries -= upstream == fetch->upstream;
+}
+
+/* Whether a call failed because this system lacks something, as an address or a route while it is
+   off the network. */
 static bool is_lack(void)
 {
-    return errno == EAGAIN || errno == EADDRNOTAVAIL || errno == ENOBUFS || errno == ENOMEM;
+    return errno == EAGAIN || errno == EADDRNOTAVAIL || errno == ENOBUFS || errno == ENOMEM
+           || errno == ENETUNREACH || errno == ENETDOWN;
 }
 
 /* Asks the next upstream by UDP. If all tries failed, the failure is stored. It is not stored if
-   this system had no socket, port or buffer, because that is not a failure of the name's servers.
-   What the system lacks for one upstream it may have for another: a host with IPv6 turned off still
-   has an IPv4 address. */
+   this system had no socket, port, buffer or route, because that is not a failure of the servers of
+   the name. What the system lacks for one upstream it may have for another: a host with IPv6 turned
+   off still has an IPv4 address. Then the failure is that of the other upstreams. */
 static void ask_next(struct fetch *fetch)
 {
     bool is_open = true, lacks = false;
     while (is_open && (fetch->upstream = next_upstream(fetch)) != NULL) {
         is_open = open_socket(fetch);
-        if (is_open && send_query(fetch))
+        if (is_open && send_query(fetch)) {
+            fetch->was_sent = true;
             return;
+        }
         lacks |= !is_open || is_lack();
-        fetch->refused |= fetch->upstream->bit;
+        leave_out(fetch, fetch->upstream);
     }
-    if (!lacks) {
+    if (!lacks || (is_open && fetch->was_sent)) {
         count(FAILURES, 1);
         remember_failure(&fetch->query.question);
     }
@@ -276,7 +324,7 @@ static void ask_next(struct fetch *fetch)
    asked since, that one may still answer. */
 static void refused(struct fetch *fetch, const struct upstream *upstream)
 {
-    fetch->refused |= upstream->bit;
+    leave_out(fetch, upstream);
     if (upstream == fetch->upstream)
         ask_next(fetch);
 }
@@ -286,8 +334,8 @@ static void upgrade(struct fetch *fetch)
 {
     const union address *address = &fetch->upstream->address;
     close_socket(fetch);
-    begin_try(fetch);
     fetch->way = CONNECTS;
+    begin_try(fetch);
     fetch->sock = socket(family, SOCK_STREAM | SOCK_NONBLOCK | SOCK_CLOEXEC, 0);
     if (family == AF_INET6) /* as for UDP, regardless of the system's default (bindv6only) */
         set_option(fetch->sock, IPPROTO_IPV6, IPV6_V6ONLY, 0);

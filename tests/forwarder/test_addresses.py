@@ -11,8 +11,8 @@ import pytest
 from dns.rcode import SERVFAIL
 
 from tests.forwarder.harness import (BUILD, Server, Stream, address, addresses, behind, bound,
-                                     data, datagrams, octets_of, plain, query, read, silent, took,
-                                     truncated, under, with_id)
+                                     data, datagrams, octets_of, plain, query, read, silent, told,
+                                     took, truncated, under, with_id)
 
 FOUR, SIX = "127.0.0.1", "::1"
 # Of /proc/net/if_inet6: what the scope of an address is that others reach too.
@@ -96,9 +96,34 @@ def test_upstreams_of_both_families_where_ipv6_is_turned_off(forwarder, hosts):
 
 
 @under("forwarder")
-def test_no_address_is_no_failure_that_is_remembered(forwarder):
-    """Where there is only an upstream of IPv6, and no such address to ask from."""
-    it = forwarder(server := Server(host=SIX), environment=on_a_host(NO_SIX="1"))
+@pytest.mark.parametrize("hosts", [(SIX, FOUR), (FOUR, SIX)])
+def test_failure_is_remembered_beside_an_upstream_without_an_address(forwarder, hosts):
+    """What the one says that can be asked counts (RFC 9520 section 3.2)."""
+    servers = [Server(told(rcode=SERVFAIL), host=it) for it in hosts]
+    it = forwarder(*servers, environment=on_a_host(NO_SIX="1"))
+    for _ in range(2):
+        assert it.ask("a1.example").rcode() == SERVFAIL
+    assert sum(len(server.asked) for server in servers) == 1
+    assert it.counted("failures") == [1]
+
+
+@under("forwarder")
+@pytest.mark.parametrize("hosts", [(SIX, FOUR), (FOUR, SIX)])
+def test_upstreams_of_both_families_where_there_are_no_sockets_of_ipv6(forwarder, hosts):
+    """That of IPv4 is asked, by UDP and over TCP."""
+    it = forwarder(*(Server(many_or_one, host=it) for it in hosts),
+                   environment=on_a_host(NO_SIX_SOCKETS="1"))
+    assert data(it.ask("a1.example")) == [address(1)]
+    with it.stream() as stream:
+        assert len(data(stream.ask("n200.example"))) == 200
+    assert it.counted("sent", "upgraded") == [3, 1]
+
+
+@under("forwarder")
+@pytest.mark.parametrize("lacks", [{}, {"NO_ROUTE": "1"}], ids=["address", "route"])
+def test_no_address_is_no_failure_that_is_remembered(forwarder, lacks):
+    """Where there is only an upstream of IPv6, and no such address to ask from, or no route."""
+    it = forwarder(server := Server(host=SIX), environment=on_a_host(NO_SIX="1", **lacks))
     for _ in range(2):
         assert it.ask("a1.example").rcode() == SERVFAIL
     assert (it.counted("sent", "failures"), server.asked) == ([2, 0], [])

@@ -204,6 +204,29 @@ def test_upstream_whose_port_is_closed(forwarder):
     assert it.counted("sent") == [3]
 
 
+@pytest.mark.parametrize("is_closed", [False, True], ids=["silent", "closed"])
+@pytest.mark.parametrize("place", [4, 7])
+def test_upstream_behind_others_that_are_dead(forwarder, place, is_closed):
+    """Each of eight is asked, in the time of four tries, and from then on the one that answers."""
+    servers = [Server(plain() if n == place else silent) for n in range(8)]
+    it = forwarder(*servers)
+    for server in servers:
+        if is_closed and server is not servers[place]:
+            server.stop()
+    reply, seconds = took(it.ask, "a1.example")
+    assert data(reply) == [address(1)] and seconds < (0.7 if is_closed else 3.8)
+    assert data(it.ask("a2.example")) == [address(2)]
+    assert it.counted("sent", "failures") == [place + 2, 0]
+
+
+def test_upstream_that_is_slow_beside_others_that_refuse(forwarder):
+    """What refuses takes no time of it."""
+    refuse = told(rcode=REFUSED)
+    it = forwarder(Server(delay=2), *(Server(refuse) for _ in range(7)))
+    assert data(it.ask("a1.example")) == [address(1)]
+    assert it.counted("failures") == [0]
+
+
 def test_referral_upstream(forwarder):
     """It answers nothing, so the next upstream is asked."""
     it = forwarder(Server(told(authority=["example 60 NS ns.example"])), two := Server())
