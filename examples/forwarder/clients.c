@@ -39,17 +39,28 @@ static const uint64_t BUSY = UINT64_MAX / 2;
 
 /* ---- Listeners. */
 
-/* Makes a socket. A datagram comes with the address to which it was sent, TCP gets its port
-   immediately after a restart, and an IPv6 socket receives nothing that is sent over IPv4. */
+/* A datagram comes with the address to which it was sent. What ICMP messages say about the MTU of a
+   path is ignored: anyone may send them, and fragmented replies are easier to forge (RFC 9715). An
+   IPv6 socket receives nothing that is sent over IPv4. */
+static bool set_options(int sock, bool is_six, bool is_udp)
+{
+    if (is_six)
+        return set_option(sock, IPPROTO_IPV6, IPV6_V6ONLY, 1)
+               && set_option(sock, IPPROTO_IPV6, IPV6_RECVPKTINFO, 1)
+               && (!is_udp
+                   || set_option(sock, IPPROTO_IPV6, IPV6_MTU_DISCOVER, IPV6_PMTUDISC_OMIT));
+    return set_option(sock, IPPROTO_IP, IP_PKTINFO, 1)
+           && (!is_udp || set_option(sock, IPPROTO_IP, IP_MTU_DISCOVER, IP_PMTUDISC_OMIT));
+}
+
+/* Makes a socket. TCP gets its port immediately after a restart. */
 static int bound_socket(int kind, union address *address)
 {
     bool is_six = address->family == AF_INET6, is_udp = kind == SOCK_DGRAM;
     socklen_t size = address_size(address);
     int sock = socket(address->family, kind | SOCK_NONBLOCK | SOCK_CLOEXEC, 0);
     if (sock < 0
-        || ((!is_six || set_option(sock, IPPROTO_IPV6, IPV6_V6ONLY, 1))
-            && (!is_six || set_option(sock, IPPROTO_IPV6, IPV6_RECVPKTINFO, 1))
-            && (is_six || set_option(sock, IPPROTO_IP, IP_PKTINFO, 1))
+        || (set_options(sock, is_six, is_udp)
             && (is_udp || set_option(sock, SOL_SOCKET, SO_REUSEADDR, 1))
             && bind(sock, &address->any, size) == 0 && getsockname(sock, &address->any, &size) == 0
             && (is_udp || listen(sock, BACKLOG) == 0)))

@@ -429,7 +429,9 @@ static int error_of(int sock)
 }
 
 /* Reads which upstream's query was returned by ICMP. If the port of this upstream is closed, it has
-   refused. Any other error may be over soon. */
+   refused. Any other error may be over soon. Anyone may send such a message, from any address. So
+   the message has to quote the identifier of the query too, as all systems do that quote more than
+   they must (RFC 1812 section 4.3.2.3). */
 static void read_error(struct fetch *fetch)
 {
     uint8_t query[QUERY];
@@ -438,7 +440,8 @@ static void read_error(struct fetch *fetch)
     int error = error_of(fetch->sock);
     ssize_t got = recvfrom(fetch->sock, query, sizeof query, MSG_ERRQUEUE, &to.any, &to_size);
     struct upstream *upstream = got < 0 ? NULL : asked_at(fetch, &to);
-    if (upstream != NULL && error == ECONNREFUSED)
+    bool is_own = got >= 2 && memcmp(query, fetch->query.id, 2) == 0;
+    if (upstream != NULL && is_own && error == ECONNREFUSED)
         refused(fetch, upstream);
 }
 

@@ -7,6 +7,8 @@ import re
 import socket
 import string
 import struct
+import time
+from pathlib import Path
 
 import dns.message
 import pytest
@@ -14,14 +16,15 @@ from dns.rcode import NOERROR, NXDOMAIN, SERVFAIL
 from dns.rdataclass import IN
 from dns.rdatatype import CNAME, OPT, RRSIG
 
-from tests.forwarder.harness import (Server, address, ask_for_any, counts, data, octets_of, plain,
-                                     query, response, take, text_of, truncated, under,
-                                     wire_name, with_id)
+from tests.forwarder.harness import (Server, address, ask_for_any, counts, data, datagrams, many,
+                                     octets_of, plain, query, read, response, take, text_of,
+                                     truncated, under, wire_name, with_id)
 from tools.model import part_of
 from tools.mutation import changed_octets
 from tools.rows import content, rows
 
 META, PRIVATE = 128, 65280
+PORT_UNREACHABLE, TOO_LARGE = 3, 4
 # The parts of the forwarder's cache, and how many names are asked for that are to be spread.
 PARTS, SPREAD = 16, 2048
 
@@ -75,6 +78,68 @@ def test_answers_from_wrong_places_alone(forwarder):
     with concurrent.futures.ThreadPoolExecutor(8) as pool:
         for reply in pool.map(it.ask, [f"{first}{n}.example" for n in range(4) for first in "at"]):
             assert (reply.rcode(), counts(reply)) == (SERVFAIL, [0, 0, 0])
+
+
+def checksum(octets):
+    total = sum(struct.unpack(f">{len(octets) // 2}H", octets))
+    total = (total >> 16) + (total & 0xffff)
+    return ~(total + (total >> 16)) & 0xffff
+
+
+def unreachable(code, sender, receiver, quoted, mtu=0):
+    """An ICMP message to who sent a datagram, which quotes so much of that (RFC 792, RFC 1191)."""
+    udp = struct.pack(">4H", sender[1], receiver[1], 8 + len(quoted), 0)
+    ip = struct.pack(">BBHHHBBH4s4s", 0x45, 0, 28 + len(quoted), 1, 0, 64, 17, 0,
+                     *(socket.inet_aton(host) for host, _ in (sender, receiver)))
+    octets = struct.pack(">BBHHH", 3, code, 0, 0, mtu) + ip + udp + quoted
+    return octets[:2] + struct.pack(">H", checksum(octets)) + octets[4:]
+
+
+@pytest.fixture
+def send_icmp():
+    """Sends ICMP messages to 127.0.0.1."""
+    try:
+        raw = socket.socket(socket.AF_INET, socket.SOCK_RAW, socket.IPPROTO_ICMP)
+    except PermissionError:
+        pytest.skip("ICMP messages may not be sent here")
+    with raw:
+        yield lambda octets: raw.sendto(octets, ("127.0.0.1", 0))
+
+
+def test_closed_ports_that_are_forged(forwarder, send_icmp):
+    """Anyone may send a message that a port is closed, so one that has only the ports is none. One
+    that has the identifier too is believed."""
+    def answer(server, asked, name):
+        ids = {"a1.example": asked.id ^ 1, "a2.example": asked.id}
+        for quoted in (b"", ids[name].to_bytes(2, "big")):
+            here = server.socket.getsockname()
+            send_icmp(unreachable(PORT_UNREACHABLE, ("127.0.0.1", server.client[1]), here, quoted))
+        time.sleep(0.1)
+        return plain()(server, asked, name)
+    it = forwarder(Server(answer))
+    assert data(it.ask("a1.example")) == [address(1)]
+    assert it.ask("a2.example").rcode() == SERVFAIL
+    assert it.counted("sent", "failures") == [2, 1]
+
+
+def fragments():
+    """How many this host made of datagrams so far."""
+    lines = [it.split() for it in Path("/proc/net/snmp").read_text().splitlines()]
+    names, numbers = (it for it in lines if it[0] == "Ip:")
+    return int(numbers[names.index("FragCreates")])
+
+
+def test_mtu_that_is_forged(forwarder, send_icmp):
+    """Nobody can have replies fragmented (RFC 9715 section 3.1)."""
+    it, asked = forwarder(Server(many)), query("n70.example", payload=1232)
+    with datagrams(it.port, source="127.0.0.9") as client:
+        for _ in range(3):
+            before = fragments()
+            client.send(octets_of(asked))
+            assert len(data(read(client.recv(4096)))) == 70
+            assert fragments() == before
+            send_icmp(unreachable(TOO_LARGE, ("127.0.0.1", it.port), client.getsockname(),
+                                  bytes(512), mtu=552))
 
 
 # ---- An upstream whose messages are changed at random.
