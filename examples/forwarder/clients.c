@@ -355,8 +355,21 @@ static struct msghdr datagram(const struct asker *asker, struct iovec *octets)
                            .msg_controllen = asker->control_size};
 }
 
-/* The reply is sent from the address that was asked, because clients compare it. It is not tied to
-   the interface of the query, because the routes choose the interface. */
+/* Lets the routes choose the interface of a reply, instead of the interface through which the query
+   came. But a link-local address belongs to one interface (RFC 4007 section 6). */
+static void leave_to_routes(sa_family_t family, uint8_t *info)
+{
+    struct in6_pktinfo six = {0};
+    size_t interface = offsetof(struct in_pktinfo, ipi_ifindex);
+    if (family == AF_INET6) {
+        memcpy(&six, info, sizeof six);
+        interface = offsetof(struct in6_pktinfo, ipi6_ifindex);
+    }
+    if (!IN6_IS_ADDR_LINKLOCAL(&six.ipi6_addr))
+        memset(info + interface, 0, sizeof(int));
+}
+
+/* The reply is sent from the address that was asked, because clients compare it. */
 bool take_datagram(int sock, uint8_t octets[MOST_QUERY], size_t *size, struct asker *asker)
 {
     *asker = (struct asker){.sock = sock, .control_size = CONTROL, .from.family = AF_INET6};
@@ -368,11 +381,8 @@ bool take_datagram(int sock, uint8_t octets[MOST_QUERY], size_t *size, struct as
     *size = got >= HEADER && got <= MOST_QUERY && !(octets[2] & 0x80) ? (size_t)got : 0;
     asker->client = client_at(&asker->from);
     asker->control_size = message.msg_controllen;
-    struct cmsghdr *first = CMSG_FIRSTHDR(&message);
-    size_t interface = asker->from.family == AF_INET6 ? offsetof(struct in6_pktinfo, ipi6_ifindex)
-                                                      : offsetof(struct in_pktinfo, ipi_ifindex);
-    if (first != NULL)
-        memset(CMSG_DATA(first) + interface, 0, sizeof(int));
+    if (CMSG_FIRSTHDR(&message) != NULL)
+        leave_to_routes(asker->from.family, CMSG_DATA(CMSG_FIRSTHDR(&message)));
     return true;
 }
 

@@ -10,21 +10,23 @@ from pathlib import Path
 import pytest
 from dns.rcode import SERVFAIL
 
-from tests.forwarder.harness import (BUILD, Server, Stream, address, addresses, behind, bound,
-                                     data, datagrams, octets_of, plain, query, read, silent, told,
-                                     took, truncated, under, with_id)
+from tests.forwarder.harness import (BUILD, MOST_SECONDS, Server, Stream, address, addresses,
+                                     behind, bound, data, datagrams, octets_of, plain, query, read,
+                                     silent, told, took, truncated, under, with_id)
 
 FOUR, SIX = "127.0.0.1", "::1"
-# Of /proc/net/if_inet6: what the scope of an address is that others reach too.
-GLOBAL = "00"
+# Of /proc/net/if_inet6: what the scope of an address is that others reach too, and of one that only
+# those of its link reach.
+GLOBAL, LINK = "00", "20"
 
 
-def own_addresses():
-    """The addresses of IPv6 of this host that are not a link's."""
+def own_addresses(scope=GLOBAL):
+    """The addresses of IPv6 of this host that are not a link's, or those of another scope. That of
+    a link has its interface."""
     file = Path("/proc/net/if_inet6")
     lines = [it.split() for it in file.read_text().splitlines()] if file.exists() else []
     return [socket.inet_ntop(socket.AF_INET6, bytes.fromhex(it[0]))
-            for it in lines if it[3] == GLOBAL]
+            + (f"%{it[5]}" if scope == LINK else "") for it in lines if it[3] == scope]
 
 
 def has_six():
@@ -172,6 +174,27 @@ def test_replies_come_from_the_address_of_ipv6_that_was_asked(forwarder):
     for n, host in enumerate([SIX, *own_addresses()]):
         for _ in range(2):
             with datagrams(it.port, host=host, source=SIX) as client:
+                client.send(octets_of(query(f"a{n}.example")))
+                assert data(read(client.recv(4096))) == [address(n)]
+
+
+def place(host, port):
+    """An address, which may have an interface, as sockets take it."""
+    return socket.getaddrinfo(host, port, type=socket.SOCK_DGRAM)[0][4]
+
+
+def test_replies_come_from_the_address_of_a_link_that_was_asked(forwarder):
+    """Also to a client that asks from an address that is not of its link."""
+    hosts, sources = own_addresses(LINK), own_addresses(GLOBAL)
+    if not hosts or not sources:
+        pytest.skip("this host has no addresses of both scopes")
+    it = forwarder(Server(), host="::")
+    for source in (hosts[0], sources[0]):
+        for n in range(2):
+            with socket.socket(socket.AF_INET6, socket.SOCK_DGRAM) as client:
+                client.settimeout(MOST_SECONDS)
+                client.bind(place(source, 0))
+                client.connect(place(hosts[0], it.port))
                 client.send(octets_of(query(f"a{n}.example")))
                 assert data(read(client.recv(4096))) == [address(n)]
 
