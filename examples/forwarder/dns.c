@@ -62,18 +62,26 @@ static size_t end_of_labels(const uint8_t *octets, size_t size, size_t at)
     return at;
 }
 
+/* Returns where a name ends that begins at an offset, and may end in a pointer, or 0 if it is not
+   whole. */
+static size_t end_of_name(const uint8_t *octets, size_t size, size_t at)
+{
+    at = end_of_labels(octets, size, at);
+    bool is_pointer = at < size && octets[at] >= POINTER;
+    if (at >= size || (octets[at] != 0 && !is_pointer))
+        return 0;
+    return at + (is_pointer ? 2 : 1);
+}
+
 /* ---- Records. */
 
 /* Reads the record at an offset (RFC 1035 section 4.1.3). Returns where the record ends, or 0 if it
-   is not complete. All options of an OPT record are skipped (RFC 6891 section 6.1.2). */
+   is not complete. All options of an OPT record are skipped (RFC 6891 section 6.1.2). Another
+   version may have other options, and gets the reply that it is not supported. */
 static size_t read_record(const uint8_t *message, size_t size, size_t owner, struct edns *edns)
 {
-    size_t at = end_of_labels(message, size, owner);
-    bool is_pointer = at < size && message[at] >= POINTER;
-    if (at >= size || (message[at] != 0 && !is_pointer))
-        return 0;
-    at += is_pointer ? 2 : 1;
-    if (at + RECORD > size)
+    size_t at = end_of_name(message, size, owner);
+    if (at == 0 || at + RECORD > size)
         return 0;
     const uint8_t *fields = message + at;
     size_t end = at + RECORD + word_at(fields + 8);
@@ -83,7 +91,8 @@ static size_t read_record(const uint8_t *message, size_t size, size_t owner, str
     while (at + 4 <= end)
         at += 4 + word_at(message + at + 2);
     edns->count++;
-    edns->is_broken |= edns->count > 1 || message[owner] != 0 || at != end;
+    bool has_options = at == end || fields[5] != 0;
+    edns->is_broken |= edns->count > 1 || message[owner] != 0 || !has_options;
     edns->payload = word_at(fields + 2);
     edns->ttl |= word_at(fields + 4) << 16 | word_at(fields + 6);
     return end;
@@ -114,23 +123,40 @@ static size_t read_question(const uint8_t *octets, size_t size, struct question 
     return end;
 }
 
+/* Passes over so many questions. Returns where they end, or 0 if they are not whole. */
+static size_t skip_questions(const uint8_t *octets, size_t size, unsigned count)
+{
+    size_t at = HEADER;
+    for (; count > 0 && at != 0; count--) {
+        at = end_of_name(octets, size, at);
+        at = at == 0 || at + 4 > size ? 0 : at + 4;
+    }
+    return at;
+}
+
+/* Whatever the message is, its OPT record is found, since a refusal has one too then (RFC 6891
+   section 6.1.1). */
 enum rcode read_query(const uint8_t *octets, size_t size, struct query *query)
 {
     struct edns edns = {0};
     const struct question *question = &query->question;
     *query = (struct query){.id = {octets[0], octets[1]}, .flags = {octets[2], octets[3]}};
     query->payload = PLAIN_PAYLOAD;
-    if (octets[2] & OPCODE)
-        return NOTIMP;
-    bool is_one = memcmp(octets + 4, "\0\1\0\0\0\0", 6) == 0; /* one question and no records */
-    size_t end = is_one ? read_question(octets, size, &query->question) : 0;
-    end = read_records(octets, size, end, word_at(octets + 10), &edns);
+    bool is_other = octets[2] & OPCODE;
+    bool has_one = memcmp(octets + 4, "\0\1\0\0\0\0", 6) == 0; /* question, and no answer */
+    bool is_one = !is_other && has_one;
+    size_t end = is_one ? read_question(octets, size, &query->question)
+                        : skip_questions(octets, size, word_at(octets + 4));
+    unsigned records = word_at(octets + 6) + word_at(octets + 8) + word_at(octets + 10);
+    end = read_records(octets, size, end, records, &edns);
     query->has_edns = edns.count != 0;
     query->is_dnssec_ok = edns.ttl & DNSSEC_OK;
     if (edns.payload > PLAIN_PAYLOAD) /* a smaller size counts as this size (RFC 6891 section
                                          6.2.3) */
         query->payload = edns.payload < PAYLOAD ? edns.payload : PAYLOAD;
-    if (end != size || edns.is_broken)
+    if (is_other)
+        return NOTIMP;
+    if (!is_one || end != size || edns.is_broken)
         return FORMERR;
     if (edns.ttl >> 16 & 255)
         return BADVERS;
@@ -194,7 +220,7 @@ size_t write_reply(const struct reply *reply, const struct query *query, size_t 
     size_t room = most - (query->has_edns ? OPT_RECORD : 0), size = 0;
     enum rrcache_status status = compose(reply, query, false, octets, room, &size);
     if (status == RRCACHE_SMALL) {
-        bool fits = size <= MESSAGE - OPT_RECORD; /* over TCP */
+        bool fits = size <= MESSAGE - (most - room); /* over TCP */
         status = compose(reply, query, true, octets, room, &size);
         if (!fits)
             write_word(octets + 2, QR << 8 | RA | SERVFAIL);

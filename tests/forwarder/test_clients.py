@@ -1,6 +1,7 @@
 # SPDX-License-Identifier: MIT
 """What clients may ask, by UDP and over TCP, and what fits into a reply."""
 import contextlib
+import copy
 import random
 import select
 import socket
@@ -14,7 +15,7 @@ from dns.rcode import BADVERS, FORMERR, NOERROR, NOTIMP, NXDOMAIN, REFUSED, SERV
 
 from tests.forwarder.harness import (MOST_SECONDS, SOA, Server, Stream, address, counts, data,
                                      datagrams, edns, exchange, framed, many, octets_of, query,
-                                     read, record, silent, take, took)
+                                     read, record, silent, take, took, truncated)
 from tools.processes import Aside
 
 ASKED = query("a1.example", id=7)
@@ -161,11 +162,25 @@ def test_edns_beside_others(forwarder):
     assert edns(it.ask("a1.example", rdclass="CH", use_edns=True)) == (1232, 0, 0)
 
 
+@pytest.mark.parametrize("words", ["opcode 2", "opcode 5", "two questions", "no question",
+                                   "an answer", "an authority"])
+def test_edns_of_refusals(forwarder, words):
+    """Who sent an OPT record gets one with each refusal too (RFC 6891 section 6.1.1)."""
+    asked, rcode = NO_QUERIES[words]
+    (asked := copy.deepcopy(asked)).use_edns(0, DO)
+    reply = exchange(forwarder(Server()).port, asked)
+    assert (reply.rcode(), edns(reply), counts(reply)) == (rcode, (1232, 0, DO), [0, 0, 0])
+
+
 @pytest.mark.parametrize("version", [1, 255])
 def test_edns_of_another_version(forwarder, version):
+    """Also where its options are none of version 0 (RFC 6891 section 6.1.3)."""
     it = forwarder(server := Server())
-    reply = it.ask("a1.example", version=version)
-    assert (reply.rcode(), edns(reply), counts(reply)) == (BADVERS, (1232, 0, 0), [0, 0, 0])
+    for options in (b"", b"\0\1\0\5abcd", b"x"):
+        octets = bytearray(with_options(options))
+        octets[len(BEFORE_OPT) + 6] = version
+        reply = exchange(it.port, bytes(octets))
+        assert (reply.rcode(), edns(reply), counts(reply)) == (BADVERS, (1232, 0, 0), [0, 0, 0])
     assert not server.asked
 
 
@@ -202,6 +217,21 @@ def test_what_fits(forwarder, count, payload, fits):
         reply = it.ask(f"n{count}.example", payload=payload, most=most)
         assert (reply.flags & TC == 0, len(data(reply))) == (fits, count if fits else 0)
     assert not count or server.times(f"n{count}.example") == 1
+
+
+@pytest.mark.parametrize("use_edns, fits", [(None, True), (0, False)])
+def test_what_fits_over_tcp(forwarder, use_edns, fits):
+    """65,535 octets, of which an OPT record takes 11. What fits gets TC by UDP, and else it is a
+    failure, since no message has room for it."""
+    count = 4094
+    it = forwarder(Server(lambda server, asked, name: (
+        many(server, asked, name) if server.is_tcp else [truncated(asked)])))
+    reply = it.ask(f"n{count}.example", use_edns=use_edns)
+    assert (reply.rcode(), reply.flags & TC != 0) == (NOERROR if fits else SERVFAIL, fits)
+    with it.stream() as stream:
+        stream.put(query(f"n{count}.example", use_edns=use_edns))
+        octets = stream.read_octets()
+    assert octets[6:8] == struct.pack(">H", count if fits else 0)
 
 
 # ---- TCP (RFC 7766).
