@@ -25,6 +25,7 @@
 #include "options.h"
 
 enum { BURST = 64, TICK_MS = 50, TRIM_OCTETS = 1 << 17, LEAST_SHARED = 1 << 20 };
+enum { STACK_OCTETS = 1 << 21 }; /* of a thread */
 /* The places of each thread, if there are enough descriptors. Each thread has one more descriptor
    for a connection that has no place yet. The other descriptors are for standard input, output and
    error, and for what the C library opens. */
@@ -153,6 +154,19 @@ static bool make_worker(struct worker *worker, size_t descriptors)
            && make_fetcher(&worker->fetcher, fetches);
 }
 
+/* Starts a thread. The size of its stack does not depend on the limit of the process (`ulimit -s`),
+   which may be too small for some replies. */
+static bool begin(struct worker *worker)
+{
+    pthread_attr_t attributes;
+    if (pthread_attr_init(&attributes) != 0)
+        return false;
+    bool has_begun = pthread_attr_setstacksize(&attributes, STACK_OCTETS) == 0
+                     && pthread_create(&worker->thread, &attributes, work, worker) == 0;
+    pthread_attr_destroy(&attributes);
+    return has_begun;
+}
+
 /* Starts the threads, or as many of them as there are descriptors and memory for, and returns the
    number of threads started. */
 static size_t start(size_t threads)
@@ -167,7 +181,7 @@ static size_t start(size_t threads)
     if (threads > left / LEAST_PLACES)
         threads = left / LEAST_PLACES;
     while (started < threads && make_worker(&workers[started], left / threads)
-           && pthread_create(&workers[started].thread, NULL, work, &workers[started]) == 0)
+           && begin(&workers[started]))
         started++;
     return started;
 }

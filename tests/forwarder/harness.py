@@ -383,13 +383,14 @@ class Forwarder:
     """A forwarder's process. At its end it has to be as clean as the sanitizers or valgrind want
     it."""
 
-    def __init__(self, *upstreams, program, options=("-q",), descriptors=None, environment=None,
-                 host="127.0.0.1"):
+    def __init__(self, *upstreams, program, options=("-q",), descriptors=None, stack=None,
+                 environment=None, host="127.0.0.1"):
         words = [*command(program), *options, host, "0"]
         for it in upstreams:
             words += [getattr(it, "host", "127.0.0.1"), str(it.port)]
-        if descriptors:
-            words = ["sh", "-c", 'ulimit -n "$0" && exec "$@"', str(descriptors), *words]
+        for option, limit in (("n", descriptors), ("s", stack)):
+            if limit:
+                words = ["sh", "-c", f'ulimit -{option} "$0" && exec "$@"', str(limit), *words]
         self.process = subprocess.Popen(words, env=environment, stdout=subprocess.PIPE,
                                         stderr=subprocess.PIPE, text=True)
         lines = [self.process.stdout.readline() for _ in range(1 + options.count("--listen"))]

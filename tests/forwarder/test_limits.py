@@ -15,8 +15,8 @@ import pytest
 from dns.rcode import FORMERR, NOERROR, SERVFAIL
 
 from tests.forwarder.harness import (BUILD, MOST_SECONDS, Forwarder, Server, Stream, address, bound,
-                                     counts, data, datagrams, exchange, octets_of, plain, query,
-                                     read, silent, under)
+                                     counts, data, datagrams, exchange, many, octets_of, plain,
+                                     query, read, silent, under)
 
 VERSION = (BUILD.parent / "VERSION").read_text().strip()
 
@@ -104,6 +104,16 @@ def test_memory_that_is_refused(forwarder):
     go_on()  # there again
     assert data(it.ask("a1.example")) == [address(1)]
     assert data(it.ask("a300.example")) == [address(300)]
+
+
+@under("forwarder")
+def test_stack_that_is_small(forwarder):
+    """Threads have stacks of their own size, whatever the limit is in KiB."""
+    it = forwarder(Server(many), stack=64)
+    for _ in range(2):
+        assert len(data(it.ask("n20.example"))) == 20
+        with it.stream() as stream:
+            assert stream.gets_many(3000)
 
 
 # ---- Places.
