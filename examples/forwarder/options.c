@@ -126,6 +126,16 @@ static bool take_option(int option, struct options *options)
     }
 }
 
+/* Reads one more upstream. What is sent to no port, or to all addresses, has no answer. */
+static bool read_upstream(const char *host, const char *port, struct options *options)
+{
+    union address *address = &options->upstream[options->upstreams++];
+    if (!read_address(host, port, address) || address->port == 0)
+        return false;
+    return address->family == AF_INET6 ? !IN6_IS_ADDR_UNSPECIFIED(&address->six.sin6_addr)
+                                       : address->four.sin_addr.s_addr != INADDR_ANY;
+}
+
 /* Reads pairs of an address and a port: where the forwarder listens, and the upstreams. */
 static bool read_pairs(int count, char **words, struct options *options)
 {
@@ -133,7 +143,7 @@ static bool read_pairs(int count, char **words, struct options *options)
         || !read_address(words[0], words[1], &options->listener[0]))
         return false;
     for (int i = 2; i < count; i += 2)
-        if (!read_address(words[i], words[i + 1], &options->upstream[options->upstreams++]))
+        if (!read_upstream(words[i], words[i + 1], options))
             return false;
     return true;
 }
