@@ -413,10 +413,20 @@ RRCACHE_API enum rrcache_status rrcache_forget(struct rrcache *cache,
 RRCACHE_API enum rrcache_status rrcache_sweep_all(struct rrcache *cache, uint64_t moment,
                                                   uint64_t most, struct rrcache_swept *swept);
 
+/* In C++ this function hides the constructor of the struct with its name, as stat() does. */
+#if defined __cplusplus && defined __GNUC__
+#pragma GCC diagnostic push
+#pragma GCC diagnostic ignored "-Wshadow"
+#endif
+
 /* Writes to `stats` the counters of all shelves since the cache was opened, and the keys and octets
    that the shelves hold. Each shelf is read at a time of its own, and look-ups in it wait
    meanwhile, as they wait for a store. */
 RRCACHE_API enum rrcache_status rrcache_stats(struct rrcache *cache, struct rrcache_stats *stats);
+
+#if defined __cplusplus && defined __GNUC__
+#pragma GCC diagnostic pop
+#endif
 
 /* Writes to `stats` the counters of one shelf, whose number is counted from 0. Returns
    RRCACHE_BAD_RULES if there is no such shelf. */

@@ -241,6 +241,16 @@
 #include <stddef.h>
 #include <stdint.h>
 
+/* Initializes a struct of the inline functions to zeros. For {0}, compilers of C++ warn that fields
+   are left out. */
+/* clang-format off */
+#ifdef __cplusplus
+#define RRCACHE_ZEROS {}
+#else
+#define RRCACHE_ZEROS {0}
+#endif
+/* clang-format on */
+
 #ifdef __cplusplus
 extern "C" {
 #endif
@@ -1353,7 +1363,7 @@ static inline enum rrcache_status rrcache_read_response(struct rrcache_offers *o
 {
     enum rrcache_status status =
         rrcache_can_read(response, offers, sizeof *offers, concerned, sizeof *concerned);
-    struct rrc_response terms = {0};
+    struct rrc_response terms = RRCACHE_ZEROS;
     if (query == NULL || parts == NULL || !rrcache_is_there(query->name, query->name_size))
         return RRCACHE_NULL;
     if (status != RRCACHE_DONE)
@@ -1388,7 +1398,7 @@ rrcache_read_message_unchecked(struct rrcache_offers *offers,
 {
     enum rrcache_status status =
         rrcache_can_read(response, offers, sizeof *offers, concerned, sizeof *concerned);
-    struct rrc_response terms = {0};
+    struct rrc_response terms = RRCACHE_ZEROS;
     if (parts == NULL)
         return RRCACHE_NULL;
     if (status != RRCACHE_DONE)
@@ -1568,7 +1578,7 @@ rrcache_offer_message_unchecked(struct rrcache_shelf *shelf,
 {
     enum rrcache_status status =
         rrcache_can_read(response, shelf, sizeof *shelf, counts, sizeof *counts);
-    struct rrc_response terms = {0};
+    struct rrc_response terms = RRCACHE_ZEROS;
     if (status != RRCACHE_DONE)
         return status;
     terms.moment = response->moment;
@@ -1591,7 +1601,7 @@ rrcache_offer_part_unchecked(struct rrcache_shelf *shelf, const struct rrcache_r
 {
     enum rrcache_status status =
         rrcache_can_read(response, shelf, sizeof *shelf, counts, sizeof *counts);
-    struct rrc_response terms = {0};
+    struct rrc_response terms = RRCACHE_ZEROS;
     if (parts == NULL || share == NULL)
         return RRCACHE_NULL;
     if (status != RRCACHE_DONE)
@@ -1621,7 +1631,7 @@ rrcache_offer_part_unchecked(struct rrcache_shelf *shelf, const struct rrcache_r
 static inline enum rrcache_status
 rrcache_offer_set(struct rrcache_shelf *shelf, const struct rrcache_set *set, uint32_t *outcome)
 {
-    struct rrc_set terms = {0};
+    struct rrc_set terms = RRCACHE_ZEROS;
     if (shelf == NULL || set == NULL || outcome == NULL
         || !rrcache_is_there(set->owner, set->owner_size)
         || !rrcache_is_there(set->data, set->data_size))
@@ -1652,7 +1662,7 @@ static inline enum rrcache_status rrcache_offer_negative(struct rrcache_shelf *s
                                                          const struct rrcache_negative *negative,
                                                          uint32_t *outcome)
 {
-    struct rrc_negative terms = {0};
+    struct rrc_negative terms = RRCACHE_ZEROS;
     if (shelf == NULL || negative == NULL || outcome == NULL
         || !rrcache_is_there(negative->name, negative->name_size)
         || !rrcache_is_there(negative->soa_owner, negative->soa_owner_size)
@@ -1689,7 +1699,7 @@ static inline enum rrcache_status rrcache_offer_failure(struct rrcache_shelf *sh
                                                         const struct rrcache_failure *failure,
                                                         uint32_t *outcome)
 {
-    struct rrc_failure terms = {0};
+    struct rrc_failure terms = RRCACHE_ZEROS;
     if (shelf == NULL || failure == NULL || outcome == NULL
         || !rrcache_is_there(failure->name, failure->name_size))
         return RRCACHE_NULL;
@@ -2078,7 +2088,7 @@ static inline enum rrcache_status rrcache_write_chapter(struct rrcache_chapters 
                                                         uint64_t chapter, rrcache_sink sink,
                                                         void *state)
 {
-    struct rrcache_place place = {0};
+    struct rrcache_place place = RRCACHE_ZEROS;
     enum rrcache_status status;
     place.chapter = chapter;
     status = rrcache_write_line(chapters, &place, sink, state);

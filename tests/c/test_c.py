@@ -10,12 +10,12 @@ import pytest
 
 from tests.c.builds import BUILDS, TOP, built, run
 
-# In C++ `{0}` is told to leave fields out, which it fills with zeros all the same.
+WARNINGS = ["-Wall", "-Wextra", "-Werror", "-pedantic", "-Wconversion", "-Wshadow", "-Wcast-align"]
 LANGUAGES = {
-    "C99": ["cc", "-std=c99", "-xc", "-Wconversion", "-Wshadow"],
-    "C11": ["cc", "-std=c11", "-xc", "-Wconversion", "-Wshadow"],
-    "C++11": ["c++", "-std=c++11", "-xc++", "-Wno-missing-field-initializers"],
-    "C++20": ["c++", "-std=c++20", "-xc++", "-Wno-missing-field-initializers"],
+    "C99": ["cc", "-std=c99", "-xc"],
+    "C11": ["cc", "-std=c11", "-xc"],
+    "C++11": ["c++", "-std=c++11", "-xc++"],
+    "C++20": ["c++", "-std=c++20", "-xc++"],
 }
 
 
@@ -30,6 +30,5 @@ def test_header(language, header):
     compiler, *words = LANGUAGES[language]
     if shutil.which(compiler) is None:
         pytest.skip(f"there is no {compiler} here (bin/setup installs it)")
-    subprocess.run([compiler, *words, "-Wall", "-Wextra", "-Werror", "-pedantic",
-                    f"-I{TOP / 'include'}", "-fsyntax-only", "-"], check=True,
-                   input=f'#include "{header}"\n'.encode())
+    subprocess.run([compiler, *words, *WARNINGS, f"-I{TOP / 'include'}", "-fsyntax-only", "-"],
+                   check=True, input=f'#include "{header}"\n'.encode())
