@@ -209,6 +209,18 @@ def test_what_if_says_with_which_status_its_program_ended(trace_of):
     assert (run.returncode, run.stderr) == (1, "what-if: the program ended with status 1\n")
 
 
+def test_fuzz_says_that_no_program_was_built(tmp_path):
+    """In a checkout in which nothing was built, this is no difference from the model."""
+    for it in ("VERSION", "bin", "tools", "python/rrcache", "tests/rows/trust",
+               "tests/captures/small.pcap"):
+        (tmp_path / it).parent.mkdir(parents=True, exist_ok=True)
+        (shutil.copytree if (TOP / it).is_dir() else shutil.copyfile)(TOP / it, tmp_path / it)
+    run = shared.ran(tmp_path / "bin" / "fuzz", "--runs=1")
+    assert (run.returncode, run.stdout) == (WRONG_ARGUMENTS, "")
+    assert run.stderr == "fuzz: there is no crates/rrcache/out/rrcache: bin/build makes it\n"
+    assert not (tmp_path / "build").exists()
+
+
 def wait_until(is_so):
     """Waits until something is so."""
     end = time.monotonic() + LIMIT
