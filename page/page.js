@@ -61,7 +61,9 @@ function offerRow({ line, moment, key, kind, rank, ttl, data, outcome }) {
 }
 
 function showOffers(offers) {
+  const left = offers.length - MOST_SHOWN;
   element('offers').replaceChildren(...offers.slice(0, MOST_SHOWN).map(offerRow));
+  element('offers-left').textContent = left > 0 ? `and ${left} more offers` : '';
 }
 
 function showPicture(lives) {

@@ -332,6 +332,18 @@ def test_no_page_is_wider_than_its_window(width, tmp_path):
     assert needed <= had
 
 
+def test_how_many_offers_are_left_out_is_told(tmp_path):
+    code = """
+    const offer = { line: 0, moment: 1, key: { name: 'a.', slot: '1' }, kind: 'failure', ttl: 30,
+      outcome: 'kept' };
+    return [2000, 2003].map((it) => {
+      showOffers(Array(it).fill(offer));
+      return [element('offers').rows.length, element('offers-left').textContent];
+    });
+    """
+    assert browser.evaluated(tmp_path, code) == [[2000, ""], [2000, "and 3 more offers"]]
+
+
 def test_rdata_in_presentation_form(tmp_path):
     # RFC 5952 for the address, RFC 3597 section 5 for a type that the page does not read.
     cases = [[1, "c0000201", "192.0.2.1"], [28, "20010db8000000000000000000000001", "2001:db8::1"],
