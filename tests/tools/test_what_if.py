@@ -3,6 +3,7 @@
 import csv
 import io
 import json
+import os
 import resource
 import shutil
 import xml.etree.ElementTree as xml
@@ -202,6 +203,18 @@ def test_what_if_draws_no_picture_into_its_trace(asked, tmp_path):
         run = ran("bin/what-if", "--svg", path, asked)
         assert (run.returncode, run.stdout, run.stderr.count("\n")) == (WRONG_ARGUMENTS, "", 1)
         assert "which would be overwritten" in run.stderr and asked.read_text() == before
+
+
+@pytest.mark.parametrize("name, shown", [
+    (b"\xff\1.trace", "\ufffd\ufffd.trace"), ("<\u00e9&.trace".encode(), "<\u00e9&.trace")])
+def test_what_if_draws_traces_of_any_name(tmp_path, name, shown):
+    trace, picture = os.fsencode(tmp_path) + b"/" + name, tmp_path / "picture.svg"
+    open(trace, "wb").close()
+    run = ran("bin/what-if", "--program=true", "--svg", picture, os.fsdecode(trace),
+              env={**os.environ, "LC_ALL": "C.UTF-8"})
+    assert (run.returncode, run.stderr) == (0, "")
+    texts = [it.text for it in xml.parse(picture).getroot() if it.tag.endswith("text")]
+    assert f"0 asks of {shown}" in texts
 
 
 def test_what_if_keeps_what_the_picture_was_until_it_draws(what_if, program_of, asked, tmp_path):
