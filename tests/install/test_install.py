@@ -52,12 +52,13 @@ def test_forwarder(it, tmp_path):
 
 
 @HAS_CMAKE
-def test_cmake(it, tmp_path):
-    assert set(it.by_cmake(VERSION, tmp_path).values()) == {FIRST}
+@pytest.mark.parametrize("version", [VERSION, f"{VERSION.partition('.')[0]}.0...{VERSION}"])
+def test_cmake(version, it, tmp_path):
+    assert set(it.by_cmake(version, tmp_path).values()) == {FIRST}
 
 
 @HAS_CMAKE
-@pytest.mark.parametrize("version", ["1.9", "3.0", "2.999"])
+@pytest.mark.parametrize("version", ["1.9", "3.0", "2.999", "2.0...2.0.9", f"2.0...<{VERSION}"])
 def test_cmake_refuses_another_version(version, it, tmp_path):
     with pytest.raises(subprocess.CalledProcessError):
         it.by_cmake(version, tmp_path)
