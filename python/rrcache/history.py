@@ -36,8 +36,11 @@ class ArchiveFault(ValueError):
     """
 
     def __init__(self, line: int) -> None:
-        super().__init__(f"line {line} is not a line of an archive")
+        super().__init__(line)  # of which a copy is made
         self.line = line
+
+    def __str__(self) -> str:
+        return f"line {self.line} is not a line of an archive"
 
 
 class Slot(IntEnum):

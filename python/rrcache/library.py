@@ -8,7 +8,7 @@ import os
 from ctypes import (CDLL, CFUNCTYPE, POINTER, Structure, byref, c_bool, c_char_p, c_int, c_size_t,
                     c_uint32, c_uint64, c_void_p)
 from pathlib import Path
-from typing import Any, ClassVar, TypeVar
+from typing import Any, ClassVar, NoReturn, TypeVar
 
 from . import structs
 from .choices import MessageFault
@@ -110,10 +110,11 @@ def loaded_from(place: str) -> CDLL:
     version."""
     try:
         loaded = CDLL(place)
-    except OSError as fault:
+        number = loaded.rrc_version()
+    except (OSError, AttributeError) as fault:  # another library lacks the function
         raise ImportError(f"{place} cannot be loaded ({fault}): build the library by bin/build-c, "
                           "install it by bin/install-c, or name it in RRCACHE_LIBRARY") from fault
-    major, minor, _ = parts_of_version(loaded.rrc_version())
+    major, minor, _ = parts_of_version(number)
     if major != MAJOR or minor < MINOR:
         raise ImportError(f"{place} has version {major}.{minor}, and this package is for "
                           f"{MAJOR}.{MINOR}")
@@ -190,6 +191,10 @@ class Held(Closing):
     def __del__(self) -> None:
         if hasattr(self, "_handle"):
             self.close()
+
+    def __reduce__(self) -> NoReturn:
+        """Refuses to be copied and pickled: the end of a copy would free the object of both."""
+        raise TypeError(f"cannot copy or pickle a {type(self).__name__}")
 
 
 def fault(message: bytes) -> MessageFault:

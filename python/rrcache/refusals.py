@@ -3,6 +3,7 @@
 from __future__ import annotations
 
 from enum import IntEnum
+from typing import cast
 
 from .replies import Counts, Swept
 
@@ -45,10 +46,13 @@ class Status(IntEnum):
 class Refused(Exception):
     """A call failed, and left the contents and the history unchanged. There are two exceptions: a
     call that stores a message may have made some of its offers, which `counts` has, and a sweep may
-    have made some of its steps, which `swept` has. For all other calls both are None."""
+    have made some of its steps, which `swept` has. For all other calls both are None.
+
+    A library of a later minor version may return a status that this package does not know. Then
+    `Refused` itself is raised, and `status` is a number."""
 
     status: Status
-    reason: str
+    reason: str = "no such status"
 
     def __init__(self, counts: Counts | None = None, swept: Swept | None = None) -> None:
         super().__init__(self.reason)
@@ -211,4 +215,7 @@ BY_STATUS: dict[int, type[Refused]] = {it.status: it for it in Refused.__subclas
 
 def refusal(status: int, counts: Counts | None = None, swept: Swept | None = None) -> Refused:
     """Returns the exception for a status."""
-    return BY_STATUS[status](counts, swept)
+    fault = BY_STATUS.get(status, Refused)(counts, swept)
+    if status not in BY_STATUS:
+        fault.status = cast(Status, status)
+    return fault

@@ -1,5 +1,7 @@
 # SPDX-License-Identifier: MIT
 """Archives: how the package reads them, and the chapters that leave a shelf."""
+import copy
+import pickle
 
 import pytest
 from dns.rdatatype import A, AAAA, TXT
@@ -49,6 +51,13 @@ def test_events_are_read():
     assert third.events[2].body == rrcache.Negative(4, 300, "example.", data)
     assert third.events[3].reply == rrcache.Reply(rrcache.Kind.NXDOMAIN, 200, wire_name("example"),
                                                   (data,), rtype=A)
+
+
+@pytest.mark.parametrize("copied", [copy.copy, lambda it: pickle.loads(pickle.dumps(it))],
+                         ids=["copied", "pickled"])
+def test_a_copy_of_a_fault_says_the_same(copied):
+    fault = copied(rrcache.ArchiveFault(3))
+    assert (str(fault), fault.line) == ("line 3 is not a line of an archive", 3)
 
 
 HEAD = "chapter 1 0 1024 4096 86400\n"

@@ -1,10 +1,13 @@
 # SPDX-License-Identifier: MIT
 """What the package refuses: texts that are no names, and arguments that are out of their ranges."""
+import copy
+import pickle
+
 import pytest
 from dns.rdatatype import A, CNAME, OPT, TXT
 
 import rrcache
-from rrcache import library
+from rrcache import library, refusals
 from tests.forwarder.harness import ID, answered
 
 SEED = bytes(range(16))
@@ -174,9 +177,26 @@ def test_libraries_that_the_package_is_not_for(name, number, monkeypatch):
         library.loaded_from(library.path())
 
 
-def test_a_library_that_is_not_there(tmp_path):
+@pytest.mark.parametrize("place", ["/nowhere/none.so", "libc.so.6"])
+def test_a_library_that_is_not_there_or_another_one(place):
     with pytest.raises(ImportError, match="cannot be loaded"):
-        library.loaded_from(str(tmp_path / "none.so"))
+        library.loaded_from(place)
+
+
+def test_a_status_of_a_newer_library():
+    fault = refusals.refusal(200, rrcache.Counts(1, 0, 0))
+    assert (type(fault), fault.status, str(fault)) == (rrcache.Refused, 200, "no such status")
+    assert fault.counts.kept == 1
+
+
+@pytest.mark.parametrize("copied", [copy.copy, copy.deepcopy, pickle.dumps])
+def test_what_has_a_handle_is_not_copied(copied):
+    """The end of a copy would close it: another thread may be in a call then."""
+    with rrcache.Shelf() as shelf, read(RESPONSE, parts(4)) as offers:
+        for it in shelf, offers:
+            with pytest.raises(TypeError, match=f"cannot copy or pickle a {type(it).__name__}"):
+                copied(it)
+        assert shelf.sizes().keys == 0 and offers.summary
 
 
 @pytest.mark.parametrize("numbers", [(1, 1, 1), (604_800, 604_800, 300)])
