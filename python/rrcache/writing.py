@@ -4,12 +4,13 @@ from __future__ import annotations
 
 import functools
 import os
+import sys
 from _thread import start_new_thread
 from collections.abc import Callable
 from contextlib import ExitStack
 from ctypes import string_at
 from pathlib import Path
-from threading import Lock
+from threading import Lock, current_thread
 from typing import BinaryIO
 
 from .handles import Handle, done
@@ -19,18 +20,49 @@ from .library import SINK, library
 Take = Callable[[int, bytes], object]
 
 
+def made_apart(call: Callable[[], None], faults: list[BaseException]) -> None:
+    """Makes a call in a thread of its own, and waits until it has ended. In the main thread, the
+    handler of a signal may raise an exception as soon as a callback begins, outside of its `try`.
+    ctypes would drop this exception with the octets, and return an arbitrary number to the library.
+    Objects of `threading` that are written in Python do not bear such an exception either, so a
+    plain lock says when the call has ended."""
+    running, ended = Lock(), [False]
+
+    def run() -> None:
+        call()
+        ended[0] = True
+        running.release()
+
+    running.acquire()
+    start_new_thread(run, ())
+    while not ended[0]:
+        try:
+            running.acquire()
+        except BaseException as fault:
+            faults.append(fault)
+
+
+def made(call: Callable[[], None], faults: list[BaseException]) -> None:
+    """Makes a call apart, but in a daemon thread itself: the interpreter may end beside that, and a
+    thread that begins then may crash it. No handler of a signal runs in a daemon thread. Raises
+    RuntimeError once the interpreter finalizes its modules, when it bears no callback."""
+    if sys.is_finalizing():
+        raise RuntimeError("nothing can be written while the interpreter ends")
+    if current_thread().daemon:
+        call()
+        return
+    try:
+        made_apart(call, faults)
+    except RuntimeError:  # in a function of atexit, Python 3.12 may start no thread
+        call()
+
+
 def written(export: str, cache: Handle, take: Take) -> None:
     """Makes a call of the library that passes octets to a function, with the number of their shelf.
-    An exception of the function ends the call, and is raised again.
-
-    The call runs in a thread of its own. In the main thread, the handler of a signal may raise an
-    exception as soon as the callback begins, outside of its `try`. ctypes would drop this exception
-    with the octets, and return an arbitrary number to the library. Objects of `threading` that are
-    written in Python do not bear such an exception either, so a plain lock says when the call has
-    ended."""
+    An exception of the function ends the call, and is raised again."""
     faults: list[BaseException] = []
     statuses: list[int] = []
-    caches, running = [cache], Lock()
+    caches = [cache]
 
     def sink(_: int | None, shelf: int, octets: int, size: int) -> bool:
         try:
@@ -41,22 +73,13 @@ def written(export: str, cache: Handle, take: Take) -> None:
         return bool(faults)
 
     def call() -> None:
-        status = 0
         try:
             # Once the call has ended, this thread has no reference to the cache.
-            status = getattr(library(), export)(caches.pop(), SINK(sink), None)
+            statuses.append(getattr(library(), export)(caches.pop(), SINK(sink), None))
         except BaseException as fault:
             faults.append(fault)
-        statuses.append(status)
-        running.release()
 
-    running.acquire()
-    start_new_thread(call, ())
-    while not statuses:
-        try:
-            running.acquire()
-        except BaseException as fault:
-            faults.append(fault)
+    made(call, faults)
     if faults:
         raise faults[0]
     done(statuses[0])

@@ -2,9 +2,12 @@
 """The cache that threads share: what it is asked, what is stored in it, and what it writes.
 Responses are dnspython's. TTLs, kinds and ranks follow from RFC 1034, RFC 2181, RFC 2308, RFC 8767
 and RFC 9520."""
+import os
 import re
 import signal
 import subprocess
+import sys
+import threading
 import time
 
 import pytest
@@ -14,6 +17,7 @@ from dns.rdatatype import A, AAAA, ANY, CNAME, DNAME, MX, NS, RRSIG, SOA, TXT
 
 import rrcache
 from rrcache import Kind, Mode, Outcome, ResponseKind, SharedCache, Trust
+from tests.conftest import TOP
 from tests.forwarder.harness import ID, aliases, answered, hosts, wire_name
 from tests.forwarder.harness import SOA as SOA_LINE
 from tools.audits import first_fault
@@ -607,6 +611,51 @@ def test_signals_while_a_cache_is_written():
     finally:
         signal.setitimer(signal.ITIMER_REAL, 0)
         signal.signal(signal.SIGALRM, usual)
+
+
+# A cache is written when the interpreter ends: by a function of atexit, and by a finalizer.
+ENDED = """
+import atexit
+import rrcache
+
+class Last:
+    def __del__(self):
+        try:
+            cache.dump()
+        except RuntimeError as fault:
+            print(fault)
+
+cache, last = rrcache.SharedCache(shelves=2), Last()
+atexit.register(lambda: print(len(cache.dump())))
+"""
+
+
+def test_writing_when_the_interpreter_ends():
+    """A thread that begins when the interpreter finalizes its modules never runs."""
+    told = subprocess.run([sys.executable, "-c", ENDED], capture_output=True, text=True, timeout=60,
+                          env={**os.environ, "PYTHONPATH": str(TOP / "python")})
+    assert (told.returncode, told.stderr) == (0, "")
+    assert told.stdout == "2\nnothing can be written while the interpreter ends\n"
+
+
+@pytest.mark.parametrize("daemon", [False, True])
+def test_writing_where_no_thread_begins(daemon, monkeypatch):
+    """Python 3.12 starts none in a function of atexit. In a daemon thread none is started."""
+    begun, told = [], []
+
+    def refused(*_):
+        begun.append("thread")
+        raise RuntimeError("can't create new thread at interpreter shutdown")
+
+    with SharedCache(shelves=2) as cache:
+        thread = threading.Thread(target=lambda: told.extend(cache.dump()), daemon=daemon)
+        thread.start()
+        thread.join()
+        monkeypatch.setattr("rrcache.writing.start_new_thread", refused)
+        thread = threading.Thread(target=lambda: told.extend(cache.dump()), daemon=daemon)
+        thread.start()
+        thread.join()
+    assert len(told) == 4 and len(begun) == (0 if daemon else 1)
 
 
 @pytest.fixture(scope="module")
