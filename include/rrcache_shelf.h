@@ -1813,7 +1813,8 @@ static inline enum rrcache_status rrcache_peek(const struct rrcache_shelf *shelf
    record is returned stale if the type of the question has failed recently, and not if type CNAME
    has failed. The targets of the CNAME record have no failures of their own. If a peek for the
    question with RRCACHE_NO_STALE returns RRCACHE_FAILED, ask for each name of its chain with
-   RRCACHE_STALE_NOW. */
+   RRCACHE_STALE_NOW. If older data of the type are unexpired, the peek returns these data: then
+   `rrcache_tell_stored` returns the failure, and whether it was stored after them. */
 static inline enum rrcache_status rrcache_ask_alias(struct rrcache_shelf *shelf,
                                                     const struct rrcache_name *name,
                                                     const struct rrcache_question *question,

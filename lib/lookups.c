@@ -171,23 +171,16 @@ static bool is_alias(const struct walk *walk, const struct rrcache_told *told)
            && told->rtype != walk->question.rtype;
 }
 
-/* Peeks for the question itself, and gets the number of the event that stored its failure, or 0. */
-static enum rrcache_status peek_failure(const struct walk *walk, struct rrcache_told *told,
-                                        uint64_t *number)
+/* Whether a failure is recent at a timestamp: it is unexpired, and was stored later than all else
+   for the question, and than its alias. Older data of the type, which that alias replaced, may
+   still be unexpired, so no reply of the type can tell. */
+static bool is_recent(const struct rrcache_stored *stored, const struct rrcache_entry *alias,
+                      uint64_t moment)
 {
-    const struct rrcache_name *asked = &walk->answer->end;
-    struct part *part = &walk->cache->part[asked->part];
-    struct rrcache_question question = walk->question;
-    struct rrcache_stored stored = {0};
-    question.mode = RRCACHE_NO_STALE;
-    struct place *place = take_place(walk->cache, part);
-    enum rrcache_status status = rrcache_peek(&part->shelf, asked, &question, told, NULL, 0);
-    if (status == RRCACHE_DONE && told->kind == RRCACHE_FAILED)
-        status = rrcache_tell_stored(&part->shelf, asked, &question, &stored);
-    leave_place(part, place);
-    *number = stored.failure.number;
-    return status == RRCACHE_SMALL ? RRCACHE_DONE
-                                   : status; /* there are data, so no failure counts */
+    const struct rrcache_entry *failure = &stored->failure;
+    uint64_t age = moment > failure->moment ? moment - failure->moment : 0;
+    return failure->kind != 0 && age < failure->ttl && failure->number > alias->number
+           && failure->number > stored->set.number && failure->number > stored->nxdomain.number;
 }
 
 /* Checks whether the question has failed recently, once its name has turned out to be an alias. If
@@ -196,12 +189,15 @@ static enum rrcache_status peek_failure(const struct walk *walk, struct rrcache_
    themselves, such as the one that was asked for upstream. */
 static enum rrcache_status find_failure(struct walk *walk, const struct rrcache_told *alias)
 {
-    struct rrcache_told told = {0};
-    uint64_t number = 0;
-    enum rrcache_status status = peek_failure(walk, &told, &number);
-    if (status != RRCACHE_DONE || number <= alias->entry.number)
+    const struct rrcache_name *asked = &walk->answer->end;
+    struct part *part = &walk->cache->part[asked->part];
+    struct rrcache_stored stored = {0};
+    struct place *place = take_place(walk->cache, part);
+    enum rrcache_status status = rrcache_tell_stored(&part->shelf, asked, &walk->question, &stored);
+    leave_place(part, place);
+    if (status != RRCACHE_DONE || !is_recent(&stored, &alias->entry, walk->question.moment))
         return status;
-    walk->retry_from = told.retry_from;
+    walk->retry_from = stored.failure.moment + stored.failure.ttl;
     if (walk->question.mode == RRCACHE_STALE_IF_FAILED)
         walk->question.mode = RRCACHE_STALE_NOW;
     return RRCACHE_DONE;

@@ -795,6 +795,36 @@ static void test_stale_alias_over_an_address(void)
     rrcache_close(cache);
 }
 
+/* The same if the address is not past its time, or a denial is there instead: it is older than the
+   alias, and hides no failure that is younger than both (RFC 9520 section 3.2). */
+static void test_failed_alias_over_fresh_data(void)
+{
+    for (int is_denied = 0; is_denied < 2; is_denied++) {
+        struct rrcache *cache = open_small();
+        struct rrcache_answer answer;
+        EXPECT((is_denied ? deny(cache, "www.example", RRCACHE_NODATA, 600)
+                          : keep(cache, "www.example", 600))
+               == RRCACHE_KEPT);
+        EXPECT(keep_alias(cache, "www.example", "other.example", 600) == RRCACHE_KEPT
+               && keep(cache, "other.example", 60) == RRCACHE_KEPT);
+        answer = look_in(cache, "www.example", A, FIRST + 101, RRCACHE_STALE_IF_FAILED);
+        EXPECT(is_miss(&answer, 1, "other.example"));
+        EXPECT(fail(cache, "www.example", 30, FIRST + 100) == RRCACHE_KEPT);
+        answer = look_in(cache, "www.example", A, FIRST + 101, RRCACHE_STALE_IF_FAILED);
+        EXPECT(answer.kind == RRCACHE_STALE && answer.aliases == 1 && count_of(&answer) == 2);
+        answer = look(cache, "www.example", A, FIRST + 129);
+        EXPECT(answer.kind == RRCACHE_FAILED && answer.retry_from == FIRST + 130);
+        answer = look(cache, "www.example", A, FIRST + 130);
+        EXPECT(is_miss(&answer, 1, "other.example"));
+        /* What came later than the failure ends it, as the alias itself does. */
+        EXPECT(deny(cache, "www.example", RRCACHE_NXDOMAIN, 5) == RRCACHE_KEPT
+               && keep_alias(cache, "www.example", "other.example", 600) == RRCACHE_KEPT);
+        answer = look(cache, "www.example", A, FIRST + 101);
+        EXPECT(is_miss(&answer, 1, "other.example"));
+        rrcache_close(cache);
+    }
+}
+
 static void test_failed(void)
 {
     struct rrcache *cache = open_small();
@@ -4035,6 +4065,7 @@ static void (*const TESTS[])(void) = {
     test_stale_chain,
     test_stale_end,
     test_stale_alias_over_an_address,
+    test_failed_alias_over_fresh_data,
     test_failed,
     test_cases,
     test_glue,
