@@ -55,6 +55,13 @@ static const struct manner *manner_of(const struct part *part, const struct look
     return it->manner == &WITH_ALIAS && !may_be_alias(part, it->name) ? &BY_ITSELF : it->manner;
 }
 
+/* Whether a look-up counts. A look-up of a name by itself counts even if its reply has no room: its
+   caller goes on without a reply that is not an RRset, or without a DNAME RRset of that size. */
+static bool is_counted(const struct lookup *it, enum rrcache_status status)
+{
+    return status == RRCACHE_DONE || (status == RRCACHE_SMALL && it->manner == &BY_ITSELF);
+}
+
 /* Peeks while a place is held. Returns false if an ask has to be made instead: because the entry
    that was found has to move to the front, or is expected to move, or because a history is
    recorded. */
@@ -70,7 +77,7 @@ static bool peek(struct part *part, struct place *place, struct lookup *it,
         *status = RRCACHE_MOMENT_TOO_LARGE;
     if (*status == RRCACHE_DONE && is_due(part, it->told))
         return false;
-    place->told[it->told->kind] += *status == RRCACHE_DONE;
+    place->told[it->told->kind] += is_counted(it, *status);
     note_move(place, false);
     it->turn = turn_here(part);
     return true;
@@ -90,7 +97,7 @@ static enum rrcache_status ask(struct part *part, struct place *place, const str
         &part->shelf, it->name, it->question, it->told, it->buffer, it->room);
     if (status == RRCACHE_DONE && is_cname(it->told))
         note_alias(part, it->name);
-    place->told[it->told->kind] += status == RRCACHE_DONE;
+    place->told[it->told->kind] += is_counted(it, status);
     note_move(place, status == RRCACHE_DONE && is_due(part, it->told));
     return status;
 }

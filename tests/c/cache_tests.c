@@ -3198,6 +3198,31 @@ static void test_stats(void)
     rrcache_close(cache);
 }
 
+/* Each name that is tried counts, also one whose reply needs more room than there is: a denial on
+   the way to a delegation, and a DNAME RRset with more records than make an alias. */
+static void test_counts_of_replies_without_room(void)
+{
+    struct rrcache *cache = open_small();
+    struct wire wire = wire_of("host.sub.example");
+    struct rrcache_request request = request_of(&wire, 0, FIRST);
+    struct rrcache_answer answer = {0};
+    EXPECT(deny(cache, "host.sub.example", RRCACHE_NXDOMAIN, 60) == RRCACHE_KEPT);
+    EXPECT(rrcache_lookup_delegation(cache, &request, &answer) == RRCACHE_DONE);
+    struct rrcache_stats stats = stats_of(cache);
+    EXPECT(answer.kind == RRCACHE_MISS && stats.negative == 1 && stats.misses == 3);
+    static uint8_t many[3 * 202] = {0, 200, 1, [202] = 0, 200, 2, [404] = 0, 200, 3};
+    struct wire owner = wire_of("old.example");
+    struct rrcache_set set = set_of(&owner, DNAME, 60, OF(many));
+    uint32_t outcome = 0;
+    EXPECT(rrcache_store_set(cache, &set, &outcome) == RRCACHE_DONE
+           && keep_alias(cache, "w.old.example", "w.new.example", 60) == RRCACHE_KEPT);
+    EXPECT(look_with_dnames(cache, "w.old.example", A, FIRST, sizeof space, &answer)
+           == RRCACHE_DONE);
+    stats = stats_of(cache);
+    EXPECT(answer.aliases == 1 && count_of(&answer) == 1 && stats.hits == 2 && stats.misses == 4);
+    rrcache_close(cache);
+}
+
 static void test_stats_text(void)
 {
     static const char WANTED[] = "hits 1 stale 2 negative 3 misses 4 failed 5 kept 6 outranked 7 "
@@ -4144,6 +4169,7 @@ static void (*const TESTS[])(void) = {
     test_sweeps_go_on,
     test_sweeps_refused,
     test_stats,
+    test_counts_of_replies_without_room,
     test_stats_text,
     test_dump,
     test_records,
