@@ -166,9 +166,9 @@ enum { RRCACHE_ANSWER_OCTETS = 65536 };
 
 /* The answer to a question: a list of RRsets, which `rrcache_next` returns one by one, and their
    kind. An answer has at most RRCACHE_MOST_ALIASES + 1 RRsets, and RRCACHE_MOST_ALIASES more with
-   DNAME RRsets. The answer of a response to a query of type ANY may have more. The caller sets
-   `buffer` and `room`, sets `with_dnames` to get DNAME RRsets, and initializes the other fields to
-   0. */
+   DNAME RRsets. The answer of a response to a query of type ANY or of a type that is not kept may
+   have more. The caller sets `buffer` and `room`, sets `with_dnames` to get DNAME RRsets, and
+   initializes the other fields to 0. */
 struct rrcache_answer {
     uint8_t *buffer;
     size_t room;
