@@ -8,7 +8,7 @@
    directly.
 
    SECURITY.md, "A caller's checklist", lists what is left to a resolver, and examples/stub.c is a
-   whole caller. A process may have several caches, for example one for each view. Each cache has
+   complete caller. A process may have several caches, for example one for each view. Each cache has
    its own seed and limits.
 
    Threads
@@ -28,8 +28,8 @@
      keeps new look-ups out of the shelf, and waits for those that have begun. No call holds locks
      of two shelves at the same time.
    - If a thread asks for a name again and again within a second, in lower case, the answer is
-     copied from a memo as long as nothing has changed in the shelf of the name. Only an answer of
-     one RRset and a negative answer have memos. Such a look-up takes no place. What it returns and
+     copied from a memo as long as nothing has changed in the shelf of the name. Only answers of one
+     RRset and negative answers have memos. Such a look-up takes no place. What it returns and
      counts is the same as without a memo.
    - ThreadSanitizer cannot see the locks of the built library. A program that runs under it has to
      compile the files of lib/ for it too, and to link them before the library.
@@ -57,15 +57,15 @@
      each shelf. A second filter, of the names that may have a negative answer or a failure, uses 2
      to 4 octets for each of `keys`, whatever `octets` is: 8 MiB with the default number of keys. So
      set `keys` too if `octets` is small.
-   - A cache has at most 64 shelves of 65,536 keys, which are 4,194,304 keys. RRsets of one address
-     with a short name use 320 octets each. So of such RRsets a cache holds about 1.3 GB at most,
+   - A cache has at most 64 shelves of 65,536 keys, or 4,194,304 keys in all. RRsets of one address
+     with a short name use 320 octets each. So a cache holds at most about 1.3 GB of such RRsets,
      whatever `octets` is.
    - The configuration of an open cache cannot be changed. Memory that the library frees goes back
      to malloc, and malloc decides whether it goes back to the system.
    - An RRset that would use more than the share of its shelf is left out. The largest RRset of a
      response used 242,208 octets in tests. So with 64 shelves set `octets` to at least 16 MiB, and
      use fewer shelves if `octets` is smaller.
-   - Look-ups never allocate while no history is recorded. `rrcache_next`, `rrcache_stats`,
+   - Look-ups never allocate while no history is being recorded. `rrcache_next`, `rrcache_stats`,
      `rrcache_stats_of` and `rrcache_stats_text` never allocate. If malloc fails in any other
      function, except during an eviction, the function returns RRCACHE_MEMORY. The contents of the
      cache are then unchanged, with three exceptions: `rrcache_store`, `rrcache_sweep_all` and
@@ -77,7 +77,8 @@
    - A program passes 0 in every call, or it passes timestamps from its own clock in every call.
      That clock must never be set back. If a program mixes the two clocks, data expire too late or
      too early. A program that passes 0 may also pass seconds of CLOCK_BOOTTIME, for example when it
-     restores a dump: this is the same clock. `retry_from` is a timestamp of the same clock.
+     restores a dump: this is the same clock. `retry_from` is a timestamp of the clock that the
+     program uses.
 
    Errors
    - The header rrcache_shelf.h describes the wire form of names, the ownership of memory, and each
@@ -132,7 +133,7 @@ struct rrcache_config {
                            processors, but at most 16 */
     uint64_t max_stale; /* for how many seconds past its TTL an RRset may be served: 0 to 604,800
                            (RFC 8767 section 4). RFC 8767 section 5 suggests 1 to 3 days */
-    struct rrcache_limits limits; /* of responses; a field that is 0 means that field of
+    struct rrcache_limits limits; /* of responses; a field that is 0 stands for the same field of
                                      RRCACHE_LIMITS */
     uint8_t seed[16];             /* 16 secret random octets, or all 0 for octets from the system */
     bool exact_recency; /* whether every look-up moves its entry to the front of the LRU order */
@@ -202,10 +203,10 @@ struct rrcache_rrset {
     struct rrcache_entry entry; /* the entry that the RRset comes from. Its `ttl` and `moment`, as
                                    they were stored, tell a resolver when to prefetch. Two entries
                                    of one shelf never have the same `number`, but entries of two
-                                   shelves may, and no field has the shelf. So a caller that keeps
-                                   data about entries, such as a security status, finds them by a
-                                   name and `number`: by the name of the owner, or in a negative
-                                   answer by that of `end`. docs/RULES.md, "DNSSEC", says how the
+                                   shelves may, and no field identifies the shelf. So a caller that
+                                   keeps data about entries, such as a security status, finds these
+                                   data by a name and `number`. The name is the owner or, in a
+                                   negative answer, `end`. docs/RULES.md, "DNSSEC", says how the
                                    caller gets the number. In an answer of `rrcache_store`, `number`
                                    and `age` are 0 */
     size_t next;                /* the offset of the next RRset in the buffer */
@@ -247,7 +248,7 @@ enum { RRCACHE_STATS_OCTETS = 384 };
    caller passed. No lock of a shelf is held during the callback, but the lock that guards the start
    and the end of recording is held. A call that takes this lock again would never return. So the
    callback must not call any function on this cache, and it has to return: it must not be canceled,
-   call `longjmp` or throw an exception of C++. */
+   call `longjmp` or throw a C++ exception. */
 typedef int (*rrcache_shelf_sink)(void *state, uint64_t shelf, const void *octets, size_t size);
 
 /* Opens a cache, and writes a pointer to it to `*cache`. A null `config` means a config of zeros.
@@ -265,24 +266,24 @@ RRCACHE_API void rrcache_close(struct rrcache *cache);
 /* Looks up the answer to a question. The answer has the CNAME RRsets of the CNAME chain that begins
    at the name, and the reply for the name at the end of the chain: an RRset of the type, a negative
    answer (RRCACHE_NODATA or RRCACHE_NXDOMAIN), or a miss (RRCACHE_MISS or RRCACHE_FAILED). After a
-   miss the answer still has the CNAME RRsets. At each name, `rrcache_ask_alias` has the rule that
-   chooses between a CNAME record and data of the type (RFC 1034 section 4.3.2). No CNAME record is
-   followed for types CNAME and ANY.
+   miss the answer still has the CNAME RRsets. At each name, the rule of `rrcache_ask_alias` chooses
+   between a CNAME record and data of the type (RFC 1034 section 4.3.2). No CNAME record is followed
+   for types CNAME and ANY.
 
    With the mode RRCACHE_STALE_IF_FAILED, stale data are acceptable for a name of the chain if the
    type has failed recently for that name (RFC 8767 section 5). If the question itself has failed
    recently, stale data are acceptable for every name of the chain. This does not apply if the name
    of the question is an alias, and its CNAME record was stored after the failure. docs/RULES.md,
-   "Serving stale data", has the whole course, with the timers.
+   "Serving stale data", describes the whole procedure, with the timers.
 
-   CNAME RRsets before a miss are not yet an answer for a client: the resolver goes on from `end`,
+   CNAME RRsets before a miss are not yet an answer for a client: the resolver continues from `end`,
    and sends SERVFAIL if that fails. The cache does not join queries. If several clients miss the
    same `end` and type, the caller has to send one query for all of them.
 
    Returns RRCACHE_BAD_NAME if the name is not in wire form, RRCACHE_BAD_CHOICE if `mode` is not a
    mode, RRCACHE_BAD_TYPE if the type is 0 or the class is not kept, and RRCACHE_SMALL if the buffer
    is too small. Also returns RRCACHE_HISTORY_FULL and RRCACHE_MOMENT_TOO_LARGE, and RRCACHE_MEMORY
-   while histories are recorded. */
+   while histories are being recorded. */
 RRCACHE_API enum rrcache_status rrcache_lookup(struct rrcache *cache,
                                                const struct rrcache_request *request,
                                                struct rrcache_answer *answer);
@@ -420,8 +421,8 @@ RRCACHE_API enum rrcache_status rrcache_sweep_all(struct rrcache *cache, uint64_
 #endif
 
 /* Writes to `stats` the counters of all shelves since the cache was opened, and the keys and octets
-   that the shelves hold. Each shelf is read at a time of its own, and look-ups in it wait
-   meanwhile, as they wait for a store. */
+   that the shelves hold. Each shelf is read at a different time. Meanwhile, look-ups in that shelf
+   wait, as they wait for a store. */
 RRCACHE_API enum rrcache_status rrcache_stats(struct rrcache *cache, struct rrcache_stats *stats);
 
 #if defined __cplusplus && defined __GNUC__
@@ -438,10 +439,10 @@ RRCACHE_API enum rrcache_status rrcache_stats_of(struct rrcache *cache, uint64_t
 RRCACHE_API enum rrcache_status rrcache_stats_text(const struct rrcache_stats *stats, char *text,
                                                    size_t size);
 
-/* Starts to record the histories of all shelves. While histories are recorded, each look-up is an
-   event, changes its shelf, and moves its entry to the front of the LRU order. Events use at least
-   96 octets each and stay in memory until recording stops, and `octets` does not limit them. If
-   histories are already recorded, the call does nothing. Returns RRCACHE_HISTORY_FULL and
+/* Starts to record the histories of all shelves. While histories are being recorded, each look-up
+   is an event, changes its shelf, and moves its entry to the front of the LRU order. Events use at
+   least 96 octets each and stay in memory until recording stops, and `octets` does not limit them.
+   If histories are already being recorded, the call does nothing. Returns RRCACHE_HISTORY_FULL and
    RRCACHE_MEMORY. On error nothing is recorded. */
 RRCACHE_API enum rrcache_status rrcache_record_all(struct rrcache *cache);
 
@@ -459,7 +460,7 @@ RRCACHE_API enum rrcache_status rrcache_stop_recording_all(struct rrcache *cache
    of event numbers. CLOCK_BOOTTIME starts again at zero when the machine restarts: the caller then
    converts the timestamps first (docs/RULES.md, "Listing and saving keys"). docs/CAPTURES.md, "A
    wrong answer", says what a dump shows about an answer. Returns RRCACHE_HAS_CHAPTERS while
-   histories are recorded, and RRCACHE_SINK if the sink returns nonzero. Also returns
+   histories are being recorded, and RRCACHE_SINK if the sink returns nonzero. Also returns
    RRCACHE_HISTORY_FULL and RRCACHE_MEMORY. */
 RRCACHE_API enum rrcache_status rrcache_dump(struct rrcache *cache, rrcache_shelf_sink sink,
                                              void *state);

@@ -70,9 +70,9 @@
      section, seed and limit do not include 0. So a call that uses such a field returns an error if
      the caller forgot to set it. For functions of rrcache.h, a seed or a limit of 0 means a
      default.
-   - An error leaves the history of the shelf and its replies unchanged. If the history is recorded,
-     the call may have closed a full chapter. Five functions may have done part of their work when
-     they fail: `rrcache_offer_read`, `rrcache_offer_message_unchecked`,
+   - An error leaves the history of the shelf and its replies unchanged. If the history is being
+     recorded, the call may have closed a full chapter. Five functions may have done part of their
+     work when they fail: `rrcache_offer_read`, `rrcache_offer_message_unchecked`,
      `rrcache_offer_part_unchecked`, `rrcache_sweep_some` and `rrcache_trim`. These functions make
      several offers, sweeps or evictions, one after another. If one of these fails, those before it
      are not undone. `counts` has the number of the offers before it, and `swept` the number of keys
@@ -126,8 +126,8 @@
      reply is a miss, or RRCACHE_NXDOMAIN if that is cached. This applies to type ANY even if RRsets
      of the name with a higher rank are cached.
    - Even if a message answers its question, an ask that follows may be a miss. There are five
-     causes: the TTL is 0; the type is not kept; the TTLs of an RRset differ with AA clear and
-     without `lowest_ttl`; a negative answer has no SOA record; or the RRset is not relevant.
+     causes: the TTL is 0; the type is not kept; the TTLs of an RRset differ, AA is clear and
+     `lowest_ttl` is not set; a negative answer has no SOA record; or the RRset is not relevant.
      `rrcache_tell_response` still returns the kind of the response, and `rrcache_tell_offer`
      returns an RRset with TTL 0. The caller answers the waiting client from the output of these
      calls. The caller has to read the message itself only for data that are left out, such as data
@@ -1654,10 +1654,10 @@ rrcache_offer_set(struct rrcache_shelf *shelf, const struct rrcache_set *set, ui
 
 /* Offers a negative answer (RFC 2308): a name has no data of a type, or does not exist. Writes the
    outcome to `outcome`. Returns RRCACHE_BAD_CHOICE if `trust` is not a rank or `kind` is neither
-   RRCACHE_NODATA nor RRCACHE_NXDOMAIN; RRCACHE_BAD_TYPE if the class is not kept, or for
-   RRCACHE_NODATA if data of the type are not kept in the class; RRCACHE_BAD_NAME if the name or the
-   owner of the SOA record is not in wire form; RRCACHE_BAD_DATA if `soa` is not the rdata of an SOA
-   record; and RRCACHE_WRONG_BODY if `ttl` is above 2^31 - 1. Needs the write lock. */
+   RRCACHE_NODATA nor RRCACHE_NXDOMAIN; RRCACHE_BAD_TYPE if the class is not kept or, for
+   RRCACHE_NODATA, if data of the type are not kept in the class; RRCACHE_BAD_NAME if the name or
+   the owner of the SOA record is not in wire form; RRCACHE_BAD_DATA if `soa` is not the rdata of an
+   SOA record; and RRCACHE_WRONG_BODY if `ttl` is above 2^31 - 1. Needs the write lock. */
 static inline enum rrcache_status rrcache_offer_negative(struct rrcache_shelf *shelf,
                                                          const struct rrcache_negative *negative,
                                                          uint32_t *outcome)
@@ -1792,9 +1792,9 @@ static inline enum rrcache_status rrcache_peek(const struct rrcache_shelf *shelf
    `told->rtype` is 5 if the reply is the CNAME record, and otherwise the type of the question. The
    errors are those of `rrcache_ask`. Needs the write lock.
 
-   The reply is the CNAME record if a question for type CNAME would return the record, fresh or
-   acceptably stale, and if the record governs over the reply for the type. The record governs in
-   each of these cases:
+   The reply is the CNAME record if two conditions hold. First, a question for type CNAME would get
+   the record as a fresh answer, or as a stale answer that is acceptable. Second, the record governs
+   over the reply for the type. The record governs in each of these cases:
    - The reply for the type is a miss.
    - The record was stored later than the entry for the type, unless that entry is unexpired and of
      higher rank.
