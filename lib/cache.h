@@ -43,7 +43,8 @@ struct owners {
    changes the first and the last one. */
 struct part {
     _Alignas(LINE) atomic_uint_fast64_t turn; /* incremented when a writer begins and when it ends,
-                                                 so it is odd while a writer changes the shelf */
+                                                 so it is odd while a writer changes the shelf, and
+                                                 while a reader waits alone (places.c) */
     struct rrcache_shelf shelf;
     uint64_t oldest_left; /* a look-up does not move an entry whose age is at most this */
     bool is_recorded;

@@ -94,9 +94,36 @@ static struct place *try_places(const struct rrcache *cache, struct part *part)
     return NULL;
 }
 
-/* A reader first spins on its processor. Then it waits as a writer does, so writers cannot keep it
-   out for long. While it holds the lock of writers, the part is not changed. */
-struct place *wait_for_place(const struct rrcache *cache, struct part *part)
+/* Takes a place, unless it is taken. */
+static bool take_free(struct place *place)
+{
+    return atomic_load_explicit(&place->is_taken, memory_order_relaxed) == 0
+           && atomic_exchange_explicit(&place->is_taken, 1, memory_order_seq_cst) == 0;
+}
+
+/* Waits for any place of a part as a writer does, with the lock of writers, so that no other reader
+   takes a place in the meantime. Otherwise a reader that leaves its place and takes it again at
+   once could have the place each time this thread looks, and all writers would wait too. Nothing is
+   changed, so the turn is the same afterwards, and memos are still right. */
+static struct place *wait_alone(const struct rrcache *cache, struct part *part)
+{
+    uint64_t turn = atomic_load_explicit(&part->turn, memory_order_relaxed);
+    uint64_t reader = reader_here(cache), looked = 0;
+    atomic_store_explicit(&part->turn, turn + 1, memory_order_seq_cst);
+    while (!take_free(place_at(cache, part, reader))) {
+        reader = (reader + 1) % cache->readers;
+        if (++looked % cache->readers == 0)
+            rest((unsigned)(looked / cache->readers));
+    }
+    atomic_store_explicit(&part->turn, turn, memory_order_release);
+    struct place *place = place_at(cache, part, reader);
+    WATCH_TAKEN(place, true);
+    WATCH_TAKEN(part, false);
+    return place;
+}
+
+/* Takes any place of a part once one is free, but does not look for long. */
+static struct place *look_for_place(const struct rrcache *cache, struct part *part)
 {
     struct place *place = NULL;
     for (unsigned looked = 0; looked < PAUSES && place == NULL; looked++) {
@@ -105,11 +132,20 @@ struct place *wait_for_place(const struct rrcache *cache, struct part *part)
         if (place == NULL)
             rest(looked);
     }
+    return place;
+}
+
+/* A reader first waits on its processor. Then it waits as a writer does, so neither writers nor
+   other readers can keep it out for long. While it holds their lock, the part is not changed. */
+struct place *wait_for_place(const struct rrcache *cache, struct part *part)
+{
+    struct place *place = look_for_place(cache, part);
     if (place != NULL)
         return place;
     lock_writer(part);
-    for (unsigned looked = 0; (place = try_places(cache, part)) == NULL; looked++)
-        rest(looked);
+    place = look_for_place(cache, part);
+    if (place == NULL)
+        place = wait_alone(cache, part);
     pthread_mutex_unlock(&part->writer);
     return place;
 }

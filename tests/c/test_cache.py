@@ -48,6 +48,13 @@ def test_canceled_threads(build, libraries, tmp_path, capsys):
 
 
 @pytest.mark.parametrize("build", ["archive", "sanitized"])
+def test_waiting_look_ups(build, libraries, tmp_path, capsys):
+    """wait_tests.c takes places of lib/ itself."""
+    run(built("wait_tests.c", build, libraries, tmp_path, f"-I{TOP / 'lib'}",
+              "-Wl,--wrap=nanosleep", *MORE["sanitized"], standard="c11"), build, capsys)
+
+
+@pytest.mark.parametrize("build", ["archive", "sanitized"])
 def test_sweeps_give_way(build, libraries, tmp_path, capsys):
     """sweep_tests.c makes each step of a sweep long. A step is a call of lib/, which is compiled
     with the test."""
