@@ -84,6 +84,14 @@ static inline uint64_t moment_of(uint64_t moment)
     return moment != 0 ? moment : moment_now();
 }
 
+/* Whether there is an entry, and it is unexpired at a timestamp: if that is the earlier one, its
+   age is 0 (docs/RULES.md). */
+static inline bool is_unexpired(const struct rrcache_entry *entry, uint64_t moment)
+{
+    uint64_t age = moment > entry->moment ? moment - entry->moment : 0;
+    return entry->kind != 0 && age < entry->ttl;
+}
+
 /* Make the locks of a part that is zeros, and free them. */
 bool make_locks(const struct rrcache *cache, struct part *part);
 void free_locks(struct part *part);

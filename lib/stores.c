@@ -403,20 +403,31 @@ static enum rrcache_status forget_type(struct rrcache *cache, const struct rrcac
     return status;
 }
 
-/* Forgets the RRset or NODATA of a name, a class and a type, if it was stored before the NXDOMAIN
-   of the name. */
+/* Whether an NXDOMAIN of a name governs over what is stored for a type. The later of the two
+   governs, unless the earlier is unexpired and of higher rank (docs/RULES.md). */
+static bool is_hidden(const struct rrcache_stored *stored, uint64_t moment)
+{
+    const struct rrcache_entry *set = &stored->set, *nxdomain = &stored->nxdomain;
+    if (set->number > nxdomain->number)
+        return is_unexpired(nxdomain, moment) && nxdomain->trust > set->trust;
+    return !is_unexpired(set, moment) || set->trust <= nxdomain->trust;
+}
+
+/* Forgets the RRset or NODATA of a name, a class and a type, if the NXDOMAIN of the name hides it.
+ */
 static enum rrcache_status forget_hidden(struct rrcache *cache, const struct rrcache_name *name,
                                          const struct rrcache_request *request)
 {
     struct part *part = &cache->part[name->part];
     const struct rrcache_question question = {.rtype = request->rtype, .rclass = request->rclass};
+    uint64_t moment = moment_of(request->moment);
     struct rrcache_stored stored = {0};
     lock_part(cache, part);
     enum rrcache_status status = rrcache_tell_stored(&part->shelf, name, &question, &stored);
-    if (status == RRCACHE_DONE && stored.set.kind != 0
-        && stored.set.number < stored.nxdomain.number)
-        status = clear(part, request, RRCACHE_NODATA, moment_of(request->moment));
-    settle(cache, part, moment_of(request->moment));
+    if (status == RRCACHE_DONE && stored.nxdomain.kind != 0 && stored.set.kind != 0
+        && is_hidden(&stored, moment))
+        status = clear(part, request, RRCACHE_NODATA, moment);
+    settle(cache, part, moment);
     unlock_part(cache, part);
     return status;
 }

@@ -1,6 +1,6 @@
 /* SPDX-License-Identifier: MIT */
 /* Tests of `rrcache_forget` with type ANY: between its steps other threads look up and store. What
-   was stored before an NXDOMAIN is then never in an answer (RFC 2308 section 5).
+   an NXDOMAIN hides is then never in an answer (RFC 2308 section 5, RFC 2181 section 5.4.1).
 
    The program is linked with --wrap for pthread_mutex_unlock. A shelf changes only while its writer
    holds that lock, so a call behind each release finds all that a thread can find in between.
@@ -88,17 +88,23 @@ static void keep_set(struct rrcache *cache, const struct rrcache_set *set)
     EXPECT(rrcache_store_set(cache, set, &outcome) == RRCACHE_DONE && outcome == RRCACHE_KEPT);
 }
 
-static void keep(struct rrcache *cache, uint16_t rtype, uint32_t ttl, uint64_t moment)
+static void keep_of_rank(struct rrcache *cache, uint16_t rtype, uint32_t ttl, uint64_t moment,
+                         enum rrcache_trust trust)
 {
     keep_set(cache, &(struct rrcache_set){.owner = NAME,
                                           .owner_size = sizeof NAME,
                                           .rtype = rtype,
                                           .rclass = RRCACHE_IN,
-                                          .trust = RRCACHE_AUTHORITATIVE_ANSWER,
+                                          .trust = trust,
                                           .ttl = ttl,
                                           .data = DATUM,
                                           .data_size = sizeof DATUM,
                                           .moment = moment});
+}
+
+static void keep(struct rrcache *cache, uint16_t rtype, uint32_t ttl, uint64_t moment)
+{
+    keep_of_rank(cache, rtype, ttl, moment, RRCACHE_AUTHORITATIVE_ANSWER);
 }
 
 static void keep_alias(struct rrcache *cache)
@@ -129,15 +135,15 @@ static void keep_other(struct rrcache *cache)
     between = look_up_types;
 }
 
-static void deny(struct rrcache *cache, uint16_t rtype, enum rrcache_kind kind, uint32_t ttl,
-                 uint64_t moment)
+static void deny_of_rank(struct rrcache *cache, uint16_t rtype, enum rrcache_kind kind,
+                         uint32_t ttl, uint64_t moment, enum rrcache_trust trust)
 {
     const struct rrcache_negative negative = {.name = NAME,
                                               .name_size = sizeof NAME,
                                               .rtype = rtype,
                                               .rclass = RRCACHE_IN,
                                               .kind = kind,
-                                              .trust = RRCACHE_AUTHORITATIVE_ANSWER,
+                                              .trust = trust,
                                               .ttl = ttl,
                                               .soa_owner = ZONE,
                                               .soa_owner_size = sizeof ZONE,
@@ -147,6 +153,12 @@ static void deny(struct rrcache *cache, uint16_t rtype, enum rrcache_kind kind, 
     uint32_t outcome = 0;
     EXPECT(rrcache_store_negative(cache, &negative, &outcome) == RRCACHE_DONE
            && outcome == RRCACHE_KEPT);
+}
+
+static void deny(struct rrcache *cache, uint16_t rtype, enum rrcache_kind kind, uint32_t ttl,
+                 uint64_t moment)
+{
+    deny_of_rank(cache, rtype, kind, ttl, moment, RRCACHE_AUTHORITATIVE_ANSWER);
 }
 
 static void keep_types(struct rrcache *cache)
@@ -252,6 +264,38 @@ static void test_that_newer_data_stay_until_they_go(void)
     rrcache_close(cache);
 }
 
+/* An unexpired NXDOMAIN of higher rank hides newer data too: none of them is in an answer. */
+static void test_that_nothing_of_lower_rank_comes_out(void)
+{
+    struct rrcache *cache = open_cache(64);
+    deny(cache, A, RRCACHE_NXDOMAIN, 3600, FIRST);
+    keep_of_rank(cache, A, 3600, FIRST, RRCACHE_NON_AUTHORITATIVE_ANSWER);
+    keep_of_rank(cache, TXT, 60, FIRST, RRCACHE_NON_AUTHORITATIVE_ANSWER);
+    for (int i = 0; i < TYPES_COUNT; i++)
+        EXPECT(kind_of(cache, TYPES[i]) == RRCACHE_NXDOMAIN);
+    forget_watched(cache);
+    EXPECT(told[RRCACHE_FRESH] == 0 && told[RRCACHE_STALE] == 0
+           && told[RRCACHE_NXDOMAIN] >= 2 * TYPES_COUNT && told[RRCACHE_MISS] >= TYPES_COUNT);
+    rrcache_close(cache);
+}
+
+static void look_up_address(struct rrcache *cache)
+{
+    told[kind_of(cache, A)]++;
+}
+
+/* An NXDOMAIN of lower rank hides no older unexpired data, and no answer has it instead. */
+static void test_that_data_of_higher_rank_stay_until_they_go(void)
+{
+    struct rrcache *cache = open_cache(64);
+    keep(cache, A, 3600, FIRST);
+    deny_of_rank(cache, A, RRCACHE_NXDOMAIN, 3600, NOW, RRCACHE_NON_AUTHORITATIVE_ANSWER);
+    EXPECT(kind_of(cache, A) == RRCACHE_FRESH && kind_of(cache, TXT) == RRCACHE_NXDOMAIN);
+    EXPECT(forget_among(cache, look_up_address).keys == 0);
+    EXPECT(told[RRCACHE_FRESH] > 0 && told[RRCACHE_MISS] > 0 && told[RRCACHE_NXDOMAIN] == 0);
+    rrcache_close(cache);
+}
+
 /* What is forgotten makes room at once. So a key that is stored between two steps, in a shelf that
    was full, evicts nothing. If it counted as an eviction, an alias that is held would be taken for
    evicted (`renew_owners`), and look-ups would not find it. */
@@ -275,6 +319,8 @@ int main(void)
     test_that_nothing_older_comes_back();
     test_that_an_expired_nxdomain_hides_until_it_goes();
     test_that_newer_data_stay_until_they_go();
+    test_that_nothing_of_lower_rank_comes_out();
+    test_that_data_of_higher_rank_stay_until_they_go();
     test_that_there_is_room_between();
     return told_status();
 }
