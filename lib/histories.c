@@ -16,7 +16,7 @@ static int write_octets(void *state, const void *octets, size_t size)
     return to->sink(to->state, to->shelf, octets, size);
 }
 
-/* Stops recording a part, and takes its chapters out. */
+/* Stops recording a part, and takes its chapters out, or drops them if that fails. */
 static enum rrcache_status take_record(struct rrcache *cache, struct part *part,
                                        struct rrcache_chapters *chapters, uint64_t *count)
 {
@@ -29,12 +29,14 @@ static enum rrcache_status take_record(struct rrcache *cache, struct part *part,
     return status;
 }
 
+/* Stops recording a part, and frees what was recorded: without the lock if malloc allows, since
+   that takes as long as there are events. */
 static void drop_record(struct rrcache *cache, struct part *part)
 {
-    lock_part(cache, part);
-    rrcache_stop_and_drop(&part->shelf);
-    part->is_recorded = false;
-    unlock_part(cache, part);
+    struct rrcache_chapters chapters = {0};
+    uint64_t count = 0;
+    if (take_record(cache, part, &chapters, &count) == RRCACHE_DONE)
+        rrcache_free_chapters(&chapters);
 }
 
 static enum rrcache_status begin_record(struct rrcache *cache, struct part *part)

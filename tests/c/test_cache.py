@@ -62,6 +62,14 @@ def test_sweeps_give_way(build, libraries, tmp_path, capsys):
               "-Wl,--wrap=rrc_sweep_some", *MORE["sanitized"], standard="c11"), build, capsys)
 
 
+@pytest.mark.parametrize("build", ["archive", "sanitized"])
+def test_dropped_records(build, libraries, tmp_path, capsys):
+    """drop_tests.c sees whether a shelf is locked while its record is freed."""
+    run(built("drop_tests.c", build, libraries, tmp_path, f"-I{TOP / 'lib'}",
+              "-Wl,--wrap=rrc_free_chapters,--wrap=rrc_stop_and_drop", *MORE["sanitized"],
+              standard="c11"), build, capsys)
+
+
 def test_archives_are_legal(libraries, tmp_path, request):
     program = request.config.getoption("program")
     if not program.exists():
