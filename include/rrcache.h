@@ -446,22 +446,24 @@ RRCACHE_API enum rrcache_status rrcache_stats_text(const struct rrcache_stats *s
    RRCACHE_MEMORY. On error nothing is recorded. */
 RRCACHE_API enum rrcache_status rrcache_record_all(struct rrcache *cache);
 
-/* Stops recording, and writes the archive of each shelf to `sink`, one shelf after another. If
-   nothing is recorded, nothing is written. Returns RRCACHE_SINK if the sink returns nonzero. Also
-   returns RRCACHE_HISTORY_FULL and RRCACHE_MEMORY. After any of these errors, recording has
-   stopped, and the histories that were not written are dropped. */
+/* Stops recording, and writes the archive of each shelf to `sink`, one shelf after another. A shelf
+   records until it comes to its turn, so while a slow sink writes the archives before it, its
+   events still take memory. If nothing is recorded, nothing is written. Returns RRCACHE_SINK if the
+   sink returns nonzero. Also returns RRCACHE_HISTORY_FULL and RRCACHE_MEMORY. After any of these
+   errors, recording has stopped, and the histories that were not written are dropped. */
 RRCACHE_API enum rrcache_status rrcache_stop_recording_all(struct rrcache *cache,
                                                            rrcache_shelf_sink sink, void *state);
 
 /* Writes the contents of each shelf to `sink`, one shelf after another, in the form in which a
-   chapter of an archive begins. The contents of each shelf are those at one point in time. The call
-   allocates memory for the keys of one shelf at a time. No call reads such contents back. A caller
-   can store each entry in a new cache, with the rank, TTL and timestamp of its line, in the order
-   of event numbers. CLOCK_BOOTTIME starts again at zero when the machine restarts: the caller then
-   converts the timestamps first (docs/RULES.md, "Listing and saving keys"). docs/CAPTURES.md, "A
-   wrong answer", says what a dump shows about an answer. Returns RRCACHE_HAS_CHAPTERS while
-   histories are being recorded, and RRCACHE_SINK if the sink returns nonzero. Also returns
-   RRCACHE_HISTORY_FULL and RRCACHE_MEMORY. */
+   chapter of an archive begins. The contents of each shelf are those at one point in time: other
+   calls in a shelf wait while its keys are listed. The call allocates memory for the keys of one
+   shelf at a time. No call reads such contents back. A caller can store each entry in a new cache,
+   with the rank, TTL and timestamp of its line, in the order of event numbers. CLOCK_BOOTTIME
+   starts again at zero when the machine restarts: the caller then converts the timestamps first
+   (docs/RULES.md, "Listing and saving keys"). docs/CAPTURES.md, "A wrong answer", says what a dump
+   shows about an answer. Returns RRCACHE_HAS_CHAPTERS while histories are being recorded, and
+   RRCACHE_SINK if the sink returns nonzero. Also returns RRCACHE_HISTORY_FULL and
+   RRCACHE_MEMORY. */
 RRCACHE_API enum rrcache_status rrcache_dump(struct rrcache *cache, rrcache_shelf_sink sink,
                                              void *state);
 
