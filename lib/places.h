@@ -6,9 +6,9 @@
    order of all operations that are memory_order_seq_cst. So at least one of the two sees the other.
    If a reader sees a writer, the reader leaves its place, so a writer waits only for readers that
    were there before it. A reader writes only to its own place, and a writer only reads places. So
-   readers do not wait for each other's cache lines of the processor, and neither do writers. A reader
-   that has waited for a place begins as a writer does, so it waits only for readers that were there
-   before it. */
+   readers do not wait for each other's cache lines of the processor, and neither do writers. A
+   reader that has waited for a place begins as a writer does, so it waits only for readers that
+   were there before it. */
 #ifndef PLACES_H
 #define PLACES_H
 
