@@ -75,10 +75,10 @@
    - Timestamps (`moment`) are in seconds, at most 2^40. If a timestamp is 0, the call uses
      CLOCK_BOOTTIME, which cannot be set and keeps running while the machine is suspended.
    - A program passes 0 in every call, or it passes timestamps from its own clock in every call.
-     That clock must never be set back. If a program mixes the two clocks, data expire too late or
-     too early. A program that passes 0 may also pass seconds of CLOCK_BOOTTIME, for example when it
-     restores a dump: this is the same clock. `retry_from` is a timestamp of the clock that the
-     program uses.
+     That clock must never be set back. If it is set forward, all data age at once: see "Timestamps"
+     in rrcache_shelf.h. If a program mixes the two clocks, data expire too late or too early. A
+     program that passes 0 may also pass seconds of CLOCK_BOOTTIME, for example when it restores a
+     dump: this is the same clock. `retry_from` is a timestamp of the clock that the program uses.
 
    Errors
    - The header rrcache_shelf.h describes the wire form of names, the ownership of memory, and each

@@ -465,8 +465,10 @@ struct rrcache_question {
 };
 
 /* The entry of a key. All fields are 0 if nothing is stored, and in replies with RRCACHE_MISS or
-   RRCACHE_FAILED. An auditor uses `number` to find the event in the history of the shelf. A caller
-   can use the shelf and `number` together to find its own data that belong to the entry. */
+   RRCACHE_FAILED. An auditor uses `number` to find the event in the history of the shelf. Two
+   entries of one shelf never have the same `number`, but entries of two shelves may. So a caller
+   that keeps data about entries finds them by the shelf and `number`, or by a name and `number`,
+   because a name has one shelf. */
 struct rrcache_entry {
     uint32_t kind;   /* enum rrcache_kind, or 0 if nothing is stored */
     uint32_t trust;  /* enum rrcache_trust; 0 for a failure */
