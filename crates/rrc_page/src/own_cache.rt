@@ -54,13 +54,7 @@ impl Calls for OwnCache {
     ghost count = { λ c. c };
 
     // Any answer: the report holds the answers against the histories of the parts.
-    ghost offered = { λ tag offer outcome. Unit {0} };
-
-    ghost asked = { λ tag ask reply. Unit {0} };
-
-    ghost swept = { λ part tag moment gone. Unit {0} };
-
-    ghost closed = { λ part. Unit {0} };
+    ghost makes = { λ old call new. Unit {0} };
 
     fn parts(&self) -> usize {
         self.shelves.len()

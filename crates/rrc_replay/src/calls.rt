@@ -15,13 +15,7 @@ impl<R: Wait> Calls for SharedCalls<'_, '_, R> {
     ghost count = { λ s. s.cache.now };
 
     // Any answer: the report holds the answers against the histories of the parts.
-    ghost offered = { λ tag offer outcome. Unit {0} };
-
-    ghost asked = { λ tag ask reply. Unit {0} };
-
-    ghost swept = { λ part tag moment gone. Unit {0} };
-
-    ghost closed = { λ part. Unit {0} };
+    ghost makes = { λ old call new. Unit {0} };
 
     fn parts(&self) -> usize {
         self.cache.parts()

@@ -1,43 +1,49 @@
 -- SPDX-License-Identifier: MIT
 -- One call more, behind those that a line made.
 use Rattle.std.proofs.Common.{◌≡◌, ℕ, zero, suc, ◌+◌, List, [], ◌∷◌, ◌++◌, length, refl, ap, subst, arith}
-use Rattle.rrc_history.specs.declared.event.Outcome.{Outcome}
-use Rattle.rrc_history.specs.declared.event.Tag.{Tag}
 use Rattle.rrc_history.specs.Fits.{OfferOf}
 use Rattle.rrc_trace.specs.declared.answer.Told.{Told}
-use Rattle.rrc_report.specs.Called.{tag_at, IsOffered, AreOffered, AreSwept}
+use Rattle.rrc_report.specs.Called.{CallMade, Swept, Closed, tag_at, IsOffered, AreOffered, AreSwept, AreClosed}
 
--- an offer at the next place
-pub offered_more : (offered : Tag → OfferOf → Outcome → Type 0) (line place number : ℕ) (offers : List OfferOf) (all : List Told) (offer : OfferOf) (told : Told)
-    → AreOffered offered line place offers all → number ≡ place + length all → IsOffered offered (tag_at line number) offer told
-    → AreOffered offered line place (offers ++ offer ∷ []) (all ++ told ∷ [])
-offered_more offered line place number [] [] offer told made is_number one =
-    let same : number ≡ place = omega (arith, is_number) in (subst (λ n. IsOffered offered (tag_at line n) offer told) same one, tt)
-offered_more offered line place number [] (first ∷ behind) offer told made is_number one = absurd made
-offered_more offered line place number (first ∷ behind) [] offer told made is_number one = absurd made
-offered_more offered line place number (first ∷ behind) (own ∷ others) offer told made is_number one =
-    (made.0, offered_more offered line (place + 1) number behind others offer told made.1 (omega (arith, is_number)) one)
+module _ {S : Type 0} (makes : S → CallMade → S → Type 0) where
+  -- an offer at the next place
+  pub offered_more : (line place number : ℕ) (offers : List OfferOf) (old middle new : S) (all : List Told) (offer : OfferOf) (told : Told)
+      → AreOffered makes line place offers old middle all → number ≡ place + length all → IsOffered makes (tag_at line number) offer middle new told
+      → AreOffered makes line place (offers ++ offer ∷ []) old new (all ++ told ∷ [])
+  offered_more line place number [] old middle new [] offer told made is_number one =
+      let same : number ≡ place = omega (arith, is_number) in
+      let here : IsOffered makes (tag_at line place) offer middle new told = subst (λ n. IsOffered makes (tag_at line n) offer middle new told) same one in
+      (new, subst (λ s. IsOffered makes (tag_at line place) offer s new told) made here, refl)
+  offered_more line place number [] old middle new (first ∷ behind) offer told made is_number one = absurd made
+  offered_more line place number (first ∷ behind) old middle new [] offer told made is_number one = absurd made
+  offered_more line place number (first ∷ behind) old middle new (own ∷ others) offer told made is_number one =
+      (made.0, made.1, offered_more line (place + 1) number behind made.0 middle new others offer told made.2 (omega (arith, is_number)) one)
 
--- as much is told as was offered
-pub offered_length : (offered : Tag → OfferOf → Outcome → Type 0) (line place : ℕ) (offers : List OfferOf) (all : List Told) → AreOffered offered line place offers all
-    → length all ≡ length offers
-offered_length offered line place [] [] made = refl
-offered_length offered line place [] (first ∷ behind) made = absurd made
-offered_length offered line place (first ∷ behind) [] made = absurd made
-offered_length offered line place (first ∷ behind) (own ∷ others) made = ap suc (offered_length offered line (place + 1) behind others made.1)
+  -- as much is told as was offered
+  pub offered_length : (line place : ℕ) (offers : List OfferOf) (old new : S) (all : List Told) → AreOffered makes line place offers old new all → length all ≡ length offers
+  offered_length line place [] old new [] made = refl
+  offered_length line place [] old new (first ∷ behind) made = absurd made
+  offered_length line place (first ∷ behind) old new [] made = absurd made
+  offered_length line place (first ∷ behind) old new (own ∷ others) made = ap suc (offered_length line (place + 1) behind made.0 new others made.2)
 
-swept_next : (swept : ℕ → Tag → ℕ → ℕ → Type 0) (line moment first part number : ℕ) (counts : List ℕ) (gone : ℕ) → AreSwept swept line moment first part counts
-    → number ≡ first + part → swept number (tag_at line number) moment gone → AreSwept swept line moment first (suc part) (counts ++ gone ∷ [])
-swept_next swept line moment first zero number [] gone made is_number one =
-    let same : number ≡ first = omega (arith, is_number) in (subst (λ n. swept n (tag_at line n) moment gone) same one, tt)
-swept_next swept line moment first zero number (own ∷ others) gone made is_number one = absurd made
-swept_next swept line moment first (suc part) number [] gone made is_number one = absurd made
-swept_next swept line moment first (suc part) number (own ∷ others) gone made is_number one =
-    (made.0, swept_next swept line moment (first + 1) part number others gone made.1 (omega (arith, is_number)) one)
+  swept_next : (line moment first part number : ℕ) (old middle new : S) (counts : List ℕ) (gone : ℕ) → AreSwept makes line moment first part old middle counts
+      → number ≡ first + part → makes middle (Swept number (tag_at line number) moment gone) new → AreSwept makes line moment first (suc part) old new (counts ++ gone ∷ [])
+  swept_next line moment first zero number old middle new [] gone made is_number one =
+      let same : number ≡ first = omega (arith, is_number) in
+      let here : makes middle (Swept first (tag_at line first) moment gone) new = subst (λ n. makes middle (Swept n (tag_at line n) moment gone) new) same one in
+      (new, subst (λ s. makes s (Swept first (tag_at line first) moment gone) new) made here, refl)
+  swept_next line moment first zero number old middle new (own ∷ others) gone made is_number one = absurd made
+  swept_next line moment first (suc part) number old middle new [] gone made is_number one = absurd made
+  swept_next line moment first (suc part) number old middle new (own ∷ others) gone made is_number one =
+      (made.0, made.1, swept_next line moment (first + 1) part number made.0 middle new others gone made.2 (omega (arith, is_number)) one)
 
--- a sweep of the next part
-pub swept_more : (swept : ℕ → Tag → ℕ → ℕ → Type 0) (line moment part : ℕ) (counts : List ℕ) (gone : ℕ) → AreSwept swept line moment 0 part counts
-    → swept part (tag_at line part) moment gone → AreSwept swept line moment 0 (part + 1) (counts ++ gone ∷ [])
-swept_more swept line moment part counts gone made one =
-    let next : suc part ≡ part + 1 = omega arith in
-    subst (λ n. AreSwept swept line moment 0 n (counts ++ gone ∷ [])) next (swept_next swept line moment 0 part part counts gone made (omega arith) one)
+  -- a sweep of the next part
+  pub swept_more : (line moment part : ℕ) (old middle new : S) (counts : List ℕ) (gone : ℕ) → AreSwept makes line moment 0 part old middle counts
+      → makes middle (Swept part (tag_at line part) moment gone) new → AreSwept makes line moment 0 (part + 1) old new (counts ++ gone ∷ [])
+  swept_more line moment part old middle new counts gone made one =
+      let next : suc part ≡ part + 1 = omega arith in
+      subst (λ n. AreSwept makes line moment 0 n old new (counts ++ gone ∷ [])) next (swept_next line moment 0 part part old middle new counts gone made (omega arith) one)
+
+  -- a closing of the next part
+  pub closed_more : (part : ℕ) (old middle new : S) → AreClosed makes part old middle → makes middle (Closed part) new → AreClosed makes (part + 1) old new
+  closed_more part old middle new made one = let next : suc part ≡ part + 1 = omega arith in subst (λ n. AreClosed makes n old new) next (middle, made, one)

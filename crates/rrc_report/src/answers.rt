@@ -18,7 +18,7 @@ use std::alloc::Global;
 /// Makes an offer, and tells what became of it. Whom it evicted no call answers.
 fn tell<C: Calls>(cache: &mut C, tag: Tag, offer: Offer) -> Result<Told, Refused>
     requires { offer.moment ≤ LAST_MOMENT }
-    ensures { IfOk result (IsOffered C.offered tag offer) }
+    ensures { IfOk result (IsOffered C.makes tag offer cache.old cache.new) }
 {
     Ok(Told {
         outcome: cache.offer(tag, offer)?,
@@ -35,7 +35,7 @@ fn tell_all<C: Calls>(
 ) -> Result<Sequence<Told>, Refused>
     requires first { first.place ≤ 1 }
     requires timely { All (λ offer. offer.moment ≤ LAST_MOMENT) offers.items }
-    ensures { IfOk result (AreOffered C.offered first.line first.place offers.items) }
+    ensures { IfOk result (AreOffered C.makes first.line first.place offers.items cache.old cache.new) }
 {
     // No room to spare: a trace may have as many of these lists as lines.
     let mut told = Sequence::from_vec(Vec::with_capacity(alloc, offers.len())?);
@@ -57,7 +57,7 @@ fn fail<C: Calls>(
     failed: &Failed,
 ) -> Result<Told, Refused>
     requires { failed.now.moment ≤ LAST_MOMENT }
-    ensures { IfOk result (IsOffered C.offered first (failure_of limits.now failed.now.moment failed.now.name failed.now.class failed.now.rtype)) }
+    ensures { IfOk result (IsOffered C.makes first (failure_of limits.now failed.now.moment failed.now.name failed.now.class failed.now.rtype) cache.old cache.new) }
 {
     let offer = failure_at(
         failed.moment,
@@ -79,7 +79,7 @@ fn respond<C: Calls>(
     response: &Response,
 ) -> Result<Answer, Refused>
     requires { response.now.moment ≤ LAST_MOMENT }
-    ensures { IfOk result (IsResponded C.offered limits.now line response.now) }
+    ensures { IfOk result (IsResponded C.makes limits.now line response.now cache.old cache.new) }
 {
     let first = Tag { line, place: 0 };
     let octets = response.octets.as_slice();
@@ -98,7 +98,7 @@ fn sweep<C: Calls>(
     moment: u64,
 ) -> Result<Sequence<usize>, Refused>
     requires { moment ≤ LAST_MOMENT }
-    ensures { IfOk result (AreSwept C.swept line moment 0 (C.count cache.old)) }
+    ensures { IfOk result (AreSwept C.makes line moment 0 (C.count cache.old) cache.old cache.new) }
 {
     let parts = cache.parts();
     let mut counts = Sequence::from_vec(Vec::with_capacity(alloc, parts)?);
@@ -114,7 +114,7 @@ fn sweep<C: Calls>(
 
 /// Closes the chapter of each part.
 fn close<C: Calls>(cache: &mut C) -> Result<(), Refused>
-    ensures { OnOk result (AreClosed C.closed (C.count cache.old)) }
+    ensures { OnOk result (AreClosed C.makes (C.count cache.old) cache.old cache.new) }
 {
     let parts = cache.parts();
     for part in 0..parts {
@@ -132,7 +132,7 @@ pub fn first_look<C: Calls>(
     fetch: &Fetch,
 ) -> Result<Option<Answer>, Refused>
     requires { fetch.now.moment ≤ LAST_MOMENT }
-    ensures { IfOk result (IsFirstLook C.asked line fetch.now) }
+    ensures { IfOk result (IsFirstLook C.makes line fetch.now cache.old cache.new) }
 {
     match cache.ask(Tag { line, place: 0 }, &ask_at(fetch, Mode::Failed)?)? {
         Reply::Miss {
@@ -156,7 +156,7 @@ pub fn fetched<C: Calls>(
     fetch: &Fetch,
 ) -> Result<Answer, Refused>
     requires { fetch.now.moment ≤ LAST_MOMENT }
-    ensures { IfOk result (IsFetched C.offered C.asked limits.now line fetch.now) }
+    ensures { IfOk result (IsFetched C.makes limits.now line fetch.now cache.old cache.new) }
 {
     let Ok(offers) = offers_fetched(alloc, fetch, limits) else {
         return Err(Refused::Memory);
@@ -177,7 +177,7 @@ fn answer_fetch<C: Calls>(
     fetch: &Fetch,
 ) -> Result<Answer, Refused>
     requires { fetch.now.moment ≤ LAST_MOMENT }
-    ensures { IfOk result (IsFetchAnswer C.offered C.asked limits.now line fetch.now) }
+    ensures { IfOk result (IsFetchAnswer C.makes limits.now line fetch.now cache.old cache.new) }
 {
     match first_look(cache, line, fetch)? {
         Some(answer) => Ok(answer),
@@ -197,7 +197,7 @@ pub fn answer_line<C: Calls>(
     line: &Line,
 ) -> Result<Answer, Refused>
     requires { IsLawful line.now }
-    ensures { IfOk result (IsCalled C.offered C.asked C.swept C.closed limits.now (C.count cache.old) number line.now) }
+    ensures { IfOk result (IsCalled C.makes limits.now (C.count cache.old) number line.now cache.old cache.new) }
 {
     let first = Tag {
         line: number,

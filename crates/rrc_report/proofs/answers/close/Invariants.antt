@@ -5,4 +5,4 @@ use Rattle.rrc_report.specs.Called.{AreClosed}
 use Rattle.rrc_report.proofs.answers.close.Given as goal
 
 abbrev pub invariant-loop-part : goal.invariant-loop-part
-invariant-loop-part g l = (g.C.Calls.count l.cache ≡ l.parts) × AreClosed g.C.Calls.closed l.part
+invariant-loop-part g l = (g.C.Calls.count l.cache ≡ l.parts) × AreClosed g.C.Calls.makes l.part l.fn.cache l.cache
