@@ -63,7 +63,7 @@
    - The configuration of an open cache cannot be changed. Memory that the library frees goes back
      to malloc, and malloc decides whether it goes back to the system.
    - An RRset that would use more than the share of its shelf is left out. The largest RRset of a
-     response used 242,208 octets in tests. So with 64 shelves set `octets` to at least 16 MiB, and
+     response used 242,208 octets in tests. So with 64 shelves, set `octets` to at least 16 MiB, and
      use fewer shelves if `octets` is smaller.
    - Look-ups never allocate while no history is being recorded. `rrcache_next`, `rrcache_stats`,
      `rrcache_stats_of` and `rrcache_stats_text` never allocate. If malloc fails in any other
@@ -96,7 +96,7 @@
      RRCACHE_MEMORY means that malloc failed, RRCACHE_HISTORY_FULL that the event numbers are used
      up, and RRCACHE_MOMENT_TOO_LARGE that a timestamp is above 2^40. The comments below do not
      repeat these conditions.
-   - After RRCACHE_HISTORY_FULL the shelf can no longer store anything. Then close the cache and
+   - After RRCACHE_HISTORY_FULL, the shelf can no longer store anything. Then close the cache and
      open a new one. At 10^9 events a second in one shelf, this happens after 146 years.
    - A field of `struct rrcache_config`, and a limit in a `struct rrcache_response` that is passed
      to `rrcache_store`, may be 0: its default then applies. For the functions of rrcache_shelf.h a
@@ -328,10 +328,10 @@ RRCACHE_API bool rrcache_next(const struct rrcache_answer *answer, struct rrcach
    return the addresses. NS RRsets and addresses with TTL 0 are not stored, so look-ups do not find
    them: read such a referral without storing it, as above. An NS RRset with unequal TTLs is left
    out, unless `lowest_ttl` is set. The NS RRset has the lowest rank. So as long as an unexpired
-   NODATA for type NS or NXDOMAIN of the zone is cached, because somebody asked before the zone was
-   delegated, `rrcache_lookup_delegation` returns a zone above or none. If it returns no zone below
-   the one that was asked, call `rrcache_forget` with type NS for the zone of the referral, and
-   store the response again.
+   NXDOMAIN of the zone, or an unexpired NODATA for its type NS, is cached, because somebody asked
+   before the zone was delegated, `rrcache_lookup_delegation` returns a zone above or none. If it
+   returns no zone below the one that was asked, call `rrcache_forget` with type NS for the zone of
+   the referral, and store the response again.
 
    `answer` may be null. Otherwise it gets the answer that the response itself gives, including data
    that are not stored: data with TTL 0, data that were left out, and data of lower rank than the
@@ -351,7 +351,7 @@ RRCACHE_API bool rrcache_next(const struct rrcache_answer *answer, struct rrcach
    look-up would be a miss again.
 
    Also returns RRCACHE_BAD_LIMITS if a limit is out of range, and RRCACHE_BAD_NAME if the zone or
-   the name of the query is not in wire form. After these errors `report` is unmodified. Once the
+   the name of the query is not in wire form. After these errors, `report` is unmodified. Once the
    response has been read, `report` is written, even if the call then fails with
    RRCACHE_HISTORY_FULL, RRCACHE_MOMENT_TOO_LARGE or RRCACHE_MEMORY. Two errors come after
    everything is stored: RRCACHE_SMALL if the buffer of the answer is too small, and
@@ -447,10 +447,10 @@ RRCACHE_API enum rrcache_status rrcache_stats_text(const struct rrcache_stats *s
 RRCACHE_API enum rrcache_status rrcache_record_all(struct rrcache *cache);
 
 /* Stops recording, and writes the archive of each shelf to `sink`, one shelf after another. A shelf
-   records until it comes to its turn, so while a slow sink writes the archives before it, its
-   events still take memory. If nothing is recorded, nothing is written. Returns RRCACHE_SINK if the
-   sink returns nonzero. Also returns RRCACHE_HISTORY_FULL and RRCACHE_MEMORY. After any of these
-   errors, recording has stopped, and the histories that were not written are dropped. */
+   records until its turn comes, so while a slow sink writes the archives before it, the events of
+   the shelf still take memory. If nothing is recorded, nothing is written. Returns RRCACHE_SINK if
+   the sink returns nonzero. Also returns RRCACHE_HISTORY_FULL and RRCACHE_MEMORY. After any of
+   these errors, recording has stopped, and the histories that were not written are dropped. */
 RRCACHE_API enum rrcache_status rrcache_stop_recording_all(struct rrcache *cache,
                                                            rrcache_shelf_sink sink, void *state);
 

@@ -687,7 +687,7 @@ struct rrcache_set {
 
 /* A negative answer to offer: the name has no data of the type (`kind` RRCACHE_NODATA), or does not
    exist (RRCACHE_NXDOMAIN). `soa` is the rdata of the SOA record of the negative answer, without
-   compressed names. With RRCACHE_NXDOMAIN `rtype` is ignored, because a name that does not exist
+   compressed names. With RRCACHE_NXDOMAIN, `rtype` is ignored, because a name that does not exist
    has no types. */
 struct rrcache_negative {
     const uint8_t *name;
@@ -1437,10 +1437,10 @@ static inline enum rrcache_status rrcache_offer_read(struct rrcache_shelf *shelf
 }
 
 /* Writes to `summary` the RCODE, AA and TC of a response that was read into a handle, and its kind
-   for the question (`enum rrcache_response_kind`). For a referral, the call writes to `name` the
-   zone of the referral, and for an alias the target of the alias. This name is made under the seed
-   with which the response was read. For any other kind `name` is unmodified. The call never
-   allocates, needs no lock, and its only errors are RRCACHE_NULL, RRCACHE_OVERLAP and
+   for the question (`enum rrcache_response_kind`). For a referral, the call writes the zone of the
+   referral to `name`; for an alias, it writes the target of the alias to `name`. This name is made
+   under the seed with which the response was read. For any other kind, `name` is unmodified. The
+   call never allocates, needs no lock, and its only errors are RRCACHE_NULL, RRCACHE_OVERLAP and
    RRCACHE_NO_OFFERS. */
 static inline enum rrcache_status rrcache_tell_response(struct rrcache_offers *offers,
                                                         struct rrcache_name *name,
@@ -1469,7 +1469,7 @@ static inline enum rrcache_status rrcache_tell_response(struct rrcache_offers *o
 
    Returns RRCACHE_NO_OFFERS if there is no offer with this number. Returns RRCACHE_SMALL if the
    buffer is too small: `name` and `told` are written, and the buffer is unmodified. After
-   `rrcache_read_response` 28,551 octets are always enough. The call never allocates, and needs no
+   `rrcache_read_response`, 28,551 octets are always enough. The call never allocates, and needs no
    lock. */
 static inline enum rrcache_status rrcache_tell_offer(struct rrcache_offers *offers, uint64_t index,
                                                      struct rrcache_name *name,
@@ -2037,8 +2037,8 @@ static inline enum rrcache_status rrcache_stop_recording(struct rrcache_shelf *s
    at or after the end of the line. A chapter has a first line with its number and the rules of the
    shelf, a line for each key that was cached when the chapter began, and a line for each event, in
    the form of an archive. Returns RRCACHE_NO_CHAPTERS if the handle holds no chapters, and
-   RRCACHE_NO_LINE after the last line and if there is no such chapter. The call allocates memory
-   for the whole line, and frees it. Needs no lock. */
+   RRCACHE_NO_LINE if there is no such line or no such chapter. The call allocates memory for the
+   whole line, and frees it. Needs no lock. */
 static inline enum rrcache_status rrcache_chapter_line(struct rrcache_chapters *chapters,
                                                        const struct rrcache_place *place,
                                                        uint8_t *buffer, size_t buffer_size,
