@@ -31,8 +31,8 @@
      copied from a memo as long as nothing has changed in the shelf of the name. Only answers of one
      RRset and negative answers have memos. Such a look-up takes no place. What it returns and
      counts is the same as without a memo.
-   - ThreadSanitizer cannot see the locks of the built library. A program that runs under it has to
-     compile the files of lib/ for it too, and to link them before the library.
+   - ThreadSanitizer cannot see the locks of the built library. To run a program under
+     ThreadSanitizer, compile the files of lib/ for it too, and link them before the library.
    - Eviction is LRU, but a look-up does not always move its entry to the front of the LRU order,
      because a move changes the shelf. In a shelf that is at least three quarters full, by octets or
      by keys, a look-up moves its entry if more than a quarter of the shelf's keys may have been
@@ -456,7 +456,7 @@ RRCACHE_API enum rrcache_status rrcache_stop_recording_all(struct rrcache *cache
 
 /* Writes the contents of each shelf to `sink`, one shelf after another, in the form in which a
    chapter of an archive begins. The contents of each shelf are those at one point in time: other
-   calls in a shelf wait while its keys are listed. The call allocates memory for the keys of one
+   calls on a shelf wait while its keys are listed. The call allocates memory for the keys of one
    shelf at a time. No call reads such contents back. A caller can store each entry in a new cache,
    with the rank, TTL and timestamp of its line, in the order of event numbers. CLOCK_BOOTTIME
    starts again at zero when the machine restarts: the caller then converts the timestamps first

@@ -579,13 +579,13 @@ struct rrcache_usage {
     uint64_t octets; /* approximately the octets of memory that the keys use */
 };
 
-/* Which offers of a message to offer: those of a part, counted from 0. */
+/* Which offers of a message to offer: those of one part. Parts are counted from 0. */
 struct rrcache_share {
     uint64_t part;
     uint64_t line;
 };
 
-/* Which one of the offers of a message to offer, counted from 0. */
+/* Which one of the offers of a message to offer. Offers are counted from 0. */
 struct rrcache_offer_pick {
     uint64_t index;
     uint64_t line;
@@ -996,10 +996,10 @@ static inline enum rrcache_status rrcache_free(struct rrcache_shelf *shelf)
     return (enum rrcache_status)rrc_free(shelf);
 }
 
-/* Folds and hashes a name in wire form, and determines its part, counted from 0. Shelves look up
-   the result, `name`, which need not be initialized. The call never allocates, and needs no lock.
-   Returns RRCACHE_BAD_RULES if `parts->count` is not 1 to 64, RRCACHE_BAD_SEED if the seed is all
-   0, and RRCACHE_BAD_NAME if `octets` are not the wire form of a name. */
+/* Folds and hashes a name in wire form, and determines its part. Parts are counted from 0. Shelves
+   look up the result, `name`, which need not be initialized. The call never allocates, and needs no
+   lock. Returns RRCACHE_BAD_RULES if `parts->count` is not 1 to 64, RRCACHE_BAD_SEED if the seed is
+   all 0, and RRCACHE_BAD_NAME if `octets` are not the wire form of a name. */
 static inline enum rrcache_status rrcache_make_name(struct rrcache_name *name,
                                                     const uint8_t *octets, size_t size,
                                                     const struct rrcache_parts *parts)
@@ -1591,11 +1591,11 @@ rrcache_offer_message_unchecked(struct rrcache_shelf *shelf,
         rrcache_octets(response->zone, response->zone_size), response->zone_size, &terms, counts);
 }
 
-/* Offers the data of names in one part, counted from 0, from all the data that
-   `rrcache_offer_message_unchecked` offers. Offers of other parts are neither made nor counted.
-   Returns RRCACHE_BAD_RULES if there is no such part or `parts->count` is not 1 to 64,
-   RRCACHE_BAD_SEED if the seed is all 0, RRCACHE_OTHER_SEED if the shelf has another seed, and the
-   errors of `rrcache_offer_message_unchecked`. Needs the write lock. */
+/* Offers the same data as `rrcache_offer_message_unchecked`, but only the data of names in one
+   part. Parts are counted from 0. Offers of other parts are neither made nor counted. Returns
+   RRCACHE_BAD_RULES if there is no such part or `parts->count` is not 1 to 64, RRCACHE_BAD_SEED if
+   the seed is all 0, RRCACHE_OTHER_SEED if the shelf has another seed, and the errors of
+   `rrcache_offer_message_unchecked`. Needs the write lock. */
 static inline enum rrcache_status
 rrcache_offer_part_unchecked(struct rrcache_shelf *shelf, const struct rrcache_response *response,
                              const struct rrcache_parts *parts, const struct rrcache_share *share,
@@ -2082,11 +2082,11 @@ static inline enum rrcache_status rrcache_write_line(struct rrcache_chapters *ch
     return RRCACHE_DONE;
 }
 
-/* Writes a chapter, counted from 0, to `sink` as text: each of its lines as `rrcache_write_line`
-   does. All chapters of one recording, written in the order in which they were taken, are an
-   archive of the history. The sink must not make a call with the handle of these chapters. Returns
-   RRCACHE_NO_LINE if there is no such chapter. The other errors are those of `rrcache_write_line`.
-   Needs no lock. */
+/* Writes a chapter to `sink` as text: each of its lines as `rrcache_write_line` does. Chapters are
+   counted from 0. All chapters of one recording, written in the order in which they were taken, are
+   an archive of the history. The sink must not make a call with the handle of these chapters.
+   Returns RRCACHE_NO_LINE if there is no such chapter. The other errors are those of
+   `rrcache_write_line`. Needs no lock. */
 static inline enum rrcache_status rrcache_write_chapter(struct rrcache_chapters *chapters,
                                                         uint64_t chapter, rrcache_sink sink,
                                                         void *state)
