@@ -29,8 +29,8 @@
      of two shelves at the same time.
    - If a thread asks for a name again and again within a second, in lower case, the answer is
      copied from a memo as long as nothing has changed in the shelf of the name. Only answers of one
-     RRset and negative answers have memos. Such a look-up takes no place. What it returns and
-     counts is the same as without a memo.
+     RRset and negative answers have memos. Such a look-up takes no place. Its result and its effect
+     on the counters are the same as without a memo.
    - ThreadSanitizer cannot see the locks of the built library. To run a program under
      ThreadSanitizer, compile the files of lib/ for it too, and link them before the library.
    - Eviction is LRU, but a look-up does not always move its entry to the front of the LRU order,
