@@ -1128,7 +1128,7 @@ static inline enum rrcache_status rrcache_can_say(const struct rrcache_query *qu
                      : RRCACHE_DONE;
 }
 
-/* The octets of a header. The name of the question follows them. */
+/* The number of octets of a header. The name of the question follows the header. */
 enum { RRCACHE_HEADER_OCTETS = 12 };
 
 /* A message that is being written, at the front of a buffer. Octets that do not fit are only
@@ -1440,7 +1440,7 @@ static inline enum rrcache_status rrcache_offer_read(struct rrcache_shelf *shelf
    for the question (`enum rrcache_response_kind`). For a referral, the call writes the zone of the
    referral to `name`; for an alias, it writes the target of the alias to `name`. This name is made
    under the seed with which the response was read. For any other kind, `name` is unmodified. The
-   call never allocates, needs no lock, and its only errors are RRCACHE_NULL, RRCACHE_OVERLAP and
+   call never allocates and needs no lock, and its only errors are RRCACHE_NULL, RRCACHE_OVERLAP and
    RRCACHE_NO_OFFERS. */
 static inline enum rrcache_status rrcache_tell_response(struct rrcache_offers *offers,
                                                         struct rrcache_name *name,
