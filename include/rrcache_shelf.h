@@ -723,8 +723,9 @@ typedef int (*rrcache_sink)(void *state, const void *octets, size_t size);
 
 /* The numbers of octets of which `rrcache_sizes` computes the sum. RRCACHE_ENTRY_OCTETS is for a
    key, with its places in the LRU order, the map and the expiry queue. RRCACHE_VALUE_OCTETS is for
-   a name or for the rdata of a record, which have inline room for RRCACHE_INLINE_OCTETS.
-   RRCACHE_BLOCK_OCTETS is for the separate block of a larger name or larger rdata.
+   a name, the rdata of a record or a list of several records. A name and rdata have inline room for
+   RRCACHE_INLINE_OCTETS. RRCACHE_BLOCK_OCTETS is for the separate block of such a list, of a larger
+   name or of larger rdata.
    RRCACHE_SHARED_OCTETS is for the reference count, with its block, of a name or of the data of a
    key. */
 enum {
