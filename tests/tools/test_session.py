@@ -49,7 +49,9 @@ def test_what_the_session_says_in_words_follows_from_its_tables():
     for stale in ("0", "86,400"):
         assert 2.5 < answered[256, stale] - answered[128, stale] < 3.5
     assert 7.5 < answered[128, "86,400"] - answered[128, "0"] < 8.5
-    assert "another 8 % of the asks" in SESSION and "about 3 % more of the asks miss" in SESSION
+    said = " ".join(SESSION.split())
+    assert "another 8 % of the asks" in said
+    assert "asks that miss rises by about 3 percentage points" in said
     rows = [it.split() for it in STEPS[4][1].splitlines()[1:]]
     told = [(f"{int(it[-1].replace(',', '')) / 1_000:.0f}k", f"{100 - float(it[-4]):.0f} %")
             for it in rows[2:]]
@@ -77,7 +79,7 @@ def test_what_the_document_says_of_a_bound_is_the_bound():
     from tools.captures import traffic
     with patch("sys.argv", ["from-capture"]):
         command = runpy.run_path(str(TOP / "bin" / "from-capture"))
-    for number, text in ((traffic.SERVERS_MOST, "At most {:,} names of an NS RRset"),
+    for number, text in ((traffic.SERVERS_MOST, "Of each NS RRset, at most {:,} names are used"),
                          (traffic.GUESSED_FROM, "from the first {:,} messages"),
                          (command["LINES_MOST"], "A trace has at most {:,} lines"),
                          (traffic.TWICE_MICROSECONDS // 1_000, "seen twice within {} milliseconds"),
