@@ -1343,8 +1343,8 @@ static inline enum rrcache_status rrcache_can_read(const struct rrcache_response
 
    These RRsets are not relevant:
    - A DS RRset of `zone` itself, because the parent of the zone has it (RFC 4035 section 2.4).
-   - An NS RRset of the authority section, unless the question has type NS or the response is a
-     referral (RFC 1034 section 4.3.2): AA is clear and the owner is below `zone`. So the servers of
+   - An NS RRset of the authority section, unless the response is a referral (RFC 1034 section
+     4.3.2): AA is clear and the owner is below `zone`. So the servers of
      a zone do not renew their own delegation. A repeated referral does renew its NS RRset. A caller
      that wants a delegation to end with its first TTL peeks for that RRset. If an unexpired NS
      RRset with the same data is cached, the caller does not offer the share of the part that has

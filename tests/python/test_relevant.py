@@ -243,10 +243,10 @@ def test_when_a_delegation_ends(octets, zone, offer, ends):
     assert end_of_delegation(lambda shelf, moment: offer(shelf, octets, zone, moment)) == ends
 
 
-@pytest.mark.parametrize("rtype, ends", [(A, 100), (NS, 1000)])
-def test_what_a_minimized_query_renews(rtype, ends):
+@pytest.mark.parametrize("rtype", [A, NS])
+def test_what_a_minimized_query_renews(rtype):
     """The servers of the zone deny that a name below it has data of the type, and add their NS
-    RRset. That counts only if NS was asked for, so RFC 9156 section 2.1 recommends another type."""
+    RRset. That never counts."""
     query = rrcache.Query("x.z.example", rtype, ID)
     octets = answered("x.z.example", rtype, authority=["z." + SOA_RECORD, *SERVERS])
 
@@ -254,7 +254,20 @@ def test_what_a_minimized_query_renews(rtype, ends):
         with rrcache.read_response(octets, "z.example", query, PARTS, moment) as offers:
             assert offers.summary.kind is rrcache.ResponseKind.NODATA
             shelf.offer_read(offers, 0)
-    assert end_of_delegation(offer) == ends
+    assert end_of_delegation(offer) == 100
+
+
+@pytest.mark.parametrize("rtype", [NS, ANY])
+def test_what_a_question_for_its_name_servers_renews(rtype):
+    """The servers of the zone answer a question for their NS RRset."""
+    query = rrcache.Query("z.example", rtype, ID)
+    octets = answered("z.example", rtype, *SERVERS)
+
+    def offer(shelf, moment):
+        with rrcache.read_response(octets, "z.example", query, PARTS, moment) as offers:
+            assert offers.summary.kind is rrcache.ResponseKind.ANSWER
+            shelf.offer_read(offers, 0)
+    assert end_of_delegation(offer) == 1000
 
 
 def told(octets, query=None, zone="example"):

@@ -92,14 +92,13 @@ fn is_of_final_zone(name: &Option<Name>, offer: &Offer) -> bool
 }
 
 /// Whether an RRset of the authority section is no NS RRset, or is that of a referral (RFC 1034
-/// section 4.3.2), which has AA clear and leads below the zone, or was asked for.
+/// section 4.3.2), which has AA clear and leads below the zone. Even a question of type NS changes
+/// nothing: it may be about a name below the zone.
 #[tactic(auto, unfolding(crate::specs::Relevant::may_refer))]
 fn may_refer(message: &Message, zone: &Name, offer: &Offer) -> bool
     ensures { result ≡ may_refer message.now zone.now offer.now }
 {
-    !is_set_of(NS, offer)
-        || message.question.qtype == NS
-        || (!message.aa && !zone.same(&offer.key.name))
+    !is_set_of(NS, offer) || (!message.aa && !zone.same(&offer.key.name))
 }
 
 /// Whether the owner of an offer is one of these hosts.
@@ -277,8 +276,8 @@ fn relevant_of(
 ///   have the type that was asked for or are CNAME records, and the DNAME records above such a
 ///   name;
 /// - of the authority section the first SOA record, the first NS and the first DS RRset of a zone
-///   that the final name is in, where an NS RRset is that of a referral or was asked for, unless
-///   the limits say that any will do (`only_referrals`, RFC 1034 section 4.3.2);
+///   that the final name is in, where an NS RRset is that of a referral, unless the limits say that
+///   any will do (`only_referrals`, RFC 1034 section 4.3.2);
 /// - of the additional section the addresses of hosts that NS, MX and SRV records among these name:
 ///   those of NS records count first, and each counts once;
 /// - the negative answer, and the failure;
