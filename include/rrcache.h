@@ -268,7 +268,7 @@ RRCACHE_API void rrcache_close(struct rrcache *cache);
    answer (RRCACHE_NODATA or RRCACHE_NXDOMAIN), or a miss (RRCACHE_MISS or RRCACHE_FAILED). After a
    miss the answer still has the CNAME RRsets. At each name, the rule of `rrcache_ask_alias` chooses
    between a CNAME record and data of the type (RFC 1034 section 4.3.2). No CNAME record is followed
-   for types CNAME and ANY.
+   for types CNAME, ANY, NSEC and RRSIG.
 
    With the mode RRCACHE_STALE_IF_FAILED, stale data are acceptable for a name of the chain if the
    type has failed recently for that name (RFC 8767 section 5). If the question itself has failed

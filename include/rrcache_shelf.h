@@ -1805,8 +1805,9 @@ static inline enum rrcache_status rrcache_peek(const struct rrcache_shelf *shelf
 
    So a CNAME record and the data that it replaced are compared in the same way as an RRset and an
    NXDOMAIN. An older address is then not returned in place of a newer alias (RFC 8767 section 7).
-   In every other case, and always for types CNAME and ANY, the call returns the reply for the type
-   (RFC 1034 section 4.3.2).
+   In every other case, the call returns the reply for the type. It always does so for types CNAME
+   and ANY (RFC 1034 section 4.3.2), and for types NSEC and RRSIG, because a name with a CNAME
+   record has NSEC and RRSIG records of its own (RFC 4035 section 2.5).
 
    The resolver then asks for the target of the record, under the lock of that name's shelf. The
    target is the name in the first rdata, because a name has one CNAME record (RFC 2181 section

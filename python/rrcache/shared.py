@@ -167,7 +167,7 @@ class SharedCache(Closing):
         """Looks up the answer to a question: the CNAME RRsets of the CNAME chain that begins at the
         name (RFC 1034 section 4.3.2), and the reply for the name at the end of the chain: an RRset
         of the type, a negative answer (NODATA, NXDOMAIN), or a miss (MISS, FAILED). No CNAME record
-        is followed for types CNAME and ANY.
+        is followed for types CNAME, ANY, NSEC and RRSIG.
 
         `mode` says when stale data are acceptable. With STALE_IF_FAILED, they are acceptable for
         every name of the chain if the question has failed recently, and this failure was stored

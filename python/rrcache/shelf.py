@@ -265,8 +265,8 @@ class Shelf(Held):
                   purpose: Purpose | int = Purpose.QUESTION, mode: Mode | int = Mode.NO_STALE,
                   line: int = 0, rclass: Class | int = Class.IN) -> Reply:
         """Looks up data of the type or the CNAME record of the name, as one event. `rtype` of the
-        reply is CNAME (5) if the reply is the CNAME record. For types CNAME and ANY the reply is
-        that of `ask`.
+        reply is CNAME (5) if the reply is the CNAME record. For types CNAME, ANY, NSEC and RRSIG
+        the reply is that of `ask`.
 
         The reply is the CNAME record if the record is fresh, or acceptably stale, and one of these
         is true (RFC 8767 section 7). First, the reply for the type is a miss. Second, the record

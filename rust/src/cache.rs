@@ -94,7 +94,8 @@ impl Cache {
     /// Looks up the answer to a question, and returns its kind. The answer has the CNAME RRsets of
     /// the CNAME chain that begins at the name, and the reply for the name at the end of the chain:
     /// an RRset of the type, a negative answer, or a miss. After a miss the answer still has the
-    /// CNAME RRsets. No CNAME record is followed for types CNAME and ANY (RFC 1034 section 4.3.2).
+    /// CNAME RRsets. No CNAME record is followed for types CNAME and ANY (RFC 1034 section 4.3.2),
+    /// and for types NSEC and RRSIG (RFC 4035 section 2.5).
     ///
     /// With [`StaleIfFailed`](crate::Mode::StaleIfFailed), stale data are acceptable if the
     /// question has failed recently, and this failure was stored after the CNAME record of the

@@ -36,7 +36,8 @@ static const uint64_t FIRST = 1000;
 /* A moment that is too large, and the last one that is not. */
 static const uint64_t LATE = (UINT64_C(1) << 40) + 1, LAST = UINT64_C(1) << 40;
 
-enum { A = 1, CNAME = 5, SOA = 6, TXT = 16, OPT = 41, ANY = 255, PARTS = 16, MAX_STALE = 3600 };
+enum { A = 1, CNAME = 5, SOA = 6, TXT = 16, OPT = 41, RRSIG = 46, NSEC = 47, ANY = 255 };
+enum { PARTS = 16, MAX_STALE = 3600 };
 
 /* clang-format off */
 /* A response to www.example A: two addresses of www.example for 300 seconds, authoritative (RFC
@@ -3524,7 +3525,8 @@ static void test_aliases(void)
     test_alias_cases(FAILURES, sizeof FAILURES / sizeof *FAILURES);
 }
 
-/* A record is told for each type but CNAME and ANY (RFC 1034 section 4.3.2), in its own class. */
+/* A record is told for each type but CNAME and ANY (RFC 1034 section 4.3.2), and RRSIG and NSEC
+   (RFC 4035 section 2.5), in its own class. */
 static void test_types_of_aliases(void)
 {
     struct rrcache_shelf shelf = {0};
@@ -3533,6 +3535,8 @@ static void test_types_of_aliases(void)
     EXPECT(tells(&shelf, question(TXT, FIRST), CNAME, RRCACHE_FRESH)
            && tells(&shelf, question(CNAME, FIRST), CNAME, RRCACHE_FRESH)
            && tells(&shelf, question(ANY, FIRST), ANY, RRCACHE_MISS)
+           && tells(&shelf, question(RRSIG, FIRST), RRSIG, RRCACHE_MISS)
+           && tells(&shelf, question(NSEC, FIRST), NSEC, RRCACHE_MISS)
            && tells(&shelf, question(OPT, FIRST), CNAME, RRCACHE_FRESH)
            && tells(&shelf, question_in(RRCACHE_CH, TXT), TXT, RRCACHE_MISS));
     /* A failure is of one type. */

@@ -11,12 +11,14 @@ use Rattle.rrc_history.specs.declared.snapshot.Entry.{Entry}
 use Rattle.rrc_share.specs.CacheShelf.{CacheShelfOf}
 use Rattle.rrc_shelf.specs.Asks.{entry_for, reply_of}
 
--- the types CNAME and ANY, under which an alias is no alias (RFC 1034 4.3.2)
+-- the type of an alias
 abbrev pub CNAME : ℕ
 CNAME = 5
 
-abbrev pub ANY : ℕ
-ANY = 255
+-- whether a type stands beside an alias, so that this does not lead on: CNAME itself and ANY (RFC 1034 4.3.2), and RRSIG and NSEC, which
+-- the name of an alias has itself (RFC 4035 2.5)
+abbrev pub is_beside_alias : ℕ → Bool
+is_beside_alias rtype = rtype == CNAME || (rtype == 255 || (rtype == 46 || rtype == 47))
 
 -- asking for the type has failed: a miss says so, or stale data that are told for that alone
 abbrev pub has_failed : Reply → Bool
@@ -59,7 +61,7 @@ is_preferred alias other moment = is_same_entry alias (governing other alias mom
 abbrev pub is_alias_told : CacheShelfOf → AskOf → Bool
 is_alias_told shelf ask =
     let alias = alias_ask ask (reply_of shelf ask) in
-    not (ask.rtype == CNAME || ask.rtype == ANY)
+    not (is_beside_alias ask.rtype)
     && (has_data (reply_of shelf alias) && is_preferred (entry_for shelf alias) (entry_for shelf ask) ask.moment)
 
 -- the question that is answered

@@ -3,16 +3,27 @@ ghost use Rattle.std.specs.Prelude.{◌≡◌, true, false};
 ghost use Rattle.std.specs.Option.{option_map};
 ghost use Rattle.rrc_cache.specs.Lookups.{TellsLookup};
 ghost use Rattle.rrc_cache.specs.Seeds.{IsHashOf};
-ghost use Rattle.rrc_shelf.specs.Aliases.{alias_ask, alias_mode, ask_or_alias, has_data, has_failed, is_preferred};
+ghost use Rattle.rrc_shelf.specs.Aliases.{alias_ask, alias_mode, ask_or_alias, has_data, has_failed, is_beside_alias, is_preferred};
 ghost use Rattle.rrc_history.specs.Views.{ask_in, held_in, reply_in};
 
 use rrc_cache::{Lookup, NameHash};
 use rrc_history::{AskRef, Held, Mode, ReplyRef, governing};
-use rrc_name::rtype::CNAME;
+use rrc_name::rtype::{ANY, CNAME};
 use rrc_share::CacheShelf;
 
-/// The type of questions for all that is known of a name (RFC 1035 section 3.2.3).
-const ANY: u16 = 255;
+/// A signature (RFC 4034 section 3).
+const RRSIG: u16 = 46;
+
+/// The next name of a zone, and the types of a name (RFC 4034 section 4).
+const NSEC: u16 = 47;
+
+/// Whether a type stands beside an alias: it does not lead on to another name (RFC 1034 section
+/// 4.3.2, RFC 4035 section 2.5).
+fn is_beside_alias(rtype: u16) -> bool
+    ensures { result ≡ is_beside_alias rtype }
+{
+    rtype == CNAME || rtype == ANY || rtype == RRSIG || rtype == NSEC
+}
 
 fn has_failed(reply: ReplyRef<'_>) -> bool
     ensures { result ≡ has_failed (reply_in reply.entry) }
@@ -79,7 +90,7 @@ pub(crate) fn ask_or_alias<'a, 's>(
     ensures lookup { TellsLookup shelf.now.shelf.part (ask_in result.0) result.1 }
 {
     let of_type = shelf.lookup(ask, hash);
-    if ask.rtype == CNAME || ask.rtype == ANY {
+    if is_beside_alias(ask.rtype) {
         return (ask, of_type);
     }
     let alias = alias_ask(ask, of_type.reply);
