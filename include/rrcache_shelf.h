@@ -54,11 +54,10 @@
      `rrcache_free_offers`. Only one call at a time may use a handle of offers. This also applies to
      `rrcache_offer_read` and `rrcache_offer_one`: while they run, they write to the handle of the
      offers as well as to the handle of the shelf.
-   - `rrcache_take_chapters` and `rrcache_stop_recording` need the write lock of the shelf. The
-     calls on chapters that were taken from a shelf take no shelf and need no lock:
-     `rrcache_chapter_line`, `rrcache_write_line`, `rrcache_write_chapter` and
-     `rrcache_free_chapters`. While they run, other threads may use or free the shelf. Only one call
-     at a time may use a handle of chapters.
+   - `rrcache_take_chapters` and `rrcache_stop_recording` need the write lock of the shelf. These
+     calls on taken chapters need neither the shelf nor a lock: `rrcache_chapter_line`,
+     `rrcache_write_line`, `rrcache_write_chapter` and `rrcache_free_chapters`. While they run,
+     other threads may use or free the shelf. Only one call at a time may use a handle of chapters.
    - `rrcache_fault`, `rrcache_make_name`, `rrcache_compose_response` and `rrcache_tell_octets` take
      no handle and need no lock.
    - No call waits, sleeps or takes a lock, unless malloc or free does so. Only `rrcache_write_line`
@@ -144,9 +143,9 @@
      NXDOMAIN of the name is cached. For type ANY, this applies even if RRsets of the name that have
      a higher rank than the NXDOMAIN are cached.
    - Even after a message that answers its question was offered, the next ask for this question may
-     be a miss. There are five causes: the TTL is 0; the type is not kept; the records of an RRset
-     have different TTLs, AA is clear and `lowest_ttl` is not set; a negative answer has no SOA
-     record; or the RRset is not relevant. `rrcache_tell_response` still returns the kind of the
+     be a miss. There are five possible causes: the TTL is 0; the type is not kept; the records of
+     an RRset have different TTLs, AA is clear and `lowest_ttl` is not set; a negative answer has no
+     SOA record; or the RRset is not relevant. `rrcache_tell_response` still returns the kind of the
      response, and `rrcache_tell_offer` returns even an RRset with TTL 0. The caller answers the
      waiting client from the output of these calls. The caller has to read the message itself only
      to get data that are not offered, such as data of a type that is not kept.
@@ -475,9 +474,9 @@ struct rrcache_name {
 };
 
 /* How names are divided among shelves: `count` is the number of shelves, 1 to 64, and `seed` is the
-   seed in the rules of these shelves. Names are hashed by SipHash-1-3 with the seed as the key, and
-   the upper 32 bits of the hash determine the shelf. Under another seed, a name may belong to
-   another shelf, so the data of the name are not found. */
+   seed in the rules of these shelves. The library hashes names with SipHash-1-3, using the seed as
+   the key, and the upper 32 bits of the hash determine the shelf. Under another seed, a name may
+   belong to another shelf, so the data of the name are not found. */
 struct rrcache_parts {
     uint64_t count;
     uint8_t seed[16];
@@ -1017,7 +1016,7 @@ static inline bool rrcache_holds(const struct rrcache_shelf *shelf, const void *
 }
 
 /* Makes an empty shelf in a handle that holds no shelf. The shelf records nothing until
-   `rrcache_record` is called, and until then no chapter becomes full. Names are hashed by
+   `rrcache_record` is called, and until then no chapter becomes full. The library hashes names with
    SipHash-1-3 under the seed in the rules. The seed must be random and secret. Otherwise an
    attacker can choose names with similar hashes, which makes calls slow.
 
@@ -1417,8 +1416,8 @@ static inline enum rrcache_status rrcache_can_read(const struct rrcache_response
    another name in only three cases. First, its CNAME records lead to the other name. Second, its
    NS, MX or SRV records have the other name as a host. Third, the other name is above the name of
    the question, or above a name to which CNAME records lead from the name of the question, and the
-   server sends NS, SOA, DS or DNAME records of the other name. NS and DS records are limited as
-   described above. */
+   server sends NS, SOA, DS or DNAME records of the other name. For NS and DS records, the
+   restrictions above apply too. */
 static inline enum rrcache_status rrcache_read_response(struct rrcache_offers *offers,
                                                         const struct rrcache_response *response,
                                                         const struct rrcache_query *query,
