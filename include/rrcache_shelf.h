@@ -60,23 +60,25 @@
      other threads may use or free the shelf. Only one call at a time may use a handle of chapters.
    - `rrcache_fault`, `rrcache_make_name`, `rrcache_compose_response` and `rrcache_tell_octets` take
      no handle and need no lock.
-   - No call waits, sleeps or takes a lock, unless malloc or free does so. Only `rrcache_write_line`
-     and `rrcache_write_chapter` call a function of the caller: the sink that they are given. Do not
-     call any function in a signal handler, or in the child process after a process with several
-     threads has called fork.
+   - No call waits, sleeps or takes a lock, unless malloc, realloc, free or the sink of the caller
+     does so. Only `rrcache_write_line` and `rrcache_write_chapter` call a function of the caller:
+     the sink that they are given. Do not call any function in a signal handler, or in the child
+     process after a process with several threads has called fork.
 
    Memory
    - The library allocates memory only with malloc and realloc, and frees it only with free. If an
      allocation fails, the call returns RRCACHE_MEMORY.
    - These calls never allocate and never return RRCACHE_MEMORY, even for long names:
-     `rrcache_peek`, `rrcache_peek_alias`, `rrcache_tell_stored`, `rrcache_make_name`,
-     `rrcache_tell_response`, `rrcache_tell_offer` and `rrcache_compose_response`. While a shelf
-     does not record its history, this also applies to `rrcache_ask` and `rrcache_ask_alias`.
+     `rrcache_peek`, `rrcache_peek_alias`, `rrcache_tell_stored`, `rrcache_sizes`,
+     `rrcache_next_expiry`, `rrcache_make_name`, `rrcache_tell_response`, `rrcache_tell_offer`,
+     `rrcache_tell_octets` and `rrcache_compose_response`. While a shelf does not record its
+     history, this also applies to `rrcache_ask` and `rrcache_ask_alias`.
    - The library copies each reply into the caller's buffer.
 
    Errors
-   - Every function except `rrcache_version` and `rrcache_status_text` returns a status.
-     RRCACHE_DONE is 0, and every other status is an error. No error ends the process.
+   - Every function returns a status, except `rrcache_version`, `rrcache_status_text` and helpers
+     such as `rrcache_room`. RRCACHE_DONE is 0, and every other status is an error. No error ends
+     the process.
    - For the functions of this header, the valid values of a purpose, mode, class, trust, kind,
      section, seed and limit do not include 0. So a call that uses such a field returns an error if
      the caller forgot to set the field. For the functions of rrcache.h, a seed or a limit of 0
@@ -152,10 +154,11 @@
    - If nothing is stored from a message that answers its question, a failure that is cached for the
      question is still returned as RRCACHE_FAILED until the failure expires. `rrcache_offer_failure`
      with `ttl` 0 ends the failure.
-   - A message from which nothing is stored does not change a cached RRset either, and this RRset
-     may still be returned, even stale. But RFC 8767 section 4 counts the RRset as refreshed if the
-     message is an authoritative response (AA set) with RCODE NOERROR or NXDOMAIN. After such a
-     message, the resolver clears the RRset: it calls `rrcache_offer_set` with `ttl` 0.
+   - A message from which nothing is stored does not change a cached RRset either, unless it offers
+     the RRset with TTL 0. This RRset may still be returned, even stale. But RFC 8767 section 4
+     counts the RRset as refreshed if the message is an authoritative response (AA set) with RCODE
+     NOERROR or NXDOMAIN. After such a message, the resolver clears the RRset: it calls
+     `rrcache_offer_set` with `ttl` 0.
    - A response with an RCODE other than NOERROR and NXDOMAIN offers a failure of its question, even
      if the RCODE is FORMERR, NOTIMP or REFUSED. From then on, until the failure expires or a later
      entry for the question is stored, the reply to the question is RRCACHE_FAILED if no cached data
@@ -240,7 +243,7 @@
      RRCACHE_NO_SHELF, RRCACHE_NO_OFFERS or RRCACHE_NO_CHAPTERS if the handle holds nothing. Calls
      that allocate memory return RRCACHE_MEMORY if malloc fails. Calls that write an event return
      RRCACHE_HISTORY_FULL if numbers are used up, and RRCACHE_MOMENT_TOO_LARGE if the timestamp is
-     above 2^40. The comments of the functions do not repeat these conditions.
+     above 2^40. Most comments of the functions do not repeat these conditions.
 
    Names are in wire form (RFC 1035 section 3.1): complete, without compression pointers, and at
    most 255 octets long, including the zero octet at the end. Letters may be in upper or lower case.
@@ -249,7 +252,8 @@
 
    The names of the exported functions that this header declares begin with `rrc_`. These functions
    require pointers that are not null, and buffers that do not overlap. The inline functions below
-   check these conditions and then call an exported function; `rrcache_compose_response` calls none.
+   check these conditions and then call an exported function. Only `rrcache_compose_response`,
+   `rrcache_tell_octets` and `rrcache_status_text` call none.
    An inline function returns RRCACHE_NULL if a required pointer is null. It returns RRCACHE_OVERLAP
    if anything that it writes, including the handle, overlaps octets or an array that it reads.
    Inputs may overlap each other. A struct that contains pointers, such as
@@ -463,7 +467,7 @@ struct rrcache_chapters {
    struct to zeros; `rrcache_make_name` fills it. `part` is the number of the shelf of the name,
    counted from 0. `hash` is the 64-bit SipHash-1-3 of the folded name under the seed, and the
    caller may use this hash in its own tables. The caller may copy the struct, which is valid as
-   long as the seed is in use. */
+   long as the seed and the number of parts are in use. */
 struct rrcache_name {
     uint64_t hash;
     uint64_t part;
@@ -1043,8 +1047,8 @@ static inline enum rrcache_status rrcache_free(struct rrcache_shelf *shelf)
 }
 
 /* Folds and hashes a name in wire form, and determines the part of the name, counted from 0. The
-   call writes the result to `name`, which need not be initialized before the call. Calls that look
-   up a name in a shelf take this result. The call never allocates, and needs no lock. Returns
+   call writes the result to `name`. If the call fails, `name` is unmodified. Calls that look up a
+   name in a shelf take this result. The call never allocates, and needs no lock. Returns
    RRCACHE_BAD_RULES if `parts->count` is not 1 to 64, RRCACHE_BAD_SEED if the seed is all zeros,
    and RRCACHE_BAD_NAME if `octets` are not the wire form of a name. */
 static inline enum rrcache_status rrcache_make_name(struct rrcache_name *name,
@@ -1373,14 +1377,13 @@ static inline enum rrcache_status rrcache_can_read(const struct rrcache_response
    with those of the query (RFC 5452 section 9.1). If they differ, the call returns
    RRCACHE_OTHER_QUERY and does not read further, so such a message costs almost no time. Anyone may
    have sent such a message, so the caller drops it and keeps waiting for the response. The call
-   also returns RRCACHE_OTHER_QUERY if the message is too short to have an identifier, or if QR is
-   clear. If `with_case` of the query is set, a name with a letter in another case counts as
-   different. A name with a compression pointer always counts as different. Two errors count as
-   failures of the server (RFC 8767 section 5). RRCACHE_NO_QUESTION means that the response is a
-   header without a question. RRCACHE_BAD_MESSAGE means that the message answers the query but
-   cannot be read. If TC is set, RRCACHE_BAD_MESSAGE is not a failure: send the query again over
-   TCP. If a server returns FORMERR without a question, perhaps it does not support EDNS (RFC 6891
-   section 7).
+   also returns RRCACHE_OTHER_QUERY if the message is too short for a header, or if QR is clear. If
+   `with_case` of the query is set, a name with a letter in another case counts as different. A name
+   with a compression pointer always counts as different. Two errors count as failures of the server
+   (RFC 8767 section 5). RRCACHE_NO_QUESTION means that the response is a header without a question.
+   RRCACHE_BAD_MESSAGE means that the message answers the query but cannot be read. If TC is set,
+   RRCACHE_BAD_MESSAGE is not a failure: send the query again over TCP. If a server returns FORMERR
+   without a question, perhaps it does not support EDNS (RFC 6891 section 7).
 
    These data are relevant:
    - In the answer section, an RRset is relevant if its owner is the name of the question, or one of
@@ -1526,9 +1529,9 @@ static inline enum rrcache_status rrcache_tell_response(struct rrcache_offers *o
    was read, and its `part` is the part of the offer.
 
    `told->rtype` is the type of the offer, or 0 for RRCACHE_NXDOMAIN. For RRCACHE_FAILED,
-   `told->retry_from` is the timestamp at which the failure ends. `told->entry` has the rank, TTL
-   and timestamp of the offer; its other fields are 0, because only a shelf knows them. All offers
-   of a response have the class of its question.
+   `told->retry_from` is the timestamp at which the failure ends. `told->entry` has the kind, rank,
+   TTL and timestamp of the offer; its `number` and `age` are 0, because only a shelf knows them.
+   All offers of a response have the class of its question.
 
    Returns RRCACHE_NO_OFFERS if there is no offer with this number. Returns RRCACHE_SMALL if the
    buffer is too small: `name` and `told` are written, and the buffer is unmodified. For an offer
