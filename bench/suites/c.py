@@ -20,7 +20,7 @@ OPTIONS = {
     "runs": (3, "runs of each"),
 }
 KINDS = {"ask": "asks that hit", "put": "puts that replace", "both": "one ask to one put"}
-SHELVES = {"own": "of each thread's own", "shared": "under locks"}
+SHELVES = {"own": "owned by each thread", "shared": "shared, under locks"}
 
 
 def rate(*command):
@@ -59,8 +59,10 @@ def main(args):
     by_python = best("ask, through Python", args.runs, partial(python_rate, args.calls // 20))
     write_section(
         args, TITLE,
-        ". The numbers are millions of calls per second by threads in C (`bench/c/c_threads.c`), "
-        f"the best of {args.runs} runs of {args.calls} calls on 16 shelves with 16,384 names.",
+        ". The numbers are millions of calls per second by threads in C (`bench/c/c_threads.c`). "
+        f"Each number is the best of {args.runs} runs of {args.calls:,} calls on 16 shelves with "
+        f"16,384 names. The last column is the rate of {of_threads(args.threads[-1])} divided by "
+        f"the rate of {of_threads(args.threads[0])}.",
         table(["What", "Shelves", *map(of_threads, args.threads),
                f"{args.threads[-1]} to {args.threads[0]}"], rows),
         f"Through Python (`python/rrcache`), one thread makes {by_python:,.0f} asks per second.")

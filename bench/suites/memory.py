@@ -62,11 +62,12 @@ def main(args):
         said.append(f"{way} held {of['all'][0]:.2f} to {of['all'][1]:.2f} times")
     write_section(
         args, TITLE,
-        f". The keys were {args.keys:,} of each of {len(found['glibc']) - 1} kinds. While the last "
-        f"half of them came, {' and '.join(said)} the octets that `rrcache_sizes` returned. Names "
-        "had 3 to 255 octets. RRsets had 1 to 200 records of 4 to 16,000 octets. SOA records of "
-        "negative answers, with their owners, had 23 to 785 octets. A shelf was never swept, or "
-        "swept after each tenth offer. No key was evicted and nothing was recorded.")
+        f". For each of {len(found['glibc']) - 1} kinds of keys, a shelf got {args.keys:,} keys. "
+        f"While it got the second half of these keys, {' and '.join(said)} the octets that "
+        "`rrcache_sizes` returned. Names had 3 to 255 octets. RRsets had 1 to 200 records of 4 to "
+        "16,000 octets. SOA records of negative answers, with their owners, had 23 to 785 octets. "
+        "Each kind was measured twice: on a shelf that was never swept, and on one that was swept "
+        "after each tenth offer. No key was evicted, and nothing was recorded.")
 
 
 if __name__ == "__main__":

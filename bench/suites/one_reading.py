@@ -49,12 +49,14 @@ def main(args):
         slow += [name] if read > MOST * whole else []
     write_section(
         args, TITLE,
-        f". The numbers are microseconds of processor time, the least of {args.runs} runs. A "
-        "message is offered to one shelf, to 16 shelves by one reading of it "
+        f". The numbers are microseconds of processor time, each the least of {args.runs} runs. A "
+        "message is offered to one shelf, to 16 shelves by one reading of the message "
         "(`rrcache_read_message_unchecked` and `rrcache_offer_read`), and to 16 shelves by a "
-        "reading for each shelf (`rrcache_offer_part_unchecked`). The last column is the longest "
-        "of the 16 shares of one reading, for which a lock is held. Names are divided by a keyed "
-        "hash.",
+        "separate reading for each shelf (`rrcache_offer_part_unchecked`). The last column is the "
+        "time that the longest of the 16 shares of one reading takes; the lock of a shelf is held "
+        "for this time. A keyed hash of each name decides its shelf. The message `usual` is an "
+        "answer with the name servers of its zone, and the others are hostile "
+        "(`tests/hostile/attacks.py`).",
         table(HEAD, rows))
     if slow:
         return f"one reading for 16 shelves takes over {MOST} times as long: {', '.join(slow)}"

@@ -103,13 +103,15 @@ def main(args):
     write_section(
         args, TITLE,
         f". Each number is the median of {args.runs} runs, in millions per second of elapsed time. "
-        "A run was repeated if the host took processors away from the machine during it. The calls "
-        f"are {args.calls} calls, over all threads, on a shared cache with {NAMES} names (`bench "
-        f"cache shared`). The lines are those of a trace of {args.lines} lines, which the program "
-        "`rrcache` reads, replays, collates and reports.",
-        "![Millions a second](performance.svg)",
-        table(["What", "Parts", *map(of_threads, THREADS), "four to one"], rows),
+        "A run was repeated if the host took processors away from the machine during the run. A "
+        f"run of asks or puts makes {args.calls:,} calls, counted over all threads, on a shared "
+        f"cache with {NAMES:,} names (`bench cache shared`). In a run of a replay, the program "
+        f"`rrcache` reads, replays, collates and reports a trace of {args.lines:,} lines. The last "
+        f"column is the rate of {of_threads(THREADS[-1])} divided by the rate of "
+        f"{of_threads(THREADS[0])}.",
+        "![Millions per second](performance.svg)",
+        table(["What", "Parts", *map(of_threads, THREADS), f"{THREADS[-1]} to {THREADS[0]}"], rows),
         filled(
-            f"An ask that hits takes one thread {lent:.0f} ns on lent parts and {shared:.0f} ns on "
-            "a shared cache (medians of 16 short runs each, in turn). The lock and finding the "
-            f"part cost {shared - lent:.0f} ns."))
+            f"With one thread, an ask that hits takes {lent:.0f} ns on parts without locks, and "
+            f"{shared:.0f} ns on a shared cache (medians of 16 short runs of each, in turn). "
+            f"Taking the lock and finding the part take {shared - lent:.0f} ns."))

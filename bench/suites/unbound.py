@@ -20,7 +20,7 @@ from itertools import chain
 from pathlib import Path
 from statistics import median
 
-from bench.page import of_threads, table, write_section
+from bench.page import filled, of_threads, table, write_section
 from bench.picture import WIDTH, key, line, rect, svg, text
 from bench.setup import ARCHIVE, BUILD, SOURCES, TOP, compiled, in_turn, ran, undisturbed
 
@@ -35,8 +35,9 @@ FOLDER, BESIDE = BUILD / "unbound", SOURCES / "beside"
 ARCHIVES = ["apt-get", "indextargets", "Created-By: Packages", "Codename: bookworm", "--format",
             "deb-src [signed-by=/usr/share/keyrings/debian-archive-keyring.gpg]"
             " $(REPO_URI) $(RELEASE) $(COMPONENT)"]
-OF_CACHE = ("`struct rrcache` with its own locks. Its look-ups follow aliases, which the asks of"
-            " shelves here do\nnot. No name is an alias:")
+OF_CACHE = filled("The first table is for `struct rrcache` with its own locks. Its look-ups follow"
+                  " aliases, but the asks of shelves in the other tables do not. No name in these"
+                  " tables is an alias:")
 KINDS = {"hit": "asks that hit", "zipf": "asks by Zipf's law", "hot": "asks for one name",
          "replace": "puts that replace", "evict": "puts that evict"}
 # How tall the picture is, how tall its highest bar, and where the bars stand.
@@ -150,7 +151,7 @@ def main(args):
     write_section(
         args, TITLE,
         f". Both caches had {args.names:,} names with one A record each, and 64 shards. The "
-        f"numbers are medians of {args.runs} runs of each cache in turn, with {args.calls:,} calls "
-        "a run. Time is the processor time of a call as a multiple of that of unbound's RRset "
-        "cache, so less is better. Rate is the number of calls per second of elapsed time as a "
-        "multiple of unbound's, so more is better.", *parts)
+        f"numbers are medians of {args.runs} runs of each cache, in turn, with {args.calls:,} "
+        "calls per run. Time is the processor time of a call as a multiple of the time that a call "
+        "of unbound's RRset cache takes, so less is better. Rate is the number of calls per second "
+        "of elapsed time as a multiple of unbound's rate, so more is better.", *parts)
