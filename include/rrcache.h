@@ -1,106 +1,114 @@
 /* SPDX-License-Identifier: MIT */
 /* rrcache.h: the RRset cache of a recursive DNS resolver, shared by all its threads.
 
-   `struct rrcache` is a cache that does its own locking. The cache is C code over the shelves
-   (shards) of rrcache_shelf.h. The exported functions of the shelves (`rrc_..`) are proved, and
-   docs/RULES.md has their rules. The inline functions of the headers and the C code of the cache
-   are tested, not proved. A program with one thread, or with its own locks, can use the shelves
-   directly.
+   `struct rrcache` is a cache that does its own locking. The cache is C code on top of the shelves
+   (shards) of rrcache_shelf.h. The exported functions of the shelves (`rrc_..`) are proved to meet
+   their contracts, and docs/RULES.md has the rules that they follow. The inline functions of the
+   headers and the C code of the cache are tested, not proved. A program with one thread, or with
+   its own locks, can use the shelves directly.
 
-   SECURITY.md, "A caller's checklist", lists what is left to a resolver, and examples/stub.c is a
-   complete caller. A process may have several caches, for example one for each view. Each cache has
-   its own seed and limits.
+   SECURITY.md, "A caller's checklist", lists what a resolver itself has to do, and examples/stub.c
+   is a complete example. A process may have several caches, for example one for each view. Each
+   cache has its own seed and limits.
 
    Threads
-   - The library starts no thread.
+   - The library starts no threads.
    - Any thread may call any function at any time. The exception is `rrcache_close`: no other call
-     on the cache may be running at that time, and none may follow. A call may block on a lock. A
-     thread that is canceled in a call (`pthread_cancel`, not asynchronously) ends the call first.
-     No function may be called in a signal handler, or in the child after a process with several
-     threads forks. After a process with one thread forks, parent and child each have a cache of
-     their own, with the same seed: neither sees what the other stores. Processes cannot share a
-     cache.
-   - A hash under a secret seed chooses the shelf of each name. Each shelf has `readers` places. A
-     place is a lock that one thread at a time holds for a look-up. Threads are assigned to these
-     places in turn. A look-up that does not move its entry takes only the place of its thread, or
-     another place if that one is taken. Such look-ups do not block each other, even for the same
-     name, as long as there are at least as many places as threads. A call that changes a shelf
-     keeps new look-ups out of the shelf, and waits for those that have begun. No call holds locks
-     of two shelves at the same time.
-   - If a thread asks for a name again and again within a second, in lower case, the answer is
-     copied from a memo as long as nothing has changed in the shelf of the name. Only answers of one
-     RRset and negative answers have memos. Such a look-up takes no place. Its result and its effect
-     on the counters are the same as without a memo.
+     on the cache may be running when it is called, and none may follow. A call may block on a lock.
+     If a thread is canceled during a call (`pthread_cancel`, with deferred cancellation), the call
+     ends before the thread does. No function may be called in a signal handler, or in the child of
+     a process that forked while several threads ran. If a process with one thread forks, the parent
+     and the child each have their own copy of the cache, with the same seed, and neither sees what
+     the other stores. Processes cannot share a cache.
+   - A hash of each name, keyed with a secret seed, chooses the shelf of the name. Each shelf has
+     `readers` places (see `struct rrcache_config`). A place is a lock that one thread at a time
+     holds during a look-up. The library assigns threads to these places in turn. A look-up that
+     does not move its entry in the LRU order takes only the place of its thread, or another place
+     if that one is taken. Such look-ups do not block each other, even for the same name, as long as
+     there are at least as many places as threads. A call that changes a shelf keeps new look-ups
+     out of the shelf, and waits for the look-ups that have begun. No call holds locks of two
+     shelves at the same time.
+   - If a thread repeats a look-up within a second, and the name is in lower case, the library may
+     copy the answer from a memo, which is a saved copy of an earlier answer. It does so only as
+     long as nothing has changed in the shelf of the name. Only negative answers and answers with a
+     single RRset have memos. A look-up that a memo answers takes no place. Its result and its
+     effect on the counters are the same as without a memo.
    - ThreadSanitizer cannot see the locks of the built library. To run a program under
-     ThreadSanitizer, compile the files of lib/ for it too, and link them before the library.
-   - Eviction is LRU, but a look-up does not always move its entry to the front of the LRU order,
-     because a move changes the shelf. In a shelf that is at least three quarters full, by octets or
-     by keys, a look-up moves its entry if more than a quarter of the shelf's keys may have been
-     used after that entry. In all other cases a look-up leaves its entry in its place, unless most
-     of the recent look-ups moved their entries: it then moves its entry too. With `exact_recency`
-     every look-up moves its entry. docs/RULES.md says which order a caller can rely on.
+     ThreadSanitizer, compile the files of lib/ with the same sanitizer, and link them before the
+     library.
+   - Eviction is LRU. But a look-up does not always move the entry that it finds to the front of the
+     LRU order, because a move changes the shelf. In a shelf that is at least three quarters full,
+     by octets or by keys, a look-up moves its entry if more than a quarter of the shelf's keys may
+     have been used since the last use of that entry. In all other cases a look-up does not move its
+     entry, unless most of the recent look-ups moved theirs: the look-up then moves its entry too.
+     With `exact_recency`, every look-up moves its entry. docs/RULES.md says which LRU order a
+     caller can rely on.
 
    Memory
-   - An answer is a copy in the caller's buffer. It stays valid after its entries are evicted and
-     after `rrcache_close`, and does not count against `octets`.
-   - The keys use at most `octets` of memory, as counted by `rrcache_sizes`. Each shelf has an equal
-     share of `octets`, even while other shelves have room. A call that stores in a shelf evicts the
-     least recently used keys of that shelf, if necessary, before it returns. If malloc fails during
-     the eviction, the call still succeeds, and the next call that stores in that shelf evicts the
-     rest. `octets` covers only the keys, and an allocator uses more memory for them than is
-     counted. So plan for two and a half times `octets`, and in addition for the memory that the
-     next paragraph describes. Together this is about 2.575 times `octets`, plus 4 octets for each
-     of `keys`. SECURITY.md has the measurements behind this factor, and says what was not measured.
+   - An answer is a copy in the caller's buffer. The copy stays valid after the entries that it came
+     from are evicted and after `rrcache_close`, and does not count toward `octets`.
+   - The keys use at most `octets` octets of memory, as `rrcache_sizes` counts them. Each shelf may
+     use only an equal share of `octets`, even if other shelves have room. A call that stores data
+     in a shelf evicts the least recently used keys of that shelf, if necessary, before it returns.
+     If malloc fails during the eviction, the call still succeeds, and the next call that stores
+     data in that shelf evicts the remaining excess. `octets` covers only the keys, and an allocator
+     uses more memory for them than is counted. So plan for two and a half times `octets`, and also
+     for the memory that the next item describes. The sum is about 2.575 times `octets`, plus 4
+     octets for each key that `keys` allows. SECURITY.md has the measurements behind the factor of
+     two and a half, and says what was not measured.
    - In addition, `rrcache_open` allocates the places, memos of answers, and a filter of the names
      that may be aliases. All memos together use at most 1/16 of `octets`, and at most about 235 KiB
-     for each of `readers`. The filter uses at most about 1/80 of `octets`, and at most 128 KiB for
-     each shelf. A second filter, of the names that may have a negative answer or a failure, uses 2
-     to 4 octets for each of `keys`, whatever `octets` is: 8 MiB with the default number of keys. So
-     set `keys` too if `octets` is small.
-   - A cache has at most 64 shelves of 65,536 keys, or 4,194,304 keys in all. RRsets of one address
-     with a short name use 320 octets each. So a cache holds at most about 1.3 GB of such RRsets,
-     whatever `octets` is.
+     for each place of a shelf (`readers`). This filter uses at most about 1/80 of `octets`, and at
+     most 128 KiB for each shelf. A second filter, of the names that may have a negative answer or a
+     failure, uses 2 to 4 octets for each key that `keys` allows, regardless of `octets`: 8 MiB with
+     the default number of keys. So if `octets` is small, set `keys` too.
+   - A cache has at most 64 shelves of 65,536 keys, or 4,194,304 keys in all. An RRset of one
+     address with a short name uses 320 octets. So a cache holds at most about 1.3 GB of such
+     RRsets, even if `octets` is larger.
    - The configuration of an open cache cannot be changed. Memory that the library frees goes back
-     to malloc, and malloc decides whether it goes back to the system.
-   - An RRset that would use more than the share of its shelf is left out. The largest RRset of a
-     response used 242,208 octets in tests. So with 64 shelves, set `octets` to at least 16 MiB, and
-     use fewer shelves if `octets` is smaller.
-   - Look-ups never allocate while no history is being recorded. `rrcache_next`, `rrcache_stats`,
-     `rrcache_stats_of` and `rrcache_stats_text` never allocate. If malloc fails in any other
-     function, except during an eviction, the function returns RRCACHE_MEMORY. The contents of the
+     to malloc, and malloc decides whether to return that memory to the system.
+   - An RRset that would use more memory than the share of its shelf is not stored. In tests, the
+     largest RRset of a response used 242,208 octets. So with 64 shelves, set `octets` to at least
+     16 MiB, and use fewer shelves if `octets` is smaller.
+   - Look-ups allocate memory only while a history is being recorded. `rrcache_next`,
+     `rrcache_stats`, `rrcache_stats_of` and `rrcache_stats_text` never allocate. If malloc fails in
+     any other call, except during an eviction, the call returns RRCACHE_MEMORY. The contents of the
      cache are then unchanged, with three exceptions: `rrcache_store`, `rrcache_sweep_all` and
      `rrcache_forget` may have done part of their work.
 
    Timestamps
-   - Timestamps (`moment`) are in seconds, at most 2^40. If a timestamp is 0, the call uses
-     CLOCK_BOOTTIME, which cannot be set and keeps running while the machine is suspended.
-   - A program passes 0 in every call, or it passes timestamps from its own clock in every call.
-     That clock must never be set back. If it is set forward, all data age at once: see "Timestamps"
-     in rrcache_shelf.h. If a program mixes the two clocks, data expire too late or too early. A
-     program that passes 0 may also pass seconds of CLOCK_BOOTTIME, for example when it restores a
-     dump: this is the same clock. `retry_from` is a timestamp of the clock that the program uses.
+   - Timestamps (`moment`) are numbers of seconds, at most 2^40. If a timestamp is 0, the call uses
+     the current time of CLOCK_BOOTTIME, which cannot be set and keeps running while the machine is
+     suspended.
+   - A program must either pass 0 in every call, or pass timestamps from its own clock in every
+     call. That clock must never be set back. If the clock is set forward, all data age at once: see
+     "Timestamps" in rrcache_shelf.h. If a program mixes the two clocks, data expire too late or too
+     early. A program that passes 0 may also pass seconds of CLOCK_BOOTTIME, for example when it
+     restores a dump, because 0 means the current time of the same clock. `retry_from` is a
+     timestamp of the clock that the program uses.
 
    Errors
    - The header rrcache_shelf.h describes the wire form of names, the ownership of memory, and each
      status. On error, outputs are unmodified, unless the comment of the function says otherwise.
    - A function that fills an answer empties the answer first. On error the answer stays empty: its
      `kind` is RRCACHE_MISS, and `end` holds no name. The exception is RRCACHE_SMALL: the answer
-     then has the RRsets that fit, and `kind` and `end` are unspecified. The answer does not say
-     which size is needed: make the call again with a larger buffer. A second `rrcache_store` stores
-     the response again.
-   - Memory that a call reads must not overlap memory that it writes, with two exceptions. The name
-     of a request and of a query, and the zone of a response, may lie in the buffer of the answer.
-     The name of a query and the zone may also lie in `end` of the answer. If the name of a request
-     lies there, a look-up returns RRCACHE_OVERLAP.
+     then has the RRsets that fit, and `kind` and `end` are unspecified. The answer does not say how
+     large a buffer is needed: make the call again with a larger one. If the call was
+     `rrcache_store`, the second call stores the response again.
+   - Memory that a call reads must not overlap memory that it writes, with two exceptions. First,
+     the name of a request or of a query, and the zone of a response, may lie in the buffer of the
+     answer. Second, the name of a query and the zone of a response may also lie in `end` of the
+     answer. But if the name of a request lies in `end`, a look-up returns RRCACHE_OVERLAP.
    - Every function that returns a status returns RRCACHE_NULL if a required pointer is null.
      RRCACHE_MEMORY means that malloc failed, RRCACHE_HISTORY_FULL that the event numbers are used
      up, and RRCACHE_MOMENT_TOO_LARGE that a timestamp is above 2^40. The comments below do not
      repeat these conditions.
-   - After RRCACHE_HISTORY_FULL, the shelf can no longer store anything. Then close the cache and
-     open a new one. At 10^9 events a second in one shelf, this happens after 146 years.
-   - A field of `struct rrcache_config`, and a limit in a `struct rrcache_response` that is passed
-     to `rrcache_store`, may be 0: its default then applies. For the functions of rrcache_shelf.h a
-     limit or a seed of 0 is an error.
+   - After RRCACHE_HISTORY_FULL, the shelf whose event numbers are used up can no longer store
+     anything. In this case, close the cache and open a new one. At 10^9 events a second in one
+     shelf, the numbers last for 146 years.
+   - If a field of `struct rrcache_config` is 0, its default applies. The same is true of a limit in
+     a `struct rrcache_response` that is passed to `rrcache_store`. For the functions of
+     rrcache_shelf.h, a limit of 0 or a seed of zeros is an error.
 
    ABI
    - The library reads or writes every struct of this header. So each of these structs keeps its
@@ -110,9 +118,9 @@
 
 #include "rrcache_shelf.h"
 
-/* Begins each function declaration of this header. bin/build-c exports the functions that have it,
-   and tools/manual.py makes man pages of them. RRCACHE_API expands to nothing, because a list of
-   names, not a visibility attribute, selects the exports. */
+/* RRCACHE_API begins each function declaration of this header. bin/build-c exports these functions,
+   and tools/manual.py makes man pages from their comments. RRCACHE_API expands to nothing, because
+   a list of names, not a visibility attribute, selects the exports. */
 #define RRCACHE_API
 
 #ifdef __cplusplus
@@ -121,7 +129,8 @@ extern "C" {
 
 struct rrcache;
 
-/* The configuration of a cache. All zeros are good defaults, without stale data. */
+/* The configuration of a cache. If all fields are 0, the cache has good defaults and serves no
+   stale data. */
 struct rrcache_config {
     uint64_t octets;    /* the maximum number of octets of memory that the keys use, divided equally
                            among the shelves: 65,536 to 2^46, or 0 for 64 MiB */
@@ -129,13 +138,14 @@ struct rrcache_config {
                            up: at most 65,536 for each shelf, or 0 for this maximum */
     uint64_t shelves;   /* the number of shelves: 1 to 64, or 0 for 64 */
     uint64_t readers;   /* the number of places of a shelf, which is the maximum number of threads
-                           that can look up in it at once: 1 to 64, or 0 for the number of
-                           processors, but at most 16 */
+                           that can look up names in the shelf at once: 1 to 64, or 0 for the number
+                           of processors, but at most 16 */
     uint64_t max_stale; /* for how many seconds past its TTL an RRset may be served: 0 to 604,800
                            (RFC 8767 section 4). RFC 8767 section 5 suggests 1 to 3 days */
-    struct rrcache_limits limits; /* of responses; a field that is 0 stands for the same field of
-                                     RRCACHE_LIMITS */
-    uint8_t seed[16];             /* 16 secret random octets, or all 0 for octets from the system */
+    struct rrcache_limits limits; /* the limits for responses; a field that is 0 means the value of
+                                     the same field of RRCACHE_LIMITS */
+    uint8_t seed[16];             /* 16 secret random octets, or zeros for random octets from the
+                                     system */
     bool exact_recency; /* whether every look-up moves its entry to the front of the LRU order */
 };
 
@@ -157,19 +167,20 @@ enum { RRCACHE_MOST_ALIASES = 16 };
 /* A buffer of this size has room for every answer of a look-up, under two conditions: each CNAME
    RRset and each DNAME RRset has one record (RFC 2181 section 10.1), and the RRset at the end of
    the CNAME chain came in a response. But a server may send CNAME RRsets of many records. Each of
-   these RRsets is stored if it has at most 16,384 octets of rdata. An answer with one of them may
-   need a larger buffer, and the call then returns RRCACHE_SMALL. A buffer of 1 MiB has room for
-   every answer of a look-up whose RRsets all came in responses. An answer of `rrcache_store` may
-   also need a larger buffer if the query is of type ANY or of a type that is not kept, or if an
-   RRset has more than 16,384 octets of rdata. `rrcache_store` has then stored everything, and the
-   answer has the RRsets that fit. */
+   these RRsets is stored if it has at most 16,384 octets of rdata. An answer that contains such an
+   RRset may need a larger buffer, and if the buffer is too small, the call returns RRCACHE_SMALL.
+   If all RRsets of a look-up's answer came in responses, a buffer of 1 MiB has room for them. An
+   answer of `rrcache_store` may also need a larger buffer if the query is of type ANY or of a type
+   that the cache does not keep, such as RRSIG, or if an RRset has more than 16,384 octets of rdata.
+   If the buffer is too small for such an answer, `rrcache_store` has still stored everything, and
+   the answer has the RRsets that fit. */
 enum { RRCACHE_ANSWER_OCTETS = 65536 };
 
-/* The answer to a question: a list of RRsets, which `rrcache_next` returns one by one, and their
-   kind. An answer has at most RRCACHE_MOST_ALIASES + 1 RRsets, and RRCACHE_MOST_ALIASES more with
-   DNAME RRsets. The answer of a response to a query of type ANY or of a type that is not kept may
-   have more. The caller sets `buffer` and `room`, sets `with_dnames` to get DNAME RRsets, and
-   initializes the other fields to 0. */
+/* The answer to a question: a list of RRsets, which `rrcache_next` returns one by one, and a kind.
+   An answer has at most RRCACHE_MOST_ALIASES + 1 RRsets, and with DNAME RRsets up to
+   RRCACHE_MOST_ALIASES more. An answer of `rrcache_store` may have more RRsets if the query is of
+   type ANY or of a type that is not kept. The caller sets `buffer` and its size `room`, sets
+   `with_dnames` to get DNAME RRsets, and initializes the other fields to 0. */
 struct rrcache_answer {
     uint8_t *buffer;
     size_t room;
@@ -181,9 +192,10 @@ struct rrcache_answer {
                                 records. `kind` is then RRCACHE_MISS, and a query to a server will
                                 not help */
     bool with_dnames;        /* set by the caller: each CNAME record that was synthesized from a
-                                DNAME record is preceded by the DNAME RRset, if that is cached or is
-                                in the response (RFC 6672 section 3.1). Up to 16 owners are tried,
-                                and each counts as one more look-up */
+                                DNAME record is preceded by the DNAME RRset, if that RRset is cached
+                                or is in the response (RFC 6672 section 3.1). For one answer, up to
+                                16 possible owners of DNAME RRsets are looked up, and each counts as
+                                one more look-up */
     uint64_t retry_from;     /* with RRCACHE_FAILED, the timestamp from which to try again, and
                                 otherwise 0. For a stale answer after a failure of the question, a
                                 second look-up with RRCACHE_NO_STALE returns this timestamp */
@@ -192,23 +204,25 @@ struct rrcache_answer {
                                 RRset */
 };
 
-/* An RRset of an answer, in the form that `rrcache_compose_response` takes. In a negative answer it
-   is the SOA record, for the authority section. Initialize this struct to zeros. */
+/* An RRset of an answer, in the form that `rrcache_compose_response` takes. In a negative answer,
+   the RRset is the SOA record, which belongs in the authority section. Initialize this struct to
+   zeros. */
 struct rrcache_rrset {
     struct rrcache_parsed_set set; /* its `ttl` is the TTL for the client: the remaining TTL, or 30
-                                      if the RRset is stale. Each RRset of a CNAME chain has its
-                                      own */
+                                      if the RRset is stale. Each RRset of a CNAME chain has its own
+                                      TTL */
     uint32_t kind;                 /* enum rrcache_kind: fresh, stale, NODATA or NXDOMAIN */
     uint32_t trust;                /* its rank: enum rrcache_trust */
-    struct rrcache_entry entry; /* the entry that the RRset comes from. Its `ttl` and `moment`, as
-                                   they were stored, tell a resolver when to prefetch. Two entries
-                                   of one shelf never have the same `number`, but entries of two
-                                   shelves may, and no field identifies the shelf. So a caller that
-                                   keeps data about entries, such as a security status, finds these
-                                   data by a name and `number`. The name is the owner or, in a
+    struct rrcache_entry entry; /* the entry that the RRset comes from. Its `ttl` and `moment` are
+                                   the TTL and the timestamp with which it was stored. A resolver
+                                   can use them to decide when to prefetch. Two entries of one shelf
+                                   never have the same `number`, but entries of two shelves may, and
+                                   no field identifies the shelf. So a caller that keeps data about
+                                   entries, such as a security status, must find these data by a
+                                   name together with `number`. The name is the owner or, in a
                                    negative answer, `end`. docs/RULES.md, "DNSSEC", says how the
-                                   caller gets the number. In an answer of `rrcache_store`, `number`
-                                   and `age` are 0 */
+                                   caller gets this number. In an answer of `rrcache_store`,
+                                   `number` and `age` are 0 */
     size_t next;                /* the offset of the next RRset in the buffer */
 };
 
@@ -243,20 +257,21 @@ struct rrcache_stats {
 enum { RRCACHE_STATS_OCTETS = 384 };
 
 /* The callback to which `rrcache_stop_recording_all` and `rrcache_dump` write. Each call passes
-   `size` octets of one shelf, whose number is counted from 0. The callback has to process all these
-   octets. The callback returns 0 to continue, and nonzero to stop. `state` is the pointer that the
-   caller passed. No lock of a shelf is held during the callback, but the lock that guards the start
-   and the end of recording is held. A call that takes this lock again would never return. So the
-   callback must not call any function on this cache, and it has to return: it must not be canceled,
-   call `longjmp` or throw a C++ exception. */
+   `size` octets of the text of one shelf; `shelf` is the number of that shelf, counted from 0. The
+   callback must process all these octets. It returns 0 to continue, and nonzero to stop. `state` is
+   the pointer that the caller passed. During the callback, the library holds no lock of a shelf,
+   but it holds the lock that guards the start and the end of recording. A call that takes this lock
+   again would never return. So the callback must not call any function on this cache. The callback
+   must also return: its thread must not be canceled, and it must not call `longjmp` or throw a C++
+   exception. */
 typedef int (*rrcache_shelf_sink)(void *state, uint64_t shelf, const void *octets, size_t size);
 
-/* Opens a cache, and writes a pointer to it to `*cache`. A null `config` means a config of zeros.
-   Close the cache with `rrcache_close`.
+/* Opens a cache, and writes a pointer to it to `*cache`. A null `config` means a configuration of
+   zeros. Close the cache with `rrcache_close`.
 
    Returns RRCACHE_BAD_RULES if `octets`, `keys`, `shelves`, `readers` or `max_stale` is out of
    range, RRCACHE_BAD_LIMITS if a limit is out of range, and RRCACHE_BAD_SEED if `seed` is all 0 and
-   the system has no random octets. Also returns RRCACHE_MEMORY. */
+   the system provides no random octets. May also return RRCACHE_MEMORY. */
 RRCACHE_API enum rrcache_status rrcache_open(struct rrcache **cache,
                                              const struct rrcache_config *config);
 
@@ -264,36 +279,38 @@ RRCACHE_API enum rrcache_status rrcache_open(struct rrcache **cache,
 RRCACHE_API void rrcache_close(struct rrcache *cache);
 
 /* Looks up the answer to a question. The answer has the CNAME RRsets of the CNAME chain that begins
-   at the name, and the reply for the name at the end of the chain: an RRset of the type, a negative
-   answer (RRCACHE_NODATA or RRCACHE_NXDOMAIN), or a miss (RRCACHE_MISS or RRCACHE_FAILED). After a
-   miss the answer still has the CNAME RRsets. At each name, the rule of `rrcache_ask_alias` chooses
-   between a CNAME record and data of the type (RFC 1034 section 4.3.2). No CNAME record is followed
-   for types CNAME, ANY, NSEC and RRSIG.
+   at the name of the question, and the reply for the name at the end of the chain: an RRset of the
+   type, a negative answer (RRCACHE_NODATA or RRCACHE_NXDOMAIN), or a miss (RRCACHE_MISS or
+   RRCACHE_FAILED). After a miss the answer still has the CNAME RRsets. At each name, the rule of
+   `rrcache_ask_alias` chooses between a CNAME record and data of the type (RFC 1034 section 4.3.2).
+   For a question of type CNAME, ANY, NSEC or RRSIG, no CNAME record is followed.
 
-   With the mode RRCACHE_STALE_IF_FAILED, stale data are acceptable for a name of the chain if the
-   type has failed recently for that name (RFC 8767 section 5). If the question itself has failed
-   recently, stale data are acceptable for every name of the chain. This does not apply if the name
-   of the question is an alias, and its CNAME record was stored after the failure. docs/RULES.md,
-   "Serving stale data", describes the whole procedure, with the timers.
+   With the mode RRCACHE_STALE_IF_FAILED, stale data are acceptable for a name of the chain if
+   resolution of the type has failed recently for that name (RFC 8767 section 5). If resolution of
+   the question itself has failed recently, stale data are acceptable for every name of the chain.
+   This second rule does not apply if the name of the question is an alias whose CNAME record was
+   stored after the failure. docs/RULES.md, "Serving stale data", describes the whole procedure,
+   with the timers.
 
-   CNAME RRsets before a miss are not yet an answer for a client: the resolver continues from `end`,
-   and sends SERVFAIL if that fails. The cache does not join queries. If several clients miss the
-   same `end` and type, the caller has to send one query for all of them.
+   CNAME RRsets before a miss are not yet an answer for a client: the resolver continues to resolve
+   from `end`, and answers SERVFAIL if it cannot resolve that name. The cache does not combine
+   queries: if the look-ups of several clients miss with the same `end` and type, the caller itself
+   has to send a single query for all of them.
 
    Returns RRCACHE_BAD_NAME if the name is not in wire form, RRCACHE_BAD_CHOICE if `mode` is not a
-   mode, RRCACHE_BAD_TYPE if the type is 0 or the class is not kept, and RRCACHE_SMALL if the buffer
-   is too small. Also returns RRCACHE_HISTORY_FULL and RRCACHE_MOMENT_TOO_LARGE, and RRCACHE_MEMORY
-   while histories are being recorded. */
+   value of `enum rrcache_mode`, RRCACHE_BAD_TYPE if the type is 0 or the class is not kept, and
+   RRCACHE_SMALL if the buffer is too small. May also return RRCACHE_HISTORY_FULL,
+   RRCACHE_MOMENT_TOO_LARGE and, while histories are being recorded, RRCACHE_MEMORY. */
 RRCACHE_API enum rrcache_status rrcache_lookup(struct rrcache *cache,
                                                const struct rrcache_request *request,
                                                struct rrcache_answer *answer);
 
 /* Looks up the deepest unexpired NS RRset at or above a name, from which a resolver can start (RFC
    1034 section 5.3.3, RFC 9156 section 2). The answer has this RRset, and `end` is its owner. If
-   there is none, `kind` is RRCACHE_MISS. The fields `rtype`, `mode` and `takes_glue` of the request
-   are ignored. The parent zone has the DS RRset of a zone (RFC 4035 section 2.4): for a question of
-   type DS, pass the name without its first label. The errors are those of `rrcache_lookup`, except
-   RRCACHE_BAD_CHOICE. */
+   there is no such RRset, `kind` is RRCACHE_MISS. The fields `rtype`, `mode` and `takes_glue` of
+   the request are ignored. The DS RRset of a zone is in the parent zone (RFC 4035 section 2.4). So
+   for a question of type DS, pass the name without its first label. The errors are those of
+   `rrcache_lookup`, except RRCACHE_BAD_CHOICE. */
 RRCACHE_API enum rrcache_status rrcache_lookup_delegation(struct rrcache *cache,
                                                           const struct rrcache_request *request,
                                                           struct rrcache_answer *answer);
@@ -303,58 +320,61 @@ RRCACHE_API enum rrcache_status rrcache_lookup_delegation(struct rrcache *cache,
    in `rrset` point into the buffer of the answer. */
 RRCACHE_API bool rrcache_next(const struct rrcache_answer *answer, struct rrcache_rrset *rrset);
 
-/* Reads the response to a query as `rrcache_read_response` does, and stores its relevant RRsets,
-   its negative answer and its failure in the shelves of their names. An RRset that would use more
-   memory than one shelf may use is left out. If a limit of `response` is 0, the limit of the cache
-   applies.
+/* Reads the response to a query as `rrcache_read_response` does, and stores the RRsets, the
+   negative answer and the failure of the response that are relevant to the query, each in the shelf
+   of its name. An RRset that would use more memory than one shelf may use is left out. If a limit
+   of `response` is 0, the limit of the cache applies.
 
    Returns RRCACHE_OTHER_QUERY if the octets do not answer the query: the caller then drops them and
-   keeps waiting (RFC 5452 section 9.1). RRCACHE_BAD_MESSAGE and RRCACHE_NO_QUESTION are failures of
-   the server, and nothing is stored. A response with an RCODE other than NOERROR and NXDOMAIN, such
-   as SERVFAIL, is stored as a failure of its question. So pass such a response only when no other
-   server is left to ask. The RCODE is in the low four bits of the fourth octet. From a truncated
-   response (TC set) nothing is stored: send the query again over TCP. If such a response ends
-   inside a record, the call returns RRCACHE_BAD_MESSAGE. If TC is set (0x02 of the third octet),
-   that is not a failure of the server.
+   keeps waiting (RFC 5452 section 9.1). RRCACHE_BAD_MESSAGE and RRCACHE_NO_QUESTION mean that the
+   server has failed, and nothing is stored. A response with an RCODE other than NOERROR and
+   NXDOMAIN, such as SERVFAIL, is stored as a failure of its question. So pass such a response only
+   when no other server is left to ask. The RCODE is in the low four bits of the fourth octet of the
+   response. From a truncated response (TC set) nothing is stored: send the query again over TCP. If
+   a truncated response ends inside a record, the call returns RRCACHE_BAD_MESSAGE. So if TC is set
+   (0x02 of the third octet), RRCACHE_BAD_MESSAGE does not mean that the server has failed.
 
    To read a response without storing it, call `rrcache_read_response` with one part, any seed that
-   is not zeros, and limits that are not 0. It compares the response with the query as this call
-   does. Then `rrcache_tell_response` returns the kind and RCODE, and `rrcache_tell_offer` returns
-   each relevant RRset, even one with TTL 0. So a resolver sees whether one of several servers has
-   failed.
+   is not zeros, and limits that are not 0. That call compares the response with the query as
+   `rrcache_store` does. Then `rrcache_tell_response` returns the kind and RCODE, and
+   `rrcache_tell_offer` returns each relevant RRset, even one with TTL 0. In this way, a resolver
+   can see whether one of several servers has failed before it stores a failure.
 
    The RRsets of a referral are stored, but are not in `answer`. `name` of `report` is the zone of
    the referral, `rrcache_lookup_delegation` returns the NS RRset, and look-ups with `takes_glue`
    return the addresses. NS RRsets and addresses with TTL 0 are not stored, so look-ups do not find
-   them: read such a referral without storing it, as above. An NS RRset with unequal TTLs is left
-   out, unless `lowest_ttl` is set. The NS RRset has the lowest rank. So as long as an unexpired
-   NXDOMAIN of the zone, or an unexpired NODATA for its type NS, is cached, because somebody asked
-   before the zone was delegated, `rrcache_lookup_delegation` returns a zone above or none. If it
-   returns no zone below the one that was asked, call `rrcache_forget` with type NS for the zone of
-   the referral, and store the response again.
+   them: read such a referral without storing it, as described above. An NS RRset with unequal TTLs
+   is left out, unless `lowest_ttl` is set. The NS RRset of a referral has the lowest rank. If
+   somebody asked for the zone before it was delegated, the cache may have an NXDOMAIN of the zone,
+   or a NODATA of the zone for type NS. As long as that negative answer is unexpired,
+   `rrcache_lookup_delegation` finds only the NS RRset of a zone above, or none. If it finds none
+   below the zone whose server was asked, call `rrcache_forget` with type NS for the zone of the
+   referral, and store the response again.
 
-   `answer` may be null. Otherwise it gets the answer that the response itself gives, including data
-   that are not stored: data with TTL 0, data that were left out, and data of lower rank than the
-   cached data. So a waiting client gets the data that the server sent. An RRset with unequal TTLs
-   is left out here too, if AA is clear and `lowest_ttl` is not set. `kind` is then RRCACHE_MISS if
-   the RRset has the data, or a CNAME record that leads to them. For type ANY, the answer has all
-   other RRsets of the name. A look-up of type ANY never returns these. At most RRCACHE_MOST_ALIASES
-   CNAME records are followed, and RRsets of any size are returned. Fewer CNAME records and only
-   smaller RRsets are relevant, and therefore stored. Rdata of types A and AAAA may have any length
-   in this answer. If the type is not kept, such as NAPTR, each record is returned as an RRset of
-   its own, and RRCACHE_NODATA means that an SOA record denies the type. `kind` is RRCACHE_MISS if
-   only `report` has the result, as for a negative response without an SOA record.
+   `answer` may be null. If not, the call fills `answer` with what the response itself answers,
+   including data that are not stored: data with TTL 0, data that were left out, and data of lower
+   rank than the cached data. So a waiting client gets the data that the server sent. An RRset with
+   unequal TTLs is left out of `answer` too, if AA is clear and `lowest_ttl` is not set. `kind` of
+   `answer` is then RRCACHE_MISS if that RRset has the data of the type, or a CNAME record that
+   leads to them. For a query of type ANY, the answer has all other RRsets of the name, although a
+   look-up of type ANY never returns them. For this answer, at most RRCACHE_MOST_ALIASES CNAME
+   records are followed, and RRsets of any size are returned. The limits on what is relevant, and
+   therefore stored, are lower: fewer CNAME records are followed, and only smaller RRsets are
+   relevant. Rdata of types A and AAAA may have any length in this answer. If the type of the query
+   is not kept, such as NAPTR, each record is returned as an RRset of its own, and RRCACHE_NODATA
+   means that an SOA record denies the type. `kind` is RRCACHE_MISS if only `report` has the result,
+   as for a negative response without an SOA record.
 
    If the response has only the beginning of a CNAME chain, its kind is RRCACHE_RESPONSE_ALIAS, and
    `kind` of the answer is RRCACHE_MISS. Keep the CNAME RRsets of this answer, and look up `end`
-   next. Do not look up the name of the query again: a CNAME record with TTL 0 is not stored, so the
-   look-up would be a miss again.
+   next. Do not look up the name of the query again: a CNAME record with TTL 0 is not stored, so
+   that look-up would be a miss again.
 
    Also returns RRCACHE_BAD_LIMITS if a limit is out of range, and RRCACHE_BAD_NAME if the zone or
    the name of the query is not in wire form. After these errors, `report` is unmodified. Once the
    response has been read, `report` is written, even if the call then fails with
-   RRCACHE_HISTORY_FULL, RRCACHE_MOMENT_TOO_LARGE or RRCACHE_MEMORY. Two errors come after
-   everything is stored: RRCACHE_SMALL if the buffer of the answer is too small, and
+   RRCACHE_HISTORY_FULL, RRCACHE_MOMENT_TOO_LARGE or RRCACHE_MEMORY. Two errors are returned only
+   after everything is stored: RRCACHE_SMALL if the buffer of the answer is too small, and
    RRCACHE_BAD_DATA if a record whose type is not kept cannot be read. */
 RRCACHE_API enum rrcache_status rrcache_store(struct rrcache *cache,
                                               const struct rrcache_query *query,
@@ -362,108 +382,113 @@ RRCACHE_API enum rrcache_status rrcache_store(struct rrcache *cache,
                                               struct rrcache_report *report,
                                               struct rrcache_answer *answer);
 
-/* Stores the caller's RRset as `rrcache_offer_set` offers it, and writes the outcome to `outcome`
-   (`enum rrcache_outcome`). Returns RRCACHE_TOO_LARGE if the RRset might use more memory than one
-   shelf may use for all its keys. The other errors are those of `rrcache_offer_set`. */
+/* Stores an RRset of the caller under the same rules as `rrcache_offer_set`, and writes the outcome
+   to `outcome` (`enum rrcache_outcome`). Returns RRCACHE_TOO_LARGE if the RRset might use more
+   memory than one shelf may use for all its keys. The other errors are those of
+   `rrcache_offer_set`. */
 RRCACHE_API enum rrcache_status rrcache_store_set(struct rrcache *cache,
                                                   const struct rrcache_set *set, uint32_t *outcome);
 
-/* Stores a negative answer (a name does not exist, or has no data of a type) as
-   `rrcache_offer_negative` offers it, and writes the outcome to `outcome`. Returns
-   RRCACHE_TOO_LARGE if the negative answer might use more memory than one shelf may use for all its
-   keys. The other errors are those of `rrcache_offer_negative`. */
+/* Stores a negative answer (a name does not exist, or has no data of a type) under the same rules
+   as `rrcache_offer_negative`, and writes the outcome to `outcome`. Returns RRCACHE_TOO_LARGE if
+   the negative answer might use more memory than one shelf may use for all its keys. The other
+   errors are those of `rrcache_offer_negative`. */
 RRCACHE_API enum rrcache_status rrcache_store_negative(struct rrcache *cache,
                                                        const struct rrcache_negative *negative,
                                                        uint32_t *outcome);
 
-/* Stores a resolution failure of a name and a type as `rrcache_offer_failure` offers it (RFC 9520).
-   The failure is always stored, so `outcome` is always RRCACHE_KEPT. The errors are those of
-   `rrcache_offer_failure`. */
+/* Stores a resolution failure of a name and a type (RFC 9520) under the same rules as
+   `rrcache_offer_failure`. If the call succeeds, the failure is stored, so `outcome` is always
+   RRCACHE_KEPT. The errors are those of `rrcache_offer_failure`. */
 RRCACHE_API enum rrcache_status rrcache_store_failure(struct rrcache *cache,
                                                       const struct rrcache_failure *failure,
                                                       uint32_t *outcome);
 
 /* Removes the cached data of a name, a class and a type: the RRset or NODATA, the failure, and the
-   NXDOMAIN of the name. With type ANY (255), the call removes the data of every type. The call then
-   tries each type in turn, which takes about 10 milliseconds, and releases its lock after every 256
-   types. Data that other threads store for the name in the meantime may remain. The first time that
-   a failure is removed from a shelf, the call takes as long as the first sweep of the shelf, which
-   visits all its keys. The fields `mode` and `takes_glue` of the request are ignored. No call
-   removes all names below a name: docs/RULES.md, "Flushing", says what to do instead.
+   NXDOMAIN of the name. With type ANY (255), the call removes the data of every type. To do so, the
+   call tries each type in turn, which takes about 10 milliseconds, and releases the lock of the
+   shelf after every 256 types. Data that other threads store for the name in the meantime may
+   remain. The first time that a failure is removed from a shelf, the call takes as long as the
+   first sweep of the shelf, which visits all its keys. The fields `mode` and `takes_glue` of the
+   request are ignored. No call removes the data of all names below a name: docs/RULES.md,
+   "Flushing", says what to do instead.
 
    Returns RRCACHE_BAD_NAME if the name is not in wire form, and RRCACHE_BAD_TYPE if the type is 0
-   or the class is not kept. If something is cached, also returns RRCACHE_HISTORY_FULL,
-   RRCACHE_MOMENT_TOO_LARGE and RRCACHE_MEMORY. Data that were removed before an error stay
-   removed. */
+   or the class is not kept. If there are data to remove, the call may also return
+   RRCACHE_HISTORY_FULL, RRCACHE_MOMENT_TOO_LARGE or RRCACHE_MEMORY. Data that were removed before
+   an error stay removed. */
 RRCACHE_API enum rrcache_status rrcache_forget(struct rrcache *cache,
                                                const struct rrcache_request *request);
 
-/* Removes fully expired keys until at least `most` keys are removed or none is left. A key is fully
-   expired if it can no longer answer at `moment`, not even with stale data. `most` is at least 1.
-   The call writes to `swept` how many keys it removed, and whether no fully expired key is left. A
-   sweep continues in the shelf in which the last sweep ended. The call releases the locks of a
-   shelf after every 64 keys, and lets threads that wait for them come first. But keys that expire
-   in the same second are removed together, and the first sweep of a shelf visits all its keys. A
-   caller need not sweep, because eviction makes room. A sweep at the timestamp 2^40 removes all
-   keys whose data were stored before 2^40 - 2^32, so a caller with a clock such as CLOCK_BOOTTIME
-   can empty the cache. Later calls may have smaller timestamps.
+/* Removes fully expired keys until at least `most` keys are removed or no such key is left. A key
+   is fully expired if its entry can answer no question at `moment`, not even as stale data. `most`
+   is at least 1. The call writes to `swept` how many keys it removed, and whether no fully expired
+   key is left. A sweep continues in the shelf in which the last sweep ended. The call releases the
+   locks of a shelf after every 64 keys, and lets threads that wait for these locks go first. There
+   are two exceptions: keys that expire in the same second are removed together, and the first sweep
+   of a shelf visits all its keys. A caller need not sweep, because eviction makes room. A sweep at
+   the timestamp 2^40 removes all keys whose data were stored before 2^40 - 2^32, so a caller with a
+   clock such as CLOCK_BOOTTIME can empty the cache in this way. Later calls may pass smaller
+   timestamps.
 
-   Returns RRCACHE_BAD_RULES if `most` is 0. Also returns RRCACHE_MOMENT_TOO_LARGE,
-   RRCACHE_HISTORY_FULL and RRCACHE_MEMORY, and then `swept` has the number of keys that were
-   removed before the error. */
+   Returns RRCACHE_BAD_RULES if `most` is 0. May also return RRCACHE_MOMENT_TOO_LARGE,
+   RRCACHE_HISTORY_FULL or RRCACHE_MEMORY; `swept` then has the number of keys that were removed
+   before the error. */
 RRCACHE_API enum rrcache_status rrcache_sweep_all(struct rrcache *cache, uint64_t moment,
                                                   uint64_t most, struct rrcache_swept *swept);
 
-/* In C++ this function hides the constructor of the struct with its name, as stat() does. */
+/* In C++, the function rrcache_stats hides the constructor of the struct of the same name, as
+   stat() does. */
 #if defined __cplusplus && defined __GNUC__
 #pragma GCC diagnostic push
 #pragma GCC diagnostic ignored "-Wshadow"
 #endif
 
 /* Writes to `stats` the counters of all shelves since the cache was opened, and the keys and octets
-   that the shelves hold. Each shelf is read at a different time. Meanwhile, look-ups in that shelf
-   wait, as they wait for a store. */
+   that the shelves hold. The call reads one shelf after another. While it reads a shelf, look-ups
+   in that shelf wait, as they wait for a store. */
 RRCACHE_API enum rrcache_status rrcache_stats(struct rrcache *cache, struct rrcache_stats *stats);
 
 #if defined __cplusplus && defined __GNUC__
 #pragma GCC diagnostic pop
 #endif
 
-/* Writes to `stats` the counters of one shelf, whose number is counted from 0. Returns
+/* Writes to `stats` the counters of the shelf with the number `shelf`, counted from 0. Returns
    RRCACHE_BAD_RULES if there is no such shelf. */
 RRCACHE_API enum rrcache_status rrcache_stats_of(struct rrcache *cache, uint64_t shelf,
                                                  struct rrcache_stats *stats);
 
-/* Writes counters to `text` as one line for a log, `hits 12 stale 0 ..`, without LF and with a zero
-   octet at its end. Returns RRCACHE_SMALL if the text does not fit into `size` octets. */
+/* Writes counters to `text` as one line for a log, `hits 12 stale 0 ..`, which ends with a zero
+   octet and has no LF. Returns RRCACHE_SMALL if the text does not fit into `size` octets. */
 RRCACHE_API enum rrcache_status rrcache_stats_text(const struct rrcache_stats *stats, char *text,
                                                    size_t size);
 
 /* Starts to record the histories of all shelves. While histories are being recorded, each look-up
    is an event, changes its shelf, and moves its entry to the front of the LRU order. Events use at
-   least 96 octets each and stay in memory until recording stops, and `octets` does not limit them.
-   If histories are already being recorded, the call does nothing. Returns RRCACHE_HISTORY_FULL and
-   RRCACHE_MEMORY. On error nothing is recorded. */
+   least 96 octets each and stay in memory until recording stops. `octets` does not limit this
+   memory. If histories are already being recorded, the call does nothing. May return
+   RRCACHE_HISTORY_FULL or RRCACHE_MEMORY. On error nothing is recorded. */
 RRCACHE_API enum rrcache_status rrcache_record_all(struct rrcache *cache);
 
-/* Stops recording, and writes the archive of each shelf to `sink`, one shelf after another. A shelf
-   records until its turn comes, so while a slow sink writes the archives before it, the events of
-   the shelf still take memory. If nothing is recorded, nothing is written. Returns RRCACHE_SINK if
-   the sink returns nonzero. Also returns RRCACHE_HISTORY_FULL and RRCACHE_MEMORY. After any of
-   these errors, recording has stopped, and the histories that were not written are dropped. */
+/* Stops recording, and writes the archive of each shelf, which is the text of its history, to
+   `sink`, one shelf after another. Each shelf goes on recording until its turn comes. So while a
+   slow sink writes the archives of earlier shelves, the events of later shelves still take memory.
+   If nothing is being recorded, nothing is written. Returns RRCACHE_SINK if the sink returns
+   nonzero. May also return RRCACHE_HISTORY_FULL or RRCACHE_MEMORY. After any of these errors,
+   recording has stopped, and the histories that were not written are dropped. */
 RRCACHE_API enum rrcache_status rrcache_stop_recording_all(struct rrcache *cache,
                                                            rrcache_shelf_sink sink, void *state);
 
 /* Writes the contents of each shelf to `sink`, one shelf after another, in the form in which a
-   chapter of an archive begins. The contents of each shelf are those at one point in time: other
-   calls on a shelf wait while its keys are listed. The call allocates memory for the keys of one
-   shelf at a time. No call reads such contents back. A caller can store each entry in a new cache,
-   with the rank, TTL and timestamp of its line, in the order of event numbers. CLOCK_BOOTTIME
-   starts again at zero when the machine restarts: the caller then converts the timestamps first
-   (docs/RULES.md, "Listing and saving keys"). docs/CAPTURES.md, "A wrong answer", says what a dump
-   shows about an answer. Returns RRCACHE_HAS_CHAPTERS while histories are being recorded, and
-   RRCACHE_SINK if the sink returns nonzero. Also returns RRCACHE_HISTORY_FULL and
-   RRCACHE_MEMORY. */
+   chapter of an archive begins (docs/FORMATS.md). The text of a shelf shows its contents at one
+   point in time: other calls on the shelf wait while its keys are listed. The call allocates memory
+   for the keys of one shelf at a time. No call reads these contents back into a cache. But a caller
+   can store each entry in a new cache, with the rank, TTL and timestamp of its line, in the order
+   of the event numbers. After a restart of the machine, CLOCK_BOOTTIME begins at zero again, so the
+   caller must first convert the timestamps (docs/RULES.md, "Listing and saving keys").
+   docs/CAPTURES.md, "A wrong answer", says what a dump shows about an answer. Returns
+   RRCACHE_HAS_CHAPTERS while histories are being recorded, and RRCACHE_SINK if the sink returns
+   nonzero. May also return RRCACHE_HISTORY_FULL or RRCACHE_MEMORY. */
 RRCACHE_API enum rrcache_status rrcache_dump(struct rrcache *cache, rrcache_shelf_sink sink,
                                              void *state);
 
