@@ -351,11 +351,11 @@ RRCACHE_API bool rrcache_next(const struct rrcache_answer *answer, struct rrcach
    below the zone whose server was asked, call `rrcache_forget` with type NS for the zone of the
    referral, and store the response again.
 
-   `answer` may be null. If not, the call fills `answer` with what the response itself answers,
-   including data that are not stored: data with TTL 0, data that were left out, and data of lower
-   rank than the cached data. So a waiting client gets the data that the server sent. An RRset with
-   unequal TTLs is left out of `answer` too, if AA is clear and `lowest_ttl` is not set. `kind` of
-   `answer` is then RRCACHE_MISS if that RRset has the data of the type, or a CNAME record that
+   `answer` may be null. Otherwise, the call fills `answer` with the answer that the response itself
+   gives, including data that are not stored: data with TTL 0, data that were left out, and data of
+   lower rank than the cached data. So a waiting client gets the data that the server sent. An RRset
+   with unequal TTLs is left out of `answer` too, if AA is clear and `lowest_ttl` is not set. `kind`
+   of `answer` is then RRCACHE_MISS if that RRset has the data of the type, or a CNAME record that
    leads to them. For a query of type ANY, the answer has all other RRsets of the name, although a
    look-up of type ANY never returns them. For this answer, at most RRCACHE_MOST_ALIASES CNAME
    records are followed, and RRsets of any size are returned. The limits on what is relevant, and
